@@ -14,7 +14,7 @@ from .lines import IN_CALL, Event, Line, Role, State
 from .writers import Writer, open_to_append, write_all
 
 FIELDS = ('trunk', 'circuit', 'direction', 'seized', 'answered', 'ended', 'by', 'codec', 'sent', 'received', 'lost',
-          'late')
+          'late', 'call')
 MOST_OCTETS = 10 << 20      # of a file, before it is FILE.1
 KEPT = 9                    # FILE.1 to FILE.9
 EACH = ('sent', 'admitted', 'lost', 'Late')     # what is counted, by the words of the counts
@@ -44,6 +44,8 @@ class CallRecord:
     ended: float | None = None
     by: str = ''
     codec: str = ''
+    number: int = 0             # how many calls its line had with it
+    counts: dict[str, int] | None = None    # those that were known of its circuit when nobody told any more
 
 
 class CallLog:
@@ -55,6 +57,8 @@ class CallLog:
         self._calls: dict[int, CallRecord] = {}
         self._ended: list[CallRecord] = []                # whose packets are not all counted yet
         self._before: dict[int, dict[str, int]] = {}   # the counts at the end of the last call of each circuit
+        self.life = ''                                  # names the count of calls of each line
+        self.changed: frozenset[int] = frozenset()      # circuits that were configured otherwise while nobody told
 
     def took(self, event: Event) -> None:
         """A change of a line's state."""
@@ -66,7 +70,7 @@ class CallLog:
         if call and state is State.ANSWERED and call.answered is None:
             call.answered = self._clock()
         if call and state not in IN_CALL:
-            self._end(call, 'unwatched' if unwatched else self._who(call, was, state))
+            self._end(call, self._unwatched(call) if unwatched else self._who(call, was, state))
 
     def _begin(self, circuit: int, seized: float | None) -> None:
         self._calls[circuit] = CallRecord(circuit, seized, self._lines[circuit].unacknowledged)
@@ -80,6 +84,17 @@ class CallLog:
             now = self._now(n)
             self._before[n] = {word: min(self._before.get(n, now).get(word, 0), count) for word, count in now.items()}
 
+    def left(self) -> None:
+        """Nobody tells any more."""
+        for n, call in self._calls.items():
+            call.codec, call.counts = self._lines[n].codec, self._now(n)
+
+    def _unwatched(self, call: CallRecord) -> str:
+        """Who ended a call while nobody told: a reload begins a circuit that is configured otherwise as new."""
+        now, before = self._now(call.circuit), call.counts or {}
+        is_new = not any(now.values()) or any(now.get(word, 0) < count for word, count in before.items())
+        return 'reload' if is_new and call.circuit in self.changed else 'unwatched'
+
     def _who(self, call: CallRecord, was: State, state: State) -> str:
         """Who ended a call: the one that hung up first."""
         line = self._lines[call.circuit]
@@ -91,8 +106,13 @@ class CallLog:
         return 'gateway' if is_ours else 'exchange'
 
     def _end(self, call: CallRecord, by: str) -> None:
-        call.ended, call.by, call.codec = self._clock(), by, self._lines[call.circuit].codec
+        line = self._lines[call.circuit]
+        call.ended, call.by, call.number = self._clock(), by, line.seizures
+        if by != 'reload':
+            call.codec, call.counts = by == 'unwatched' and call.codec or line.codec, None
         self._ended.append(self._calls.pop(call.circuit))
+        if by == 'reload':
+            self.look()             # now: the counts of its circuit begin at 0 again
 
     def look(self) -> None:
         """To be called now and then: writes the calls that have ended."""
@@ -116,12 +136,13 @@ class CallLog:
         before = self._before.get(call.circuit, {})
         self._before[call.circuit] = now
         # (a packet that was thought lost may come behind the end of its call)
-        numbers = [max(0, now.get(word, 0) - before.get(word, 0)) for word in EACH]
-        told: list[object] = [''] * len(EACH) if self._counts.stale() else [*numbers]
+        numbers = [max(0, (call.counts or now).get(word, 0) - before.get(word, 0)) for word in EACH]
+        told: list[object] = [''] * len(EACH) if self._counts.stale() and not call.counts else [*numbers]
         if call.by == 'unwatched':
             told[2:] = ['', '']     # of its last packets nobody has told more
         self._put(csv_line([self._trunk, call.circuit, self._lines[call.circuit].role, moment(call.seized),
-                            moment(call.answered), moment(call.ended), call.by, call.codec, *told]))
+                            moment(call.answered), moment(call.ended), call.by, call.codec, *told,
+                            f'{self.life}-{call.circuit}-{call.number}']))
 
 
 class RotatedFile:

@@ -77,7 +77,7 @@ class Carriage:
         self.status: int | None = None              # once it is there the carriage ends
         self._opens, self._reopens, self._reopen_after = opens, asked.reopen, 1.0
         self._opened: deque[Trunk | Exception] = deque()        # from another thread
-        self._began, self._notify = time.monotonic(), Notify()
+        self._began, self._notify, self._fault = time.monotonic(), Notify(), ''
         self._trunk_watched: dict[int, int] = {}    # descriptors, with the events that are waited for
         self._program_events, self._says_more = 0, False
         self._due: float | None = None      # when the trunk is read next, if that is not when octets come
@@ -105,7 +105,7 @@ class Carriage:
         found = self._opened.popleft()
         if isinstance(found, Exception):
             return self._lost(f'the trunk cannot be opened: {words_of_fault(found)}', 1)
-        self._reopen_after, found.tell = 1.0, self.tell
+        self._reopen_after, found.tell, self._fault = 1.0, self.tell, ''
         self.tell({'event': 'trunk', **found.status()})
         self.carrier.open(found)
         self._watch()
@@ -114,6 +114,7 @@ class Carriage:
         if not self._reopens:
             self.journal.line(Journal.ERROR if status else Journal.INFO, why)
             return self.end(status)
+        self._fault = why
         if self._reopen_after == 1.0:
             self.tell({'event': 'trunk lost', 'why': why})
         self.loop.later(self._reopen_after, self._open_trunk)
@@ -249,7 +250,7 @@ class Carriage:
 
     def _status(self) -> Event:
         return {'time': round(time.time(), 3), 'uptime': round(time.monotonic() - self._began, 3),
-                **self.carrier.status()}
+                'fault': self._fault or None, **self.carrier.status()}
 
     def _asked(self, line: socket.socket, _: object) -> None:
         """The status for who has connected, who is never waited for."""

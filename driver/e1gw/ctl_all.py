@@ -66,7 +66,8 @@ def line_of(name: str, status: Mapping[str, Any]) -> str:
     rows = status['circuits']
     calls = sum(row['state'] == 'answered' for row in rows)
     lost, late = sum(row['lost'] for row in rows), sum(row['datagrams'].get('Late', 0) for row in rows)
-    since = time.strftime('%Y-%m-%d %H:%M', time.gmtime(status['time'] - status['uptime']))
+    since = '' if status.get('fault') else time.strftime('%Y-%m-%d %H:%M',
+                                                         time.gmtime(status['time'] - status['uptime']))
     far = [what for what, on in status['remote_alarm'].items() if on]
     alarms = f'; the other end: {", ".join(REMOTE[what] for what in far)}' if far and status['trunk_up'] else ''
     ended = [what for what, why in status['ended'].items() if why is not None]

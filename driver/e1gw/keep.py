@@ -105,7 +105,8 @@ class Ring:
         whole = self._front
         begins = 'middle' if self.state or self._began is not None else 'start'
         self._about = {'config': os.path.abspath(self.named or self.config), 'config_sha256': self._sum,
-                       'time': round(time.time(), 3), 'place': place, WAIT: self.wait, 'begins': begins}
+                       'time': round(time.time(), 3), 'monotonic': round(time.monotonic(), 3), 'place': place,
+                       WAIT: self.wait, 'begins': begins}
         stamp = time.strftime('%Y%m%dT%H%M%SZ', time.gmtime())
         self._file, self._front = _open_fresh(os.path.join(self.folder, f'{self.name}-{stamp}'))
         self._own.append(self._front)

@@ -112,6 +112,7 @@ class Keeper:
         for path in (self.asked.control, tell, tell and note_of(tell), recording and recording.flow):
             if path:
                 unlink(path)
+        its.versions.about.forget()
         return its.status
 
     # ---- how it begins, and another one after it ----

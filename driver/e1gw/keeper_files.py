@@ -1,11 +1,21 @@
-"""Files of the keeper: the name by which its control socket is found, and the state that is kept."""
+"""Files of the keeper: the name by which its control socket is found, the state that is kept, and what it tells those
+who watch the trunk."""
 from __future__ import annotations
 
+import json
 import os
 import shutil
 import socket
 import stat
 import tempfile
+import threading
+import time
+from typing import Any
+
+from .keep import put_file
+from .kept import read_object
+from .programs import version_of
+from .running import unlink
 
 
 def folder_of(asked: str | None, prefix: str = 'keep-') -> str:
@@ -48,3 +58,50 @@ def store(state: str, path: str) -> None:
         file.flush()
         os.fsync(file.fileno())
     os.replace(new, path)
+
+
+def about_trunk(tell: str) -> dict[str, Any]:
+    """What the keeper wrote about the trunk whose `--tell` socket this is; empty if it wrote nothing."""
+    return read_object(f'{tell}.about')
+
+
+class TrunkAbout:
+    """What who watches a trunk cannot know by itself, in a file beside the socket of --tell, if there is one: since
+    when it is open or why it is not, and the version of the program that carries it."""
+
+    def __init__(self, tell: str | None) -> None:
+        self._tell, self._about, self._lock = tell, about_trunk(tell) if tell else {}, threading.Lock()
+        self._carries: object = None
+
+    def opened(self) -> None:
+        self._put(since=round(time.time(), 3), fault=None)
+
+    def failed(self, why: str) -> None:
+        """It could not be opened, or has ended."""
+        self._put(fault=why)
+
+    def carried(self, program: str) -> None:
+        """This program carries it, or will: it is asked for its version, which may take a moment."""
+        self._put(version=version_of(program))
+
+    def carries(self, which: object, program: str) -> None:
+        """As `carried`, in the background, where it is another version than the last time."""
+        if which is not self._carries:
+            self._carries = which
+            threading.Thread(target=self.carried, args=(program,), daemon=True).start()
+
+    def forget(self) -> None:
+        """The keeper ends, and tells no more."""
+        with self._lock:
+            if self._tell:
+                unlink(f'{self._tell}.about')
+            self._tell = None
+
+    def _put(self, **more: object) -> None:
+        with self._lock:
+            self._about |= more
+            try:
+                if self._tell:
+                    put_file(f'{self._tell}.about', json.dumps(self._about).encode())
+            except OSError:
+                pass        # it is not told then

@@ -23,7 +23,7 @@ from .command import NoTrunk, Usage, run
 from .faults import Parser, words_of_fault
 from .keep import seconds_of
 from .keeper import TRUNK_NAMES, Keeper
-from .keeper_files import folder_of, is_taken
+from .keeper_files import TrunkAbout, folder_of, is_taken
 from .lines import wait_words
 from .parent import parent
 from .programs import SENDERS, add_program, add_session, check_config, program_of, senders_of
@@ -102,7 +102,7 @@ def _asked_of(words: argparse.Namespace, folder: str) -> KeeperOptions:
         trunk_of(words) if words.reopen else None, recording_of(words), opens_of(words))
 
 
-def _first(opens: Callable[[], Stream], again: bool, journal: Journal) -> Stream:
+def _first(opens: Callable[[], Stream], again: bool, journal: Journal, about: TrunkAbout) -> Stream:
     """The trunk, opened; if it can't be, `again` says whether it is tried until it can. Opening may wait for ever: if
     who started this ends meanwhile, so does this."""
     wait, is_open = REOPEN, threading.Event()
@@ -112,11 +112,14 @@ def _first(opens: Callable[[], Stream], again: bool, journal: Journal) -> Stream
         try:
             trunk = opens()
             is_open.set()
+            about.opened()
             return trunk
         except OSError as fault:
             why = f'the trunk cannot be opened: {words_of_fault(fault)}'
             if not again:
+                about.forget()
                 raise NoTrunk(why) from None
+            about.failed(why)
             if wait == REOPEN:
                 journal.line(Journal.WARNING, f'{why}; it is tried again')
         time.sleep(wait)
@@ -137,7 +140,9 @@ def _start(words: argparse.Namespace, journal: Journal, notify: Notify) -> Keepe
         if path and is_taken(path):
             raise Usage(f'{option} {path}: somebody listens there, or something else has this name')
     journal.line(Journal.INFO, SENDERS[program_words(words, words.config)[1]])
-    trunk = _first(opens, words.reopen, journal)
+    about = TrunkAbout(words.tell)
+    about.carried(asked.program)
+    trunk = _first(opens, words.reopen, journal, about)
     asked.folder = folder_of(words.folder)
     keeper = Keeper(asked, journal, notify, (trunk.reads, trunk.writes))
     state = None
@@ -179,6 +184,7 @@ def _go_on(words: argparse.Namespace, journal: Journal, kept: dict[str, Any], fi
     if not trunk:
         opened = trunk_of(words)()
         trunk = opened.reads, opened.writes
+        TrunkAbout(words.tell).opened()
     keeper = Keeper(asked, journal, Notify(), trunk, files)
     keeper.go_on(kept, state)
     return keeper

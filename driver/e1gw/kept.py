@@ -6,17 +6,31 @@ import os
 import shutil
 import subprocess
 from collections.abc import Iterator
-from dataclasses import dataclass
-from typing import IO, Any
+from dataclasses import dataclass, field
+from typing import IO, Any, NamedTuple
 
 from .lines import SEIZURE_WAIT, WAIT
+from .session import OCTETS_A_SECOND
 
 PIECE = 1 << 16
 ENDINGS = ('.e1gw', '.e1gw.zst', '.rec', '.rec.zst')
+OUTAGE = 1.0                # seconds without octets from which on it is one, and no slip
 
 
 class InputError(Exception):
     """Why something can't be read or drawn, in words."""
+
+
+class Break(NamedTuple):
+    """A jump of the time of day at a place: from there on it is later by `seconds` than the octets before it say. In
+    an outage no octets came; else a new file begins, which has a time of its own."""
+    place: int
+    seconds: float
+    is_outage: bool
+
+    def behind(self, place: int) -> Break:
+        """The same where the session begins at this place."""
+        return self._replace(place=self.place + place)
 
 
 @dataclass
@@ -28,6 +42,7 @@ class KeptSession:
     begin: float | None = None          # seconds since 1970
     middle: bool = False                # it does not begin where the gateway did
     slips: list[tuple[int, float]] | None = None        # place from its begin, and seconds; None where nobody noted
+    breaks: list[Break] = field(default_factory=list)
     place: int = 0                      # where on the trunk it begins
     state: str = ''                     # the file of what the gateway was then; none for a new one
 
@@ -78,10 +93,15 @@ def state_of(path: str) -> str:
 
 def beside(path: str) -> dict[str, Any]:
     """What stands beside a file that is kept."""
+    return read_object(f'{front_of(path)}.json')
+
+
+def read_object(path: str) -> dict[str, Any]:
+    """The JSON object in a file; empty if the file can't be read or holds none."""
     try:
-        with open(f'{front_of(path)}.json', encoding='utf-8') as file:
-            about = json.load(file)
-        return about if isinstance(about, dict) else {}
+        with open(path, encoding='utf-8') as file:
+            found = json.load(file)
+        return found if isinstance(found, dict) else {}
     except (OSError, ValueError):
         return {}
 
@@ -96,8 +116,28 @@ def _told(session: KeptSession) -> KeptSession:
     session.state = state_of(session.files[0]) if session.middle else ''
     if 'place' in about:
         session.slips = [(place - about['place'], seconds) for file in session.files
-                         for place, seconds in beside(file).get('slips', ())]
+                         for place, seconds in beside(file).get('slips', ()) if seconds < OUTAGE]
+        session.breaks = list(_breaks([beside(file) for file in session.files]))
     return session
+
+
+def _breaks(abouts: list[dict[str, Any]]) -> Iterator[Break]:
+    """The outages noted in files, and the time of each file. One before a file shows by the monotonic clock, which
+    nobody sets; behind a boot, and without it, by the time. What slips explain is none."""
+    first, last, shift, slipped = abouts[0], abouts[0], 0.0, 0.0
+    for about in (about for about in abouts if 'time' in first and 'time' in about and 'place' in about):
+        place = about['place'] - first['place']
+        more = about['time'] - first['time'] - place / OCTETS_A_SECOND - shift
+        passed = about.get('monotonic', 0.0) - last.get('monotonic', 0.0)
+        passed = passed if passed > 0 else about['time'] - last['time']
+        away = passed - (about['place'] - last['place']) / OCTETS_A_SECOND - slipped
+        yield Break(place, more, min(more, away) >= OUTAGE)
+        last, shift, slipped = about, shift + more, 0.0
+        for at, seconds in about.get('slips', ()):
+            slipped += seconds
+            if seconds >= OUTAGE:
+                yield Break(at - first['place'], seconds, True)
+                shift += seconds
 
 
 def pieces(file: IO[bytes]) -> Iterator[bytes]:

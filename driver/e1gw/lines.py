@@ -124,6 +124,11 @@ def law_of(config: Mapping[str, Any]) -> str:
     return str(config.get('law', 'A'))
 
 
+def tables_of(config: Mapping[str, Any]) -> dict[int, Any]:
+    """How each circuit is configured that has a table."""
+    return {table['number']: (law_of(config), table) for table in config.get('circuit', [])}
+
+
 ALine = TypeVar('ALine', bound=Line)
 
 

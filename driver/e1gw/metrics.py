@@ -159,7 +159,8 @@ def _of_watcher(status: Status) -> list[Family]:
          [({}, status['renewed'])]),
         ('e1gw_ended', 'gauge', '1 where something beside the calls has ended.',
          [({'what': what}, int(why is not None)) for what, why in status['ended'].items()]),
-        ('e1gw_uptime_seconds', 'gauge', 'Seconds since this program began.', [({}, status['uptime'])]),
+        ('e1gw_uptime_seconds', 'gauge', 'Seconds since the trunk was opened, 0 while it is not.',
+         [({}, status['uptime'])]),
         ('e1gw_build_info', 'gauge', 'The version of e1gw; always 1.', [({'version': status['version']}, 1)])]
 
 
@@ -176,6 +177,8 @@ def _far_end(status: Status) -> str:
 
 def state_of(status: Status) -> str:
     """How the trunk stands at this end, in a word or some."""
+    if status.get('fault'):
+        return str(status['fault'])
     for other in OTHERS:
         if not status.get(other, True):
             since = time.strftime('%H:%M:%S', time.gmtime(status[f'{other}_since']))
@@ -188,7 +191,8 @@ def _head(status: Status) -> list[str]:
     clock = status['clock']
     at = time.strftime('%H:%M:%S', time.gmtime(status['time']))
     lines = [
-        f'trunk {status["name"]}, e1gw {status["version"]}, up {status["uptime"]:.0f} s',
+        f'trunk {status["name"]}, e1gw {status["version"]}, '
+        + ('not open' if status.get('fault') else f'up {status["uptime"]:.0f} s'),
         f'{status["octets"] / 256_000:.1f} s of the trunk at {at} UTC, {state_of(status)}; the other end: '
         + _far_end(status),
         'alignment lost: ' + ', '.join(f'{what} {n}' for what, n in status['losses'].items())

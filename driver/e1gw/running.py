@@ -16,13 +16,13 @@ from dataclasses import asdict, dataclass, field
 from typing import Any, Mapping, Sequence
 
 from .recorder import AROUND, BEFORE_FILE, CONFIG_FILE, ROOM, STATE_FROM, Recording, RecordingPart, words_of
-from .session import Kind, encode_record
+from .session import encode_record
 
 TAPE_ROOM = 1 << 20         # octets: two seconds of thirty calls
 STATE_ROOM = 1 << 18        # of a pipe that gives a state, which has some 220,000 at most
 END = encode_record(0x45, 0, b'')   # asks for the end of the session
-# Another codec whose payload type none may have: it is refused, changes nothing, and its answer says that all runs.
-HELLO = encode_record(Kind.CODEC, 1, b'\1\1')
+# No record that a client may give: the program closes the connection, which says that it runs, and records nothing.
+NO_RECORD = bytes(4)
 TOTALS = ('records', 'octets', 'datagrams', 'dropped', 'port_faults')
 NONE = 'discarded_multiframes 0'
 RENEWED = ' begins as new'  # so ends what is said of a circuit that was configured otherwise: nothing failed
@@ -213,7 +213,8 @@ class Run:
                  waits: bool) -> None:
         self.folder, self.control, self.version = folder, control, version
         self.tape = self._state = -1
-        self._hello: socket.socket | None = None
+        self._hello: socket.socket | None = None    # by which the program is asked to end
+        self._probe: socket.socket | None = None    # which it closes once it carries the trunk
         self.is_up = False
         self._said = 0                      # lines of the program that were told
         self.shadow: Process | None = None
@@ -274,32 +275,24 @@ class Run:
         return taken == len(octets)
 
     def connected(self) -> bool:
-        """Whether the program listens. From then on a place among its clients is the keeper's."""
-        if self._hello is None:
-            line = socket.socket(socket.AF_UNIX)
-            line.setblocking(False)
-            try:
-                line.connect(self.control)
-                line.send(HELLO)
-            except OSError:
-                line.close()
-                return False
-            self._hello = line
-        return True
+        """Whether the program listens. From then on the keeper is one of its clients."""
+        self._hello = self._hello or connection(self.control)
+        self._probe = self._probe or (connection(self.control, NO_RECORD) if self._hello else None)
+        return self._probe is not None
 
     def answers(self) -> bool:
-        """Whether the program carries the trunk: it has answered."""
+        """Whether the program carries the trunk: it has closed the probe. One that ends closes the connection that came
+        before the probe first."""
         if not self.is_up and self.connected():
-            assert self._hello
-            try:
-                self.is_up = len(self._hello.recv(len(HELLO))) > 0
-            except OSError:
-                pass
+            assert self._hello and self._probe
+            if is_closed(self._probe) and not is_closed(self._hello):
+                self.is_up = True
+                self._probe.close()
         return self.is_up
 
     def hello(self) -> int:
         """What is readable when it answers."""
-        return self._hello.fileno() if self._hello and not self.is_up else -1
+        return self._probe.fileno() if self._probe and not self.is_up else -1
 
     def follow(self, tell: str | None = None) -> Process:
         """Starts the shadow, which tells how the trunk stands at a socket, if one is named."""
@@ -365,6 +358,8 @@ class Run:
     def ask_end(self) -> None:
         """Asks the program to end behind what it has read."""
         assert self._hello
+        if is_closed(self._hello):      # (another client has its place)
+            self._hello = connection(self.control) or self._hello
         try:
             self._hello.send(END)
         except OSError:
@@ -408,8 +403,9 @@ class Run:
             if file >= 0:
                 os.close(file)
         self.tape = self._state = -1
-        if self._hello:
-            self._hello.close()
+        for line in (self._hello, self._probe):
+            if line:
+                line.close()
         self.program.close()
 
     def remove(self) -> None:
@@ -447,8 +443,31 @@ class Run:
         run.recorder = taken_up(kept['recorder'], folder_path(kept, 'passed')) if kept['recorder'] else None
         for file in files.values():
             os.set_inheritable(file, False)
-        run._hello = socket.socket(fileno=files['hello'])
+        run._hello, run._probe = socket.socket(fileno=files['hello']), None
         return run
+
+
+def connection(path: str, octets: bytes = b'') -> socket.socket | None:
+    """A connection to a Unix socket that never waits, on which these octets were sent; None if there is none."""
+    line = socket.socket(socket.AF_UNIX)
+    line.setblocking(False)
+    try:
+        line.connect(path)
+        line.send(octets)
+    except OSError:
+        line.close()
+        return None
+    return line
+
+
+def is_closed(line: socket.socket) -> bool:
+    """Whether the other end has closed a connection on which nothing comes."""
+    try:
+        return not line.recv(1)
+    except BlockingIOError:
+        return False
+    except OSError:
+        return True
 
 
 def folder_path(kept: Mapping[str, Any], name: str) -> str:

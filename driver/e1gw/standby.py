@@ -10,9 +10,12 @@ from collections import deque
 from math import inf
 from typing import Callable, Mapping
 
+from .faults import words_of_fault
+from .keeper_files import TrunkAbout
 from .recorder import FLUSH
 from .running import Process, Run, Version, unlink
 from .trunks import Stream
+from .versions import KeeperOptions
 
 GRACE = 1.0                 # seconds for an orderly end, and for a state to be saved
 AGAIN = 1.0                 # seconds before another program waits where one could not
@@ -182,13 +185,15 @@ class ShadowWatch:
 class Reopening:
     """A trunk that has ended, and is opened again: in a thread, since that may wait."""
 
-    def __init__(self, opens: Callable[[], Stream] | None, folder: str) -> None:
+    def __init__(self, asked: KeeperOptions, about: TrunkAbout) -> None:
         self.state: str | None = None       # the file of the state that goes on with it, in this folder
-        self._opens, self._folder, self._pause, self._due = opens, folder, REOPEN, inf
+        self._opens, self._folder, self._about = asked.reopens, asked.folder, about
+        self._pause, self._due = REOPEN, inf
         self._found: Stream | OSError | None = None     # from the thread
 
-    def begin(self, up: float, state: str | None) -> None:
+    def begin(self, up: float, state: str | None, why: str) -> None:
         """The trunk has ended, whose program was up since then, with this state."""
+        self._about.failed(why)
         self.state = os.path.join(self._folder, 'held') if state else None
         if state and self.state:
             os.replace(state, self.state)
@@ -202,7 +207,10 @@ class Reopening:
         if isinstance(found, OSError):
             self._pause = min(MOST_REOPEN, 2 * self._pause)
             self._due = now + self._pause
-        elif not found and now >= self._due:
+            self._about.failed(f'the trunk cannot be opened: {words_of_fault(found)}')
+        elif found:
+            self._about.opened()
+        elif now >= self._due:
             self._due = inf
             threading.Thread(target=self._open, name='opening the trunk', daemon=True).start()
         return found

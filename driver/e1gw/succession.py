@@ -50,7 +50,7 @@ class Succession:
         self.was_up = False
         self.up = self.due = 0.0                # since when it is up, and from when on another one may follow
         self._say, self._notify, self._notes = journal.line, notify, notes
-        self._deaths, self._shadows, self._reopening = Deaths(), ShadowWatch(), Reopening(asked.reopens, asked.folder)
+        self._deaths, self._shadows, self._reopening = Deaths(), ShadowWatch(), Reopening(asked, self.versions.about)
         self._is_lost = False                   # the trunk has ended, and is to be opened again
         self._why = self._lost = ''             # of the run that begins
         self._silent = self._deadline = 0.0
@@ -110,7 +110,7 @@ class Succession:
                   f'{self._why}: program {run.program.pid}{after}{behind}{self._lost}; {beside}{again}')
         self._pass_on(run)
         self._notify.ready(f'program {run.program.pid}, shadow {shadow.pid}')
-        self.versions.settle(run.version)
+        self.versions.settle(run.version, run.program.pid)
         self.phase, self.was_up, self.up = Phase.UP, True, now
         self.standby.due = now + SOON
 
@@ -254,7 +254,7 @@ class Succession:
             os.close(file)
         self.trunk = -1, -1
         self._is_lost, self._lost, self.phase = False, '' if state else ANEW, Phase.OPENS
-        self._reopening.begin(self.up, state)
+        self._reopening.begin(self.up, state, self._why)
 
     def _opens(self, now: float) -> None:
         found = self._reopening.look(now)

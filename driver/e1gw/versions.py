@@ -5,6 +5,7 @@ import os
 from dataclasses import dataclass, field
 from typing import Callable
 
+from .keeper_files import TrunkAbout
 from .recorder import Recording
 from .running import Version, open_version
 from .systemd import Notify
@@ -38,6 +39,7 @@ class Versions:
         self.number = 0                         # of what the keeper has begun: versions and programs
         self.present: Version
         self.before: Version | None = None
+        self.about = TrunkAbout(asked.tell)
         self._asked, self._journal, self._notify = asked, journal, notify
 
     def next_number(self) -> int:
@@ -53,8 +55,9 @@ class Versions:
     def renew(self, version: Version) -> None:
         self.before, self.present = self.present, version
 
-    def settle(self, version: Version) -> None:
+    def settle(self, version: Version, process: int) -> None:
         """A program of this version is up."""
+        self.about.carries(version, f'/proc/{process}/exe')
         if self.before and version is self.present:
             self.before.close()
             self.before = None

@@ -4,7 +4,6 @@ from __future__ import annotations
 
 import json
 import os
-import threading
 import time
 from collections import deque
 from dataclasses import dataclass
@@ -13,16 +12,15 @@ from typing import Any, Callable
 from .control import Reply
 from .counts import DatagramCounts
 from .flow import Flowing
-from .lines import Event, read_config
+from .keeper_files import about_trunk
+from .lines import Event, read_config, tables_of
 from .links import Link
 from .loop import Loop
 from .managed import Answered, Managed
 from .naming import Naming, note_of
 from .options import Options
-from .programs import version_of
 from .restarts import Restarts
-from .running import HELLO
-from .session import BadSession, Kind, Reader, Record
+from .session import CIRCUITS, BadSession, Kind, Reader, Record
 from .told import BadTelling, Told
 from .writers import Journal
 
@@ -67,18 +65,13 @@ class Program:
 
     def __init__(self, loop: Loop, path: str, stands: Callable[[str, bool, str], None]) -> None:
         self.link = Link(loop, path, self._came, self._took, self._gone)
-        self.version = ''
         self._stands, self._reader = stands, Reader((Kind.ANSWER,))
         self._asked: deque[Asked] = deque()
+        self.fault: Callable[[], str] = str         # why there is no program, if that is known
 
-    def _came(self, process: int) -> None:
-        def ask() -> None:
-            self.version = version_of(f'/proc/{process}/exe')
-        threading.Thread(target=ask, name='version', daemon=True).start()
+    def _came(self, _: int) -> None:
         self._reader = Reader((Kind.ANSWER,))
         self._stands('program', True, '')
-        # (who gives a record keeps its place; nothing follows from this one)
-        self.give(HELLO, lambda answer: None, lambda why: None, True)
 
     def _gone(self, why: str) -> None:
         asked, self._asked = self._asked, deque()
@@ -86,11 +79,11 @@ class Program:
         for each in asked:
             each.failed('no answer, the connection to the program is lost')
 
-    def give(self, record: bytes, answered: Answered, failed: Reply, is_told: bool = False) -> None:
-        """Gives it a record; of one that `is_told` the shadow need not tell."""
+    def give(self, record: bytes, answered: Answered, failed: Reply) -> None:
+        """Gives it a record."""
         if not self.link.is_there():
-            return failed('no connection to the program')
-        self._asked.append(Asked(record, answered, failed, is_told=is_told))
+            return failed(self.fault() or 'no connection to the program')
+        self._asked.append(Asked(record, answered, failed))
         self.link.send(record)
 
     def _took(self, octets: bytes) -> None:
@@ -189,7 +182,8 @@ class Watcher(Managed):
     def __init__(self, loop: Loop, options: WatchOptions, journal: Journal) -> None:
         restarts = Restarts(self.restart, self.tell)
         counts = DatagramCounts(restarts.counted)
-        lines = Told(read_config(options.config), self.tell, counts, began=self._told_all)
+        config = read_config(options.config)
+        lines, self._tables = Told(config, self.tell, counts, began=self._told_all), tables_of(config)
         super().__init__(loop, options, journal, '', lines, counts, restarts)
         if options.quit_all:
             self.quit_status = QUIT
@@ -201,7 +195,7 @@ class Watcher(Managed):
         self._before: dict[int, int] | None = None      # seizures that were known when the shadow began to tell
         self._shadow = Link(loop, options.tell, self._shadow_came, self._told, self._shadow_gone, REST)
         self._program = Program(loop, options.program_control, self._stands)
-        lines.commanded = self._program.told
+        lines.commanded, self._program.fault = self._program.told, self._fault
         self._carried = Carried(loop, options.carrier, self.pass_on) if options.carrier else None
         self._pulse = Pulse(loop, options.tell, lines.reach)
         self._silent = 0                        # ticks in which the shadow that is there has told nothing yet
@@ -214,6 +208,7 @@ class Watcher(Managed):
         if not on and what not in self._connected and time.monotonic() < self.began + FIRST:
             return
         if self._connected.get(what) is not on:
+            why = self._fault() or why
             self._connected[what], self._since[what] = on, time.time()
             self.tell({'event': 'connected', 'to': what} if on else {'event': 'disconnected', 'from': what, 'why': why})
 
@@ -225,9 +220,19 @@ class Watcher(Managed):
         except OSError:
             made = time.time_ns()       # it has gone already
         self._session = f'{process}.{made}'
+        if self.calls:
+            tables, self._tables = self._tables, self._configured()
+            self.calls.changed = frozenset(n for n in CIRCUITS if tables.get(n) != self._tables.get(n))
         lines = self.lines.lines
         self._before = {n: line.seizures for n, line in lines.items()} if self.lines.known else None
         self.lines.begin(self._session)
+
+    def _configured(self) -> dict[int, Any]:
+        """How each circuit is configured now; as before if that can't be read."""
+        try:
+            return tables_of(read_config(self.options.config))
+        except (OSError, ValueError, KeyError, TypeError):
+            return self._tables
 
     def _told(self, octets: bytes) -> None:
         try:
@@ -245,6 +250,7 @@ class Watcher(Managed):
         self._naming.begin(self._session, self._before, self.lines.seizures, self.lines.lines)
         self._stands('shadow', True)
         if self.calls:
+            self.calls.life = self._naming.life
             self.calls.begun()
 
     def _look_at_flow(self, now: float) -> None:
@@ -274,6 +280,8 @@ class Watcher(Managed):
 
     def _shadow_gone(self, why: str) -> None:
         self.lines.lost()
+        if self.calls:
+            self.calls.left()
         self._stands('shadow', False, why)
 
     def _give(self, record: bytes, answered: Answered, failed: Reply) -> None:
@@ -284,6 +292,11 @@ class Watcher(Managed):
         if self._carried and not self._carried.is_open():
             return 'no trunk'
         return 'the trunk is stalled' if self._stood else self.lines.outage()
+
+    def _fault(self) -> str:
+        """Why the trunk is not open, if that is known."""
+        told = about_trunk(self.options.tell), self._carried.status if self._carried else {}
+        return next((str(each['fault']) for each in told if each.get('fault')), '')
 
     # ---- the whole ----
 
@@ -308,8 +321,11 @@ class Watcher(Managed):
 
     def status(self) -> dict[str, Any]:
         self._shadow.read()
-        status = super().status() | {
-            'version': self._program.version, 'life': self._naming.life or None,
+        status, about = super().status(), about_trunk(self.options.tell)
+        fault, since = self._fault(), about.get('since', status['time'] - status['uptime'])
+        status |= {
+            'version': about.get('version', ''), 'life': self._naming.life or None, 'fault': fault or None,
+            'uptime': 0.0 if fault else round(max(0.0, status['time'] - since), 3),
             'trunk_up': self._connected.get('program', False),
             'clock': {**self._flow_status(), 'stalled': bool(self._stood), 'stalls': self._stalls}}
         if self._carried:

@@ -12,8 +12,7 @@ from typing import Any, Callable, Mapping
 from . import limits, support
 from .support import SECONDS
 from .world import ServedProgram
-from e1gw.running import HELLO
-from e1gw.session import CodecRefusal, Kind, Reader, Record, encode_record
+from e1gw.session import Kind, Reader, Record, encode_record
 
 LAUNCHER = support.launcher('watch')
 IDLE = ['{0:2} outgoing idle        10 10          0          0          0 pcma      8'.format(n) for n in range(1, 31)]
@@ -125,10 +124,8 @@ class StandInProgram(StandInListener):
                     self._act(line, record)
 
     def _act(self, line: socket.socket, record: Record) -> None:
-        hello = record.encode() == HELLO
-        if not hello:
-            self.taken.append(record)
-        code = CodecRefusal.PAYLOAD_TYPE if hello else self.answers(record)
+        self.taken.append(record)
+        code = self.answers(record)
         if code is None:
             return
         line.sendall(encode_record(Kind.ANSWER, record.circuit, bytes([record.kind, code])))

@@ -50,7 +50,8 @@ class CallEndTests(unittest.TestCase):
         self.states(1, 'seized', 'releasing', 'idle')
         self.calls.look()
         self.assertEqual(self.rows, [['west', '1', 'outgoing', '2001-09-09T01:46:40.000Z', '',
-                                      '2001-09-09T01:46:41.000Z', 'not acknowledged', 'pcma', '0', '0', '0', '0']])
+                                      '2001-09-09T01:46:41.000Z', 'not acknowledged', 'pcma', '0', '0', '0', '0',
+                                      '-1-0']])
 
     def test_packets_are_those_of_the_call(self) -> None:
         """A line has none of the call before."""
@@ -61,13 +62,13 @@ class CallEndTests(unittest.TestCase):
             counts.refused['Late'] = counts.refused.get('Late', 0) + 3
             self.states(1, 'idle', 'seized', 'acked', 'answered', 'releasing', 'idle')
             self.calls.look()
-            self.assertEqual(self.rows.pop()[8:], [str(packets), str(packets - 3), '0', '3'])
+            self.assertEqual(self.rows.pop()[8:12], [str(packets), str(packets - 3), '0', '3'])
 
     def test_the_trunk_ends_before_the_call(self) -> None:
         self.counts.ended = 'it fell behind'
         self.states(2, 'idle', 'acked', 'answered')
         self.calls.finish()
-        self.assertEqual([(row[4] != '', row[6], row[8:]) for row in self.rows], [(True, 'stop', [''] * 4)])
+        self.assertEqual([(row[4] != '', row[6], row[8:12]) for row in self.rows], [(True, 'stop', [''] * 4)])
 
 
 class CallFileTests(unittest.TestCase):

@@ -23,11 +23,13 @@ from . import limits, support
 from .support import SECONDS
 from .world import free_ports
 from e1gw.exchange import ACKNOWLEDGED, ANSWERED, SEIZED
-from e1gw.running import HELLO
-from e1gw.session import MULTIFRAME, Command, Kind, command_record, packet_of, records_in, trunk_record
+from e1gw.keeper_files import TrunkAbout, about_trunk
+from e1gw.session import MULTIFRAME, Codec, Command, Kind, codec_record, command_record, packet_of, records_in
+from e1gw.session import trunk_record
 from e1gw.standby import DEATHS, MOST_PAUSE, Deaths
 
 LAUNCHER = support.launcher('keep')
+NO_EFFECT = codec_record(1, Codec.G726_16, 1)    # no payload type of the codec: it is refused
 LOOK = 4                    # multiframes from one look of the shadow at its clients to the next
 CIRCUITS = range(1, 31)
 GOES_ON = re.compile(r'program (\d+) (?:goes on|carries)(.*?); shadow (\d+)')
@@ -292,7 +294,7 @@ class KeeperFailureTests(KeeperCase):
         """What has come back, once all that was sent is read and answered: a client's answer comes behind that."""
         support.all_read(self.device.line)
         with self.client() as line:
-            line.sendall(HELLO)
+            line.sendall(NO_EFFECT)
             self.assertEqual(len(line.recv(6)), 6)
         self.device.line.setblocking(False)
         try:
@@ -515,6 +517,20 @@ class KeeperFifoTests(support.FolderCase):
             self.assertFalse(exchange.remote_alarms)
             into.close()
             self.assertEqual(keeper.wait(SECONDS), 0)
+
+
+class KeeperAboutTests(support.FolderCase):
+    """What a keeper tells those who watch its trunk."""
+
+    def test_nothing_is_told_behind_the_end(self) -> None:
+        tell = self.path('tell')
+        about = TrunkAbout(tell)
+        about.failed('the trunk has ended')
+        about.opened()
+        self.assertEqual({'since', 'fault'}, about_trunk(tell).keys())
+        about.forget()
+        about.failed('the trunk has ended')
+        self.assertEqual([], os.listdir(self.folder))
 
 
 class KeeperEndTests(KeeperCase):

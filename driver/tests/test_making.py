@@ -2,6 +2,7 @@
 from __future__ import annotations
 
 import os
+import re
 import subprocess
 import sys
 import tomllib
@@ -62,6 +63,37 @@ class ConfigTests(support.FolderCase):
                       for more in (0, 1)}
             addresses.add(options_text('rack', plan.trunk, '').partition('--http ')[2].split()[0])
         self.assertEqual((len(ports), len(addresses)), (64 * 30 * 2, 64))
+
+    def test_firewalls_of_the_documents_have_all_ports(self) -> None:
+        """Those of RTP and the odd ones behind them, of the first trunk and of the second."""
+        with open(f'{support.TOP}/docs/OPERATING.md', encoding='utf-8') as file:
+            page = file.read()
+        ranges = []
+        for trunk in ('1', '2'):
+            table = tomllib.loads(self.made('--trunk', trunk)[1])
+            ports = [circuit['local_port'] for circuit in table['circuit']]
+            ranges.append(f'{min(ports)}-{max(ports) + 1}')
+        self.assertEqual(set(re.findall(r'udp [sd]port ([\d-]+)', page)), {ranges[0]})
+        self.assertEqual(set(re.findall(r'with `--trunk 2` ([\d-]+)', page)), {ranges[1]})
+        self.assertEqual(page.count(ranges[0]), 3)
+
+    def test_the_first_steps_go_together(self) -> None:
+        """Pasted from top to bottom in one folder: each configuration is written, and each trunk that is commanded is
+        started in its part, with a configuration that is there. (What is for root has a folder of its own.)"""
+        with open(f'{support.TOP}/docs/START.md', encoding='utf-8') as file:
+            blocks = re.findall(r'(?s)```sh\n(.*?)```', file.read())
+        written = 0
+        for block in (block for block in blocks if '/etc/e1gw' not in block):
+            for line in re.findall('(?m)^e1gw-config (.*)$', block):
+                status, _, fault = self.made(*line.split())
+                self.assertEqual((status, fault), (0, ''), line)
+                written += 1
+            sites = (re.findall('(?m)^for site in (.*);', block) or [''])[0].split()
+            started = {name.replace('$site', site) for site in sites or [''] for name in
+                       re.findall(r'e1gw-trunk --config (\S+)\.toml', block)}
+            self.assertEqual([name for name in started if not os.path.exists(self.path(f'{name}.toml'))], [])
+            self.assertLessEqual(set(re.findall(r'e1gw-ctl (\w+)\.control', block)), started, block)
+        self.assertEqual(written, 3)
 
     def test_a_clash_is_found(self) -> None:
         self.made('--write', 'rack1')

@@ -270,6 +270,28 @@ class PageChecker(html.parser.HTMLParser):
         self.words.append(data)
 
 
+# Advance widths of DejaVu Sans and of its bold, in thousandths of the size: the widest of the fonts that are usual.
+WIDTHS = {
+    False: dict(zip(' abcdefghijklmnopqrstuvwxyz0123456789-/,.:BNWOPTRFLS\N{RIGHTWARDS ARROW}', (
+        318, 613, 635, 550, 635, 615, 352, 635, 634, 278, 278, 579, 278, 974, 634, 612, 635, 635, 411, 521, 392, 634,
+        592, 818, 592, 592, 525, *[636] * 10, 361, 337, 318, 318, 337, 686, 748, 989, 787, 603, 611, 695, 575, 557,
+        635, 838))),
+    True: dict(zip(' abcdefghijklmnopqrstuvwxyz0123456789-/,.:BNWOPTRFLS\N{RIGHTWARDS ARROW}', (
+        348, 675, 716, 593, 716, 678, 435, 716, 712, 343, 343, 665, 343, 1042, 712, 687, 716, 716, 493, 595, 478, 712,
+        652, 924, 645, 652, 582, *[696] * 10, 415, 365, 380, 380, 400, 762, 837, 1103, 850, 733, 682, 770, 683, 637,
+        720, 838)))}
+
+
+def wide(words: str, size: float, bold: bool = False) -> float:
+    """The pixels that words take."""
+    return sum(WIDTHS[bold][each] for each in words) * size / 1000
+
+
+def wide_of(cells: list[str], size: float, bold: bool = False) -> list[float]:
+    """Of each cell of a row the pixels of its longest word."""
+    return [max((wide(word, size, bold) for word in cell.split()), default=0.0) for cell in cells]
+
+
 class PicturePageTests(unittest.TestCase):
     """The page."""
 
@@ -312,6 +334,21 @@ class PicturePageTests(unittest.TestCase):
         self.assertIn('0 sent, 0 received, 40 discarded', words)
         self.assertIn('127.0.0.1:24106', words)
 
+    def test_wrong_sources_are_those_of_their_call(self) -> None:
+        """Of three calls on a circuit, each with its own source, a stranger sends into the second one."""
+        session = MadeSession(4.0, {3: {'prefill': 320}})
+        for begin, ssrc in ((0.1, 0xA), (1.3, 0xB), (2.5, 0xC)):
+            session.call(3, begin, begin + 1, 0.1)
+            session.senders.append(PictureSender(3, begin + 0.2, begin + 0.9, ssrc))
+        session.senders.append(PictureSender(3, 1.75, 1.949, 0xBAD))
+        records = list(session.given())
+        codes = [12 if record[12:16] == bytes.fromhex('00000bad') else 0 for record in records
+                 if record[0] == Kind.DATAGRAM]
+        found = {each.kind: each.seen for each in findings(facts_of(session, codes))}
+        # each 20 ms from 1.750 s on, up to 1.930 s, in steps of a multiframe
+        self.assertRegex(found['source'], '^10 of .* packets were discarded as WrongSource: in the call whose first '
+                         r'datagram had SSRC 0000000b, 00000bad came 10 times from 1\.75[02] s to 1\.93[02] s$')
+
     def test_what_a_line_carries_is_marked(self) -> None:
         for name, words, kind in (('silent-peer', 'silence', 'silent'), ('silent-slot', 'slot: silence', 'silent'),
                                   ('other-codec', 'other length', 'unlike')):
@@ -344,6 +381,34 @@ class PicturePageTests(unittest.TestCase):
         facts = Facts()
         facts.slips = [(100, 0.3)]
         self.assertIn('the driver noted 1 slip, first at', self.checked(draw(facts, 'x')))
+
+    def test_the_table_of_counts_is_not_cut(self) -> None:
+        """On a screen of 1280 pixels, less a scroll bar and the page's margins."""
+        facts = self.busy()
+        for row in facts.rows.values():
+            row.codec, row.payload, row.prefill = 'g726-32', 96, 320
+            row.local, row.peer = '192.0.2.110:24002', '198.51.100.120:34002'
+        text = draw(facts, 'x')
+        table = re.search(r'<table class="counts">.*?</table>', text)
+        assert table
+        size, right = 12, 8
+        self.assertIn(f'.counts td,.counts th{{white-space:normal;padding-right:{right}px;font-size:{size}px}}', text)
+        columns = [wide_of(re.findall('<th>(.*?)</th>', table[0]), size, True)]
+        columns += [wide_of(re.findall('<td.*?>(.*?)</td>', row), size) for row in table[0].split('<tr>')[2:]]
+        self.assertEqual((len(columns), len(columns[0])), (31, 17))
+        self.assertLess(sum(map(max, zip(*columns))) + right * len(columns[0]), 1280 - 15 - 2 * 22)
+
+    def test_the_last_time_is_not_cut(self) -> None:
+        for begin, last in ((None, '60:00 min'), (1_700_000_400.0, '23:20:00')):
+            facts = Facts()
+            facts.turn(3600 * OCTETS_A_SECOND)
+            facts.begin = begin
+            text = draw(facts, 'x')
+            sheet = re.search(r'<svg viewBox="0 0 (\d+)', text)
+            times = re.findall(rf'<text x="([\d.]+)" y="\d+" class="tick" text-anchor="(\w+)">{last}<', text)
+            self.assertEqual((len(times), bool(sheet)), (1, True))
+            part = {'middle': 0.5, 'end': 0.0}[times[0][1]]
+            self.assertLessEqual(float(times[0][0]) + part * wide(last, 10.5), float(sheet[1] if sheet else 0))
 
     def test_words_are_escaped(self) -> None:
         text = draw(Facts(), '<b>&"')

@@ -4,6 +4,7 @@ from __future__ import annotations
 import io
 import json
 import os
+import pty
 import re
 import shutil
 import struct
@@ -170,6 +171,95 @@ class PictureCommandTests(PictureCommandCase):
         page, said = self.drawn('--answers', answers, folder)
         self.assertEqual(said, '')
         self.assertIn('20 received, 0 discarded', page)
+
+    def ring_of_two(self, second: dict[str, object], **first: object) -> tuple[str, str]:
+        """A ring whose second file begins 0.6 s of the trunk behind the first one: its folder, and the answers. The
+        call on circuit 3 is seized at 0.05 s of the trunk and cleared at 1 s."""
+        config, given, answers = self.small()
+        with open(given, 'rb') as file:
+            records = list(records_in(file.read()))
+        parts: tuple[list[bytes], list[bytes]] = ([], [])
+        place = 0
+        for record in records:
+            parts[place >= 153_600].append(record.encode())
+            place += len(record.body) * (record.kind is Kind.TRUNK)
+        folder = os.path.join(self.folder, 'outage')
+        os.makedirs(folder, exist_ok=True)
+        both = {'config': config, 'time': BEGIN, 'place': 7000, 'begins': 'start', **first}
+        for name, part, about in (('20231114T221320Z', parts[0], both),
+                                  ('20231114T221321Z', parts[1], {**both, 'place': 160_600, 'begins': 'middle',
+                                                                  **second})):
+            front = os.path.join(folder, f'west-{name}')
+            with open(f'{front}.e1gw', 'wb') as file:
+                file.write(b''.join(part))
+            with open(f'{front}.json', 'w', encoding='utf-8') as text:
+                json.dump(about, text)
+        return folder, answers
+
+    def test_an_outage_between_two_files(self) -> None:
+        """The trunk was away for 62 s: each file has its own time, and a grey gap is where no octets came."""
+        folder, answers = self.ring_of_two({'time': BEGIN + 62.6, 'monotonic': 162.6}, monotonic=100.0)
+        page, said = self.drawn('--answers', answers, folder)
+        self.assertEqual(said, '')
+        outage = 'from 22:13:20.600 to 22:14:22.600 (62.00 s)'
+        self.assertIn(f'<b>the trunk</b>no octets of the trunk came {outage}', page)
+        self.assertIn('<td>22:13:20.050</td><td>seize</td>', page)
+        self.assertIn('<td>22:14:23.000</td><td>clear</td>', page)
+        self.assertIn('<td>22:13:20.600</td><td>22:14:22.600</td><td>62.00 s</td>', page)
+        # (the answer comes at 0.58 s)
+        self.assertRegex(page, r'<td>22:13:20.5\d\d</td><td>22:14:23.000</td><td>62.4\d s</td><td>answered</td>')
+        gaps = re.findall(r'<rect x="([\d.]+)" y="[\d.]+" width="([\d.]+)" height="[\d.]+" class="outage"><title>'
+                          r'no octets of the trunk: 22:13:20.600 to 22:14:22.600, 62.00 s</title>', page)
+        self.assertEqual(len(gaps), 3)          # the trunk, the circuits, the packets of circuit 3
+        # 1.2 s of the trunk and an outage, which takes half of that: 0.6 of 1.8 on 1000 pixels, from a third on
+        self.assertEqual(set(gaps), {('459.3', '333.3')})
+        places = [float(x) for x in re.findall(r'<path d="M([\d.]+) [\d.]+l4 -6h-8z" class="c-done">', page)]
+        self.assertEqual([x < 459.3 for x in places], [True, False])
+        self.assertGreater(places[1], 459.3 + 333.3)
+
+    def test_files_without_an_outage(self) -> None:
+        """The second file was begun a tenth of a second late, or the clock was set by an hour, or slips explain it: it
+        has its own time, and there is no gap."""
+        cases: list[tuple[dict[str, object], dict[str, object], str]] = [
+            ({'time': BEGIN + 0.7}, {}, '22:13:21.100'),
+            ({'time': BEGIN + 3600.6, 'monotonic': 100.6}, {'monotonic': 100.0}, '23:13:21.000'),
+            ({'time': BEGIN - 3599.4, 'monotonic': 100.6}, {'monotonic': 100.0}, '21:13:21.000'),
+            ({'time': BEGIN + 2.6}, {'slips': [[50_000, 0.9], [60_000, 0.9]]}, '22:13:23.000')]
+        for second, first, clear in cases:
+            folder, answers = self.ring_of_two(second, **first)
+            page, _ = self.drawn('--answers', answers, folder)
+            self.assertIn(f'<td>{clear}</td><td>clear</td>', page)
+            self.assertNotIn('class="outage"', page)
+            self.assertNotIn('no octets of the trunk came', page)
+
+    def test_an_outage_with_a_boot_in_it(self) -> None:
+        folder, answers = self.ring_of_two({'time': BEGIN + 62.6, 'monotonic': 30.0}, monotonic=100.0)
+        page, _ = self.drawn('--answers', answers, folder)
+        self.assertIn('no octets of the trunk came from 22:13:20.600 to 22:14:22.600 (62.00 s)', page)
+
+    def test_an_outage_within_a_file(self) -> None:
+        """The recorder has noted it beside the file, 0.25 s of the trunk behind the file's beginning."""
+        folder, answers = self.ring_of_two({'time': BEGIN + 0.6, 'slips': [[224_600, 90.0]]})
+        page, _ = self.drawn('--answers', answers, folder)
+        self.assertIn('no octets of the trunk came from 22:13:20.850 to 22:14:50.850 (90.00 s)', page)
+        self.assertIn('<td>22:14:51.000</td><td>clear</td>', page)
+        self.assertNotIn('the driver noted', page)
+
+    def test_a_long_session_says_how_far_it_is_read(self) -> None:
+        """On a terminal, each 10 s of the trunk; the last line is taken away. Elsewhere nothing is said."""
+        records = [trunk_record(bytes(2048))] * (35 * 125)
+        given, config = self.write('long.rec', b''.join(records)), self.write('trunk.toml', 'law = "A"\n')
+        words = ['--config', config, '--answers', given, '-o', os.path.join(self.folder, 'page.html'), given]
+        self.assertEqual(self.drawn(*words)[1], '')
+        ours, theirs = pty.openpty()
+        with open(ours, 'rb', buffering=0) as terminal:
+            subprocess.run([COMMAND, *words], stdin=subprocess.DEVNULL, stderr=theirs, check=True, timeout=SECONDS)
+            os.close(theirs)
+            said = terminal.read(4096).decode()
+        told = [float(each) for each in re.findall(r'picture: (\d+\.\d\d) s of the trunk read', said)]
+        # (it is read in pieces of a quarter of a second)
+        self.assertEqual([int(each / 10) for each in told], [1, 2, 3])
+        self.assertTrue(said.endswith('\r\x1b[K'))
 
     def test_pages_name_the_options(self) -> None:
         options = {word for action in parser()._actions for word in action.option_strings if word.startswith('--')}

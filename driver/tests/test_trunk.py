@@ -1,6 +1,7 @@
 """e1gw-trunk in service: commands, what ends beside the calls without ending them, and how all of it ends."""
 from __future__ import annotations
 
+import contextlib
 import glob
 import json
 import os
@@ -22,6 +23,7 @@ from .world import ANSWERED, IDLE, LAUNCHER, SEIZED, World, config_of, descendan
 from e1gw import session
 from e1gw.clearing import DisconnectPolicy, DisconnectWatch, OutageWatch
 from e1gw.recovery import NOTE, forget_folders, own_prefix
+from e1gw.testing.service import ask
 from e1gw.trunk import options_of, parts_of
 
 FOUR = range(1, 5)
@@ -178,6 +180,23 @@ class TrunkCommandTests(unittest.TestCase):
 
 
 class TrunkSessionTests(unittest.TestCase):
+    def test_commands_are_the_operators(self) -> None:
+        """No program beside the trunk gives any of its own."""
+        with World(config_of(FOUR), '--session', '@/kept') as world:
+            aligned(world)
+            self.assertEqual(world.ask('seize 1'), 'seize 1: done')
+            world.step(40)
+            self.assertEqual(world.ask('clear 1'), 'clear 1: done')
+            world.step(20)
+            self.assertEqual(world.quit()[0], 0)
+            with open(world.path('kept'), 'rb') as file:
+                kept = [record for record in session.records_in(file.read()) if record.kind is not session.Kind.TRUNK]
+        asked = session.codec_record(30, session.Codec.G726_16, 95)     # (by the test, to know where the trunk is)
+        self.assertEqual([record.encode() for record in kept if record.encode() != asked and record.kind is not
+                          session.Kind.DATAGRAM],
+                         [session.command_record(1, session.Command.SEIZE),
+                          session.command_record(1, session.Command.CLEAR)])
+
     def test_a_session_replays_alike(self) -> None:
         with World(config_of(range(1, 31), prefill=320), '--session', '@/kept') as world:
             aligned(world)
@@ -523,6 +542,27 @@ class RefusedOptionsTests(support.FolderCase):
             place = f'127.0.0.1:{held.getsockname()[1]}'
             status, said = self.run_driver('--config', self.good, '--tcp', place)
         self.assertEqual((status, f'the trunk cannot be opened: {place}: Connection refused' in said), (1, True))
+
+    def test_a_device_that_is_not_there_yet(self) -> None:
+        """The status says so, and not that a program is missing."""
+        none, control = os.path.join(self.folder, 'none'), os.path.join(self.folder, 'ctl')
+        words = [sys.executable, '-B', LAUNCHER, '--program', support.program(), '--config', self.good, '--in', none,
+                 '--out', none, '--reopen', '--control', control]
+        with subprocess.Popen(words, stdin=subprocess.DEVNULL, stderr=subprocess.DEVNULL) as process:
+            def said() -> str | None:
+                with contextlib.suppress(FileNotFoundError, ConnectionRefusedError):
+                    told = ask(control, b'status')
+                    return told if 'not open' in told else None
+                return None
+            text = support.until(said)
+            self.assertEqual(ask(control, b'seize 1'), f'seize 1: the trunk cannot be opened: {none}: No such file or '
+                             'directory')
+            process.terminate()
+        version = support.run('--version').decode().split()[1]
+        lines = text.splitlines()
+        self.assertEqual(lines[0], f'trunk good, e1gw {version}, not open')
+        self.assertRegex(lines[1], f' UTC, the trunk cannot be opened: {none}: No such file or directory; the other '
+                         'end: not heard$')
 
     def test_no_error_is_a_number_alone(self) -> None:
         """What is refused names the file or the address that it is of."""

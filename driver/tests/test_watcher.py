@@ -16,9 +16,9 @@ from typing import Any, Mapping
 from .support import SECONDS, FolderCase, free_port
 from .telling import IDLE, LAUNCHER, StandInListener, StandInProgram, StandInShadow, WatchedTrunk, row
 from .test_web import samples
+from e1gw.keep import put_file
 from e1gw.links import Link
 from e1gw.loop import Loop
-from e1gw.running import HELLO
 from e1gw.session import Codec, Command, Record, codec_record, command_record
 from e1gw.watcher import PATIENCE, Program
 
@@ -71,7 +71,7 @@ class CommandAnswerTests(FolderCase):
             self.loop.turn()
 
     def test_told(self) -> None:
-        self.program.told(HELLO)
+        self.program.told(command_record(3, Command.SEIZE))     # of another client
         self.program.told(self.records[1])
         self.program.settle(0.0, True)
         self.assertEqual(self.said, [])
@@ -305,6 +305,26 @@ class WatcherConnectionTests(WatcherCase):
         self.assertEqual(world.program.taken, [])
         self.assertEqual(world.ask('seize 1'), 'seize 1: done')
 
+    def test_what_the_keeper_says_of_the_trunk(self) -> None:
+        """Since when it is open, which is not since when it is watched, the version, and why it is not open."""
+        world = self.watched()
+        about = {'since': 1_700_000_000.0, 'version': '9.8.7', 'fault': None}
+
+        def says(**more: object) -> None:
+            put_file(world.path('tell.about'), json.dumps(about | more).encode())
+        says()
+        found = world.status()
+        self.assertEqual((found['version'], round(found['time'] - found['uptime'], 3)), ('9.8.7', about['since']))
+        self.assertRegex(world.ask('status'), r'^trunk trunk, e1gw 9\.8\.7, up \d{8,} s\n')
+        events, fault = self.events(world), 'the trunk cannot be opened: /dev/e1: No such file or directory'
+        says(fault=fault)
+        world.program.close()
+        self.assertEqual(self.next(events, 'disconnected', 'from', 'why'), ['program', fault])
+        lines = world.ask('status').splitlines()
+        self.assertEqual(lines[0], 'trunk trunk, e1gw 9.8.7, not open')
+        self.assertRegex(lines[1], rf' UTC, {fault}; the other end: not heard$')
+        self.assertEqual(world.ask('clear 1'), f'clear 1: {fault}')
+
     def test_a_program_that_goes_before_it_answers(self) -> None:
         world = self.watched()
         world.program.answers = lambda record: None
@@ -350,6 +370,60 @@ class WatcherConnectionTests(WatcherCase):
         self.assertEqual([line[key] for key in ('circuit', 'by', 'sent', 'received', 'lost', 'late')],
                          ['1', 'unwatched', '60', '45', '', ''])
         self.assertTrue(line['seized'] and line['answered'] and line['ended'])
+
+    def test_a_call_that_a_reload_ends(self) -> None:
+        """Circuit 1 was configured otherwise and begins as new, circuit 3 goes on; each had another call before."""
+        world = self.watched('--calls', '@/calls')
+        for n in (1, 3):
+            world.shadow.tell(f'command {n} 1 0', row(n, 'seized', '00 10', (20, 10, 0)))
+            world.shadow.tell(f'command {n} 2 0', row(n, 'releasing', '10 10', (20, 10, 0)))
+            world.shadow.row(n, 'idle', counts=(20, 10, 0))
+            world.has(n, state='idle')
+            world.shadow.tell(f'command {n} 1 0', row(n, 'seized', '00 10', (20, 10, 0)))
+            world.shadow.row(n, 'answered', '00 01', (320, 300, 0))
+            world.has(n, state='answered')
+        with open(world.config, 'w', encoding='utf-8') as file:
+            file.write(CONFIG.replace('number = 1\n', 'number = 1\ncodec = "g726-32"\npayload = 96\n'))
+        world.shadow.close()
+        rows = [row(1, 'fault', '11 --', codec='g726-32  96')[5:], ROWS[1], row(3, 'idle', counts=(330, 305, 0))[5:],
+                *ROWS[3:]]
+        world.shadow = StandInShadow(world.path('tell.2'), rows)
+        os.symlink('tell.2', world.path('tell'))
+        world.has(1, state='fault')
+        world.shadow.row(1, 'idle', codec='g726-32  96')
+        world.shadow.tell('command 1 1 0', row(1, 'seized', '00 10', codec='g726-32  96'))
+        world.shadow.tell('command 1 2 0', row(1, 'releasing', '10 10', (7, 5, 0), codec='g726-32  96'))
+        lines = world.until(lambda: (found := self.lines(world)) and len(found) == 5 and found)
+        self.assertEqual([[line[key] for key in ('circuit', 'by', 'codec', 'sent', 'received')] for line in lines],
+                         [['1', 'gateway', 'pcma', '20', '10'], ['3', 'gateway', 'pcma', '20', '10'],
+                          ['1', 'reload', 'pcma', '300', '290'], ['3', 'unwatched', 'pcma', '310', '295'],
+                          ['1', 'gateway', 'g726-32', '7', '5']])
+        self.assertEqual(len({line['call'] for line in lines}), 5)
+
+    def test_a_call_of_two_watchers(self) -> None:
+        """Each writes a line, and both name the call alike; the next call has another name."""
+        world = self.watched('--calls', '@/calls')
+        world.shadow.tell('command 1 1 0', row(1, 'seized', '00 10'))
+        world.shadow.row(1, 'answered', '00 01', (50, 40, 0))
+        world.has(1, state='answered')
+        world.quit()
+        assert world.process.stderr
+        world.process.stderr.close()
+        words = [str(word) for word in world.process.args]      # type: ignore[union-attr]
+        world.process = subprocess.Popen(words, stdin=subprocess.DEVNULL, stderr=subprocess.DEVNULL)
+        world.connected()
+        for counts in ((60, 45, 0), (62, 46, 0)):
+            world.shadow.tell('command 1 2 0', row(1, 'releasing', '10 01', counts))
+            world.shadow.row(1, 'idle', counts=counts)
+            world.has(1, state='idle')
+            world.shadow.tell('command 1 1 0', row(1, 'seized', '00 10', counts))
+            world.has(1, state='seized')
+        lines = world.until(lambda: (found := self.lines(world)) and len(found) == 3 and found)
+        self.assertEqual([[line[key] for key in ('by', 'sent', 'received')] for line in lines],
+                         [['stop', '50', '40'], ['gateway', '10', '5'], ['gateway', '2', '1']])
+        self.assertEqual([bool(line['seized']) for line in lines], [True, False, True])
+        calls = [line['call'] for line in lines]
+        self.assertEqual((calls[0], calls[0] == calls[2]), (calls[1], False))
 
     def test_a_shadow_that_talks_nonsense(self) -> None:
         world = self.watched()

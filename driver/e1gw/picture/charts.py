@@ -93,7 +93,18 @@ def trunk(facts: Facts, scale: Scale) -> str:
             for kind in ('s-alarm', 'h-cross') if wide > 5 else ('s-alarm',):
                 sheet.box(scale.x(first), y, wide, 10, kind, f'{name}: {scale.span(first, last)}')
     _slips(sheet, facts, scale, 20 + 16 * len(rows))
+    outages(sheet, scale, 16, sheet.height - 2)
     return sheet.drawn()
+
+
+def outages(sheet: Sheet, scale: Scale, top: float, bottom: float) -> None:
+    """Grey gaps where no octets of the trunk came, over what is drawn."""
+    for (place, seconds, _), (_, room) in zip(scale.outages, scale.gaps):
+        wide, told = max(room / scale.octets, 2.4), duration(seconds * SECOND)
+        title = f'no octets of the trunk: {scale.words(place, seconds)} to {scale.words(place)}, {told}'
+        sheet.box(scale.x(place) - wide, top, wide, bottom - top, 'outage', title)
+        if wide > 6.5 * len(told):
+            sheet.words(scale.x(place) - wide / 2, top + 11, told, 'tick', 'middle')
 
 
 def _slips(sheet: Sheet, facts: Facts, scale: Scale, y: float) -> None:
@@ -135,6 +146,7 @@ def circuits(facts: Facts, rows: list[Row], scale: Scale, seen: dict[int, Pixels
         _lanes(sheet, row, facts, scale, seen[row.number], y + 13)
         _unheard(sheet, row, facts, scale, seen[row.number], y + 13)
         _commands(sheet, row, scale, y)
+    outages(sheet, scale, 16, sheet.height)
     return sheet.drawn()
 
 
@@ -301,6 +313,7 @@ class PlayoutChart:
             self._row(sheet, odd.columns(self.seen), 4, odd.words, 'tick' if odd.kind == 'silent' else 'bad',
                       self.y0 + self.high + 8 + 13 * n, odd.kind)
         self._hover(sheet)
+        outages(sheet, self.scale, self.y0, sheet.height)
         sheet.words(4, 30, f'circuit {row.number}', 'label strong')
         sheet.words(4, 44, f'prefill {row.prefill / 8:g} ms', 'tick')
         for n, code in enumerate(code for code in (14, 16) if code in self.whole.refused):
@@ -369,7 +382,7 @@ class PlayoutChart:
                     whole.join(self.seen[x])
             if not (whole.admitted or whole.refused):
                 continue
-            first = self.scale.start + int(begin * self.scale.octets)
+            first = self.scale.place(LEFT + begin)
             told = f'{whole.admitted} received'
             if whole.admitted:
                 told += f', {whole.low / 8:.1f} to {whole.high / 8:.1f} ms before their turn'

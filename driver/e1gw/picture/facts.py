@@ -14,6 +14,7 @@ from dataclasses import dataclass, field
 from typing import Any
 
 from ..followed import CircuitState
+from ..kept import Break
 from ..lines import SEIZURE_WAIT
 from ..repetitions import Repetitions
 from .sound import HeardSamples, ListeningTimes
@@ -21,6 +22,7 @@ from .sound import HeardSamples, ListeningTimes
 SECOND = 256_000            # octets of the trunk
 FRAME, MULTIFRAME = 32, 512
 MOST = 2400                 # columns
+MOST_CALLS = 200            # of a circuit whose wrong sources are kept, the last ones
 WINDOW = 3200               # samples in the playout
 OPEN = ('acked', 'answered', 'clearedback')
 NOT_OPEN = 20
@@ -165,10 +167,23 @@ class CommandMark:
 
 
 @dataclass
+class WrongSources:
+    """The sources that a call refused: of each how many datagrams, and the places of the first and the last one."""
+    right: int | None                   # that of the call's first datagram, if it is known
+    others: dict[int, list[int]] = field(default_factory=dict)
+
+    def see(self, ssrc: int, place: int) -> None:
+        if ssrc in self.others or len(self.others) < 8:
+            seen = self.others.setdefault(ssrc, [0, place, place])
+            seen[0], seen[2] = seen[0] + 1, place
+
+
+@dataclass
 class CallStream:
     """The stream of a call's datagrams so far."""
     base: int | None = None             # the sample at which timestamp 0 would be due
     ssrc: int = 0
+    wrong: WrongSources | None = None
     sequence: int = -1
     stamp: int = 0
     missing: set[int] = field(default_factory=set)      # missing sequence numbers
@@ -214,12 +229,10 @@ class Row:
     cell: Cell = field(default_factory=Cell)
     commands: dict[tuple[int, Answer], CommandMark] = field(default_factory=dict)
     stream: CallStream = field(default_factory=CallStream)
-    # Kinds of datagrams received, with the place where each was last seen.
-    types: dict[int, int] = field(default_factory=dict)
-    sources: dict[int, int] = field(default_factory=dict)
+    types: dict[int, int] = field(default_factory=dict)     # of datagrams received: the place where each was last seen
+    wrong: list[WrongSources] = field(default_factory=list)     # of the calls that had any
     mismatch: tuple[int, int] = (0, 0)          # words of a datagram, step of its timestamp
     begun: list[int] = field(default_factory=list)      # places where the playout restarted
-    ssrc: int | None = None                             # of the last call's first datagram
     wire: Wire | None = None
     step: int = 0                                       # of the timestamp, if it matches the words of a datagram
     length: int = 0                                     # of such a datagram
@@ -253,10 +266,11 @@ class Row:
     def _begin(self, stream: CallStream, place: int, kind: int, stamp: int, ssrc: int) -> None:
         """The first datagram of a call that is admitted."""
         stream.base, stream.ssrc, stream.sequence = place // FRAME + self.prefill - stamp, ssrc, -1
-        self.ssrc = ssrc
+        if stream.wrong:                # (a call that was up before)
+            stream.wrong.right = ssrc
         stream.missing.clear()
         self.begun.append(place)
-        self.types[kind] = self.sources[ssrc] = place
+        self.types[kind] = place
 
     def _follow(self, stream: CallStream, sequence: int, stamp: int, length: int) -> None:
         """Follows the place of a datagram in its stream."""
@@ -285,15 +299,13 @@ class Row:
         if code in TIMED and self.stream.base is not None:
             margin = (self.stream.base + stamp - place // FRAME + 0x8000_0000) % 0x1_0000_0000 - 0x8000_0000
         self.cell.refuse(code, margin)
-        if code == 11:
-            self._see(self.types, kind, place)
+        if code == 11 and (kind in self.types or len(self.types) < 8):
+            self.types[kind] = place
         elif code == 12:
-            self._see(self.sources, ssrc, place)
-
-    @staticmethod
-    def _see(seen: dict[int, int], value: int, place: int) -> None:
-        if value in seen or len(seen) < 8:
-            seen[value] = place
+            if not self.stream.wrong:
+                self.stream.wrong = WrongSources(None if self.stream.base is None else self.stream.ssrc)
+                self.wrong = [*self.wrong[1 - MOST_CALLS:], self.stream.wrong]
+            self.stream.wrong.see(ssrc, place)
 
     def state(self, place: int, state: str) -> None:
         """The line's state from a place."""
@@ -340,6 +352,7 @@ class Facts:
         self.slips: list[tuple[int, float]] | None = None       # place and seconds, if noted by the driver
         self.losses: dict[str, list[int]] = {'frame': [], 'multiframe': []}
         self.begin: float | None = None     # the time of place 0, in seconds since 1970, if known
+        self.breaks: list[Break] = []       # where the time goes on otherwise than the octets do
         self.told = 'e1gw'                  # the source of the datagrams' answers
         self.law = 'A'                      # of the trunk
         self.strays: Counter[tuple[str, int]] = Counter()       # at ports without a circuit: from, to
@@ -386,9 +399,10 @@ class Facts:
                 del row.commands[begun]
             row.states.forget(self.start)
             row.begun = [place for place in row.begun if place >= self.start]
-            for seen in (row.types, row.sources):
-                for value in [value for value, place in seen.items() if place < self.start]:
-                    del seen[value]
+            row.types = {kind: place for kind, place in row.types.items() if place >= self.start}
+            for wrong in row.wrong:
+                wrong.others = {ssrc: seen for ssrc, seen in wrong.others.items() if seen[2] >= self.start}
+            row.wrong = [wrong for wrong in row.wrong if wrong.others or wrong is row.stream.wrong]
         for spans in (*self.alarms.values(), self.ones):
             spans.forget(self.start)
         if self.slips:
@@ -442,7 +456,3 @@ class Facts:
         """A sample at a past place."""
         row = self.rows[circuit]
         row.cells.get(place // self.width, row.cell).hear(way, more)
-
-    def second(self, place: int) -> float:
-        """The time of a place, in seconds from place 0, or since 1970 if that is known."""
-        return place / SECOND + (self.begin or 0.0)

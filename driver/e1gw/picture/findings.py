@@ -13,6 +13,7 @@ from .svg import Scale, duration
 
 RATE = 20_000               # parts in a million above which it is no difference of clocks
 SHORT = SECOND // 50        # a shorter alarm of the far end is a bit error
+MOST_SPANS = 6              # that one anomaly names
 
 
 @dataclass(frozen=True)
@@ -99,8 +100,12 @@ def _gaps(facts: Facts, gaps: list[tuple[int, float, int]]) -> Iterator[Anomaly]
                       f'{whole:.0f} ms in all: as much of the trunk was lost', hint)
 
 
+def _scale(facts: Facts) -> Scale:
+    return Scale(facts.start, facts.place, facts.begin, facts.breaks)
+
+
 def _moment(facts: Facts, place: int) -> str:
-    return Scale(0, facts.place, facts.begin).words(place)
+    return _scale(facts).words(place)
 
 
 HINTS = {
@@ -111,7 +116,19 @@ HINTS = {
 }
 
 
-def _refused(row: Row, whole: Cell) -> Iterator[Anomaly]:
+def _wrong_sources(row: Row, scale: Scale) -> str:
+    """The sources that were refused, of each call with the one that was right."""
+    calls = []
+    for call in row.wrong:
+        right = 'not known' if call.right is None else f'{call.right:08x}'
+        others = [f'{ssrc:08x} came {times(count)} from {scale.words(first)} to {scale.words(last)}'
+                  for ssrc, (count, first, last) in call.others.items()]
+        calls.append(f'in the call whose first datagram had SSRC {right}, {" and ".join(others)}')
+    more = len(calls) - MOST_SPANS
+    return '; '.join(calls[:MOST_SPANS]) + f'; and in {more} more calls' * (more > 0)
+
+
+def _refused(row: Row, whole: Cell, scale: Scale) -> Iterator[Anomaly]:
     """Refused datagrams, by cause."""
     all_of = whole.admitted + sum(seen[0] for seen in whole.refused.values())
     for code, (count, low, high) in sorted(whole.refused.items()):
@@ -127,10 +144,7 @@ def _refused(row: Row, whole: Cell) -> Iterator[Anomaly]:
                           if {row.payload} | set(row.types) >= {0, 8} else
                           'another codec at the sender; comfort noise (13); telephone events; RTCP at this port')
         elif code == 12:
-            others = ', '.join(f'{ssrc:08x}' for ssrc in sorted(row.sources) if ssrc != row.ssrc)
-            first = 'none' if row.ssrc is None else f'{row.ssrc:08x}'
-            yield Anomaly('source', row.number, f'{part}WrongSource: SSRC {others or "another"} came, that of the '
-                          f'call\'s first datagram is {first}',
+            yield Anomaly('source', row.number, f'{part}WrongSource: {_wrong_sources(row, scale)}',
                           'a second sender, a stranger that came first, or a sender that restarted (hold, transfer); '
                           '`codec` with the codec that the circuit has accepts the next one')
         elif code == 14:
@@ -292,6 +306,13 @@ def _trunk(facts: Facts) -> Iterator[Anomaly]:
         if places:
             yield Anomaly(f'lost {what}', 0, f'{what} alignment was lost {times(len(places))}, first at '
                           f'{_moment(facts, places[0])}', 'the device lost or doubled octets, or the line was cut')
+    scale = _scale(facts)
+    if scale.outages:
+        when = [f'from {scale.words(place, seconds)} to {scale.words(place)} ({duration(seconds * SECOND)})'
+                for place, seconds, _ in scale.outages]
+        more = f' and {len(when) - MOST_SPANS} times more' if len(when) > MOST_SPANS else ''
+        yield Anomaly('outage', 0, f'no octets of the trunk came {", ".join(when[:MOST_SPANS])}{more}',
+                      'the device, the link or the exchange was away, or no program ran: see the journal of that time')
     slips = [(place, seconds) for place, seconds in facts.slips or () if facts.start <= place]
     if slips:
         yield Anomaly('slips', 0, f'the driver noted {len(slips)} slip{"s" * (len(slips) > 1)}, first at '
@@ -317,7 +338,7 @@ def findings(facts: Facts) -> list[Anomaly]:
         out += _way(row, whole)
         clocks = list(_clock(row, parts[row.number], found[row.number]))
         out += clocks
-        out += _refused(row, whole)
+        out += _refused(row, whole, _scale(facts))
         out += _repeated(row, whole)
         out += _jitter(row, whole, parts[row.number], bool(clocks or found[row.number]))
         out += _lost(row, whole)

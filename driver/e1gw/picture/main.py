@@ -20,7 +20,9 @@ from .capture import merged, reckoned
 from .facts import Facts
 from .page import draw
 from .reading import SessionReading, rows_of
+from .svg import duration
 
+STEP = 10 * OCTETS_A_SECOND  # of the trunk between two lines of how much is read
 UNITS = {'ms': 0.001, 's': 1.0, 'm': 60.0, 'h': 3600.0, 'd': 86400.0}
 
 MIDDLE = 'the session begins in the middle; calls that were under way show as fault or blocked until they end'
@@ -96,9 +98,32 @@ def parser() -> argparse.ArgumentParser:
     return words
 
 
-def given(session: KeptSession) -> Iterator[bytes]:
+class Progress:
+    """Says on a terminal how much of the trunk is read, each STEP octets of it."""
+
+    def __init__(self) -> None:
+        self.file = self._told = 0          # that is read now
+
+    def read(self, place: int, files: int) -> None:
+        """The session, which has `files` files, is read up to a place."""
+        if place >= self._told + STEP and sys.stderr.isatty():
+            self._told = place
+            where = f', file {self.file} of {files}' if files > 1 else ''
+            self._say(f'e1gw-picture: {duration(place)} of the trunk read{where}')
+
+    def end(self) -> None:
+        if self._told:
+            self._say('')
+
+    @staticmethod
+    def _say(words: str) -> None:
+        """In place of what was said before."""
+        print(f'\r\x1b[K{words}', end='', file=sys.stderr, flush=True)
+
+
+def given(session: KeptSession, progress: Progress) -> Iterator[bytes]:
     """The octets of a session."""
-    for path in session.files:
+    for progress.file, path in enumerate(session.files, 1):
         yield from pieces(sys.stdin.buffer) if path == '-' else octets_of(path)
 
 
@@ -111,12 +136,13 @@ def port_faults(path: str) -> int:
     return int(told[-1])
 
 
-def facts_of(options: argparse.Namespace, session: KeptSession, tables: dict[str, Any],
-             place: int) -> tuple[Facts, Iterator[bytes]]:
+def facts_of(options: argparse.Namespace, session: KeptSession, tables: dict[str, Any], place: int,
+             progress: Progress) -> tuple[Facts, Iterator[bytes]]:
     """The facts known of a session before it is read, and its octets from this place."""
     facts = Facts(rows_of(tables), span_of(options))
     facts.slips = session.slips and [(place + at, seconds) for at, seconds in session.slips]
-    octets = given(session)
+    facts.breaks = [each.behind(place) for each in session.breaks]
+    octets = given(session, progress)
     begin = options.begin if options.begin is not None else session.begin
     if options.capture:
         octets, begin = merged(octets, options.capture, tables, facts, begin, session.place)
@@ -128,20 +154,26 @@ def facts_of(options: argparse.Namespace, session: KeptSession, tables: dict[str
 def gathered(options: argparse.Namespace, session: KeptSession, config: str, known: Begun | None) -> tuple[Facts, str]:
     """The facts of a session, and a word about its end. It begins with a known gateway, or a new one."""
     wait = options.seizure_wait or session.wait
-    tables = with_wait(read_config(config), wait)
-    facts, octets = facts_of(options, session, tables, known.place if known else 0)
+    tables, progress = with_wait(read_config(config), wait), Progress()
+    facts, octets = facts_of(options, session, tables, known.place if known else 0, progress)
+
+    def told(place: int) -> None:
+        progress.read(place, len(session.files))
     if options.answers:
         with open(options.answers, 'rb') as answers:
             reading = SessionReading(facts, tables, Source(octets), answers, options.program)
-            reading.read()
+            reading.read(told)
+        progress.end()
         return facts, '' if reading.whole else 'it ends inside a record, or its answers do'
     program = program_of(options.program)
     replayed = Replayed(program, config, octets, session.state if known else '', wait)
     fault = ''
     try:
-        SessionReading(facts, tables, replayed.given, replayed.answered, program, known).read()
+        SessionReading(facts, tables, replayed.given, replayed.answered, program, known).read(told)
     except BadSession as bad:
         fault = str(bad)
+    finally:
+        progress.end()
     return facts, replayed.end() or fault
 
 

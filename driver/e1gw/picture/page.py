@@ -25,14 +25,14 @@ def escape(words: object) -> str:
     return html.escape(str(words))
 
 
-def table(caption: str, heads: Iterable[str], rows: list[tuple[object, ...]]) -> str:
-    """A table with numbers at the right."""
+def table(caption: str, heads: Iterable[str], rows: list[tuple[object, ...]], kind: str = '') -> str:
+    """A table with numbers at the right, of a class."""
     def cell(value: object) -> str:
         kind = ' class="n"' if isinstance(value, (int, float)) else ''
         return f'<td{kind}>{escape(value)}</td>'
     body = ''.join(f'<tr>{"".join(cell(value) for value in row)}</tr>' for row in rows[:LISTED])
     more = f'<p class="note">{len(rows) - LISTED} rows more.</p>' if len(rows) > LISTED else ''
-    return (f'<div class="wide"><table><caption>{escape(caption)}</caption><tr>'
+    return (f'<div class="wide"><table class="{kind}"><caption>{escape(caption)}</caption><tr>'
             f'{"".join(f"<th>{escape(head)}</th>" for head in heads)}</tr>{body}</table></div>{more}')
 
 
@@ -100,7 +100,7 @@ class PicturePage:
     def __init__(self, facts: Facts, title: str, circuits: list[int] | None = None,
                  notes: Iterable[str] = ()) -> None:
         self.facts, self.title, self.notes = facts, title, list(notes)
-        self.scale = Scale(facts.start, max(facts.place, facts.start + 256), facts.begin)
+        self.scale = Scale(facts.start, max(facts.place, facts.start + 256), facts.begin, facts.breaks)
         rows = [facts.rows[n] for n in circuits or sorted(facts.rows)]
         self.whole = {row.number: row.count() for row in rows}
         quiet = [row for row in rows if is_quiet(row, self.whole[row.number])]
@@ -121,8 +121,7 @@ class PicturePage:
         refused = sum(seen[0] for whole in wholes for seen in whole.refused.values())
         when = ''
         if facts.begin is not None:
-            first = facts.begin + facts.start / SECOND
-            when = time.strftime('%Y-%m-%d %H:%M:%S UTC, ', time.gmtime(first))
+            when = time.strftime('%Y-%m-%d %H:%M:%S UTC, ', time.gmtime(self.scale.second(facts.start)))
         calls, answers = (sum(whole.counts.get(name, 0) for whole in wholes) for name in ('calls', 'answers'))
         up = sum(row.state_at(facts.start) in OPEN for row in self.rows)
         before = f', {up} connected before' if up else ''
@@ -174,19 +173,19 @@ class PicturePage:
                          sum(seen[0] for seen in whole.refused.values()), charts.refusals(whole),
                          whole.counts.get('repetitions', 0), max(0, whole.lost), margin,
                          loud(whole.heard, 'order' if 'order' in whole.heard else 'came'), loud(whole.heard, 'slot'),
-                         f'{row.codec} {row.payload}', row.local, row.peer))
+                         f'{row.codec} {row.payload}',
+                         ' \N{RIGHTWARDS ARROW} '.join(filter(None, (row.local, row.peer)))))
         return table('Each circuit: counts; ms before their turn; levels, as played / in the other law or order', (
             'circuit', 'role', 'at the end', 'calls', 'answered', 'connected, s', 'sent', 'received', 'discarded',
-            'causes', 'repetitions',
-            'lost', 'least / mean / most ms', 'came, dBm0', 'slot, dBm0', 'codec, type', 'receives at', 'sends to'),
-                     rows)
+            'causes', 'repeated', 'lost', 'least / mean / most ms', 'came, dBm0', 'slot, dBm0', 'codec, type',
+            'receives at \N{RIGHTWARDS ARROW} sends to'), rows, 'counts')
 
     def states(self) -> str:
         rows: list[tuple[object, ...]] = []
         for row in self.rows:
             for first, last, state in row.states.between(self.facts.start, self.facts.place):
-                rows.append((row.number, self.scale.words(first), self.scale.words(last), duration(last - first),
-                             charts.MEANS[state]))
+                rows.append((row.number, self.scale.words(first), self.scale.words(last),
+                             self.scale.long(first, last), charts.MEANS[state]))
         return table('The states of the circuits', ('circuit', 'from', 'to', 'for', 'state'), rows)
 
     def commands(self) -> str:
@@ -205,7 +204,9 @@ class PicturePage:
         for name, each in (*spans, ('AIS (all ones)', self.facts.ones)):
             for first, last, on in each.between(self.facts.start, self.facts.place):
                 if on:
-                    rows.append((name, self.scale.words(first), self.scale.words(last), duration(last - first)))
+                    rows.append((name, self.scale.words(first), self.scale.words(last), self.scale.long(first, last)))
+        rows += [('no octets (outage)', self.scale.words(place, seconds), self.scale.words(place),
+                  duration(seconds * SECOND)) for place, seconds, _ in self.scale.outages]
         return table('Alarms of the trunk', ('alarm', 'from', 'to', 'for'), rows)
 
     # ---- all of it ----

@@ -3,7 +3,7 @@ from __future__ import annotations
 
 import re
 from collections import deque
-from typing import Any, Mapping
+from typing import Any, Callable, Mapping
 
 from ..lines import SEIZURE_WAIT, WAIT, Event, law_of
 from ..repetitions import mark_of
@@ -118,11 +118,12 @@ class SessionReading:
         self.place = self.followed = begun.place
         self.due = begun.place + MULTIFRAME
 
-    def read(self) -> None:
-        """Reads everything, or until one of the two ends. BadSession for an invalid record."""
+    def read(self, reached: Callable[[int], None] = lambda place: None) -> None:
+        """Reads everything, or until one of the two ends. `reached` is called with the place after each piece.
+        BadSession for an invalid record."""
         try:
             while self.go_on() and self.given.more():
-                pass
+                reached(self.place)
             self.flush()
         finally:
             self.listener.look()

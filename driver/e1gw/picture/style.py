@@ -42,10 +42,11 @@ text{fill:var(--ink);font-size:11.5px}.tick{font-size:10.5px;fill:var(--soft)}.b
 .p-refused,.p-strip{fill:var(--refused)}
 .nothing{stroke:var(--refused);stroke-width:2;stroke-dasharray:5 4;fill:none}.astray{stroke-width:3.4}
 .unlike{fill:var(--refused)}.silent{fill:var(--bg);stroke:var(--line);stroke-width:1}
-.over{fill:transparent}.over:hover{fill:var(--line);fill-opacity:.18}
+.outage{fill:var(--grid)}.over{fill:transparent}.over:hover{fill:var(--line);fill-opacity:.18}
 table{border-collapse:collapse;margin:6px 0;font-variant-numeric:tabular-nums}caption{text-align:left;color:var(--soft)}
 td,th{border-bottom:1px solid var(--grid);padding:2px 12px 2px 0;text-align:left;vertical-align:top;white-space:nowrap;
 font-size:12.5px}
+.counts td,.counts th{white-space:normal;padding-right:8px;font-size:12px}
 th{font-weight:600;color:var(--soft)}td.n{text-align:right}summary{cursor:pointer;margin:6px 0}
 @media print{:root{color-scheme:light;--bg:#fff;--ink:#000;--soft:#444;--grid:#ccc;--idle:#c9ced5;--seized:#e69f00;
 --acked:#a9d4f1;--answered:#0b64a0;--clearedback:#b388c9;--releasing:#b79b6a;--blocked:#4d5661;--fault:#d55e00;

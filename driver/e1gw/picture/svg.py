@@ -3,11 +3,13 @@ from __future__ import annotations
 
 import html
 import time
-from collections.abc import Iterable
+from collections.abc import Iterable, Sequence
 
+from ..kept import Break
 from .facts import SECOND
 
 LEFT, WIDE, RIGHT = 126, 1000, 14
+TICK = 6.2                  # pixels of a character of a time above a drawing, at most
 STEPS = (0.01, 0.02, 0.05, 0.1, 0.2, 0.5, 1, 2, 5, 10, 20, 30, 60, 120, 300, 600, 1200, 1800, 3600, 7200, 14400, 43200,
          86400)
 
@@ -22,37 +24,60 @@ def clock(second: float, digits: int = 3) -> str:
 
 
 class Scale:
-    """The places of the trunk on the sheet, and their names."""
+    """The places of the trunk on the sheet, and their names. `breaks` are those of the facts. An outage takes room
+    behind the octets before it: to scale, if all are at most half as long as the trunk that is drawn."""
 
     coarse = 1                          # by how much detail is reduced
 
-    def __init__(self, start: int, end: int, begin: float | None) -> None:
-        self.start, self.end, self.begin = start, max(end, start + 256), begin
-        self.octets = (self.end - self.start) / WIDE        # to a pixel
+    def __init__(self, start: int, end: int, begin: float | None, breaks: Sequence[Break] = ()) -> None:
+        self.start, self.end, self.begin, self.breaks = start, max(end, start + 256), begin, breaks
+        self.outages = [each for each in breaks if each.is_outage and start < each.place <= end]
+        whole, long = sum(each.seconds for each in self.outages) * SECOND, self.end - self.start
+        part = min(1.0, long / 2 / whole) if whole else 0.0
+        self.gaps = [(each.place, part * each.seconds * SECOND) for each in self.outages]       # as they are drawn
+        self.octets = (long + part * whole) / WIDE          # to a pixel
 
     def x(self, place: float) -> float:
-        return LEFT + (min(max(place, self.start), self.end) - self.start) / self.octets
+        inside = min(max(place, self.start), self.end)
+        return LEFT + (inside - self.start + sum(room for at, room in self.gaps if at <= inside)) / self.octets
 
-    def words(self, place: int) -> str:
-        """A moment as text."""
+    def place(self, x: float) -> int:
+        """The place that is drawn there; in an outage the one behind it."""
+        place = self.start + (x - LEFT) * self.octets
+        for at, room in self.gaps:
+            place = max(at, place - room) if place >= at else place
+        return int(place)
+
+    def second(self, place: float) -> float:
+        """The time of a place, in seconds from place 0, or since 1970 if that is known."""
+        return (self.begin or 0.0) + place / SECOND + sum(each.seconds for each in self.breaks if each.place <= place)
+
+    def words(self, place: int, before: float = 0.0) -> str:
+        """The time of a place as text, or the time `before` seconds earlier."""
+        seconds = self.second(place) - before
         if self.begin is None:
-            seconds = place / SECOND
             return f'{seconds:.3f} s' if seconds < 300 else f'{int(seconds) // 60}:{seconds % 60:06.3f} min'
-        return clock(self.begin + place / SECOND)
+        return clock(seconds)
+
+    def long(self, first: int, last: int) -> str:
+        """How long it is from a place to another, outages between them included."""
+        away = sum(each.seconds for each in self.outages if first < each.place <= last)
+        return duration(last - first + SECOND * away)
 
     def span(self, first: int, last: int) -> str:
-        return f'{self.words(first)} to {self.words(last)}, {duration(last - first)}'
+        return f'{self.words(first)} to {self.words(last)}, {self.long(first, last)}'
 
     def ticks(self) -> list[tuple[float, str]]:
-        """The places of round times, and their texts."""
-        origin = self.begin or 0.0
-        first, last = origin + self.start / SECOND, origin + self.end / SECOND
-        step = next((step for step in STEPS if (last - first) / step <= 10), STEPS[-1])
+        """The places of round times, and their texts; none in an outage."""
+        step = next((step for step in STEPS if self.octets * WIDE / SECOND / step <= 10), STEPS[-1])
         out = []
-        n = -int(-first // step)
-        while n * step <= last + 1e-9:
-            out.append((self.x((n * step - origin) * SECOND), self._tick(n * step, step)))
-            n += 1
+        edges = [self.start, *(each.place for each in self.outages), self.end + 1]
+        for first, last in zip(edges, edges[1:]):
+            origin = self.second(first) - first / SECOND
+            n = -int(-self.second(first) // step)
+            while n * step <= origin + (last - 1) / SECOND + 1e-9:
+                out.append((self.x((n * step - origin) * SECOND), self._tick(n * step, step)))
+                n += 1
         return out
 
     def _tick(self, second: float, step: float) -> str:
@@ -104,7 +129,11 @@ class Sheet:
         lines = []
         for x, words in scale.ticks():
             lines.append(f'M{x:.1f} {top:g}V{bottom:g}')
-            self.words(min(x, LEFT + WIDE - 10), top - 3, words, 'tick', 'middle')
+            middle = min(x, LEFT + WIDE - 10)
+            if middle + TICK * len(words) / 2 > LEFT + WIDE + RIGHT:
+                self.words(LEFT + WIDE + RIGHT - 1, top - 3, words, 'tick', 'end')
+            else:
+                self.words(middle, top - 3, words, 'tick', 'middle')
         self.path(''.join(lines), 'grid')
 
     def drawn(self) -> str:

@@ -93,6 +93,16 @@ class TieCircuit:
             return self._outgoing(link)
         return None if waits and self.state is State.ACKED and self.ends(link) else self._incoming(link)
 
+    def reasons(self, command: Command, link: LinkState) -> dict[str, str]:
+        """What the log says of a command besides its answer: why an outgoing end clears its call."""
+        if command is not Command.CLEAR:
+            return {}
+        if link is LinkState.GIVEN_UP or self.far is None:
+            return {'why': 'the other site is gone, or a trunk is out of service'}
+        if self.far.over:
+            return {'why': 'the other end has given the call up'}
+        return {'why': f'the other end has no such call: it is {self.far.state}'}
+
     def _outgoing(self, link: LinkState) -> Command | None:
         called = self.state in IN_CALL
         if link is LinkState.GIVEN_UP:

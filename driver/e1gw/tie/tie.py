@@ -235,13 +235,13 @@ class Tie:
         command = marked_over.wants(link, self.options.waits)
         if command is not None:
             self._busy[n] = command
-            self.tasks.begin(self._do(self.control.client, n, command))
+            self.tasks.begin(self._do(self.control.client, n, command, marked_over.reasons(command, link)))
 
     def _look_at_all(self) -> None:
         for n in list(self.circuits):
             self._look(n)
 
-    async def _do(self, client: ControlClient, n: int, command: Command) -> None:
+    async def _do(self, client: ControlClient, n: int, command: Command, why: dict[str, str]) -> None:
         far, began = self.circuits[n].far, time.monotonic()
         try:
             answer = await client.ask(f'{command.word} {n}')
@@ -250,7 +250,7 @@ class Tie:
             return
         done = answer.endswith('done')
         self.tell('command', circuit=n, command=command.word, answer=answer.rpartition(': ')[2],
-                  ms=round((time.monotonic() - began) * 1000, 2))
+                  ms=round((time.monotonic() - began) * 1000, 2), **why)
         if command is Command.SEIZE:
             self._put(n, self.circuits[n].tried(far.call or NO_CALL if far else NO_CALL))
         elif command is Command.BLOCK and not done:

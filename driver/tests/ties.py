@@ -1,0 +1,203 @@
+"""Two ties with played drivers, whose exchanges send what a test sets."""
+from __future__ import annotations
+
+import asyncio
+import itertools
+import json
+import os
+import tempfile
+import unittest
+from contextlib import suppress
+from typing import Any, Callable
+from unittest import mock
+
+from e1gw.lines import Role, State
+from e1gw.session import CIRCUITS, Command
+from e1gw.tie import site as site_module
+from e1gw.tie import tie as tie_module
+from e1gw.tie.coding import Coding
+from e1gw.tie.kept import KeptBlocks
+from e1gw.tie.site import Site
+from e1gw.tie.tie import Tie, TieOptions
+from tests.loop_clock import LoopClock
+from tests.support import free_port
+from tests.test_tie_circuit import COLUMN, DONE, INCOMING, OUTGOING
+
+HOLD, RUNS = 3.0, itertools.count()         # seconds, and the numbers of runs
+IDLE, SEIZED, ANSWER, HELD = 0b10, 0b00, 0b01, 0b11         # bits a and b
+G726 = Coding('g726-16', 96)
+
+
+class StandInDriver:
+    """A driver at a control socket, whose lines go by the tables and whose exchange sends what the test sets."""
+
+    def __init__(self, path: str, roles: dict[int, Role]) -> None:
+        self.path, self.roles = path, roles
+        self.states = dict.fromkeys(CIRCUITS, State.IDLE)
+        self.pairs = dict.fromkeys(CIRCUITS, IDLE)
+        self.seizures = dict.fromkeys(CIRCUITS, 0)
+        self.codecs = dict.fromkeys(CIRCUITS, G726)
+        self.law = 'A'
+        self.alarm = self.acknowledges = False
+        self.octets = 0
+        self.asked: list[str] = []
+        self.clients: list[asyncio.StreamWriter] = []
+        self.server: asyncio.AbstractServer | None = None
+
+    async def start(self) -> None:
+        self.server = await asyncio.start_unix_server(self.client, self.path)
+
+    async def stop(self) -> None:
+        assert self.server
+        self.server.close()
+        for client in self.clients:
+            client.close()
+        self.clients = []
+
+    def tell(self, **event: Any) -> None:
+        for client in self.clients:
+            client.write(json.dumps(event).encode() + b'\n')
+
+    async def client(self, reader: asyncio.StreamReader, writer: asyncio.StreamWriter) -> None:
+        with suppress(ConnectionError, asyncio.CancelledError):
+            while line := await reader.readline():
+                words = line.decode().split()
+                if words == ['events']:
+                    self.clients.append(writer)
+                writer.write(f'{self.obey(words)}\n\n'.encode())
+        if writer in self.clients:
+            self.clients.remove(writer)
+
+    def obey(self, words: list[str]) -> str:
+        self.asked.append(' '.join(words))
+        if words[0] == 'status':
+            return json.dumps(self.status())
+        if words[0] in ('events', 'on-loss'):
+            return f'{words[0]}: done'
+        if words[0] == 'codec':
+            return self.change(int(words[1]), Coding(words[2], int(words[3])))
+        n, command = int(words[1]), next(each for each in Command if each.word == words[0])
+        of, to = DONE[command]
+        mine = (self.roles[n] is Role.OUTGOING) == (command in (Command.SEIZE, Command.CLEAR))
+        answer = 'done' if mine and self.states[n] in of else 'not idle'
+        if answer == 'done':
+            self.move(n, to)
+        self.tell(event='command', circuit=n, command=words[0], answer=answer)
+        return f'{words[0]} {n}: {answer}'
+
+    def status(self) -> dict[str, Any]:
+        self.octets += 256
+        none = {'frame': False, 'multiframe': False}
+        trunk = {'octets': self.octets, 'law': self.law, 'alarm': {**none, 'frame': self.alarm}, 'remote_alarm': none}
+        return trunk | {'circuits': [
+            {'circuit': n, 'role': str(self.roles[n]), 'state': str(self.states[n]), 'seizures': self.seizures[n],
+             'codec': self.codecs[n].codec, 'payload': self.codecs[n].payload, 'configured_codec': G726.codec,
+             'configured_payload': G726.payload}
+            for n in CIRCUITS]}
+
+    def change(self, n: int, coding: Coding) -> str:
+        self.codecs[n] = coding
+        self.tell(event='codec', circuit=n, codec=coding.codec, payload=coding.payload)
+        return f'codec {n}: done'
+
+    def move(self, n: int, state: State) -> None:
+        was, self.states[n] = self.states[n], state
+        self.seizures[n] += state in (State.ACKED, State.SEIZED) and was is State.IDLE
+        if state is not was:
+            self.tell(event='state', circuit=n, role=str(self.roles[n]), was=str(was), state=str(state))
+        if self.roles[n] is Role.OUTGOING and self.acknowledges:
+            self.pairs[n] = {State.SEIZED: HELD, State.RELEASING: IDLE}.get(state, self.pairs[n])
+
+    def send(self, n: int, pair: int) -> None:
+        """The exchange sends these bits on a circuit, and they are recognised."""
+        self.pairs[n] = pair
+        self.recognise()
+
+    def recognise(self) -> None:
+        for n in CIRCUITS:
+            table = INCOMING if self.roles[n] is Role.INCOMING else OUTGOING
+            self.move(n, table[self.states[n]][COLUMN[self.pairs[n]]])
+
+
+class TieCase(unittest.IsolatedAsyncioTestCase):
+    """Two ties with played drivers: on odd circuits the west calls, on even ones the east."""
+
+    async def asyncSetUp(self) -> None:
+        self.folder = tempfile.TemporaryDirectory()
+        self.tasks: list[asyncio.Task[Any]] = []
+        self.events: dict[str, list[dict[str, Any]]] = {'west': [], 'east': []}
+        self.port = 0
+        asyncio.get_running_loop().set_exception_handler(lambda *_: None)
+        clock = mock.patch.object(tie_module, 'time', LoopClock(asyncio.get_running_loop()))
+        clock.start()
+        self.addCleanup(clock.stop)
+        for name, number in {'GONE': 2.0, 'ALIVE': 0.2, 'AGAIN': 0.05}.items():
+            change = mock.patch.object(site_module, name, number)
+            change.start()
+            self.addCleanup(change.stop)
+        self.west, self.east = (StandInDriver(os.path.join(self.folder.name, name), {
+            n: Role.INCOMING if n % 2 == odd else Role.OUTGOING for n in CIRCUITS})
+            for name, odd in (('west.ctl', 1), ('east.ctl', 0)))
+        for driver in (self.west, self.east):
+            driver.acknowledges = True
+            await driver.start()
+
+    async def asyncTearDown(self) -> None:
+        for task in self.tasks:
+            task.cancel()
+        await asyncio.gather(*self.tasks, return_exceptions=True)
+        for driver in (self.west, self.east):
+            await driver.stop()
+        self.folder.cleanup()
+
+    def tie(self, name: str, waits: bool = False, **more: Any) -> tuple[Tie, Site]:
+        driver = self.west if name == 'west' else self.east
+        told = self.events[name]
+        options = TieOptions(driver.path, more.get('pairs'), HOLD, waits, more.get('until'))
+        kept = KeptBlocks(os.path.join(self.folder.name, f'{name}.kept'))
+        made = Tie(options, f'run {next(RUNS)} of {name}', kept,
+                   lambda event, **fields: told.append({'event': event, **fields}))
+        if not self.port:
+            self.port = free_port()
+        made.site = Site(('127.0.0.1', self.port), name == 'west', more.get('context'), more.get('peer'), made)
+        return made, made.site
+
+    def run_tie(self, made: Tie, site: Site) -> list[asyncio.Task[Any]]:
+        made.link.start()
+        tasks = [asyncio.create_task(made.control.follow()), asyncio.create_task(site.run())]
+        self.tasks += tasks
+        return tasks
+
+    async def kill(self, tasks: list[asyncio.Task[Any]], site: Site) -> None:
+        """A tie ends at once."""
+        for task in tasks:
+            task.cancel()
+        await asyncio.gather(*tasks, return_exceptions=True)
+        site.close()
+
+    async def both(self, **more: Any) -> None:
+        self.sites = [self.tie(name, **more) for name in ('west', 'east')]
+        for made, site in self.sites:
+            self.run_tie(made, site)
+        await self.until(lambda: all(self.told(name, 'link') and self.told(name, 'link')[-1]['state'] == 'good'
+                                     for name in self.events))
+        joined = [n for n in CIRCUITS if self.west.roles[n] is not self.east.roles[n]]
+        await self.until(lambda: all(self.at(n, State.IDLE, State.IDLE)() for n in joined))
+        self.west.asked = [each for each in self.west.asked if 'block' not in each or 'on-loss' in each]
+
+    def told(self, name: str, event: str) -> list[dict[str, Any]]:
+        return [each for each in self.events[name] if each['event'] == event]
+
+    async def until(self, holds: Callable[[], bool]) -> None:
+        while not holds():
+            await asyncio.sleep(0.01)
+            self.west.recognise()
+            self.east.recognise()
+
+    async def sends(self, driver: StandInDriver, n: int, pair: int, west: State, east: State | None = None) -> None:
+        """An exchange sends these bits, and both ends come into these states."""
+        driver.send(n, pair)
+        await self.until(self.at(n, west, east or west))
+
+    def at(self, n: int, west: State, east: State) -> Callable[[], bool]:
+        return lambda: (self.west.states[n], self.east.states[n]) == (west, east)
