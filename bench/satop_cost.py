@@ -15,20 +15,11 @@ import sys
 import tempfile
 
 import paths    # noqa: F401 (makes e1gw known)
+from e1gw.testing.ports import free_ports
 from satop_far import PATIENCE, SIZE, Multiplexer, Network, wait_for
 
 JITTER = 4                  # packets, the program's default
 BITS = 3
-
-
-def free_ports() -> tuple[int, int]:
-    lines = [socket.socket(socket.AF_INET, socket.SOCK_DGRAM) for _ in range(2)]
-    for line in lines:
-        line.bind(('127.0.0.1', 0))
-    near, far = (int(line.getsockname()[1]) for line in lines)
-    for line in lines:
-        line.close()
-    return near, far
 
 
 class Ends:
@@ -69,7 +60,7 @@ class Ends:
 
 def run(program: str, packets: int, out: str = '/dev/null') -> tuple[int, int]:
     """The instructions of a run over this many packets, and the octets that came and went."""
-    near, there = free_ports()
+    near, there = free_ports(2)
     far = Multiplexer(('127.0.0.1', there), ('127.0.0.1', near), Network(random.Random(7)), BITS)
     ours, its = socket.socketpair()
     with tempfile.TemporaryDirectory() as folder, ours, far.socket:

@@ -11,6 +11,7 @@ import subprocess
 from typing import Iterator
 
 from e1gw.satop_process import counts_of
+from e1gw.testing.ports import free_port
 
 from . import support
 from .support import SECONDS
@@ -23,14 +24,11 @@ class FarEnd:
         self.line = socket.socket(socket.AF_INET, socket.SOCK_DGRAM)
         self.line.bind(('127.0.0.1', 0))
         self.line.settimeout(SECONDS)
-        near, host = socket.socket(socket.AF_INET, socket.SOCK_DGRAM), '127.0.0.1'
-        near.bind((host, 0))
-        ends = [f'{host}:{each.getsockname()[1]}' for each in (near, self.line)]
-        near.close()
+        self.near = '127.0.0.1', free_port(kind=socket.SOCK_DGRAM)
+        ends = [f'{host}:{port}' for host, port in (self.near, self.line.getsockname())]
         self.program = subprocess.Popen([support.program(), 'satop', *ends, *options], stdin=subprocess.PIPE,
                                         stdout=subprocess.PIPE if plays else subprocess.DEVNULL,
                                         stderr=subprocess.PIPE)
-        self.near = host, int(ends[0].rpartition(':')[2])
         self.out = b''       # what it has played, from the first packet on
 
     def packets(self, octets: bytes, count: int) -> list[bytes]:

@@ -24,8 +24,8 @@ from e1gw.testing.service import Service
 TOP = os.path.dirname(os.path.dirname(os.path.dirname(os.path.abspath(__file__))))
 sys.dont_write_bytecode = True
 
-__all__ = ['Exchange', 'FolderCase', 'SECONDS', 'Service', 'TOP', 'all_read', 'free_port', 'launcher', 'program', 'run',
-           'until', 'without']
+__all__ = ['Exchange', 'FolderCase', 'SECONDS', 'Service', 'TOP', 'all_read', 'launcher', 'program', 'run', 'until',
+           'without']
 
 T = TypeVar('T')
 
@@ -85,13 +85,6 @@ def program() -> str:
 def all_read(line: socket.socket) -> None:
     """Returns once the other end of a Unix socket has read all that was sent."""
     until(lambda: not int.from_bytes(fcntl.ioctl(line, termios.TIOCOUTQ, bytes(4)), sys.byteorder), 0.001)
-
-
-def free_port() -> int:
-    """A TCP port at 127.0.0.1 that is free now."""
-    with socket.create_server(('127.0.0.1', 0)) as listener:
-        port: int = listener.getsockname()[1]
-        return port
 
 
 def without(sent: bytes, circuit: int) -> bytes:

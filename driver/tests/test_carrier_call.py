@@ -16,7 +16,6 @@ from . import support
 from .support import SECONDS
 from .test_carrier import LAUNCHER, CarrierCase
 from .test_keeper import LAUNCHER as KEEPER
-from .test_satop_call import free_ports
 from .world import child_of
 from e1gw.carrier import Carrier
 from e1gw.crc4 import Crc4, with_crc4
@@ -24,6 +23,7 @@ from e1gw.exchange import ACKNOWLEDGED, SEIZED
 from e1gw.followed import FollowedTrunk
 from e1gw.lines import read_config
 from e1gw.session import FRAME, MULTIFRAME, Command, Kind, command_record, records_in
+from e1gw.testing.ports import free_ports
 from e1gw.trunks import Stream
 
 

@@ -21,12 +21,12 @@ import unittest
 
 from . import limits, support
 from .support import SECONDS
-from .world import free_ports
 from e1gw.exchange import ACKNOWLEDGED, ANSWERED, SEIZED
 from e1gw.keeper_files import TrunkAbout, about_trunk
 from e1gw.session import MULTIFRAME, Codec, Command, Kind, codec_record, command_record, packet_of, records_in
 from e1gw.session import trunk_record
 from e1gw.standby import DEATHS, MOST_PAUSE, Deaths
+from e1gw.testing.ports import free_ports
 
 LAUNCHER = support.launcher('keep')
 NO_EFFECT = codec_record(1, Codec.G726_16, 1)    # no payload type of the codec: it is refused

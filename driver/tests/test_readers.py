@@ -13,7 +13,7 @@ from typing import Any
 from unittest import mock
 
 from .readers import EVENTS
-from .support import SECONDS, free_port, until
+from .support import SECONDS, until
 from .test_trunk import FOUR, aligned, call
 from .world import World, config_of, descendant
 from e1gw import control, loop, pages, snapshots
@@ -21,6 +21,7 @@ from e1gw.loop import READ, SAVED, SHARE, Loop
 from e1gw.pages import Pages
 from e1gw.snapshots import Snapshot, Snapshots
 from e1gw.sockets import SocketTables
+from e1gw.testing.ports import free_port
 
 
 class LoopTests(unittest.TestCase):

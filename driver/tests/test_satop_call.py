@@ -2,20 +2,9 @@
 from __future__ import annotations
 
 import os
-import socket
 
 from . import support
-
-
-def free_ports(count: int) -> list[int]:
-    """UDP ports at 127.0.0.1 that are free now."""
-    lines = [socket.socket(socket.AF_INET, socket.SOCK_DGRAM) for _ in range(count)]
-    for line in lines:
-        line.bind(('127.0.0.1', 0))
-    ports = [line.getsockname()[1] for line in lines]
-    for line in lines:
-        line.close()
-    return ports
+from e1gw.testing.ports import free_ports
 
 
 class SatopEnd(support.Service):

@@ -14,6 +14,7 @@ from unittest import mock
 
 from e1gw.lines import Role, State
 from e1gw.session import CIRCUITS
+from e1gw.testing.ports import free_port
 from e1gw.tie import site as site_module
 from e1gw.tie.circuit import CircuitEnd
 from e1gw.tie.coding import Coding, Codings
@@ -26,7 +27,7 @@ from e1gw.tie.pairs import BadPairs, agreed, pairs_of
 from e1gw.tie.site import Site, context_of, has_name
 from e1gw.tie.strangers import Stranger, StrangerStage, Strangers, address_of
 from e1gw.tie.tie import Tie, TieOptions
-from tests.support import SECONDS, free_port
+from tests.support import SECONDS
 from tests.test_tie_circuit import CALLED
 from tests.ties import ANSWER, G726, HELD, HOLD, IDLE, SEIZED, TieCase
 

@@ -19,10 +19,11 @@ from typing import Any, Sequence, TypeVar
 from . import support
 from .flowing import is_seized
 from .support import SECONDS
-from .world import ANSWERED, IDLE, LAUNCHER, SEIZED, World, config_of, descendant, free_ports
+from .world import ANSWERED, IDLE, LAUNCHER, SEIZED, World, config_of, descendant
 from e1gw import session
 from e1gw.clearing import DisconnectPolicy, DisconnectWatch, OutageWatch
 from e1gw.recovery import NOTE, forget_folders, own_prefix
+from e1gw.testing.ports import free_ports
 from e1gw.testing.service import ask
 from e1gw.trunk import options_of, parts_of
 

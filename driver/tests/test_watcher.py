@@ -13,13 +13,14 @@ import unittest
 import urllib.request
 from typing import Any, Mapping
 
-from .support import SECONDS, FolderCase, free_port
+from .support import SECONDS, FolderCase
 from .telling import IDLE, LAUNCHER, StandInListener, StandInProgram, StandInShadow, WatchedTrunk, row
 from .test_web import samples
 from e1gw.keep import put_file
 from e1gw.links import Link
 from e1gw.loop import Loop
 from e1gw.session import Codec, Command, Record, codec_record, command_record
+from e1gw.testing.ports import free_port
 from e1gw.watcher import PATIENCE, Program
 
 CONFIG = 'law = "A"\n[[circuit]]\nnumber = 1\nprefill = 320\n[[circuit]]\nnumber = 2\nrole = "incoming"\n'

@@ -12,11 +12,12 @@ import urllib.error
 import urllib.request
 
 from . import support
-from .support import SECONDS, free_port
+from .support import SECONDS
 from .test_trunk import FOUR, aligned, call
 from .world import World, config_of
 from e1gw.crc4 import Crc4
 from e1gw.metrics import exposition, family
+from e1gw.testing.ports import free_port
 
 SAMPLE = re.compile(r'([a-z_0-9]+)(\{(?:[a-z_]+="(?:[^"\\]|\\.)*",?)*\})? (-?[0-9.e+-]+)')
 

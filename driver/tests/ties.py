@@ -13,6 +13,7 @@ from unittest import mock
 
 from e1gw.lines import Role, State
 from e1gw.session import CIRCUITS, Command
+from e1gw.testing.ports import free_port
 from e1gw.tie import site as site_module
 from e1gw.tie import tie as tie_module
 from e1gw.tie.coding import Coding
@@ -20,7 +21,6 @@ from e1gw.tie.kept import KeptBlocks
 from e1gw.tie.site import Site
 from e1gw.tie.tie import Tie, TieOptions
 from tests.loop_clock import LoopClock
-from tests.support import free_port
 from tests.test_tie_circuit import COLUMN, DONE, INCOMING, OUTGOING
 
 HOLD, RUNS = 3.0, itertools.count()         # seconds, and the numbers of runs

@@ -15,26 +15,12 @@ from typing import Any, Callable, Mapping, Self
 
 from . import limits, support
 from .support import SECONDS
+from e1gw.testing.ports import free_ports
 from e1gw.testing.service import ask
 
 IDLE, SEIZED, ACKNOWLEDGED, ANSWERED = 2, 0, 3, 1
 LAUNCHER = support.launcher('trunk')
 ANSWERS_AFTER = 20          # multiframes
-
-
-def free_ports(count: int) -> list[int]:
-    """Even UDP ports at 127.0.0.1 that are free now."""
-    found: list[int] = []
-    for port in range(30_000 + os.getpid() % 500 * 40, 65_000, 2):
-        with socket.socket(socket.AF_INET, socket.SOCK_DGRAM) as end:
-            try:
-                end.bind(('127.0.0.1', port))
-            except OSError:
-                continue
-        found.append(port)
-        if len(found) == count:
-            return found
-    raise RuntimeError('no free ports')
 
 
 def child_of(parent: int, word: str) -> int:

@@ -17,6 +17,7 @@ from typing import Any
 
 from ..exchange import ACKNOWLEDGED, Exchange, ServeProcess
 from . import limited
+from .ports import free_ports
 
 Wrongs = Iterator[str]      # what is not as it must be
 
@@ -53,7 +54,7 @@ class UdpCalls:
         self.host, self.circuits = host, circuits
         self.held = contextlib.ExitStack()
         self.peers = {c: self.socket(peer_host or host) for c in circuits}
-        self.locals = {c: free_port(host) for c in circuits}
+        self.locals = dict(zip(circuits, free_ports(len(circuits), host)))
         path = os.path.join(room, 'wire.toml')
         with open(path, 'w', encoding='ascii') as text:
             text.write(CONFIG.format(host=named))
@@ -133,13 +134,6 @@ def bound(host: str, port: int = 0) -> socket.socket:
     found = socket.socket(family_of(host), socket.SOCK_DGRAM)
     found.bind((host, port))
     return found
-
-
-def free_port(host: str) -> int:
-    """A port of UDP at this address that nothing holds."""
-    with bound(host) as found:
-        port: int = found.getsockname()[1]
-        return port
 
 
 def has_ipv6() -> bool:
@@ -317,7 +311,7 @@ SHUT = {
 
 def one_circuit(room: str, peer: socket.socket) -> tuple[str, int]:
     """A configuration of one circuit with a free port and this peer: its path, and the port."""
-    path, port = os.path.join(room, 'wire.toml'), free_port('127.0.0.1')
+    path, [port] = os.path.join(room, 'wire.toml'), free_ports(1)
     with open(path, 'w', encoding='ascii') as text:
         text.write(CONFIG.format(host='127.0.0.1')
                    + CIRCUIT.format(number=1, local=port, peer_host='127.0.0.1', peer=peer.getsockname()[1]))
