@@ -18,8 +18,8 @@ use gw_records::{
 };
 use gw_switch::Gateway;
 
-/// Inputs on the records of the source, of these kinds, by a gateway, records on a tape what it takes, and
-/// shows each record to a watch when the gateway has acted on it. It is inlined, so that a session tests for
+/// Gives a gateway the records of the source, of these kinds, records on a tape what it takes, and shows each
+/// record to a watch when the gateway has acted on it. It is inlined, so that a session tests for
 /// no other kinds than its own.
 #[inline(always)]
 pub fn process_records<O: PacketPorts, S: Source, K: Sink, T: Tape, W: Watch>(
@@ -59,7 +59,7 @@ pub fn process_records<O: PacketPorts, S: Source, K: Sink, T: Tape, W: Watch>(
         (λ totals. world_of (O.tells packet_ports.new) gateway.new totals (T.tells tape.new)
         (K.tells sink.new) []))) }
 {
-    'attending: loop {
+    'handling: loop {
         match first_record(kinds, reader.held()) {
             Ok(first) => {
                 let body = &reader.held()[FRONT_LEN..first.len];

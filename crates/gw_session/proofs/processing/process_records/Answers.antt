@@ -7,8 +7,8 @@ use Rattle.gw_session.proofs.Attending.{waiting_failed, some_records, input_fail
 use Rattle.gw_session.proofs.Watching.{none_shown, shown_more}
 use Rattle.gw_session.proofs.processing.process_records.Goals as goal
 
-pub attending-init : goal.attending-init
-attending-init g c = (
+pub handling-init : goal.handling-init
+handling-init g c = (
   [],
   [],
   record {
@@ -24,32 +24,32 @@ pub handle_record-requires-clause-good : goal.handle_record-requires-clause-good
 handle_record-requires-clause-good g c =
     let f = c.in-Ok.first in
     let found = first_held f c.held.ensures c.in-Ok.ensures.good in
-    rw (record_is f (held c.attending.reader) _ found.more c.held-in-Ok.ensures)
+    rw (record_is f (held c.handling.reader) _ found.more c.held-in-Ok.ensures)
     (good_in_all c.args.kinds.now _ found.good)
 
 pub returns-in_err-handle_record-in-Ok-clause-fault : goal.returns-in_err-handle_record-in-Ok-clause-fault
 returns-in_err-handle_record-in-Ok-clause-fault g c =
-    let w = c.attending.invariant in
+    let w = c.handling.invariant in
     let f = c.in-Ok.first in
     let found = first_held f c.held.ensures c.in-Ok.ensures.good in
-    let q = rw (record_is f (held c.attending.reader) _ found.more c.held-in-Ok.ensures) at
+    let q = rw (record_is f (held c.handling.reader) _ found.more c.held-in-Ok.ensures) at
     c.in_err-handle_record-in-Ok.ensures.inputs in
     let stopped = input_failed _ _ _ w.2.few w.2.through q.2 in
     goes_up _ _ faults.Write c.from_residual.ensures.1 q.0 (stops_in f w.2.stage found q.1 (_, stopped))
 
-pub attending-preserved-in-Ok : goal.attending-preserved-in-Ok
-attending-preserved-in-Ok g c =
-    let w = c.attending.invariant in
+pub handling-preserved-in-Ok : goal.handling-preserved-in-Ok
+handling-preserved-in-Ok g c =
+    let w = c.handling.invariant in
     let f = c.in-Ok.first in
     let found = first_held f c.held.ensures c.in-Ok.ensures.good in
-    let q = rw (record_is f (held c.attending.reader) _ found.more c.held-in-Ok.ensures) at
+    let q = rw (record_is f (held c.handling.reader) _ found.more c.held-in-Ok.ensures) at
     c.in_ok-handle_record-in-Ok.ensures.inputs in
-    let code = rw (record_is f (held c.attending.reader) _ found.more c.held-in-Ok.ensures) at
+    let code = rw (record_is f (held c.handling.reader) _ found.more c.held-in-Ok.ensures) at
     c.in_ok-handle_record-in-Ok.ensures.code in
-    let shown = rw (record_is f (held c.attending.reader) _ found.more c.held-in-Ok.ensures) at c.after.ensures in
-    let more = length-append w.1 (record_at f (held c.attending.reader) ∷ []) in (
+    let shown = rw (record_is f (held c.handling.reader) _ found.more c.held-in-Ok.ensures) at c.after.ensures in
+    let more = length-append w.1 (record_at f (held c.handling.reader) ∷ []) in (
       w.0,
-      w.1 ++ record_at f (held c.attending.reader) ∷ [],
+      w.1 ++ record_at f (held c.handling.reader) ∷ [],
       record {
         stage = record_taken f w.2.stage found c.pass.ensures.holds c.pass.ensures.turns q.1;
         through = through_done _ _ _ w.2.through q.0 (λ inputs. shown_more q.0.inputs code shown);
@@ -61,7 +61,7 @@ attending-preserved-in-Ok g c =
 
 pub returns-in_err-flush-in-Err-clause-fault : goal.returns-in_err-flush-in-Err-clause-fault
 returns-in_err-flush-in-Err-clause-fault g c =
-    let w = c.attending.invariant in
+    let w = c.handling.invariant in
     let fault = c.in_err-flush-in-Err.ensures.writes in
     goes_up _ _ faults.Write c.from_residual-in_err-flush-in-Err.ensures.1 fault.0 (stops_behind w.2.stage
     fault.1.counted (
@@ -70,9 +70,9 @@ returns-in_err-flush-in-Err-clause-fault g c =
           (some_records _ _ w.2.none_waits c.in_err-flush-in-Err.ensures.some) fault.1),
     ))
 
-pub attending-preserved : goal.attending-preserved
-attending-preserved g c =
-    let w = c.attending.invariant in
+pub handling-preserved : goal.handling-preserved
+handling-preserved g c =
+    let w = c.handling.invariant in
     let r = rw c.if-not-branch.false at c.in_ok-read_on-in-Err.ensures.ok in
     let flushed = c.in_ok-flush-in-Err.ensures in (
       w.0 ++ r.octets,
@@ -88,9 +88,9 @@ attending-preserved g c =
 
 pub returns-then-not-branch : goal.returns-then-not-branch
 returns-then-not-branch g c =
-    let w = c.attending.invariant in
+    let w = c.handling.invariant in
     let r = rw c.if-not-branch.true at c.in_ok-read_on-in-Err.ensures.ok in
-    let e = ended c.attending.session.totals w.2.stage r c.held.ensures c.in-Err.ensures.end
+    let e = ended c.handling.session.totals w.2.stage r c.held.ensures c.in-Err.ensures.end
     c.in_ok-flush-in-Err.ensures.writes.1 (through_all _ _ _ w.2.through c.in_ok-flush-in-Err.ensures.writes.0) in
     record {
       ok = (ends_so (λ records. Unit {0}) _ _ _ e.0 r.ended e.1 c.answer.ensures).0;
@@ -99,8 +99,8 @@ returns-then-not-branch g c =
 
 pub returns-in_err-read_on-in-Err-clause-fault : goal.returns-in_err-read_on-in-Err-clause-fault
 returns-in_err-read_on-in-Err-clause-fault g c =
-    let w = c.attending.invariant in
+    let w = c.handling.invariant in
     let fault = c.in_err-read_on-in-Err.ensures.fault in
     goes_up _ _ faults.Read c.from_residual-in_err-read_on-in-Err.ensures.1 fault.0
-    (gives_up c.attending.session.totals w.2.stage fault.1 c.held.ensures c.in-Err.ensures.end
+    (gives_up c.handling.session.totals w.2.stage fault.1 c.held.ensures c.in-Err.ensures.end
     c.in_ok-flush-in-Err.ensures.writes.1 (through_all _ _ _ w.2.through c.in_ok-flush-in-Err.ensures.writes.0))

@@ -3,8 +3,8 @@ use Rattle.gw_session.proofs.Common.{most_waiting}
 use Rattle.gw_session.proofs.Common.{WatchedTrace, InputsShown, nothing_counted, state_of, work_left, Stage}
 use Rattle.gw_session.proofs.processing.process_records.Given as goal
 
-abbrev pub invariant-attending : goal.invariant-attending
-invariant-attending g l = (octets : List ℕ) × (records : List Record) × record {
+abbrev pub invariant-handling : goal.invariant-handling
+invariant-handling g l = (octets : List ℕ) × (records : List Record) × record {
   stage : Stage l.kinds (g.S.Source.tells l.initial.source) (g.S.Source.tells l.source)
       (g.K.Sink.tells l.initial.sink) (g.K.Sink.tells l.sink) l.reader octets records;
   through : WatchedTrace (written_by g.O.PacketPorts.spells)
@@ -19,5 +19,5 @@ invariant-attending g l = (octets : List ℕ) × (records : List Record) × reco
   at_once : l.session.at_once ≡ l.initial.session.at_once;
 }
 
-abbrev pub decreases-attending : goal.decreases-attending
-decreases-attending g l = work_left l.reader
+abbrev pub decreases-handling : goal.decreases-handling
+decreases-handling g l = work_left l.reader
