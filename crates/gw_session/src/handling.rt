@@ -157,7 +157,8 @@ impl SessionBuffers {
         put_out(recorded, &octets, &mut self.waiting, self.at_once, sink)
     }
 
-    /// Gives a gateway a record, which is recorded before, and puts what answers it behind the octets that wait.
+    /// Gives a gateway a record, which is recorded before, and puts what answers it behind the octets that
+    /// wait.
     pub fn handle_record<O: PacketPorts, K: Sink, T: Tape>(
         &mut self,
         gateway: &mut Gateway,
