@@ -20,12 +20,16 @@ SENDERS = {'any': 'datagrams of any sender are received (--senders any)',
 
 
 def program_of(asked: str | None) -> str:
-    """The program that is named, or that of this repository, or the one on the path."""
+    """The program that is named, or that of this repository, which is built first if it is not there yet (its progress
+    goes to standard error), or the one on the path."""
     build = os.path.join(TOP, 'scripts', 'build')
     if asked or os.environ.get('E1GW'):
         return asked or os.environ['E1GW']
     if os.path.exists(build):
-        return subprocess.run([build], stdout=subprocess.PIPE, check=True, text=True).stdout.strip()
+        done = subprocess.run([build], stdout=subprocess.PIPE, check=False, text=True)
+        if done.returncode:
+            raise SystemExit(done.returncode)       # it has said why
+        return done.stdout.strip()
     return shutil.which('e1gw') or 'e1gw'
 
 

@@ -70,5 +70,23 @@ class CommandNameTests(support.FolderCase):
             self.assertEqual((status, said, fault.count('\n'), 'records, tie, trunk, watch' in fault), (2, '', 1, True))
 
 
+class ProgramBuiltTests(support.FolderCase):
+    """A command of a clone whose program is not built yet."""
+
+    def built(self, status: int) -> tuple[int, str, str]:
+        os.makedirs(self.path('scripts'), exist_ok=True)
+        with open(self.path('scripts/build'), 'w', encoding='ascii') as file:
+            file.write(f'#!/bin/sh\necho "e1gw: proving gw_switch" >&2\necho /program\nexit {status}\n')
+        os.chmod(self.path('scripts/build'), 0o755)
+        code = f'from e1gw import programs; programs.TOP = {self.folder!r}; print(programs.program_of(None))'
+        return ran(sys.executable, '-c', code, PYTHONPATH=DRIVER, E1GW='')
+
+    def test_the_progress_is_shown(self) -> None:
+        self.assertEqual(self.built(0), (0, '/program\n', 'e1gw: proving gw_switch\n'))
+
+    def test_a_failed_build_ends_it(self) -> None:
+        self.assertEqual(self.built(70), (70, '', 'e1gw: proving gw_switch\n'))
+
+
 if __name__ == '__main__':
     unittest.main()

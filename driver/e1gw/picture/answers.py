@@ -1,9 +1,7 @@
 """The answers to a session without any at hand: those of `e1gw replay`."""
 from __future__ import annotations
 
-import os
 import queue
-import shutil
 import subprocess
 import threading
 from collections.abc import Iterator
@@ -12,19 +10,6 @@ from ..kept import PIECE, InputError, Source, pieces
 from ..lines import SEIZURE_WAIT, wait_words
 
 WAITING = 256               # pieces: more than a gateway holds back before it answers
-
-
-def program_of(named: str | None) -> str:
-    """The program named, or that of this repository, or the one on the path."""
-    if named:
-        return named
-    here = os.path.realpath(os.path.join(os.path.dirname(__file__), '..', '..', '..', 'e1gw'))
-    if os.path.isfile(here) and os.access(here, os.X_OK):
-        return here
-    found = shutil.which('e1gw')
-    if found:
-        return found
-    raise InputError('no program e1gw on the path: name it by --program, or give the answers by --answers')
 
 
 class Replayed:
@@ -41,7 +26,8 @@ class Replayed:
             self.process = subprocess.Popen(words, stdin=subprocess.PIPE, stdout=subprocess.PIPE,
                                             stderr=subprocess.PIPE)
         except OSError as fault:
-            raise InputError(f'{program}: {fault.strerror}') from fault
+            raise InputError(f'{program}: {fault.strerror}: name it by --program, or give the answers by --answers'
+                             ) from fault
         assert self.process.stdout
         # (what has arrived: to wait for a whole piece of answers would be to wait for ever)
         self.given, self.answered = Source(iter(self.queue.get, b'')), Source(pieces(self.process.stdout))

@@ -12,9 +12,10 @@ from typing import Any
 from ..faults import number
 from ..kept import InputError, KeptSession, Source, kept, octets_of, pieces
 from ..lines import read_config, with_wait
+from ..programs import program_of
 from ..raw import raw_words_of
 from ..session import OCTETS_A_SECOND, BadSession
-from .answers import Replayed, program_of
+from .answers import Replayed
 from .begun import Begun, begun
 from .capture import merged, reckoned
 from .facts import Facts
