@@ -20,8 +20,7 @@ use Rattle.gw_program.specs.State.{HasBegun, BeginsWaiting, IsSaved}
 use Rattle.gw_trunk.specs.Serving.{Traffic}
 use Rattle.gw_program.specs.Trunks.{CarriesTrunk}
 use Rattle.gw_program.specs.Requests.{OnNewStreams, ByGateway, DoesSession, ServesTrunk, config_in, load_in, save_in}
-use Rattle.gw_program.specs.Requests.{AsksWait}
-use Rattle.gw_program.specs.Satop.{CommandLine}
+use Rattle.gw_program.specs.Requests.{AsksWait, CommandLine}
 use Rattle.gw_program.specs.Setup.{IsConfigAt, IsMeant, SystemGives}
 use Rattle.gw_trunk.specs.Multiframes.{GoesInTime}
 

@@ -8,6 +8,5 @@ pub mod Report
 pub mod Setup
 pub mod Filters
 pub mod Trunks
-pub mod Satop
 pub mod Requests
 pub mod Continuing

@@ -1,5 +1,5 @@
 -- What was done of what the command line asks for (module `requests`).
-use Rattle.std.specs.Prelude.{◌≡◌, ◌≢◌, ◌⊎◌, ⊤, ℕ, List, [], Option, Some, None, Result, Ok, Err, IfOk}
+use Rattle.std.specs.Prelude.{◌≡◌, ◌≢◌, ◌⊎◌, ⊤, ℕ, List, [], Option, Some, None, Result, Err, IfOk}
 use Rattle.std.specs.Prelude.{IfErr}
 use Rattle.std.specs.Prelude.{MatchResult, MatchOption, codes}
 use Rattle.clap.specs.Words.{Row}
@@ -18,14 +18,16 @@ use Rattle.gw_program.specs.declared.program_fault.ProgramFault.TheVariants as p
 use Rattle.gw_program.specs.Filters.{DoesFilter, DoesFilterUntil, HasChecked, HasCheckedUntil}
 use Rattle.gw_program.specs.Jobs.{Does, DoesUntil}
 use Rattle.gw_program.specs.Performing.{Ended, EndedSaved, NotBegun, HasConfig, by_session}
-use Rattle.gw_program.specs.Satop.{CommandLine, DoesSatop}
 use Rattle.gw_program.specs.Setup.{IsConfigAt}
 use Rattle.gw_program.specs.Sessions.{HasGateway, Runs, Serves, Checks}
 use Rattle.gw_program.specs.State.{BeginsWaiting, IsSaved}
-use Rattle.gw_program.specs.Status.{program_fault_status}
 use Rattle.gw_trunk.specs.Serving.{Traffic}
 use Rattle.gw_program.specs.Trunks.{CarriesTrunk}
 use Rattle.gw_trunk.specs.Multiframes.{GoesInTime}
+
+-- a subcommand with its options
+abbrev pub CommandLine : Type 0
+CommandLine = Option (List ℕ × List Row)
 
 -- CRC-4 multiframes are to be checked
 abbrev pub AsksCheck : CommandLine → Type 0
@@ -73,10 +75,6 @@ pub record OnNewStreams (does : SessionStreams → SessionStreams → Type 0) : 
 abbrev pub DoesJob : SpeechJob → Result Totals ProgramFault → Type 0
 DoesJob job told = OnNewStreams (λ a a'. Ended (λ end. MatchResult end
     (Does job a.source a'.source a.sink a'.sink) (DoesUntil job a.source a'.source a.sink a'.sink)) told)
-
--- the file of reports that the command names
-abbrev pub reports_in : CommandLine → Option (List ℕ)
-reports_in command = text_in (codes "reports") command
 
 -- a file of reports is named and can't be opened, and this is returned
 pub record LacksReports (named : Option (List ℕ)) (told : Result Totals ProgramFault) : Type 0 where
@@ -150,21 +148,3 @@ abbrev pub ServesTrunk : CommandLine → Result Totals ProgramFault → Type 0
 ServesTrunk command told = OnNewStreams (λ a a'. ByGateway a a' command told (λ gateway gateway'.
     HasTrunk (λ passed. EndedSaved (λ end. CarriesTrunk a a' passed end gateway gateway')
     (IsSaved (save_in command)) told)))
-
--- what the command asks for was done, and this is returned
-abbrev pub Performs : CommandLine → Result Totals ProgramFault → Type 0
-Performs command told = HasRequest command (by_request (λ job. DoesJob job told)
-    (λ filter. RunsFilter (reports_in command) filter told) (ChecksCrc4 (reports_in command) told)
-    (λ session. DoesSession command session told) (ServesTrunk command told) (DoesSatop command told))
-    ⊎ NoRequest command told
-
--- the status at a result
-abbrev pub told_status : Result Totals ProgramFault → ℕ
-told_status (Ok totals) = 0
-told_status (Err program_fault) = program_fault_status program_fault
-
--- what the command asks for was done, and this is the status of its result
-pub record ExitsWith (command : CommandLine) (status : ℕ) : Type 0 where
-  pub told : Result Totals ProgramFault
-  pub performs : Performs command told
-  pub status_is : status ≡ told_status told

@@ -1,4 +1,4 @@
-//! What the program does for each subcommand: speech, filters, sessions, trunks, SAToP, and their reports.
+//! What the program does for each subcommand: speech, filters, sessions and trunks, and their reports.
 #![tactic(auto)]
 
 mod filters;
@@ -11,7 +11,6 @@ mod recording;
 mod report;
 mod reports;
 mod requests;
-mod satop;
 mod sealed;
 mod sessions;
 mod setup;
@@ -30,7 +29,6 @@ pub use report::{
 };
 pub use reports::open_reports;
 pub use requests::{Commands, perform};
-pub use satop::perform_satop;
 pub use sessions::{check, replay, replay_watched, serve_through};
 pub use setup::read_config;
 pub use standard::{ReservedDescriptors, reserve_descriptors};

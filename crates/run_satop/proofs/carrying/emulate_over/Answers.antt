@@ -1,6 +1,6 @@
 use Rattle.std.proofs.Common.{inl, rules}
-use Rattle.gateway_main.proofs.SetUp.{stops}
-use Rattle.gateway_main.proofs.emulate_over.Goals as goal
+use Rattle.run_satop.proofs.SetUp.{stops}
+use Rattle.run_satop.proofs.carrying.emulate_over.Goals as goal
 
 pub returns-in_err-incoming : goal.returns-in_err-incoming
 returns-in_err-incoming g c = λ command is. inl (stops command c.from_residual.result (search rules))

@@ -7,10 +7,11 @@ use Rattle.gw_satop.specs.declared.sender.Sender.{Sender}
 use Rattle.gw_satop.specs.declared.timing.Timing.{Timing}
 use Rattle.gw_satop.specs.Session.{HasSettings}
 use Rattle.satop_playout.specs.declared.Settings.{Settings}
-use Rattle.gw_program.specs.Satop.{CommandLine, FailsToOpen as LacksCircuit, IsSetUp, LacksStream}
+use Rattle.gw_program.specs.Requests.{CommandLine}
+use Rattle.run_satop.specs.Satop.{FailsToOpen as LacksCircuit, IsSetUp, LacksStream}
 use Rattle.gw_program.specs.declared.program_fault.ProgramFault.{ProgramFault}
 use Rattle.gw_program.specs.declared.program_fault.ProgramFault.TheVariants as program_faults
-use Rattle.gateway_main.specs.Asked.{IsAsked}
+use Rattle.run_satop.specs.Asked.{IsAsked}
 
 -- Both halves and the pace are set up as the command says, and stay so.
 pub set_up : (command : CommandLine) (settings : Settings) (timing : Timing) (rtp : Option ℕ) (r r' : Receiver)

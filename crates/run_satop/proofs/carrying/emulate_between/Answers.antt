@@ -1,6 +1,6 @@
 use Rattle.std.proofs.Common.{inl, inr, refl, rules}
-use Rattle.gateway_main.proofs.SetUp.{set_up, stops}
-use Rattle.gateway_main.proofs.emulate_between.Goals as goal
+use Rattle.run_satop.proofs.SetUp.{set_up, stops}
+use Rattle.run_satop.proofs.carrying.emulate_between.Goals as goal
 
 pub returns-in_err-receiver : goal.returns-in_err-receiver
 returns-in_err-receiver g c = λ command is. inl (stops command c.from_residual.result (search rules))

@@ -1,9 +1,8 @@
--- A trunk over SAToP (module `satop`).
+-- A trunk over SAToP, as the command line asks for it (module `carrying`).
 use Rattle.std.specs.Prelude.{◌≡◌, ◌⊎◌, ◌*◌, ◌/◌, ⊤, ℕ, Bool, true, List, [], ◌++◌, Option, Some, None}
 use Rattle.std.specs.Prelude.{is_some}
 use Rattle.std.specs.Prelude.{min, max, Result, IsErrAnd, MatchResult, MatchOption, codes}
 use Rattle.std.specs.declared.io.Error.{Error}
-use Rattle.clap.specs.Words.{Row}
 use Rattle.gw_records.specs.declared.outcome.Totals.{Totals}
 use Rattle.gw_records.specs.declared.outcome.RunFault.TheVariants as faults
 use Rattle.gw_command.specs.Command.{SaysNumberIn, text_in}
@@ -15,12 +14,9 @@ use Rattle.gw_satop.specs.Opening.{FailsToJoin, SystemRefusesTrunk}
 use Rattle.gw_satop.specs.Session.{PlaysAll, SendsAll}
 use Rattle.satop_playout.specs.Calls.{IsSize}
 use Rattle.satop_playout.specs.declared.Replacement.TheVariants as fills
+use Rattle.gw_program.specs.Requests.{CommandLine}
 use Rattle.gw_program.specs.declared.program_fault.ProgramFault.{ProgramFault}
 use Rattle.gw_program.specs.declared.program_fault.ProgramFault.TheVariants as program_faults
-
--- a subcommand with its options
-abbrev pub CommandLine : Type 0
-CommandLine = Option (List ℕ × List Row)
 
 -- a read of the trunk failed, and all that was played had gone; or a write failed
 abbrev pub IsDeviceFault : List ℕ → ProgramFault → Type 0

@@ -2,7 +2,7 @@ use Rattle.std.specs.Prelude.{codes}
 use Rattle.std.proofs.Common.{refl, ℕ, Option, Some, None, IfSome, IfNone, MatchOption}
 use Rattle.clap.specs.Words.{subcommand_rows_of}
 use Rattle.gw_command.specs.Command.{SaysNumberIn}
-use Rattle.gateway_main.proofs.circuit_asked.Goals as goal
+use Rattle.run_satop.proofs.asked.circuit_asked.Goals as goal
 
 -- What holds of a value, and of none.
 matched : {A : Type 0} (N : Type 0) (F : A → Type 0) (o : Option A) → IfSome o F → IfNone o N → MatchOption o N F

@@ -1,0 +1,2 @@
+pub mod Satop
+pub mod Asked

@@ -1,0 +1,119 @@
+//! How the emulated circuit that the command line asks for is opened and carried (`emulate`).
+
+ghost use Rattle.std.specs.Prelude.{◌≡◌, []};
+ghost use Rattle.clap.specs.Words.{subcommand_rows_of};
+ghost use Rattle.run_satop.specs.Asked.{IsAsked};
+ghost use Rattle.run_satop.specs.Satop.{CarriesSatop, DoesSatop};
+ghost use Rattle.gw_program.specs.Requests.{CommandLine};
+ghost use Rattle.gw_satop.specs.Session.{HasSettings};
+
+use crate::asked::{CircuitAsked, circuit_asked};
+use crate::ends::{open_clock, open_far_end, open_receiver, open_stdin, open_stdout, start_at_random};
+use clap::ArgMatches;
+use gw_program::ProgramFault;
+use gw_records::{NO_TOTALS, RunFault, Totals};
+use gw_satop::{Clock, Peer, PlayClock, SatopCircuit, Sender, carry_satop};
+use gw_trunk::{TrunkInput, TrunkOutput};
+
+// Carries an emulated circuit until no octet comes from the trunk any more.
+fn perform_satop<I: TrunkInput, O: TrunkOutput, P: Peer, M: Clock>(
+    circuit: &mut SatopCircuit<I, O, P>,
+    moments: &mut M,
+) -> Result<Totals, ProgramFault>
+    ensures carries { CarriesSatop (record {
+      receiver = circuit.new.receiver;
+      sender = circuit.new.sender;
+      pace = circuit.new.pace;
+      counts = circuit.new.counts;
+      received = P.received circuit.new.peer;
+      sent = P.sent circuit.new.peer;
+      came = I.came circuit.new.incoming;
+      went = O.went circuit.new.outgoing;
+      left = circuit.new.left.items;
+    }) result }
+    ensures same { HasSettings circuit.old.receiver circuit.new.receiver
+        circuit.old.sender circuit.new.sender circuit.old.pace circuit.new.pace }
+{
+    if carry_satop(circuit, moments).is_ok() {
+        return Ok(NO_TOTALS);
+    }
+    if circuit.is_whole() {
+        return Err(ProgramFault::Session(RunFault::Read));
+    }
+    Err(ProgramFault::Session(RunFault::Write))
+}
+
+// The ends of an emulated circuit, and its clock.
+#[derive(Drop)]
+struct CircuitEnds<I: TrunkInput, O: TrunkOutput, P: Peer, M: Clock> {
+    incoming: I,
+    outgoing: O,
+    peer: P,
+    clock: M,
+}
+
+// Carries an emulated circuit between its ends.
+#[inline(never)]
+fn emulate_between<I: TrunkInput + Drop, O: TrunkOutput + Drop, P: Peer + Drop, M: Clock + Drop>(
+    rt: &HostRuntime,
+    asked: CircuitAsked,
+    ends: CircuitEnds<I, O, P, M>,
+) -> Result<Totals, ProgramFault>
+    requires came { I.came ends.incoming ≡ [] }
+    requires went { O.went ends.outgoing ≡ [] }
+    requires received { P.received ends.peer ≡ [] }
+    requires sent { P.sent ends.peer ≡ [] }
+    ensures { (command : CommandLine) → IsAsked command asked.settings asked.timing asked.rtp
+        → DoesSatop command result }
+{
+    let receiver = open_receiver(rt, asked.settings, asked.rtp.is_some())?;
+    let sender = Sender::new(start_at_random(rt, asked.settings.size, asked.rtp));
+    let CircuitEnds {
+        incoming,
+        outgoing,
+        peer,
+        mut clock,
+    } = ends;
+    let pace = PlayClock::new(asked.timing, clock.now());
+    let mut circuit = SatopCircuit::new(incoming, outgoing, peer, receiver, sender, pace);
+    perform_satop(&mut circuit, &mut clock)
+}
+
+// Carries an emulated circuit between standard input and output and the far end.
+fn emulate_over<P: Peer + Drop, M: Clock + Drop>(
+    rt: &HostRuntime,
+    asked: CircuitAsked,
+    peer: P,
+    clock: M,
+) -> Result<Totals, ProgramFault>
+    requires received { P.received peer ≡ [] }
+    requires sent { P.sent peer ≡ [] }
+    ensures { (command : CommandLine) → IsAsked command asked.settings asked.timing asked.rtp
+        → DoesSatop command result }
+{
+    let incoming = open_stdin(rt)?;
+    let outgoing = open_stdout(rt)?;
+    let ends = CircuitEnds {
+        incoming,
+        outgoing,
+        peer,
+        clock,
+    };
+    emulate_between(rt, asked, ends)
+}
+
+/// Carries the emulated circuit that the matches ask for, between standard input and output and the far end.
+///
+/// # Errors
+///
+/// The first cause: [`ProgramFault::Nothing`] if a word is missing, [`ProgramFault::PacketSize`] if the size
+/// is no size of a packet, [`ProgramFault::FarEnd`] if there is no socket, [`ProgramFault::Trunk`] if a
+/// stream can't be waited for, [`ProgramFault::OutOfMemory`], or [`ProgramFault::Session`] if the trunk fails.
+pub fn emulate(rt: &HostRuntime, matches: &ArgMatches<'_>) -> Result<Totals, ProgramFault>
+    ensures { DoesSatop (subcommand_rows_of matches.now) result }
+{
+    let asked = circuit_asked(matches)?;
+    let mut peer = open_far_end(rt, matches)?;
+    let clock = open_clock(rt, &mut peer)?;
+    emulate_over(rt, asked, peer, clock)
+}
