@@ -17,12 +17,9 @@ use Rattle.gw_program.specs.declared.program_fault.ProgramFault.{ProgramFault}
 use Rattle.gw_program.specs.Performing.{EndedSaved, NotBegun, HasServed, HasConfig, by_session}
 use Rattle.gw_program.specs.Sessions.{HasGateway, Runs, Serves, Checks}
 use Rattle.gw_program.specs.State.{HasBegun, BeginsWaiting, IsSaved}
-use Rattle.gw_trunk.specs.Serving.{Traffic}
-use Rattle.gw_program.specs.Trunks.{CarriesTrunk}
-use Rattle.gw_program.specs.Requests.{OnNewStreams, ByGateway, DoesSession, ServesTrunk, config_in, load_in, save_in}
-use Rattle.gw_program.specs.Requests.{AsksWait, CommandLine}
+use Rattle.gw_program.specs.Requests.{AsksWait, ByGateway, CommandLine, DoesSession, OnNewStreams, TakesAsked}
+use Rattle.gw_program.specs.Requests.{config_in, load_in, save_in}
 use Rattle.gw_program.specs.Setup.{IsConfigAt, IsMeant, SystemGives}
-use Rattle.gw_trunk.specs.Multiframes.{GoesInTime}
 
 -- what was done on streams to which nothing had happened was done on new streams
 pub on_new : (s s' : SourceState) (k k' : SinkState) {does : SessionStreams → SessionStreams → Type 0}
@@ -46,7 +43,7 @@ untouched command does program_fault =
     refl refl refl
 
 -- why nothing was begun is left out, and what the streams are beside what they tell
-told_untouched : {S K : Type 0} {x x' : S} {y y' : K} {why : ProgramFault → Type 0} {told : Result Totals ProgramFault}
+pub told_untouched : {S K : Type 0} {x x' : S} {y y' : K} {why : ProgramFault → Type 0} {told : Result Totals ProgramFault}
     {s s' : SourceState} {k k' : SinkState} → (x' ≡ x → s' ≡ s) → (y' ≡ y → k' ≡ k) → NotBegun x x' y y' why told
     → NotBegun s s' k k' (λ _. ⊤) told
 told_untouched f g n = record {
@@ -57,11 +54,6 @@ told_untouched f g n = record {
   unwritten = g n.unwritten;
 }
 
--- what the file at the named path means
-pub config_at : (named : Option (List ℕ)) (path : List ℕ) (config : Config) → named ≡ Some path
-    → IsMeant (SystemGives path) config → IsConfigAt named config
-config_at named path config is meant = rw is meant
-
 -- the path that is named is told as its text
 begun_at : {X : Type 0} (f : X → List ℕ) (path : Option X) (config : GatewayConfig) (gateway : Gateway)
     → HasBegun config path gateway → HasBegun config (option_map f path) gateway
@@ -69,7 +61,7 @@ begun_at f None config gateway begun = begun
 begun_at f (Some path) config gateway begun = begun
 
 -- .. and the wait that is asked for as what it was asked by
-pub waiting_at : {X : Type 0} (f : X → List ℕ) (path : Option X) (wait : Option ℕ) (asks : Option ℕ → Type 0)
+waiting_at : {X : Type 0} (f : X → List ℕ) (path : Option X) (wait : Option ℕ) (asks : Option ℕ → Type 0)
     (config : GatewayConfig) (gateway : Gateway) → asks wait
     → BeginsWaiting config path (λ asked. asked ≡ wait) gateway → BeginsWaiting config (option_map f path) asks gateway
 waiting_at f path wait asks config gateway is b = record {
@@ -81,13 +73,27 @@ waiting_at f path wait asks config gateway is b = record {
 }
 
 -- where nothing is to be saved is told as its text
-pub saved_at : {X : Type 0} (f : X → List ℕ) (path : Option X) (saved : Result (Unit {0}) ProgramFault)
+saved_at : {X : Type 0} (f : X → List ℕ) (path : Option X) (saved : Result (Unit {0}) ProgramFault)
     → IsSaved path saved → IsSaved (option_map f path) saved
 saved_at f None saved is = is
 saved_at f (Some path) saved is = is
 
+-- A system whose paths and wait are those of the command takes what the command names.
+pub takes_asked : {X : Type 0} (f : X → List ℕ) {command : CommandLine} {path : List ℕ} {load save : Option X}
+    {wait : Option ℕ} → config_in command ≡ Some path → option_map f load ≡ load_in command
+    → option_map f save ≡ save_in command → AsksWait command wait
+    → TakesAsked command (IsMeant (SystemGives path))
+    (λ config gateway. BeginsWaiting config.gateway load (λ asked. asked ≡ wait) gateway)
+    (λ config gateway saved. IsSaved save saved)
+takes_asked f {command} {path} {load} {save} {wait} named loads saves asks = record {
+  read = λ config meant. rw named meant;
+  begun = λ config gateway begun. rw (← loads) (waiting_at f load wait (AsksWait command) config.gateway gateway asks
+      begun);
+  saved = λ config gateway saved is. rw (← saves) (saved_at f save saved is);
+}
+
 -- this was done with a gateway that was begun so
-with_gateway : {command : CommandLine} {does : Gateway → Gateway → Type 0} (config : Config)
+pub with_gateway : {command : CommandLine} {does : Gateway → Gateway → Type 0} (config : Config)
     (gateway gateway' : Gateway)
     → IsConfigAt (config_in command) config
     → BeginsWaiting config.gateway (load_in command) (AsksWait command) gateway → does gateway gateway'
@@ -99,31 +105,29 @@ with_gateway config gateway gateway' read begun done = record {
   done = record { gateway = gateway; gateway' = gateway'; begun = begun; done = done };
 }
 
-module _ (s s' : SourceState) (k k' : SinkState) {P T : Type 0} (reads : Config → Type 0) (lacks : ProgramFault
-    → Type 0)
-    (lacks_gateway lacks_more : Config → ProgramFault → Type 0) (command : CommandLine)
-    (is_read : (config : Config) → reads config → IsConfigAt (config_in command) config)
-    (starts : Config → Gateway → Type 0) (saves : Config → Gateway → Result (Unit {0}) ProgramFault → Type 0)
-    (begun : (config : Config) (gateway : Gateway) → starts config gateway
-    → BeginsWaiting config.gateway (load_in command) (AsksWait command) gateway)
-    (is_saved : (config : Config) (gateway : Gateway) (saved : Result (Unit {0}) ProgramFault)
-    → saves config gateway saved → IsSaved (save_in command) saved)
-    (opens : Config → P → Type 0) (begins : T → Type 0)
-    (ports_tell : P → PortsState) (tape_tells : T → TapeState) {told : Result Totals ProgramFault}
-  where
-    -- how the state was saved is told of its path
-    saved_told : {ends : Result Totals RunFault → Type 0} (config : Config) (gateway : Gateway)
-        → EndedSaved ends (saves config gateway) told → EndedSaved ends (IsSaved (save_in command)) told
-    saved_told config gateway e = record {
-      end = e.end;
-      done = e.done;
-      tells = record {
-        saved = e.tells.saved;
-        saves = is_saved config gateway e.tells.saved e.tells.saves;
-        told_is = e.tells.told_is;
-      };
-    }
+-- how the state was saved is told of its path
+pub saved_told : {command : CommandLine} {reads : Config → Type 0} {starts : Config → Gateway → Type 0}
+    {saves : Config → Gateway → Result (Unit {0}) ProgramFault → Type 0} → TakesAsked command reads starts saves
+    → {ends : Result Totals RunFault → Type 0} {told : Result Totals ProgramFault} (config : Config) (gateway : Gateway)
+    → EndedSaved ends (saves config gateway) told → EndedSaved ends (IsSaved (save_in command)) told
+saved_told takes config gateway e = record {
+  end = e.end;
+  done = e.done;
+  tells = record {
+    saved = e.tells.saved;
+    saves = takes.saved config gateway e.tells.saved e.tells.saves;
+    told_is = e.tells.told_is;
+  };
+}
 
+module _ {s s' : SourceState} {k k' : SinkState} {P T : Type 0} {reads : Config → Type 0} {lacks : ProgramFault
+    → Type 0}
+    {lacks_gateway lacks_more : Config → ProgramFault → Type 0} {command : CommandLine}
+    {starts : Config → Gateway → Type 0} {saves : Config → Gateway → Result (Unit {0}) ProgramFault → Type 0}
+    (takes : TakesAsked command reads starts saves)
+    {opens : Config → P → Type 0} {begins : T → Type 0}
+    {ports_tell : P → PortsState} {tape_tells : T → TapeState} {told : Result Totals ProgramFault}
+  where
     -- nothing was begun on new streams
     stopped : {why : ProgramFault → Type 0} {does : SessionStreams → SessionStreams → Gateway → Gateway → Type 0}
         → NotBegun s s' k k' why told
@@ -132,7 +136,7 @@ module _ (s s' : SourceState) (k k' : SinkState) {P T : Type 0} (reads : Config 
     stopped n = on_new s s' k k' (inl (told_untouched (λ e. e) (λ e. e) n))
 
     -- a session that was done on new streams
-    pub session_done : (lacks_watch : ProgramFault → Type 0) (session : SessionKind) → NotBegun s s' k k' lacks told
+    pub session_done : {lacks_watch : ProgramFault → Type 0} (session : SessionKind) → NotBegun s s' k k' lacks told
         ⊎ HasConfig reads (λ config. NotBegun s s' k k' (lacks_gateway config) told
         ⊎ HasGateway (starts config) (λ gateway gateway'. by_session session
         (NotBegun s s' k k' lacks_watch told
@@ -143,23 +147,23 @@ module _ (s s' : SourceState) (k k' : SinkState) {P T : Type 0} (reads : Config 
         EndedSaved (λ end. Serves (around s k (ports_tell ports) (tape_tells tape))
         (around s' k' (ports_tell ports') (tape_tells tape')) end gateway gateway') (saves config gateway') told))))
         → s.reads ≡ 0 → s.given ≡ Some [] → s.failures ≡ 0 → k.failures ≡ 0 → DoesSession command session told
-    session_done lacks_watch session (inl n) a b c d = stopped n a b c d
-    session_done lacks_watch Replay (inr h) a b c d = elim h.done [
+    session_done session (inl n) a b c d = stopped n a b c d
+    session_done Replay (inr h) a b c d = elim h.done [
       | inl n ↦ stopped n a b c d
       | inr w ↦ elim w.done [
         | inl n ↦ stopped n a b c d
         | inr e ↦ on_new s s' k k' (inr (with_gateway h.config w.gateway w.gateway'
-            (is_read h.config h.read) (begun h.config w.gateway w.begun)
-            (saved_told h.config w.gateway' e))) a b c d
+            (takes.read h.config h.read) (takes.begun h.config w.gateway w.begun)
+            (saved_told takes h.config w.gateway' e))) a b c d
       ]
     ]
-    session_done lacks_watch Check (inr h) a b c d = elim h.done [
+    session_done Check (inr h) a b c d = elim h.done [
       | inl n ↦ stopped n a b c d
       | inr w ↦ on_new s s' k k' (inr (with_gateway h.config w.gateway w.gateway'
-          (is_read h.config h.read) (begun h.config w.gateway w.begun)
-          (saved_told h.config w.gateway' w.done))) a b c d
+          (takes.read h.config h.read) (takes.begun h.config w.gateway w.begun)
+          (saved_told takes h.config w.gateway' w.done))) a b c d
     ]
-    session_done lacks_watch Serve (inr h) a b c d = elim h.done [
+    session_done Serve (inr h) a b c d = elim h.done [
       | inl n ↦ stopped n a b c d
       | inr w ↦ elim w.done [
         | inl n ↦ stopped n a b c d
@@ -168,41 +172,8 @@ module _ (s s' : SourceState) (k k' : SinkState) {P T : Type 0} (reads : Config 
           after = around s' k' (ports_tell v.ports') (tape_tells v.tape');
           new = record { unread = a; no_octet = b; no_failed_read = c; no_failed_write = d };
           done = inr (with_gateway h.config w.gateway w.gateway'
-              (is_read h.config h.read) (begun h.config w.gateway w.begun)
-              (saved_told h.config w.gateway' v.done));
-        }
-      ]
-    ]
-
-    -- a trunk that was served on new streams, and what was sent went in time
-    pub trunk_served : {S K : Type 0} {x x' : S} {y y' : K} (passed : Traffic) (went : List ℕ) (discarded : ℕ)
-        (slow_waits : ℕ) → ∥ GoesInTime passed.went went discarded slow_waits ∥₁
-        → NotBegun x x' y y' lacks told ⊎ HasConfig reads (λ config. NotBegun x x' y y' (lacks_gateway config) told
-        ⊎ HasGateway (starts config) (λ gateway gateway'. NotBegun x x' y y' (lacks_more config) told
-        ⊎ HasServed (opens config) begins (λ ports ports' tape tape'. EndedSaved (λ end. CarriesTrunk
-        (around s k (ports_tell ports) (tape_tells tape)) (around s' k' (ports_tell ports') (tape_tells tape'))
-        passed end gateway gateway') (saves config gateway') told)))
-        → (x' ≡ x → s' ≡ s) → (y' ≡ y → k' ≡ k)
-        → s.reads ≡ 0 → s.given ≡ Some [] → s.failures ≡ 0 → k.failures ≡ 0 → ServesTrunk command told
-    trunk_served passed went discarded slow_waits goes (inl n) f g a b c d =
-        on_new s s' k k' (inl (told_untouched f g n)) a b c d
-    trunk_served passed went discarded slow_waits goes (inr h) f g a b c d = elim h.done [
-      | inl n ↦ on_new s s' k k' (inl (told_untouched f g n)) a b c d
-      | inr w ↦ elim w.done [
-        | inl n ↦ on_new s s' k k' (inl (told_untouched f g n)) a b c d
-        | inr v ↦ record {
-          before = around s k (ports_tell v.ports) (tape_tells v.tape);
-          after = around s' k' (ports_tell v.ports') (tape_tells v.tape');
-          new = record { unread = a; no_octet = b; no_failed_read = c; no_failed_write = d };
-          done = inr (with_gateway h.config w.gateway w.gateway'
-              (is_read h.config h.read) (begun h.config w.gateway w.begun) (record {
-                passed = passed;
-                done = saved_told h.config w.gateway' v.done;
-                went = went;
-                discarded = discarded;
-                slow_waits = slow_waits;
-                goes = goes;
-              }));
+              (takes.read h.config h.read) (takes.begun h.config w.gateway w.begun)
+              (saved_told takes h.config w.gateway' v.done));
         }
       ]
     ]

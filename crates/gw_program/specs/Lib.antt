@@ -7,6 +7,5 @@ pub mod Performing
 pub mod Report
 pub mod Setup
 pub mod Filters
-pub mod Trunks
 pub mod Requests
 pub mod Continuing

@@ -3,6 +3,7 @@ use Rattle.std.specs.Prelude.{◌≡◌, ◌≢◌, ◌⊎◌, ⊤, ℕ, List, [
 use Rattle.std.specs.Prelude.{IfErr}
 use Rattle.std.specs.Prelude.{MatchResult, MatchOption, codes}
 use Rattle.clap.specs.Words.{Row}
+use Rattle.gw_config.specs.declared.config.Config.{Config}
 use Rattle.gw_switch.specs.declared.gateway.Gateway.{Gateway}
 use Rattle.gw_records.specs.declared.outcome.Totals.{Totals}
 use Rattle.gw_session.specs.Serve.{SessionStreams}
@@ -21,9 +22,6 @@ use Rattle.gw_program.specs.Performing.{Ended, EndedSaved, NotBegun, HasConfig, 
 use Rattle.gw_program.specs.Setup.{IsConfigAt}
 use Rattle.gw_program.specs.Sessions.{HasGateway, Runs, Serves, Checks}
 use Rattle.gw_program.specs.State.{BeginsWaiting, IsSaved}
-use Rattle.gw_trunk.specs.Serving.{Traffic}
-use Rattle.gw_program.specs.Trunks.{CarriesTrunk}
-use Rattle.gw_trunk.specs.Multiframes.{GoesInTime}
 
 -- a subcommand with its options
 abbrev pub CommandLine : Type 0
@@ -115,6 +113,15 @@ save_in command = text_in (codes "save") command
 abbrev pub AsksWait : CommandLine → Option ℕ → Type 0
 AsksWait command wait = MatchOption wait ((signals : ℕ) → ¬ SaysWait command signals) (SaysWait command)
 
+-- what a system reads, begins and saves is what the command names
+pub record TakesAsked (command : CommandLine) (reads : Config → Type 0) (starts : Config → Gateway → Type 0)
+    (saves : Config → Gateway → Result (Unit {0}) ProgramFault → Type 0) : Type 0 where
+  pub read : (config : Config) → reads config → IsConfigAt (config_in command) config
+  pub begun : (config : Config) (gateway : Gateway) → starts config gateway
+      → BeginsWaiting config.gateway (load_in command) (AsksWait command) gateway
+  pub saved : (config : Config) (gateway : Gateway) (saved : Result (Unit {0}) ProgramFault)
+      → saves config gateway saved → IsSaved (save_in command) saved
+
 -- a fault is returned, and nothing was read or written; or this was done with a gateway that was begun by the
 -- configuration in the file that is named, from a state if one is named, and with the wait that is asked for
 abbrev pub ByGateway : SessionStreams → SessionStreams → CommandLine → Result Totals ProgramFault
@@ -132,19 +139,3 @@ DoesSession command session told = OnNewStreams (λ a a'. ByGateway a a' command
     (EndedSaved (λ end. Checks a.source a'.source a.sink a'.sink end gateway gateway')
     (IsSaved (save_in command)) told)
     (EndedSaved (λ end. Serves a a' end gateway gateway') (IsSaved (save_in command)) told)))
-
--- Octets came from a trunk and were sent to it, clients asked and were answered, and this was done of it.
--- What was sent went to the device in time: all of it, except for whole multiframes if the device was slow.
-pub record HasTrunk (does : Traffic → Type 0) : Type 0 where
-  pub passed : Traffic
-  pub done : does passed
-  pub went : List ℕ
-  pub discarded : ℕ
-  pub slow_waits : ℕ
-  pub goes : ∥ GoesInTime passed.went went discarded slow_waits ∥₁
-
--- the trunk that the command names was served with this result
-abbrev pub ServesTrunk : CommandLine → Result Totals ProgramFault → Type 0
-ServesTrunk command told = OnNewStreams (λ a a'. ByGateway a a' command told (λ gateway gateway'.
-    HasTrunk (λ passed. EndedSaved (λ end. CarriesTrunk a a' passed end gateway gateway')
-    (IsSaved (save_in command)) told)))

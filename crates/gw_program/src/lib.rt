@@ -1,4 +1,4 @@
-//! What the program does for each subcommand: speech, filters, sessions and trunks, and their reports.
+//! What the program does for each subcommand: speech, filters and sessions, and their reports.
 #![tactic(auto)]
 
 mod filters;
@@ -16,11 +16,10 @@ mod sessions;
 mod setup;
 mod standard;
 mod state;
-mod trunks;
 
 pub use filters::{do_filter, perform_crc4_check};
 pub use jobs::do_job;
-pub use performing::{System, perform_job, perform_session};
+pub use performing::{System, end_session, perform_job, perform_session};
 pub use program_fault::{DONE, NO_MEMORY, ProgramFault, REFUSED};
 pub use recording::{Recording, Tape, begin, tell_end};
 pub use report::{
@@ -33,4 +32,3 @@ pub use sessions::{check, replay, replay_watched, serve_through};
 pub use setup::read_config;
 pub use standard::{ReservedDescriptors, reserve_descriptors};
 pub use state::{begin_gateway, keep_gateway, load_from, save_to};
-pub use trunks::perform_trunk;

@@ -139,9 +139,13 @@ pub fn perform_job<S: Source + StandardInput, K: Sink + StandardOutput>(
     told_as(ended)
 }
 
-// Saves the state of a gateway after a session with this result. If that fails, the result of the session is
-// reported first.
-pub(crate) fn end_session<Y: System>(
+/// Saves the state of a gateway after a session with this result. If that fails, the result of the session is
+/// reported first.
+///
+/// # Errors
+///
+/// The fault of the session, or that its state was not saved.
+pub fn end_session<Y: System>(
     system: &Y,
     config: &Config,
     gateway: &Gateway,

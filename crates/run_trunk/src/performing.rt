@@ -1,15 +1,14 @@
-//! What `trunk` does: opens tape and ports, serves a trunk and its clients (`perform_trunk`).
+//! In which order a trunk is begun, served, ended and saved, by what it has of the system (`perform_trunk`).
 
 ghost use Rattle.std.specs.Prelude.{◌≡◌, ◌⊎◌, []};
 ghost use Rattle.gw_session.specs.Serve.{around};
 ghost use Rattle.gw_program.specs.Performing.{EndedSaved, NotBegun, LacksTapeOrPorts, HasServed, HasConfig};
 ghost use Rattle.gw_program.specs.Sessions.{HasGateway};
-ghost use Rattle.gw_program.specs.Trunks.{CarriesTrunk};
+ghost use Rattle.run_trunk.specs.Trunks.{CarriesTrunk};
 ghost use Rattle.gw_trunk.specs.Serving.{traffic};
 
-use crate::performing::{System, end_session};
-use crate::program_fault::ProgramFault;
 use gw_config::Config;
+use gw_program::{ProgramFault, System, end_session};
 use gw_session::{Ports, RunFault, Sink, Source, Tape, Totals};
 use gw_switch::Gateway;
 use gw_trunk::{TrunkInput, TrunkOutput, TrunkRecordSink, TrunkRecordSource, serve_trunk};
@@ -75,9 +74,9 @@ fn perform_carry<Y: System, I: TrunkInput, O: TrunkOutput, A: TrunkOutput>(
     end_session(system, config, gateway, ended)
 }
 
-/// Serves a trunk and its clients with the configuration, the gateway, the ports and the tape of the system,
-/// and saves the gateway's state.
-pub fn perform_trunk<Y: System, I: TrunkInput, O: TrunkOutput, A: TrunkOutput>(
+// Serves a trunk and its clients with the configuration, the gateway, the ports and the tape of the system, and
+// saves the gateway's state.
+pub(crate) fn perform_trunk<Y: System, I: TrunkInput, O: TrunkOutput, A: TrunkOutput>(
     system: &Y,
     alloc: Global,
     source: &mut TrunkRecordSource<I>,

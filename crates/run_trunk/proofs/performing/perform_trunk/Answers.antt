@@ -1,5 +1,5 @@
 use Rattle.std.proofs.Common.{inl, inr, refl, rules}
-use Rattle.gw_program.proofs.trunks.perform_trunk.Goals as goal
+use Rattle.run_trunk.proofs.performing.perform_trunk.Goals as goal
 
 pub returns-in_err-gateway : goal.returns-in_err-gateway
 returns-in_err-gateway g c = inr (record {

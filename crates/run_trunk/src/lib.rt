@@ -1,0 +1,7 @@
+//! The subcommand `trunk`: the trunk that the command line asks for, opened and served.
+#![tactic(auto)]
+
+mod carrying;
+mod performing;
+
+pub use carrying::serve;
