@@ -1,5 +1,4 @@
-//! The worked figures of the public calls of all crates: their tests, in one crate, since a crate with tests
-//! is proved twice, and each such crate loads all that it uses.
+//! The worked figures of the public calls of the crates up to a circuit and the filters: their tests.
 #![tactic(auto)]
 
 #[cfg(test)]
@@ -23,23 +22,9 @@ mod g726_tone_tests;
 #[cfg(test)]
 mod gw_circuit_tests;
 #[cfg(test)]
-mod gw_command_tests;
-#[cfg(test)]
-mod gw_config_tests;
-#[cfg(test)]
 mod gw_filter_tests;
 #[cfg(test)]
 mod gw_listing_tests;
-#[cfg(test)]
-mod gw_program_tests;
-#[cfg(test)]
-mod gw_session_tests;
-#[cfg(test)]
-mod gw_state_tests;
-#[cfg(test)]
-mod gw_switch_tests;
-#[cfg(test)]
-mod gw_udp_tests;
 #[cfg(test)]
 mod q421_line_tests;
 #[cfg(test)]

@@ -5,9 +5,8 @@ use crate::gw_session_tests::gateways::outgoing;
 use byteorder::{BigEndian, ByteOrder};
 use g704_cas::CircuitNo;
 use gw_config::Port;
-use gw_program::serve_through;
 use gw_repeat::Repeating;
-use gw_session::{FromRead, NoTape, Ports, ToWrite};
+use gw_session::{FromRead, Ports, ToWrite, serve};
 use gw_udp::{Socket, SourceFilter, UdpPorts};
 use std::net::UdpSocket;
 use std::test::Fail;
@@ -36,14 +35,7 @@ fn first_call_over_udp(rt: HostRuntime) -> Result<(), Fail> {
     session.add_trunk(Trunk::FirstCall, 5169, 15_906, 65_535)?;
     let mut source = FromRead::new(session.octets.as_slice());
     let mut sink = ToWrite::new(Vec::new(rt.alloc()));
-    let ended = serve_through(
-        rt.alloc(),
-        &mut gateway,
-        &mut ports,
-        &mut source,
-        &mut sink,
-        &mut NoTape,
-    );
+    let ended = serve(rt.alloc(), &mut gateway, &mut ports, &mut source, &mut sink);
     assert!(rt; ended.is_ok());
     let mut room = [0u8; 252];
     let (len, _) = peer.recv_from(&mut room)?;
