@@ -74,6 +74,10 @@ abbrev pub DoesJob : SpeechJob → Result Totals ProgramFault → Type 0
 DoesJob job told = OnNewStreams (λ a a'. Ended (λ end. MatchResult end
     (Does job a.source a'.source a.sink a'.sink) (DoesUntil job a.source a'.source a.sink a'.sink)) told)
 
+-- the file of reports that the command names
+abbrev pub reports_path_in : CommandLine → Option (List ℕ)
+reports_path_in command = text_in (codes "reports") command
+
 -- a file of reports is named and can't be opened, and this is returned
 pub record LacksReports (named : Option (List ℕ)) (told : Result Totals ProgramFault) : Type 0 where
   pub program_fault : ProgramFault

@@ -11,23 +11,20 @@ mod recording;
 mod report;
 mod reports;
 mod requests;
+mod running;
 mod sealed;
 mod sessions;
 mod setup;
 mod standard;
 mod state;
 
-pub use filters::{do_filter, perform_crc4_check};
 pub use jobs::do_job;
-pub use performing::{System, end_session, perform_job, perform_session};
+pub use performing::{System, end_session};
 pub use program_fault::{DONE, NO_MEMORY, ProgramFault, REFUSED};
 pub use recording::{Recording, Tape, begin, tell_end};
-pub use report::{
-    CheckTells, LiveCounts, Skipped, passed_over, print_discarded, print_receiver_counts,
-    print_totals, print_unreported,
-};
-pub use reports::open_reports;
+pub use report::{Skipped, passed_over, print_discarded, print_totals};
 pub use requests::{Commands, perform};
+pub use running::{run_crc4_check, run_filter, run_job, run_session};
 pub use sessions::{check, replay, replay_watched, serve_through};
 pub use setup::read_config;
 pub use standard::{ReservedDescriptors, reserve_descriptors};

@@ -105,7 +105,7 @@ pub trait System {
 }
 
 // The report of the end of a job or a session.
-fn told_as(ended: Result<Totals, RunFault>) -> Result<Totals, ProgramFault>
+pub(crate) fn told_as(ended: Result<Totals, RunFault>) -> Result<Totals, ProgramFault>
     ensures { result ≡ told_as ended }
 {
     ended.map_err(ProgramFault::Session)

@@ -8,7 +8,9 @@ ghost use Rattle.gw_program.specs.Requests.{CommandLine};
 ghost use Rattle.gw_satop.specs.Session.{HasSettings};
 
 use crate::asked::{CircuitAsked, circuit_asked};
-use crate::ends::{open_clock, open_far_end, open_receiver, open_stdin, open_stdout, start_at_random};
+use crate::ends::{
+    open_clock, open_far_end, open_receiver, open_stdin, open_stdout, start_at_random,
+};
 use clap::ArgMatches;
 use gw_program::ProgramFault;
 use gw_records::{NO_TOTALS, RunFault, Totals};

@@ -8,7 +8,9 @@ ghost use Rattle.gw_satop.specs.Line.{HasPlayed};
 use clap::ArgMatches;
 use gw_command::{satop_local_of, satop_peer_of};
 use gw_program::ProgramFault;
-use gw_satop::{Receiver, SenderSettings, SystemClock, UdpPeer, WhenReady, open_input, open_output};
+use gw_satop::{
+    Receiver, SenderSettings, SystemClock, UdpPeer, WhenReady, open_input, open_output,
+};
 use gw_trunk::{FromDevice, ToDevice, Waiting};
 use satop_playout::Settings;
 use std::net::UdpSocket;
@@ -59,7 +61,9 @@ pub(crate) fn open_far_end(
 }
 
 // Opens the trunk of `satop` at standard input, read only when ready.
-pub(crate) fn open_stdin(rt: &HostRuntime) -> Result<WhenReady<FromDevice<Stdin>, Waiting>, ProgramFault>
+pub(crate) fn open_stdin(
+    rt: &HostRuntime,
+) -> Result<WhenReady<FromDevice<Stdin>, Waiting>, ProgramFault>
     ensures came { IfOk result (λ r. r.incoming.reader.log.octets ≡ []) }
     ensures err { IfErr result LacksStream }
 {
@@ -96,7 +100,11 @@ pub(crate) fn open_clock<'r>(
 }
 
 // Takes memory for the received half of a circuit.
-pub(crate) fn open_receiver(rt: &HostRuntime, settings: Settings, rtp: bool) -> Result<Receiver, ProgramFault>
+pub(crate) fn open_receiver(
+    rt: &HostRuntime,
+    settings: Settings,
+    rtp: bool,
+) -> Result<Receiver, ProgramFault>
     ensures settings { IfOk result (λ r. r.settings ≡ settings) }
     ensures rtp { IfOk result (λ r. r.rtp ≡ rtp) }
     ensures stands { IfOk result (λ r. HasPlayed r []) }

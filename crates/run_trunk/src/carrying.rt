@@ -90,7 +90,7 @@ fn carry_alone<Y: System>(
     matches: &ArgMatches<'_>,
     system: &Y,
 ) -> Result<Totals, ProgramFault>
-    requires takes { TakesAsked (subcommand_rows_of matches.now) (Y.reads system.now) (Y.starts system.now)
+    requires { TakesAsked (subcommand_rows_of matches.now) (Y.reads system.now) (Y.starts system.now)
         (Y.saves system.now) }
     ensures { ServesTrunk (subcommand_rows_of matches.now) result }
 {
@@ -107,7 +107,7 @@ fn carry_with_clients<Y: System>(
     system: &Y,
     path: &str,
 ) -> Result<Totals, ProgramFault>
-    requires takes { TakesAsked (subcommand_rows_of matches.now) (Y.reads system.now) (Y.starts system.now)
+    requires { TakesAsked (subcommand_rows_of matches.now) (Y.reads system.now) (Y.starts system.now)
         (Y.saves system.now) }
     ensures { ServesTrunk (subcommand_rows_of matches.now) result }
 {
@@ -129,7 +129,7 @@ pub fn serve<Y: System>(
     matches: &ArgMatches<'_>,
     system: &Y,
 ) -> Result<Totals, ProgramFault>
-    requires takes { TakesAsked (subcommand_rows_of matches.now) (Y.reads system.now) (Y.starts system.now)
+    requires { TakesAsked (subcommand_rows_of matches.now) (Y.reads system.now) (Y.starts system.now)
         (Y.saves system.now) }
     ensures { ServesTrunk (subcommand_rows_of matches.now) result }
 {

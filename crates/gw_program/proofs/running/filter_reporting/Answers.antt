@@ -1,6 +1,6 @@
 use Rattle.std.proofs.Common.{refl}
 use Rattle.gw_program.proofs.Filtering.{has_run, is_named, no_reports_to_run}
-use Rattle.gateway_main.proofs.filter_reporting.Goals as goal
+use Rattle.gw_program.proofs.running.filter_reporting.Goals as goal
 
 pub returns-in-Err : goal.returns-in-Err
 returns-in-Err c = no_reports_to_run _ _ _
@@ -8,6 +8,6 @@ returns-in-Err c = no_reports_to_run _ _ _
 pub returns : goal.returns
 returns c =
     has_run _ _ _ _ _ _ _ _ _ (λ e. absurd (is_named _ e)) c.do_filter-end.ensures.ok c.do_filter-end.ensures.fault
-    c.told.ensures
+    c.told_as.ensures
     (rw c.new-source.ensures refl) (rw c.new-source.ensures refl) (rw c.new-source.ensures refl)
     c.new-sink.ensures.failed

@@ -1,4 +1,4 @@
-use Rattle.gateway_main.proofs.StandardCommands.check.Goals as goal
+use Rattle.gw_program.proofs.running.run_crc4_check.Goals as goal
 
 pub returns-in-Some : goal.returns-in-Some
 returns-in-Some c = rw (← c.in-Some.ensures) c.check_reporting.ensures

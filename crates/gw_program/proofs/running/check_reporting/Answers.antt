@@ -1,6 +1,6 @@
 use Rattle.std.proofs.Common.{refl}
 use Rattle.gw_program.proofs.Filtering.{has_checked, no_reports_to_check}
-use Rattle.gateway_main.proofs.check_reporting.Goals as goal
+use Rattle.gw_program.proofs.running.check_reporting.Goals as goal
 
 pub returns-in-Err : goal.returns-in-Err
 returns-in-Err c = no_reports_to_check _ _

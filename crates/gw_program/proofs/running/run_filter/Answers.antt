@@ -1,4 +1,4 @@
-use Rattle.gateway_main.proofs.StandardCommands.filter.Goals as goal
+use Rattle.gw_program.proofs.running.run_filter.Goals as goal
 
 pub returns-in-Some : goal.returns-in-Some
 returns-in-Some c = rw (← c.in-Some.ensures) c.filter_reporting.ensures

@@ -1,6 +1,6 @@
 use Rattle.std.proofs.Common.{refl}
 use Rattle.gw_program.proofs.Filtering.{has_checked}
-use Rattle.gateway_main.proofs.check_alone.Goals as goal
+use Rattle.gw_program.proofs.running.check_alone.Goals as goal
 
 pub returns : goal.returns
 returns c =

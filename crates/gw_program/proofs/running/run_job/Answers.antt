@@ -1,6 +1,6 @@
 use Rattle.std.proofs.Common.{refl}
 use Rattle.gw_program.proofs.Streams.{on_new}
-use Rattle.gateway_main.proofs.StandardCommands.job.Goals as goal
+use Rattle.gw_program.proofs.running.run_job.Goals as goal
 
 pub returns : goal.returns
 returns c =

@@ -1,0 +1,137 @@
+//! What runs between standard input and standard output for the command line: a job, a filter or a session.
+
+ghost use Rattle.std.specs.Prelude.{Some, None};
+ghost use Rattle.clap.specs.Words.{subcommand_rows_of};
+ghost use Rattle.gw_program.specs.Requests.{DoesJob, RunsFilter, ChecksCrc4, DoesSession, TakesAsked};
+ghost use Rattle.gw_program.specs.Requests.{reports_path_in};
+
+use crate::filters::{do_filter, perform_crc4_check};
+use crate::performing::{System, perform_job, perform_session, told_as};
+use crate::program_fault::ProgramFault;
+use crate::report::CheckTells;
+use crate::reports::open_reports;
+use clap::ArgMatches;
+use gw_command::{Filter, SessionKind, SpeechJob, asks_live, reports_of};
+use gw_filter::{NoReports, ReportingSender, ToReports};
+use gw_session::{FromRead, ToWrite, Totals};
+
+/// Encodes or decodes standard input to standard output, and reports skipped datagrams.
+pub fn run_job(rt: &HostRuntime, job: &SpeechJob) -> Result<Totals, ProgramFault>
+    ensures { DoesJob job.now result }
+{
+    let mut source = FromRead::new(rt.stdin());
+    let mut sink = ToWrite::new(rt.stdout());
+    perform_job(rt, job, &mut source, &mut sink)
+}
+
+// Runs a filter of a trunk, without reports.
+fn filter_alone(rt: &HostRuntime, filter: Filter) -> Result<Totals, ProgramFault>
+    ensures { RunsFilter None filter result }
+{
+    let mut source = FromRead::new(rt.stdin());
+    let mut sink = ToWrite::new(rt.stdout());
+    let mut sender = ReportingSender::new(NoReports::new());
+    let end = do_filter(filter, &mut sender, &mut source, &mut sink);
+    told_as(end)
+}
+
+// Runs a filter of a trunk, with the reports that come from the FIFO at the path.
+fn filter_reporting(rt: &HostRuntime, path: &str, filter: Filter) -> Result<Totals, ProgramFault>
+    ensures { RunsFilter (Some path.now) filter result }
+{
+    let file = match open_reports(rt, path) {
+        Ok(file) => file,
+        Err(fault) => return Err(fault),
+    };
+    let mut source = FromRead::new(rt.stdin());
+    let mut sink = ToWrite::new(rt.stdout());
+    let mut sender = ReportingSender::new(FromRead::new(file));
+    let end = do_filter(filter, &mut sender, &mut source, &mut sink);
+    told_as(end)
+}
+
+/// Runs a filter from standard input to standard output, with the reports of the FIFO that the matches name.
+///
+/// # Errors
+///
+/// [`ProgramFault::Reports`] if the FIFO can't be opened, or [`ProgramFault::Session`] if a read or a write
+/// fails.
+pub fn run_filter(
+    rt: &HostRuntime,
+    matches: &ArgMatches<'_>,
+    filter: Filter,
+) -> Result<Totals, ProgramFault>
+    ensures { RunsFilter (reports_path_in (subcommand_rows_of matches.now)) filter result }
+{
+    match reports_of(matches) {
+        Some(path) => filter_reporting(rt, path, filter),
+        None => filter_alone(rt, filter),
+    }
+}
+
+// Checks the CRC-4 multiframes of a trunk, without reports.
+fn check_alone(rt: &HostRuntime, live: bool) -> Result<Totals, ProgramFault>
+    ensures { ChecksCrc4 None result }
+{
+    let mut source = FromRead::new(rt.stdin());
+    let mut sink = ToWrite::new(rt.stdout());
+    let tells = CheckTells {
+        live,
+        unreported: false,
+    };
+    perform_crc4_check(rt, NoReports::new(), tells, &mut source, &mut sink)
+}
+
+// Checks the CRC-4 multiframes of a trunk, and reports errored ones to the FIFO at the path.
+fn check_reporting(rt: &HostRuntime, path: &str, live: bool) -> Result<Totals, ProgramFault>
+    ensures { ChecksCrc4 (Some path.now) result }
+{
+    let file = match open_reports(rt, path) {
+        Ok(file) => file,
+        Err(fault) => return Err(fault),
+    };
+    let mut source = FromRead::new(rt.stdin());
+    let mut sink = ToWrite::new(rt.stdout());
+    let tells = CheckTells {
+        live,
+        unreported: true,
+    };
+    perform_crc4_check(rt, ToReports::new(file), tells, &mut source, &mut sink)
+}
+
+/// Checks the CRC-4 multiframes of standard input, and reports errored ones to the FIFO that the matches
+/// name.
+///
+/// # Errors
+///
+/// [`ProgramFault::Reports`] if the FIFO can't be opened, or [`ProgramFault::Session`] if a read or a write
+/// fails.
+pub fn run_crc4_check(rt: &HostRuntime, matches: &ArgMatches<'_>) -> Result<Totals, ProgramFault>
+    ensures { ChecksCrc4 (reports_path_in (subcommand_rows_of matches.now)) result }
+{
+    let live = asks_live(matches);
+    match reports_of(matches) {
+        Some(path) => check_reporting(rt, path, live),
+        None => check_alone(rt, live),
+    }
+}
+
+/// Runs a session from standard input to standard output, with what the system takes for the command line.
+///
+/// # Errors
+///
+/// What the system lacks, [`ProgramFault::Session`] if the session fails, or that its state was not saved.
+pub fn run_session<Y: System>(
+    rt: &HostRuntime,
+    matches: &ArgMatches<'_>,
+    system: &Y,
+    session: SessionKind,
+) -> Result<Totals, ProgramFault>
+    requires { TakesAsked (subcommand_rows_of matches.now) (Y.reads system.now) (Y.starts system.now)
+        (Y.saves system.now) }
+    ensures { DoesSession (subcommand_rows_of matches.now) session result }
+{
+    let mut source = FromRead::new(rt.stdin());
+    let mut sink = ToWrite::new(rt.stdout());
+    perform_session(system, rt.alloc(), session, &mut source, &mut sink)
+}
