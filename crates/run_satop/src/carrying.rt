@@ -110,7 +110,8 @@ fn emulate_over<P: Peer + Drop, M: Clock + Drop>(
 ///
 /// The first cause: [`ProgramFault::Nothing`] if a word is missing, [`ProgramFault::PacketSize`] if the size
 /// is no size of a packet, [`ProgramFault::FarEnd`] if there is no socket, [`ProgramFault::Trunk`] if a
-/// stream can't be waited for, [`ProgramFault::OutOfMemory`], or [`ProgramFault::Session`] if the trunk fails.
+/// stream can't be waited for, [`ProgramFault::OutOfMemory`], or [`ProgramFault::Session`] if the trunk
+/// fails.
 pub fn emulate(rt: &HostRuntime, matches: &ArgMatches<'_>) -> Result<Totals, ProgramFault>
     ensures { DoesSatop (subcommand_rows_of matches.now) result }
 {

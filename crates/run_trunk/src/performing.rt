@@ -74,8 +74,8 @@ fn perform_carry<Y: System, I: TrunkInput, O: TrunkOutput, A: TrunkOutput>(
     end_session(system, config, gateway, ended)
 }
 
-// Serves a trunk and its clients with the configuration, the gateway, the ports and the tape of the system, and
-// saves the gateway's state.
+// Serves a trunk and its clients with the configuration, the gateway, the ports and the tape of the system,
+// and saves the gateway's state.
 pub(crate) fn perform_trunk<Y: System, I: TrunkInput, O: TrunkOutput, A: TrunkOutput>(
     system: &Y,
     alloc: Global,
