@@ -1,0 +1,117 @@
+"""The SIP front end of examples/sip: calls between an agent, which this test is, and the exchange of a trunk."""
+from __future__ import annotations
+
+import os
+import re
+import socket
+import subprocess
+import sys
+from contextlib import ExitStack
+
+from . import support
+from .support import SECONDS
+from .test_trunk import aligned
+from .world import ACKNOWLEDGED, World
+from e1gw.testing.datagrams import PACKET, packets, speech
+from e1gw.testing.ports import free_ports
+
+FRONT_END = os.path.join(support.TOP, 'examples', 'sip', 'front_end')
+OFFER = ('v=0\r\no=- 1 1 IN IP4 127.0.0.1\r\ns=-\r\nc=IN IP4 127.0.0.1\r\nt=0 0\r\n'
+         'm=audio {port} RTP/AVP {payload} 101\r\n')
+
+
+class Heard:
+    """Whether a message has come, and which."""
+
+    def __init__(self, line: socket.socket) -> None:
+        self.line, self.text = line, ''
+
+    def __call__(self) -> bool:
+        try:
+            self.text = self.line.recv(65536).decode()
+        except BlockingIOError:
+            return False
+        return True
+
+
+class SipFrontEndTests(support.FolderCase):
+    def setUp(self) -> None:
+        super().setUp()
+        held = ExitStack()
+        self.addCleanup(held.close)
+        *ports, sip = free_ports(5)
+        rows = ''.join(f'[[circuit]]\nnumber = {n}\nptime = 10\nprefill = 160\n'
+                       f'local_port = {local}\npeer_port = {peer}\n'
+                       for n, local, peer in zip((1, 2), ports[:2], ports[2:]))
+        self.world = held.enter_context(World('law = "A"\n' + rows))
+        aligned(self.world)
+        self.front_end = subprocess.Popen([sys.executable, '-B', FRONT_END, self.world.path('ctl'), self.world.config,
+                                           '--sip', f'127.0.0.1:{sip}'], stdout=subprocess.PIPE)
+        held.callback(self.end)
+        assert self.front_end.stdout
+        self.assertEqual(self.front_end.stdout.readline(), f'calls are taken at 127.0.0.1:{sip}\n'.encode())
+        self.agent, self.speech = (held.enter_context(socket.socket(socket.AF_INET, socket.SOCK_DGRAM)) for _ in '12')
+        for line in (self.agent, self.speech):
+            line.bind(('127.0.0.1', 0))
+        self.agent.connect(('127.0.0.1', sip))
+
+    def end(self) -> None:
+        self.front_end.kill()
+        self.front_end.wait(SECONDS)
+        assert self.front_end.stdout
+        self.front_end.stdout.close()
+
+    def sends(self, method: str, call: str, payload: int = 8) -> None:
+        body = OFFER.format(port=self.speech.getsockname()[1], payload=payload) if method == 'INVITE' else ''
+        number = 1 if method in ('INVITE', 'CANCEL') else 2
+        self.agent.send((f'{method} sip:1@127.0.0.1 SIP/2.0\r\n'
+                         f'Via: SIP/2.0/UDP 127.0.0.1;branch=z9hG4bK{call}{method}\r\n'
+                         f'From: <sip:a@127.0.0.1>;tag=a\r\nTo: <sip:1@127.0.0.1>\r\nCall-ID: {call}\r\n'
+                         f'CSeq: {number} {method}\r\nContact: <sip:a@127.0.0.1>\r\n'
+                         f'Content-Length: {len(body)}\r\n\r\n{body}').encode())
+
+    def hears(self, *firsts: str) -> str:
+        """Waits, while the trunk goes on, for messages that begin so, one after another; the last one."""
+        self.agent.setblocking(False)
+        for first in firsts:
+            self.world.until(found := Heard(self.agent))
+            self.assertEqual(found.text.split('\r\n')[0], first)
+        return found.text
+
+    def is_up(self, call: str) -> tuple[str, int]:
+        """A call is made and answered; where the front end takes its speech."""
+        self.sends('INVITE', call)
+        answer = self.hears('SIP/2.0 100 Trying', 'SIP/2.0 183 Session Progress', 'SIP/2.0 200 OK')
+        self.assertIn('\r\nCSeq: 1 INVITE\r\n', answer)
+        self.assertRegex(answer, r'\r\nTo: <sip:1@127.0.0.1>;tag=\w+\r\n')
+        return '127.0.0.1', int(re.findall(r'm=audio (\d+) RTP/AVP 8\r\n', answer)[0])
+
+    def test_speech_in_both_directions(self) -> None:
+        there = self.is_up('first')
+        self.speech.sendto(speech(0x31), there)
+        self.world.until(lambda: bytes(self.world.exchange.heard[1]).count(0x31) == PACKET)
+        self.world.exchange.speech[1] = bytearray(b'\x42' * 4 * PACKET)
+        self.world.until(lambda: any(b'\x42' * PACKET in packet for packet, _ in packets(self.speech)))
+        self.sends('BYE', 'first')
+        self.hears('SIP/2.0 200 OK')
+        self.world.until(lambda: self.world.state(1) == 'idle')
+
+    def test_the_exchange_clears(self) -> None:
+        self.is_up('first')
+        self.world.answers = False
+        self.world.exchange.pairs[1] = ACKNOWLEDGED         # clear-back, in an answered call (Q.421)
+        self.assertIn('Call-ID: first\r\n', self.hears('BYE sip:a@127.0.0.1 SIP/2.0'))
+
+    def test_calls_that_are_not_answered(self) -> None:
+        self.world.answers = False
+        self.sends('INVITE', 'other', payload=0)
+        self.hears('SIP/2.0 100 Trying', 'SIP/2.0 488 Not Acceptable Here')
+        for call in ('first', 'second'):
+            self.sends('INVITE', call)
+            self.hears('SIP/2.0 100 Trying')
+        self.sends('INVITE', 'third')
+        self.hears('SIP/2.0 100 Trying', 'SIP/2.0 503 Service Unavailable')
+        self.world.answers = True
+        self.hears('SIP/2.0 183 Session Progress', 'SIP/2.0 183 Session Progress')
+        self.sends('CANCEL', 'first')
+        self.hears('SIP/2.0 200 OK', 'SIP/2.0 487 Request Terminated')
