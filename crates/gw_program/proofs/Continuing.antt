@@ -11,6 +11,7 @@ use Rattle.gw_session.specs.ServeLaws.{ServingIsCutAnywhere}
 use Rattle.gw_state.specs.declared.loading.Loaded.{Loaded}
 use Rattle.gw_state.specs.Laws.{ContinuesFrom, LoadedGatewaysGoOn}
 use Rattle.gw_program.specs.Continuing.{IsSavedAndLoaded, LoadedServingsGoOn, LoadedSessionsRunOn}
+use Rattle.gw_program.specs.Continuing.{SavedStatesRecover}
 
 -- what was saved and loaded goes on from the history of what was saved
 continues : LoadedGatewaysGoOn → (first old config : GatewayConfig) (saved : Gateway) (es : List Event)
@@ -46,3 +47,10 @@ serve_on law cut first config before a a' b b' gateway gateway' next_gateway nex
       took = next.took first es (rw begins (c.unchanged refl));
       behind = (cut first before one.inputs next.inputs).0;
     }
+
+-- a replay that begins with a state that was saved recovers the state of the live session
+pub saved_recover : LoadedGatewaysGoOn → SavedStatesRecover
+saved_recover law first config before a a' gateway live saved recovered end ended passed octets behind loaded source
+    source' sink sink' served has stood there s replayed only =
+    let c = continues law first config config saved (before ++ events passed) loaded there s in
+    replayed.recovers a a' gateway live end passed octets behind first before served has only stood (c.unchanged refl)

@@ -1,5 +1,5 @@
 -- Sessions that go on from a saved state (module `laws`).
-use Rattle.std.specs.Prelude.{◌≡◌, ℕ, List, [], ◌++◌}
+use Rattle.std.specs.Prelude.{◌≡◌, ℕ, List, [], ◌++◌, Result}
 use Rattle.std.specs.Io.KnownBytes.{Appends}
 use Rattle.gw_switch.specs.declared.GatewayConfig.{GatewayConfig}
 use Rattle.gw_switch.specs.declared.gateway.Gateway.{Gateway}
@@ -9,14 +9,17 @@ use Rattle.gw_switch.specs.Reconfigured.{AreRenewals}
 use Rattle.gw_switch.specs.Saved.{GatewayFits, AreConfiguredAlike}
 use Rattle.gw_records.specs.declared.outcome.Totals.{Totals}
 use Rattle.gw_records.specs.Records.{Record}
-use Rattle.gw_records.specs.Streams.{SinkState}
+use Rattle.gw_records.specs.declared.outcome.RunFault.{RunFault}
+use Rattle.gw_records.specs.Streams.{SourceState, SinkState}
 use Rattle.gw_session.specs.Answers.{events}
 use Rattle.gw_session.specs.Laws.{Run, HasRun, WritesAsOne}
+use Rattle.gw_session.specs.Recovery.{HasRecorded, IsGivenOnly, Recovers}
 use Rattle.gw_session.specs.Running.{AnswersAll}
 use Rattle.gw_session.specs.Serve.{Served, SessionInput, SessionStreams, events_through, written}
 use Rattle.gw_state.specs.declared.loading.Loaded.{Loaded}
 use Rattle.gw_state.specs.Layout.{state_file, ConfigFits}
 use Rattle.gw_state.specs.Loaded.{IsLoaded}
+use Rattle.gw_program.specs.Sessions.{Runs, Serves}
 
 -- A gateway with these events was saved, whose circuits were configured as `old`, and its state was loaded
 -- with a configuration.
@@ -70,3 +73,16 @@ LoadedServingsGoOn = (first config : GatewayConfig) (before : List Event) (a a' 
     → HasHistory first gateway before → next_gateway ≡ loaded.gateway
     → IsSavedAndLoaded first config config gateway' (before ++ events_through one.inputs) loaded
     → ServesOn first before one.inputs next.inputs b.sink b'.sink
+
+-- A state was saved behind the first records of a live session's recording, and loaded with the same
+-- configuration. A replay from it, over octets behind these records, recovers the state of the live session.
+abbrev pub SavedStatesRecover : Type 0
+SavedStatesRecover = (first config : GatewayConfig) (before : List Event) (a a' : SessionStreams)
+    (gateway live saved recovered : Gateway) (end ended : Result Totals RunFault) (passed : List Record)
+    (octets behind : List ℕ) (loaded : Loaded) (source source' : SourceState) (sink sink' : SinkState)
+    → Serves a a' end gateway live → HasRecorded a.tape a'.tape passed octets behind
+    → HasHistory first gateway before → HasHistory first saved (before ++ events passed)
+    → IsSavedAndLoaded first config config saved (before ++ events passed) loaded
+    → Runs source source' sink sink' ended loaded.gateway recovered
+    → IsGivenOnly octets source source' sink sink'
+    → Recovers first before live recovered a'.tape passed octets behind sink sink'

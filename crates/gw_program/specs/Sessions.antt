@@ -9,16 +9,18 @@ use Rattle.gw_records.specs.declared.outcome.Totals.{Totals}
 use Rattle.gw_records.specs.declared.outcome.RunFault.{RunFault}
 use Rattle.gw_records.specs.declared.outcome.RunFault.TheVariants as faults
 use Rattle.gw_records.specs.Streams.{SourceState, SinkState, FailsAfterPrefix}
+use Rattle.gw_session.specs.Recovery.{RecoversLive}
 use Rattle.gw_session.specs.Running.{RunsAll, RunsUntil}
 use Rattle.gw_session.specs.Serve.{SessionStreams, ServesAll, ServesUntil}
 use Rattle.gw_program.specs.Listing.{listing}
 
--- records of a source were acted on by a gateway, and this was the end
-abbrev pub Runs : SourceState → SourceState → SinkState → SinkState → Result Totals RunFault
-    → Gateway → Gateway → Type 0
-Runs source source' sink sink' end gateway gateway' = MatchResult end
-    (RunsAll gateway gateway' source source' sink sink')
-    (RunsUntil gateway gateway' source source' sink sink')
+-- Records of a source were acted on by a gateway, and this was the end. Octets of a live session's recording,
+-- wherever it was cut, recover the state of that session.
+pub record Runs (source source' : SourceState) (sink sink' : SinkState) (end : Result Totals RunFault)
+    (gateway gateway' : Gateway) : Type 0 where
+  pub ran : MatchResult end (RunsAll gateway gateway' source source' sink sink')
+      (RunsUntil gateway gateway' source source' sink sink')
+  pub recovers : RecoversLive source source' sink sink' gateway gateway'
 
 -- this was done with a gateway that a session began with so
 pub record HasGateway (Begins : Gateway → Type 0) (does : Gateway → Gateway → Type 0) : Type 0 where

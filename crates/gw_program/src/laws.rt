@@ -1,5 +1,5 @@
 //! Laws of sessions that go on from a saved state.
-ghost use Rattle.gw_program.specs.Continuing.{LoadedServingsGoOn, LoadedSessionsRunOn};
+ghost use Rattle.gw_program.specs.Continuing.{LoadedServingsGoOn, LoadedSessionsRunOn, SavedStatesRecover};
 
 /// A run of a gateway that was loaded from the state that another run has saved answers by the definitions
 /// for all that has happened. With the same configuration both write what one run over all their records
@@ -18,4 +18,12 @@ pub fn loaded_servings_go_on()
 {
     gw_state::laws::loaded_gateways_go_on();
     gw_session::laws::serving_is_cut_anywhere();
+}
+
+/// A replay that begins with a state that was saved behind the first records of a live session's recording, over
+/// octets behind them, recovers the state of that session, wherever the recording was cut.
+pub fn saved_states_recover()
+    ensures { SavedStatesRecover }
+{
+    gw_state::laws::loaded_gateways_go_on();
 }

@@ -6,6 +6,7 @@ ghost use Rattle.gw_session.specs.Serve.{around};
 ghost use Rattle.gw_program.specs.Sessions.{Runs, Serves, Checks, Lists, checked};
 
 use crate::listing::listing;
+use gw_session::laws::cut_recordings_recover;
 use gw_session::{
     Ports, RunFault, Sink, SinkFault, Source, Tape, Totals, Watch, run, run_watched,
     serve_recorded, write_all,
@@ -25,6 +26,7 @@ pub fn replay<S: Source, K: Sink>(
     ensures { Runs (S.tells source.old) (S.tells source.new) (K.tells sink.old) (K.tells sink.new) result
         gateway.old gateway.new }
 {
+    cut_recordings_recover();
     run(alloc, gateway, source, sink)
 }
 
@@ -41,6 +43,7 @@ pub fn replay_watched<S: Source, K: Sink, W: Watch>(
     ensures { Runs (S.tells source.old) (S.tells source.new) (K.tells sink.old) (K.tells sink.new) result
         gateway.old gateway.new }
 {
+    cut_recordings_recover();
     run_watched(alloc, gateway, source, sink, watch)
 }
 
@@ -70,7 +73,7 @@ pub fn check<S: Source, K: Sink>(
         gateway.old gateway.new }
 {
     let mut nowhere = Nowhere;
-    let ended = run(alloc, gateway, source, &mut nowhere);
+    let ended = replay(alloc, gateway, source, &mut nowhere);
     list(gateway, ended, sink)
 }
 

@@ -15,17 +15,17 @@ use Rattle.gw_session.proofs.Taping.{recorded_none}
 use Rattle.gw_session.proofs.Turns.{Extends-none}
 
 -- what a session that was recorded did, whatever ended it
-record Lived (config : GatewayConfig) (before : List Event) (live : Gateway) (a a' : SessionStreams) : Type 0 where
-  inputs : List SessionInput
-  stands : HasHistory config live (before ++ events_through inputs)
-  recorded : Recorded a.tape a'.tape (events_through inputs)
-  took : AppendsPrefix a.sink.taken a'.sink.taken (written config before inputs)
-  whole : a'.sink.failures ≡ a.sink.failures → Appends a.sink.taken a'.sink.taken (written config before inputs)
-  sent : List (ℕ × List ℕ)
-  takes : Extends a.ports.taken a'.ports.taken sent
-  failed : ℕ
-  sends : a'.ports.send_failures ≡ counted a.ports.send_failures failed
-  packets : LeavesOut failed sent (packets_for config before (events_through inputs))
+pub record Lived (config : GatewayConfig) (before : List Event) (live : Gateway) (a a' : SessionStreams) : Type 0 where
+  pub inputs : List SessionInput
+  pub stands : HasHistory config live (before ++ events_through inputs)
+  pub recorded : Recorded a.tape a'.tape (events_through inputs)
+  pub took : AppendsPrefix a.sink.taken a'.sink.taken (written config before inputs)
+  pub whole : a'.sink.failures ≡ a.sink.failures → Appends a.sink.taken a'.sink.taken (written config before inputs)
+  pub sent : List (ℕ × List ℕ)
+  pub takes : Extends a.ports.taken a'.ports.taken sent
+  pub failed : ℕ
+  pub sends : a'.ports.send_failures ≡ counted a.ports.send_failures failed
+  pub packets : LeavesOut failed sent (packets_for config before (events_through inputs))
 
 -- what was all taken is a prefix of itself
 prefix_of_all : (a b : Option (List ℕ)) (xs : List ℕ) → Appends a b xs → AppendsPrefix a b xs
@@ -92,7 +92,7 @@ lived_idly config before live a stood = record {
 }
 
 -- whatever ended a session that was recorded, it did so
-lived : (a a' : SessionStreams) (gateway live : Gateway) (end : Result Totals RunFault) (config : GatewayConfig)
+pub lived : (a a' : SessionStreams) (gateway live : Gateway) (end : Result Totals RunFault) (config : GatewayConfig)
     (before : List Event) → HasHistory config gateway before
     → MatchResult end (ServesAll a a' gateway live) (ServesUntil a a' gateway live) → Lived config before live a a'
 lived a a' gateway live (Ok totals) config before stood h = lived_well a a' stood h.ends.0.done

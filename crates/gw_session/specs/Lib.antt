@@ -16,3 +16,4 @@ pub mod Watch
 pub mod Exchange
 pub mod ServeLaws
 pub mod RecordingLaws
+pub mod Recovery
