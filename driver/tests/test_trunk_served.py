@@ -400,6 +400,18 @@ class TrunkClientTests(ServedTrunkCase):
             self.assertEqual(len(trunk.passes(bytes(2048))), 2048)
         self.assertEqual(trunk.ends(), (0, 'recording ended: a write failed\n'))
 
+    def test_a_recording_that_fails_is_closed_and_told_at_once(self) -> None:
+        trunk = self.trunk('--record', '/dev/full')
+        assert trunk.serving.stderr
+        told = trunk.serving.stderr.fileno()
+        os.set_blocking(told, False)
+        self.assertEqual(os.read(told, 100), b'recording ended: a write failed\n')
+        os.set_blocking(told, True)
+        descriptors = f'/proc/{trunk.serving.pid}/fd'
+        self.assertNotIn('/dev/full', [os.readlink(os.path.join(descriptors, n)) for n in os.listdir(descriptors)])
+        self.assertEqual(len(trunk.passes(bytes(2048))), 2048)
+        self.assertEqual(trunk.ends(), (0, ''))
+
 
 class HandedOverTrunkTests(ServedTrunkCase):
     """A trunk whose program ends at a client's word, and goes on in another one on the same device."""

@@ -21,7 +21,7 @@ mod state;
 pub use jobs::do_job;
 pub use performing::{System, end_session};
 pub use program_fault::{DONE, NO_MEMORY, ProgramFault, REFUSED};
-pub use recording::{Recording, Tape, begin, tell_end};
+pub use recording::{Recording, RecordingFile, Tape, begin};
 pub use report::{Skipped, passed_over, print_discarded, print_totals};
 pub use requests::{Commands, perform};
 pub use running::{run_crc4_check, run_filter, run_job, run_session};

@@ -97,9 +97,6 @@ pub trait System {
     /// Ends the watch of a replay.
     fn end_watch(&self, watch: &mut Self::Watch);
 
-    /// Reports a recording that ended before its session.
-    fn tell_end(&self, tape: &Self::Tape);
-
     /// Reports the end of a session, beyond its result.
     fn tell(&self, program_fault: &ProgramFault);
 }
@@ -209,7 +206,6 @@ fn perform_serve<Y: System, S: Source, K: Sink>(
     let mut tape = system.begin_tape()?;
     let mut ports = system.open_ports(config)?;
     let ended = serve_through(alloc, gateway, &mut ports, source, sink, &mut tape);
-    system.tell_end(&tape);
     end_session(system, config, gateway, ended)
 }
 

@@ -1,15 +1,17 @@
-//! Whether the file of `--record` is created, emptied or refused, and whether its writes wait.
+//! How the file of `--record` is opened, whether its writes wait, and when it is closed (`RecordingFile`).
 
-ghost use Rattle.std.specs.Prelude.{IfOk};
+ghost use Rattle.std.specs.Prelude.{◌≡◌, ◌≢◌, ◌≤◌, [], length, IfOk, IfSome, IfNone, Some, None};
 ghost use Rattle.gw_program.specs.Performing.{IsBegun};
 
 use crate::program_fault::ProgramFault;
-use gw_session::{Recorder, ToWrite, TrunkRecord};
+use gw_records::Log;
+use gw_session::{Recorder, Sink, SinkFault, TrunkRecord};
 use std::fs::{self, File, OpenOptions};
-use std::io;
+use std::io::{self, Write};
 use std::os::fd::OwnedFd;
 use std::os::unix::fs::OpenOptionsExt;
 use std::os::unix::net::UnixStream;
+use std::rt::Stderr;
 
 // The permissions of a new file, less the umask: others may not read it, since it holds the speech of all
 // calls.
@@ -26,8 +28,73 @@ pub struct Recording<'m> {
     pub waits: bool,
 }
 
+// The line that reports the end of a recording before that of its session.
+const ENDED: &[u8] = b"recording ended: a write failed\n";
+
+// Writes octets to a writer and returns how many it took. If it took none of some, or failed, it is closed.
+fn write_or_close<W: Write + Drop>(writer: &mut Option<W>, octets: &[u8]) -> Option<usize>
+    ensures bound { IfSome result (λ n. n ≤ length octets.now) }
+    ensures open { IfSome result (λ _. writer.new ≢ None) }
+    ensures closed { IfNone result (writer.new ≡ None) }
+{
+    let Some(open) = writer else {
+        return None;
+    };
+    match open.write(octets) {
+        Ok(n) if n > 0 || octets.is_empty() => Some(n),
+        _ => {
+            *writer = None;
+            None
+        }
+    }
+}
+
+/// The file of a recording. The first write that fails closes it, and is reported at once.
+#[derive(Drop)]
+pub struct RecordingFile<W: Write, E: Write> {
+    writer: Option<W>,
+    // Where the end is reported.
+    notes: E,
+    failed: u64,
+    log: Log,
+    ghost open: { failed ≡ 0 → writer ≢ None },
+    ghost closed: { failed ≢ 0 → writer ≡ None },
+}
+
+impl<W: Write, E: Write> RecordingFile<W, E> {
+    /// An open file to which nothing was written yet, and where its end is reported.
+    pub fn new(writer: W, notes: E) -> Self
+        ensures writer { result.writer ≡ Some writer }
+        ensures failed { result.failed ≡ 0 }
+        ensures log { result.log.octets ≡ [] }
+    {
+        RecordingFile {
+            writer: Some(writer),
+            notes,
+            failed: 0,
+            log: Log::new(),
+        }
+    }
+}
+
+impl<W: Write + Drop, E: Write> Sink for RecordingFile<W, E> {
+    ghost tells = { λ s. record { failures = s.failed; taken = Some s.log.octets } };
+
+    fn write(&mut self, octets: &[u8]) -> Result<usize, SinkFault> {
+        if let Some(n) = write_or_close(&mut self.writer, octets) {
+            self.log.append(octets, n);
+            return Ok(n);
+        }
+        if self.failed == 0 {
+            let _ = self.notes.write(ENDED);
+        }
+        self.failed = self.failed.saturating_add(1);
+        Err(SinkFault)
+    }
+}
+
 /// The recording, if any.
-pub type Tape = Option<Recorder<ToWrite<File>>>;
+pub type Tape = Option<Recorder<RecordingFile<File, Stderr>>>;
 
 // A pipe, a device or an open file of the process at the path is written to as it is.
 fn append(rt: &HostRuntime, path: &str) -> io::Result<File> {
@@ -108,7 +175,7 @@ fn open_as_asked(rt: &HostRuntime, recording: Recording<'_>) -> Result<File, Pro
 /// Begins a recording, if requested.
 pub fn begin(rt: &HostRuntime, recording: Option<Recording<'_>>) -> Result<Tape, ProgramFault>
     ensures { IfOk result (λ tape. IsBegun recording.entry
-        (⟦<Option<Recorder<ToWrite<File>>> as gw_session::Tape>⟧.tells tape)) }
+        (⟦<Option<Recorder<RecordingFile<File, Stderr>>> as gw_session::Tape>⟧.tells tape)) }
 {
     let Some(recording) = recording else {
         return Ok(None);
@@ -118,14 +185,5 @@ pub fn begin(rt: &HostRuntime, recording: Option<Recording<'_>>) -> Result<Tape,
         return Err(ProgramFault::OutOfMemory);
     };
     let file = open_as_asked(rt, recording)?;
-    Ok(Some(Recorder::new(ToWrite::new(file), room)))
-}
-
-/// Says on standard error that a recording has ended before its session, if it has.
-pub fn tell_end(rt: &HostRuntime, tape: &Tape) {
-    if let Some(recorder) = tape {
-        if recorder.has_ended() {
-            let _ = eprintln!(rt; "recording ended: a write failed");
-        }
-    }
+    Ok(Some(Recorder::new(RecordingFile::new(file, rt.stderr()), room)))
 }

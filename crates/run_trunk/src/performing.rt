@@ -70,7 +70,6 @@ fn perform_carry<Y: System, I: TrunkInput, O: TrunkOutput, A: TrunkOutput>(
     let mut tape = system.begin_tape()?;
     let mut ports = system.open_ports(config)?;
     let ended = carry_trunk(alloc, gateway, &mut ports, source, sink, &mut tape);
-    system.tell_end(&tape);
     end_session(system, config, gateway, ended)
 }
 
