@@ -13,7 +13,7 @@ use Rattle.gw_records.specs.declared.outcome.RunFault.{RunFault}
 use Rattle.gw_records.specs.Streams.{SourceState, SinkState}
 use Rattle.gw_session.specs.Answers.{events}
 use Rattle.gw_session.specs.Laws.{Run, HasRun, WritesAsOne}
-use Rattle.gw_session.specs.Recovery.{HasRecorded, IsGivenOnly, Recovers}
+use Rattle.gw_session.specs.Recovery.{EndsWhole, HasRecorded, IsGivenOnly, Recovers}
 use Rattle.gw_session.specs.Running.{AnswersAll}
 use Rattle.gw_session.specs.Serve.{Served, SessionInput, SessionStreams, events_through, written}
 use Rattle.gw_state.specs.declared.loading.Loaded.{Loaded}
@@ -85,4 +85,5 @@ SavedStatesRecover = (first config : GatewayConfig) (before : List Event) (a a' 
     → IsSavedAndLoaded first config config saved (before ++ events passed) loaded
     → Runs source source' sink sink' ended loaded.gateway recovered
     → IsGivenOnly octets source source' sink sink'
-    → Recovers first before live recovered a'.tape passed octets behind sink sink'
+    → Recovers first before live recovered passed octets (EndsWhole a'.tape behind)
+    (Appends sink.taken sink'.taken)

@@ -20,8 +20,8 @@ pub fn loaded_servings_go_on()
     gw_session::laws::serving_is_cut_anywhere();
 }
 
-/// A replay that begins with a state that was saved behind the first records of a live session's recording, over
-/// octets behind them, recovers the state of that session, wherever the recording was cut.
+/// A replay that begins with a state that was saved behind the first records of a live session's recording,
+/// over octets behind them, recovers the state of that session, wherever the recording was cut.
 pub fn saved_states_recover()
     ensures { SavedStatesRecover }
 {

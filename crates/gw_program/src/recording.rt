@@ -34,6 +34,8 @@ const ENDED: &[u8] = b"recording ended: a write failed\n";
 // Writes octets to a writer and returns how many it took. If it took none of some, or failed, it is closed.
 fn write_or_close<W: Write + Drop>(writer: &mut Option<W>, octets: &[u8]) -> Option<usize>
     ensures bound { IfSome result (λ n. n ≤ length octets.now) }
+    ensures took { IfSome result (λ n. n ≡ 0 → length octets.now ≡ 0) }
+    ensures stays { writer.old ≡ None → result ≡ None }
     ensures open { IfSome result (λ _. writer.new ≢ None) }
     ensures closed { IfNone result (writer.new ≡ None) }
 {

@@ -132,6 +132,7 @@ record CutReads (tape' : TapeState) (happened : List Event) (passed records : Li
   cut : is_open ending ≡ true
   all : tape'.ended ≡ false → behind ≡ [] → (ending ≡ endings.End) × (later ≡ [])
 
+-- so it is, of every session that was recorded
 cut_reads : (tape tape' : TapeState) (happened : List Event) (passed records : List Record) (octets behind : List ℕ)
     (ending : RecordsEnd) → Recorded tape tape' happened → HasRecorded tape tape' passed octets behind
     → Reads all_kinds octets records ending → CutReads tape' happened passed records behind ending
@@ -179,12 +180,12 @@ recover source source' sink sink' saved recovered ended replayed a a' gateway li
     record {
       records = w.records;
       ending = w.ending;
-      whole = w.reads;
+      reads = w.reads;
       cut = c.cut;
       stands = rw (flat_map-append events_of passed w.records, ← append_assoc before (events passed) (events w.records))
           done.0;
       took = done.1;
       later = c.later;
       live_stands = rw (← c.first) l.stands;
-      all = c.all;
+      all = λ whole. c.all whole.0 whole.1;
     }

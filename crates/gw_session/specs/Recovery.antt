@@ -27,21 +27,24 @@ pub record IsGivenOnly (octets : List ℕ) (source source' : SourceState)
 
 -- What a replay of octets of a recording leaves. The octets are whole records, and at most a part of the next
 -- one. The gateway of the replay has the history that the live one had behind these records: what happened to
--- the live one begins with it, and is all of it if the recording has not ended and no octet is behind. The
--- answers to the records were written.
+-- the live one begins with it, and is all of it if the octets end the whole recording. The answers to the
+-- records were written.
 pub record Recovers (config : GatewayConfig) (before : List Event) (live recovered : Gateway)
-    (tape' : TapeState) (passed : List Record) (octets behind : List ℕ) (sink sink' : SinkState) : Type 0
+    (passed : List Record) (octets : List ℕ) (Whole : Type 0) (Took : List ℕ → Type 0) : Type 0
   where
     pub records : List Record
     pub ending : RecordsEnd
-    pub whole : Reads all_kinds octets records ending
+    pub reads : Reads all_kinds octets records ending
     pub cut : is_open ending ≡ true
     pub stands : HasHistory config recovered (before ++ events (passed ++ records))
-    pub took : Appends sink.taken sink'.taken
-        (render records (replies_to config (before ++ events passed) records))
+    pub took : Took (render records (replies_to config (before ++ events passed) records))
     pub later : List Event
     pub live_stands : HasHistory config live (before ++ (events (passed ++ records) ++ later))
-    pub all : tape'.ended ≡ false → behind ≡ [] → (ending ≡ endings.End) × (later ≡ [])
+    pub all : Whole → (ending ≡ endings.End) × (later ≡ [])
+
+-- the recording has not ended, and no octet of it is behind
+abbrev pub EndsWhole : TapeState → List ℕ → Type 0
+EndsWhole tape' behind = (tape'.ended ≡ false) × (behind ≡ [])
 
 -- A replay recovers the state of every live session from octets of its recording, if its gateway had the
 -- history that the live one had behind the records before them: so has a new one if there are none, and one
@@ -53,7 +56,8 @@ RecoversLive source source' sink sink' saved recovered =
     → MatchResult end (ServesAll a a' gateway live) (ServesUntil a a' gateway live)
     → HasRecorded a.tape a'.tape passed octets behind → IsGivenOnly octets source source' sink sink'
     → HasHistory config gateway before → HasHistory config saved (before ++ events passed)
-    → Recovers config before live recovered a'.tape passed octets behind sink sink'
+    → Recovers config before live recovered passed octets (EndsWhole a'.tape behind)
+    (Appends sink.taken sink'.taken)
 
 -- each replay does, whatever ends it
 abbrev pub CutRecordingsRecover : Type 0
