@@ -21,11 +21,11 @@ const SERVED: AcceptedKinds = AcceptedKinds {
     codecs: true,
 };
 
-/// Gives a gateway the T, C and K records of the source, and writes the T and R records that answer them, each
-/// before the next record is looked at. Before each octet whose sent slot is a circuit's, the
-/// datagrams that wait at the ports of that circuit are given to the gateway: four at most, until none waits
-/// or a receive fails. A packet that the gateway sends with an octet goes to the ports before the next octet
-/// is looked at. Memory is taken before the first read.
+/// Gives a gateway the T, C and K records of the source, and writes the T and R records that answer them,
+/// each before the next record is looked at. Before each octet whose sent slot is a circuit's, the datagrams
+/// that wait at the ports of that circuit are given to the gateway: four at most, until none waits or a
+/// receive fails. A packet that the gateway sends with an octet goes to the ports before the next octet is
+/// looked at. Memory is taken before the first read.
 ///
 /// # Example
 ///
