@@ -79,13 +79,13 @@ saved_at f None saved is = is
 saved_at f (Some path) saved is = is
 
 -- A system whose paths and wait are those of the command takes what the command names.
-pub takes_asked : {X : Type 0} (f : X → List ℕ) {command : CommandLine} {path : List ℕ} {load save : Option X}
-    {wait : Option ℕ} → config_in command ≡ Some path → option_map f load ≡ load_in command
+pub takes_asked : {X : Type 0} (f : X → List ℕ) (command : CommandLine) (path : List ℕ) (load save : Option X)
+    (wait : Option ℕ) → config_in command ≡ Some path → option_map f load ≡ load_in command
     → option_map f save ≡ save_in command → AsksWait command wait
     → TakesAsked command (IsMeant (SystemGives path))
     (λ config gateway. BeginsWaiting config.gateway load (λ asked. asked ≡ wait) gateway)
     (λ config gateway saved. IsSaved save saved)
-takes_asked f {command} {path} {load} {save} {wait} named loads saves asks = record {
+takes_asked f command path load save wait named loads saves asks = record {
   read = λ config meant. rw named meant;
   begun = λ config gateway begun. rw (← loads) (waiting_at f load wait (AsksWait command) config.gateway gateway asks
       begun);
@@ -120,13 +120,13 @@ saved_told takes config gateway e = record {
   };
 }
 
-module _ {s s' : SourceState} {k k' : SinkState} {P T : Type 0} {reads : Config → Type 0} {lacks : ProgramFault
-    → Type 0}
-    {lacks_gateway lacks_more : Config → ProgramFault → Type 0} {command : CommandLine}
-    {starts : Config → Gateway → Type 0} {saves : Config → Gateway → Result (Unit {0}) ProgramFault → Type 0}
+module _ (s s' : SourceState) (k k' : SinkState) {P T : Type 0} (reads : Config → Type 0) (lacks : ProgramFault
+    → Type 0)
+    (lacks_gateway lacks_more : Config → ProgramFault → Type 0) (command : CommandLine)
+    (starts : Config → Gateway → Type 0) (saves : Config → Gateway → Result (Unit {0}) ProgramFault → Type 0)
     (takes : TakesAsked command reads starts saves)
-    {opens : Config → P → Type 0} {begins : T → Type 0}
-    {ports_tell : P → PortsState} {tape_tells : T → TapeState} {told : Result Totals ProgramFault}
+    (opens : Config → P → Type 0) (begins : T → Type 0)
+    (ports_tell : P → PortsState) (tape_tells : T → TapeState) {told : Result Totals ProgramFault}
   where
     -- nothing was begun on new streams
     stopped : {why : ProgramFault → Type 0} {does : SessionStreams → SessionStreams → Gateway → Gateway → Type 0}
@@ -136,7 +136,7 @@ module _ {s s' : SourceState} {k k' : SinkState} {P T : Type 0} {reads : Config 
     stopped n = on_new s s' k k' (inl (told_untouched (λ e. e) (λ e. e) n))
 
     -- a session that was done on new streams
-    pub session_done : {lacks_watch : ProgramFault → Type 0} (session : SessionKind) → NotBegun s s' k k' lacks told
+    pub session_done : (lacks_watch : ProgramFault → Type 0) (session : SessionKind) → NotBegun s s' k k' lacks told
         ⊎ HasConfig reads (λ config. NotBegun s s' k k' (lacks_gateway config) told
         ⊎ HasGateway (starts config) (λ gateway gateway'. by_session session
         (NotBegun s s' k k' lacks_watch told
@@ -147,8 +147,8 @@ module _ {s s' : SourceState} {k k' : SinkState} {P T : Type 0} {reads : Config 
         EndedSaved (λ end. Serves (around s k (ports_tell ports) (tape_tells tape))
         (around s' k' (ports_tell ports') (tape_tells tape')) end gateway gateway') (saves config gateway') told))))
         → s.reads ≡ 0 → s.given ≡ Some [] → s.failures ≡ 0 → k.failures ≡ 0 → DoesSession command session told
-    session_done session (inl n) a b c d = stopped n a b c d
-    session_done Replay (inr h) a b c d = elim h.done [
+    session_done lacks_watch session (inl n) a b c d = stopped n a b c d
+    session_done lacks_watch Replay (inr h) a b c d = elim h.done [
       | inl n ↦ stopped n a b c d
       | inr w ↦ elim w.done [
         | inl n ↦ stopped n a b c d
@@ -157,13 +157,13 @@ module _ {s s' : SourceState} {k k' : SinkState} {P T : Type 0} {reads : Config 
             (saved_told takes h.config w.gateway' e))) a b c d
       ]
     ]
-    session_done Check (inr h) a b c d = elim h.done [
+    session_done lacks_watch Check (inr h) a b c d = elim h.done [
       | inl n ↦ stopped n a b c d
       | inr w ↦ on_new s s' k k' (inr (with_gateway h.config w.gateway w.gateway'
           (takes.read h.config h.read) (takes.begun h.config w.gateway w.begun)
           (saved_told takes h.config w.gateway' w.done))) a b c d
     ]
-    session_done Serve (inr h) a b c d = elim h.done [
+    session_done lacks_watch Serve (inr h) a b c d = elim h.done [
       | inl n ↦ stopped n a b c d
       | inr w ↦ elim w.done [
         | inl n ↦ stopped n a b c d

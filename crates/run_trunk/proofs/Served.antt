@@ -14,18 +14,18 @@ use Rattle.gw_program.specs.declared.program_fault.ProgramFault.{ProgramFault}
 use Rattle.gw_program.specs.Performing.{EndedSaved, NotBegun, HasServed, HasConfig}
 use Rattle.gw_program.specs.Requests.{CommandLine, TakesAsked}
 use Rattle.gw_program.specs.Sessions.{HasGateway}
-use Rattle.run_trunk.specs.Trunks.{CarriesTrunk, HasTrunk, ServesTrunk}
+use Rattle.run_trunk.specs.Trunks.{CarriesTrunk, ServesTrunk}
 
 -- a fault is told of a trunk that nothing was done with
 pub nothing_served : (command : CommandLine) (program_fault : ProgramFault) → ServesTrunk command (Err program_fault)
 nothing_served command program_fault = untouched command _ program_fault
 
-module _ {s s' : SourceState} {k k' : SinkState} {P T S K : Type 0} {x x' : S} {y y' : K} {reads : Config → Type 0}
-    {lacks : ProgramFault → Type 0} {lacks_gateway lacks_more : Config → ProgramFault → Type 0} {command : CommandLine}
-    {starts : Config → Gateway → Type 0} {saves : Config → Gateway → Result (Unit {0}) ProgramFault → Type 0}
+module _ (s s' : SourceState) (k k' : SinkState) {P T S K : Type 0} {x x' : S} {y y' : K} (reads : Config → Type 0)
+    (lacks : ProgramFault → Type 0) (lacks_gateway lacks_more : Config → ProgramFault → Type 0) (command : CommandLine)
+    (starts : Config → Gateway → Type 0) (saves : Config → Gateway → Result (Unit {0}) ProgramFault → Type 0)
     (takes : TakesAsked command reads starts saves)
-    {opens : Config → P → Type 0} {begins : T → Type 0}
-    {ports_tell : P → PortsState} {tape_tells : T → TapeState} {told : Result Totals ProgramFault}
+    (opens : Config → P → Type 0) (begins : T → Type 0)
+    (ports_tell : P → PortsState) (tape_tells : T → TapeState) {told : Result Totals ProgramFault}
   where
     -- a trunk that was served on new streams, and what was sent went in time
     pub trunk_served : (passed : Traffic) (went : List ℕ) (discarded : ℕ)

@@ -7,5 +7,5 @@ returns-in_default c = untouched _ _ _
 
 pub serve-requires : goal.serve-requires
 serve-requires c =
-    takes_asked (λ path. path.now) (rw c.local_of-system.ensures.path (sym c.in-Some.ensures))
+    takes_asked (λ path. path.now) _ _ _ _ _ (rw c.local_of-system.ensures.path (sym c.in-Some.ensures))
     c.local_of-system.ensures.load c.local_of-system.ensures.save c.local_of-system.ensures.wait

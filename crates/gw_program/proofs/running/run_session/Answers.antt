@@ -4,6 +4,6 @@ use Rattle.gw_program.proofs.running.run_session.Goals as goal
 
 pub returns : goal.returns
 returns g c =
-    session_done c.requires _ c.perform_session.ensures
+    session_done _ _ _ _ _ _ _ _ _ _ _ c.requires _ _ _ _ _ _ c.perform_session.ensures
     (rw c.new-source.ensures refl) (rw c.new-source.ensures refl) (rw c.new-source.ensures refl)
     c.new-sink.ensures.failed
