@@ -34,13 +34,13 @@ frames_are_placed = record {
 }
 
 -- no later octet moves the slot of an octet, or changes the alarm that stood
-pub place-append : PlacesAreSettled frames
-place-append = places_are_settled frames frames_are_placed
+pub place_append : PlacesAreSettled frames
+place_append = places_are_settled frames frames_are_placed
 
 -- streams that are aligned alike have the same alignments, slots and alarms
-pub place-alike : PlacesAreAlike frames
-place-alike = places_are_alike frames frames_are_placed
+pub place_alike : PlacesAreAlike frames
+place_alike = places_are_alike frames frames_are_placed
 
 -- no search and no loss reads an octet of another slot than 0: streams that differ only there are placed alike
-pub alike-kept : OtherPlacesAreNotRead frames
-alike-kept = other_places_are_not_read frames frames_are_placed
+pub alike_kept : OtherPlacesAreNotRead frames
+alike_kept = other_places_are_not_read frames frames_are_placed

@@ -10,6 +10,7 @@ ghost use Rattle.g704_align.specs.Placing.{frames};
 ///
 /// Positions are those of the whole stream. The octets 32 and 64 octets on confirm it; otherwise the search
 /// goes on past the first of the two that is wrong.
+#[tactic(auto, using(crate::proofs::FirstFas::search_meets_least))]
 pub fn search_meets_least()
     ensures { SearchMeetsLeast }
 {}
@@ -17,6 +18,7 @@ pub fn search_meets_least()
 /// Frame alignment is a framing, so the laws of g704_framing hold.
 ///
 /// Among them: the alignments of a stream are the results of alternating searches and losses.
+#[tactic(auto, using(crate::proofs::Searches::frame_is_framing))]
 pub fn frame_alignment_is_framing()
     ensures { IsFraming frame_alignment }
 {}
@@ -30,11 +32,13 @@ pub fn places_are_settled()
 ///
 /// Streams have the same alignments, places and alarms if their searches end alike and they are right or
 /// wrong alike in slot 0 of the first one's alignments, losses included.
+#[tactic(auto, using(crate::proofs::Callers::place_alike))]
 pub fn places_are_alike()
     ensures { PlacesAreAlike frames }
 {}
 
 /// No search and no loss reads an octet outside slot 0.
+#[tactic(auto, using(crate::proofs::Callers::alike_kept))]
 pub fn other_places_are_not_read()
     ensures { OtherPlacesAreNotRead frames }
 {}

@@ -7,7 +7,7 @@ use Rattle.std.proofs.lemmas.List.{length-append, append-nil, drop_at, length_pu
 use Rattle.g704_framing.specs.Alignment.{AlignmentSpan, loss, alignments_from, after_search, after_loss}
 use Rattle.g704_framing.specs.Restart.{RestartsAfter, last_of, moved}
 use Rattle.g704_framing.proofs.Leasts.{IsLeast, least_equals}
-use Rattle.g704_framing.proofs.Turns.{alignments-turns, alignments-append, onto}
+use Rattle.g704_framing.proofs.Turns.{alignments_turns, alignments-append, onto}
 use Rattle.g704_framing.proofs.Ends.{is_lost-append}
 use Rattle.g704_bits.specs.Search.{search, is_confirmed}
 use Rattle.g704_bits.specs.Loss.{is_lost_at, bit_alignment}
@@ -29,7 +29,7 @@ search-none c none = search-equals c 0 None (λ k lt. rw (none k) (and_false (na
 pub none-yet : (b : Option ℕ) (c : List ℕ) → ((k : ℕ) → is_confirmed c k ≡ false)
     → alignments_from bit_alignment b c 0 ≡ []
 unfolding after_search
-none-yet b c none = alignments-turns bit_alignment bits_are_framing b c 0 ∙ rw (search-none c none) refl
+none-yet b c none = alignments_turns bit_alignment bits_are_framing b c 0 ∙ rw (search-none c none) refl
 
 -- an alignment at a place of a stream: it is found there, whatever follows
 pub found-at : (sk al t : List ℕ) (age ws wd : ℕ) → IsAlignedRun age ws wd al
@@ -63,7 +63,7 @@ unfolding after_search after_loss
 one-stands b sk al age ws wd h none =
     let found : search (sk ++ al) 0 ≡ Some (length sk)
     = ap (λ s. search s 0) (sym (append-nil (sk ++ al))) ∙ found-at sk al [] age ws wd h none in
-    alignments-turns bit_alignment bits_are_framing b (sk ++ al) 0
+    alignments_turns bit_alignment bits_are_framing b (sk ++ al) 0
     ∙ rw (found, loss-at sk al None (not-lost al age ws wd h)) refl
 
 -- and one that is lost by the next window ends all
@@ -91,7 +91,7 @@ one-lost b sk al x age ws wd h none third t =
       λ k lt. is_lost-append bit_alignment bits_are_framing (al ++ x ∷ []) t k (omega (arith, la))
           ∙ is_lost-append bit_alignment bits_are_framing al (x ∷ []) k lt ∙ not-lost al age ws wd h k lt,
     ) in
-    alignments-turns bit_alignment bits_are_framing b (c ++ t) 0
+    alignments_turns bit_alignment bits_are_framing b (c ++ t) 0
     ∙ rw (found, lost) (ap (onto (record { start = length sk; lost = Some (length sk + length al) }))
     (rw (← len) (alignments-append bit_alignment b c t)))
 

@@ -23,13 +23,13 @@ multiframes_are_placed = record {
 }
 
 -- no later octet moves the frame of an octet, or changes the alarm that stood
-pub place-append : PlacesAreSettled multiframes
-place-append = places_are_settled multiframes multiframes_are_placed
+pub place_append : PlacesAreSettled multiframes
+place_append = places_are_settled multiframes multiframes_are_placed
 
 -- streams that are aligned alike have the same alignments, frames and alarms
-pub place-alike : PlacesAreAlike multiframes
-place-alike = places_are_alike multiframes multiframes_are_placed
+pub place_alike : PlacesAreAlike multiframes
+place_alike = places_are_alike multiframes multiframes_are_placed
 
 -- no search and no loss reads an octet of another frame than 0: streams that differ only there are placed alike
-pub alike-kept : OtherPlacesAreNotRead multiframes
-alike-kept = other_places_are_not_read multiframes multiframes_are_placed
+pub alike_kept : OtherPlacesAreNotRead multiframes
+alike_kept = other_places_are_not_read multiframes multiframes_are_placed

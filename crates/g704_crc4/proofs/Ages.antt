@@ -7,7 +7,7 @@ use Rattle.std.proofs.lemmas.Bool.{cases_lt, cases_Bool, false≢true}
 use Rattle.g704_framing.specs.Alignment.{Framing, AlignmentSpan, alignments_from, after_search, after_loss, loss}
 use Rattle.g704_framing.specs.Age.{is_before_loss, is_standing, age_in}
 use Rattle.g704_framing.specs.Laws.{IsFraming}
-use Rattle.g704_framing.proofs.Turns.{alignments-turns}
+use Rattle.g704_framing.proofs.Turns.{alignments_turns}
 use Rattle.g704_framing.proofs.Settles.{IsNotBefore, alignments-begin, age_in-before, age-after_loss, loss-not_before}
 
 -- By the age of an octet: it is the first of its alignment that has an age, and the octet before it has none, or
@@ -128,4 +128,4 @@ module _ (f : Framing) (h : IsFraming f) (b : Option ℕ) (s : List ℕ) (a n k 
       → IsAgeBefore a (suc n) k (age_in a ds n)
   age_before [] from e i = cc
   age_before (d ∷ ds) from e i =
-      found_before d ds (f.search b s from) (e ∙ alignments-turns f h b s from) i (λ q. age_before ds (suc q))
+      found_before d ds (f.search b s from) (e ∙ alignments_turns f h b s from) i (λ q. age_before ds (suc q))

@@ -99,9 +99,9 @@ check-bit-sent octets n number lt le =
     (omega arith) (omega arith)
 
 -- A receiver finds every whole submultiframe right.
-pub right-check-bits : CheckBitsAreRight
+pub right_check_bits : CheckBitsAreRight
 unfolding check_bits_in remainder_in
-right-check-bits octets n le =
+right_check_bits octets n le =
     let first : 8 * (n + 1) ≡ 8 * (n + 1) + 0 = omega arith in
     by-bits _ _ _ _ (remainder_of (submultiframe n (zeroed octets)))
     (ap (si_of (sent_octets octets)) first ∙ check-bit-sent octets n 0 (omega arith) le)
@@ -120,8 +120,8 @@ in-multiframe octets n frame lt le =
     ∙ ap (λ k. si_at (check_bits_after (take (32 * (16 * n + frame)) octets)) k (si_of octets (16 * n + frame))) e
 
 -- A receiver finds the multiframe alignment signal in every whole multiframe.
-pub right-signal : SignalIsSent
-right-signal octets n le = (
+pub right_signal : SignalIsSent
+right_signal octets n le = (
   record {
     bit_1 = in-multiframe octets n 1 (omega arith) le;
     bit_2 = in-multiframe octets n 3 (omega arith) le;

@@ -112,8 +112,8 @@ module _ (m : Checker) (h : List ℕ) (x : ℕ) (s : ChecksAfter m h) where
       other at old e = rw (ne_eqb (m.place % 256) at (λ same. ne (omega (arith, same, e)))) refl
 
   -- Nor an E bit.
-  pub none-reported : (si : Bool) → m.place % 32 ≢ 0 → None ≡ far_end_event m.place si
-  none-reported si ne =
+  pub none_reported : (si : Bool) → m.place % 32 ≢ 0 → None ≡ far_end_event m.place si
+  none_reported si ne =
       rw (
         ne_eqb m.place 416 (λ same. ne (omega (arith, same))),
         ne_eqb m.place 480 (λ same. ne (omega (arith, same))),

@@ -8,7 +8,7 @@ use Rattle.g704_crc4.specs.Checking.{same, is_right, SentIsRight, OneErrorIsFoun
 use Rattle.g704_crc4.specs.Receiving.{remainder_in}
 use Rattle.g704_crc4.specs.Multiframe.{sent_octets}
 use Rattle.g704_crc4.proofs.Submultiframes.{after-append}
-use Rattle.g704_crc4.proofs.CheckBits.{by-bits, right-check-bits}
+use Rattle.g704_crc4.proofs.CheckBits.{by-bits, right_check_bits}
 
 -- What is added to both is taken from both.
 add-cancel : (x y z : Bool) → add x z ≡ add y z → x ≡ y
@@ -51,8 +51,8 @@ not-same true e = true≢false e
 not-same false e = false≢true e
 
 -- So a single wrong bit is found.
-pub one-error : OneErrorIsFound
-one-error before after bit e =
+pub one_error : OneErrorIsFound
+one_error before after bit e =
     let left = after_bits no_remainder before in
     let same = sym (after-append no_remainder before (bit ∷ after)) ∙ e
     ∙ after-append no_remainder before (not bit ∷ after) in
@@ -64,8 +64,8 @@ same-self : (r : Remainder) → same r r ≡ true
 same-self r = rw (add-self r.c1, add-self r.c2, add-self r.c3, add-self r.c4) refl
 
 -- And what is sent is right.
-pub right-sent : SentIsRight
+pub right_sent : SentIsRight
 unfolding is_right
-right-sent octets n le =
-    ap (λ w. same w (remainder_in (sent_octets octets) n)) (right-check-bits octets n le)
+right_sent octets n le =
+    ap (λ w. same w (remainder_in (sent_octets octets) n)) (right_check_bits octets n le)
     ∙ same-self (remainder_in (sent_octets octets) n)

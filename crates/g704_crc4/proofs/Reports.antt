@@ -68,15 +68,15 @@ reported-from before (Errored n ∷ rest) le =
     omega (arith, next, later, ap unreported (append_assoc before (Errored n ∷ []) rest))
 
 -- Each errored submultiframe is reported or not yet.
-pub each-reported : EachIsReported
+pub each_reported : EachIsReported
 unfolding unreported_after
-each-reported arrivals le =
+each_reported arrivals le =
     let start : unreported [] ≡ 0 = refl in
     omega (arith, start, reported-from [] arrivals (omega (arith, le, start)))
 
 -- Without any there is nothing to report.
-pub none-reported : NoneIsReported
-none-reported arrivals e = omega (arith, each-reported arrivals (omega (arith, e)), e)
+pub none_reported : NoneIsReported
+none_reported arrivals e = omega (arith, each_reported arrivals (omega (arith, e)), e)
 
 -- An octet that begins no frame has no E bit.
 pub e-bit-frame : (place : ℕ) → place % 32 ≢ 0 → has_e_bit place ≡ false

@@ -11,8 +11,8 @@ use Rattle.g704_crc4.specs.Multiframe.{with_si, si_at, octet_at, check_bits_afte
 use Rattle.g704_crc4.specs.Receiving.{si_of, LengthIsKept, OthersAreKept}
 
 -- One octet is sent for each that comes.
-pub kept-length : LengthIsKept
-kept-length octets = length-replies sent_octet [] octets
+pub kept_length : LengthIsKept
+kept_length octets = length-replies sent_octet [] octets
 
 -- Setting bit 1 changes no other bit.
 pub with-low : (si : Bool) (x : ℕ) → with_si si x % 128 ≡ x % 128
@@ -76,8 +76,8 @@ low-kept bits place x = elim (cases_eq (place % 32) 0) [
 ]
 
 -- Each bit but bit 1 of time slot 0 is sent as it came.
-pub kept-others : OthersAreKept
-kept-others octets place = elim (cases_lt place (length octets)) [
+pub kept_others : OthersAreKept
+kept_others octets place = elim (cases_lt place (length octets)) [
   | inl lt ↦
       let at = sent-place octets place lt in
       let bits = check_bits_after (take place octets) in

@@ -11,7 +11,7 @@ use Rattle.g704_framing.specs.Laws.{IsFraming, IsUpToLoss, IsLostAlike, Alignmen
 use Rattle.g704_framing.proofs.Leasts.{IsLeast, least-is, least_equals, reach, least_alike}
 use Rattle.g704_framing.proofs.Moves.{same_alignment}
 use Rattle.g704_framing.specs.Alignment.{after_search, after_loss}
-use Rattle.g704_framing.proofs.Turns.{alignments-turns}
+use Rattle.g704_framing.proofs.Turns.{alignments_turns}
 
 -- up to the loss is also what comes before
 pub up_to_loss-earlier : (m n : ℕ) (o : Option ℕ) → m ≤ n → IsUpToLoss n o → IsUpToLoss m o
@@ -92,8 +92,8 @@ module _ (f : Framing) (h : IsFraming f) (s t : List ℕ) (len : length s ≡ le
   alike_from (d ∷ ds) from e ends all =
       found_alike d ds all.0 (λ g e' ends'. alike_from ds g e' ends' all.1) (f.search None s from)
       (f.search None t from)
-      (e ∙ alignments-turns f h None s from) (ends ∙ ap (search_ends_of f) (alignments-turns f h None t from))
-      ∙ sym (alignments-turns f h None t from)
+      (e ∙ alignments_turns f h None s from) (ends ∙ ap (search_ends_of f) (alignments_turns f h None t from))
+      ∙ sym (alignments_turns f h None t from)
 
 -- the law
 pub alignments_are_alike : AlignmentsAreAlike

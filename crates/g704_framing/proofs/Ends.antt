@@ -11,7 +11,7 @@ use Rattle.g704_framing.specs.Laws.{IsFraming}
 use Rattle.g704_framing.proofs.Leasts.{IsLeast, least_equals}
 use Rattle.g704_framing.proofs.Moves.{option_map-zero, map-moved_zero, map-moved_add}
 use Rattle.g704_framing.specs.Alignment.{after_search, after_loss}
-use Rattle.g704_framing.proofs.Turns.{alignments-turns, alignments-append, onto}
+use Rattle.g704_framing.proofs.Turns.{alignments_turns, alignments-append, onto}
 
 -- the empty history is over
 pub RestartsAfter-nil : (framing : Framing) (before : Option ℕ) → RestartsAfter framing before []
@@ -87,9 +87,9 @@ RestartsAfter-passed f h b c passed = record {
   earlier = [];
   all_lost = tt;
   anew = λ t.
-      alignments-turns f h b (c ++ t) 0
+      alignments_turns f h b (c ++ t) 0
       ∙ ap (after_search f b (c ++ t)) (passed t)
-      ∙ sym (alignments-turns f h b (c ++ t) (length c))
+      ∙ sym (alignments_turns f h b (c ++ t) (length c))
       ∙ alignments-append f b c t;
 }
 
@@ -137,7 +137,7 @@ RestartsAfter-lost f h b c x found kept lost =
             λ k lt. is_lost-append f h (c ++ x ∷ []) t k (omega (arith, len)) ∙ is_lost-append f h c (x ∷ []) k lt
                 ∙ kept k lt,
           ) in
-          alignments-turns f h b ((c ++ x ∷ []) ++ t) 0
+          alignments_turns f h b ((c ++ x ∷ []) ++ t) 0
           ∙ rw (is_found, is_lost) (ap (onto (record { start = 0; lost = Some (length c) }))
           (rw (← len) (alignments-append f b (c ++ x ∷ []) t)));
     }
@@ -151,4 +151,4 @@ unfolding after_search after_loss
 alignments-standing f h b c found kept =
     let is_found : f.search b c 0 ≡ Some 0 = ap (λ s. f.search b s 0) (sym (append-nil c)) ∙ found [] in
     let is_kept : loss f c 0 ≡ None = loss-head f c None kept in
-    alignments-turns f h b c 0 ∙ rw (is_found, is_kept) refl
+    alignments_turns f h b c 0 ∙ rw (is_found, is_kept) refl

@@ -15,7 +15,7 @@ use Rattle.g704_framing.specs.Restart.{last_of}
 use Rattle.g704_framing.specs.Laws.{IsFraming, IsFoundAfter, IsRead, IsUpToLoss, AgreeAlong, OthersAreNotRead}
 use Rattle.g704_framing.proofs.Moves.{option_map-zero, option_map-suc, same_alignment}
 use Rattle.g704_framing.specs.Alignment.{after_search, after_loss}
-use Rattle.g704_framing.proofs.Turns.{alignments-turns, onto, none_found}
+use Rattle.g704_framing.proofs.Turns.{alignments_turns, onto, none_found}
 use Rattle.g704_framing.proofs.Settles.{IsNotBefore, loss-not_before, search-from, age-after_loss, age_in-before}
 use Rattle.g704_framing.proofs.Settles.{alignments-begin}
 use Rattle.g704_framing.proofs.Agrees.{loss-alike, up_to_loss-earlier}
@@ -265,7 +265,7 @@ module _ (f : Framing) (h : IsFraming f) where
           let rest_kept = others.0 in
           let kept : d ∷ ds ≡ onto (record { start = p; lost = loss f t p }) (after_loss f None t (loss f t p))
           = cc in (
-            kept ∙ ap (λ r. after_search f None t r) (sym found) ∙ sym (alignments-turns f h None t from),
+            kept ∙ ap (λ r. after_search f None t r) (sym found) ∙ sym (alignments_turns f h None t from),
             (subst (AgreeAlong f s t) (sym first) along, others.1),
           )
 
@@ -279,13 +279,13 @@ module _ (f : Framing) (h : IsFraming f) where
         → Kept ds from
     keep [] from e same =
         let nothing : f.search None s from ≡ None
-        = none_found f None s (f.search None s from) (e ∙ alignments-turns f h None s from) in
+        = none_found f None s (f.search None s from) (e ∙ alignments_turns f h None s from) in
         let here : f.search None t from ≡ None
         = sym (search-same s t from len (λ n ge lt below. same n ge below tt)) ∙ nothing in
-        (nothing_after ∙ ap (after_search f None t) (sym here) ∙ sym (alignments-turns f h None t from), tt)
+        (nothing_after ∙ ap (after_search f None t) (sym here) ∙ sym (alignments_turns f h None t from), tt)
     keep (d ∷ ds) from e same =
         keep_found ds (λ q i same'. keep ds (suc q) i same') d from (f.search None s from) refl
-        (e ∙ alignments-turns f h None s from) same
+        (e ∙ alignments_turns f h None s from) same
 
 -- the law
 pub others_are_not_read : OthersAreNotRead

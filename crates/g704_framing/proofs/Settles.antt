@@ -11,7 +11,7 @@ use Rattle.g704_framing.specs.Age.{is_standing, age_in}
 use Rattle.g704_framing.specs.Laws.{IsFraming, IsFoundAfter, AgesAreSettled}
 use Rattle.g704_framing.proofs.Leasts.{IsLeast, least-is, only_one}
 use Rattle.g704_framing.specs.Alignment.{after_search, after_loss}
-use Rattle.g704_framing.proofs.Turns.{alignments-turns, none_found}
+use Rattle.g704_framing.proofs.Turns.{alignments_turns, none_found}
 use Rattle.g704_framing.proofs.Ends.{is_lost-append}
 
 -- each alignment begins at this position or later
@@ -206,12 +206,12 @@ module _ (f : Framing) (h : IsFraming f) where
     settle : (le : f.found_at ≤ a) (ds : List AlignmentSpan) (from : ℕ) → ds ≡ alignments_from f b s from
         → age_in a (alignments_from f b (s ++ t) from) n ≡ age_in a ds n
     settle le [] from e =
-        let nothing = none_found f b s (f.search b s from) (e ∙ alignments-turns f h b s from) in
-        rw (alignments-turns f h b (s ++ t) from)
+        let nothing = none_found f b s (f.search b s from) (e ∙ alignments_turns f h b s from) in
+        rw (alignments_turns f h b (s ++ t) from)
         (age-found_later b (s ++ t) a (length s) n (f.search b (s ++ t) from) le lt (h.not_found b s t from nothing))
     settle le (d ∷ ds) from e =
-        rw (alignments-turns f h b (s ++ t) from)
-        (settle_found le d ds from (f.search b s from) refl (e ∙ alignments-turns f h b s from)
+        rw (alignments_turns f h b (s ++ t) from)
+        (settle_found le d ds from (f.search b s from) refl (e ∙ alignments_turns f h b s from)
         (λ q i. settle le ds (suc q) i))
 
 -- the law

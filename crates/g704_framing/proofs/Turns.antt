@@ -59,12 +59,12 @@ suc_case f b x s (Some p) =
     go (Some q) = refl
 
 -- the alignments, as searches and losses in turn
-pub alignments-turns : AlignmentsTakeTurns
+pub alignments_turns : AlignmentsTakeTurns
 unfolding alignments_from after_search
-alignments-turns f h b [] from = rw (h.nothing b from) refl
-alignments-turns f h b (x ∷ s) zero = zero_case f b x s (f.search b (x ∷ s) zero)
-alignments-turns f h b (x ∷ s) (suc from) =
-    ap (λ ds. map later_alignment ds) (alignments-turns f h (Some x) s from)
+alignments_turns f h b [] from = rw (h.nothing b from) refl
+alignments_turns f h b (x ∷ s) zero = zero_case f b x s (f.search b (x ∷ s) zero)
+alignments_turns f h b (x ∷ s) (suc from) =
+    ap (λ ds. map later_alignment ds) (alignments_turns f h (Some x) s from)
     ∙ suc_case f b x s (f.search (Some x) s from)
     ∙ ap (after_search f b (x ∷ s)) (sym (h.later b x s from))
 

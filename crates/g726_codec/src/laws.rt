@@ -8,6 +8,7 @@ pub fn words_are_counted()
 {}
 
 /// Each word is below `2^bits`, if the octets are below 256.
+#[tactic(auto, using(crate::proofs::Lists::fit))]
 pub fn words_fit()
     ensures { WordsFit }
 {}

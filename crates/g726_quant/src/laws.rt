@@ -19,6 +19,7 @@ pub fn dln_has_twelve_bits()
 {}
 
 /// At 24, 32 and 40 kbit/s the word of all zeros is never sent.
+#[tactic(auto, using(crate::proofs::Words::never_all_zeros))]
 pub fn all_zeros_never_sent()
     ensures { AllZerosNeverSent }
 {}

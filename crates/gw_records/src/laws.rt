@@ -12,6 +12,7 @@ pub fn more_keeps_records()
 {}
 
 /// Any octets are read as whole records and an end.
+#[tactic(auto, using(crate::proofs::Totality::each_is_read))]
 pub fn each_is_read()
     ensures { EachIsRead }
 {}

@@ -15,7 +15,7 @@ use Rattle.g704_framing.specs.Age.{is_standing, age_in}
 use Rattle.g704_framing.specs.Laws.{IsLostAlike}
 use Rattle.g704_framing.specs.Places.{alignments_in, IsAlikeAlong, IsAlignedAlike}
 use Rattle.g704_framing.proofs.Leasts.{IsLeast, least-is}
-use Rattle.g704_framing.proofs.Turns.{alignments-turns}
+use Rattle.g704_framing.proofs.Turns.{alignments_turns}
 use Rattle.g704_framing.proofs.Ages.{age_in-over}
 use Rattle.g704_framing.proofs.Moves.{same_alignment}
 use Rattle.g704_framing.proofs.Agrees.{loss-alike, up_to_loss-earlier}
@@ -23,7 +23,7 @@ use Rattle.g704_framing.proofs.Settles.{ages_are_settled, search-from, loss-not_
 use Rattle.g704_align.specs.declared.alignment.Place.{Place}
 use Rattle.g704_align.specs.declared.alignment.Place.TheVariants.{Hunting, Slot}
 use Rattle.g704_align.specs.Placing.{place}
-use Rattle.g704_align.proofs.Callers.{place-alike}
+use Rattle.g704_align.proofs.Callers.{place_alike}
 use Rattle.g704_cas.specs.Search.{is_mfas, is_found_at}
 use Rattle.g704_cas.specs.Loss.{is_second_wrong, multiframe_alignment}
 use Rattle.g704_cas.specs.Placing.{multiframes}
@@ -177,12 +177,12 @@ module _ (s t : List ℕ) (len : length s ≡ length t) where
       → AllByRecursion (IsLostAlike multiframe_alignment s t) ds
       → ds ≡ alignments_from multiframe_alignment None t from
   counted_from [] from e firsts all =
-      let turns = alignments-turns multiframe_alignment multiframe_is_framing None t from in
+      let turns = alignments_turns multiframe_alignment multiframe_is_framing None t from in
       no_more from (found_from t from) refl (λ k a b. firsts k a b ∙ ap (λ es. first_at es k) turns) ∙ sym turns
   counted_from (d ∷ ds) from e firsts all =
-      let turns = alignments-turns multiframe_alignment multiframe_is_framing None t from in
+      let turns = alignments_turns multiframe_alignment multiframe_is_framing None t from in
       found_so d ds from all.0 (λ g i f. counted_from ds g i f all.1) (found_from s from) (found_from t from) refl refl
-      (e ∙ alignments-turns multiframe_alignment multiframe_is_framing None s from)
+      (e ∙ alignments_turns multiframe_alignment multiframe_is_framing None s from)
       (λ k a b. firsts k a b ∙ ap (λ es. first_at es k) turns) ∙ sym turns
 
 -- lists whose octets of frame 0 are right or wrong alike lose an alignment alike
@@ -304,7 +304,7 @@ firsts_of_trunk s t same searches e k end lt =
 -- the law of multiframes counted over the trunk
 pub counted_over_trunk : SearchesAreOfTheTrunk
 counted_over_trunk c here there p =
-    let alike = (place-alike (octets here) (octets there) p.frames).1 in
+    let alike = (place_alike (octets here) (octets there) p.frames).1 in
     let places : (m : ℕ) → place (octets here) m ≡ place (octets there) m = λ m. (alike m).0 in
     record {
       own = p.own;

@@ -9,10 +9,10 @@ use Rattle.gw_trunk.specs.Bodies.{HasPassed, StepsOver, place_next, place_after,
 use Rattle.gw_trunk.specs.Bodies.{answered, is_answer}
 
 -- The place after octets and more is that after the others, from the place after the first.
-pub place-append : (p : RecordPosition) (xs ys : List ℕ) → place_after p (xs ++ ys) ≡ place_after (place_after p xs) ys
+pub place_append : (p : RecordPosition) (xs ys : List ℕ) → place_after p (xs ++ ys) ≡ place_after (place_after p xs) ys
 unfolding place_after
-place-append p [] ys = refl
-place-append p (x ∷ xs) ys = place-append (place_next p x) xs ys
+place_append p [] ys = refl
+place_append p (x ∷ xs) ys = place_append (place_next p x) xs ys
 
 -- What of octets and more goes to the trunk is that of the first, and then that of the others.
 pub passed-append : (p : RecordPosition) (xs ys : List ℕ)
@@ -81,7 +81,7 @@ pub passes-on : (p q : RecordPosition) (taken went went' told told' xs : List �
     → StepsOver p q went went' told told' xs → HasPassed q (taken ++ xs) went' told'
 passes-on p q taken went went' told told' xs has more = record {
   place_is = more.place_is ∙ ap (λ (r : RecordPosition). place_after r xs) has.place_is
-      ∙ sym (place-append Kind taken xs);
+      ∙ sym (place_append Kind taken xs);
   went_are = more.went_are ∙ rw (has.went_are, has.place_is, passed-append) refl;
   told_are = more.told_are ∙ rw (has.told_are, has.place_is, answered-append) refl;
 }

@@ -16,7 +16,7 @@ use Rattle.gw_session.proofs.Turns.{given_by-append, turns_have_octets}
 use Rattle.gw_trunk.specs.declared.sink.RecordPosition.TheVariants.{Kind}
 use Rattle.gw_trunk.specs.Bodies.{passed, answered, place_after, body_place}
 use Rattle.gw_trunk.specs.Serving.{answers_for, answer_in}
-use Rattle.gw_trunk.proofs.Passing.{place-append, passed-append, answered-append}
+use Rattle.gw_trunk.proofs.Passing.{place_append, passed-append, answered-append}
 use Rattle.gw_trunk.proofs.Passing.{place-body, passed-body, answered-body}
 
 -- A whole body of a T record: the next record begins behind it, all of it goes to the trunk, and none to clients.
@@ -111,7 +111,7 @@ inputs-pass config before [] good = (refl, refl, refl)
 inputs-pass config before (input ∷ inputs) good =
     let one = input-passes config before input good.0 in
     let more = inputs-pass config (before ++ events_in input) inputs good.1 in (
-      place-append Kind (session.answer_to config before input) _ ∙ rw (one.0) more.0,
+      place_append Kind (session.answer_to config before input) _ ∙ rw (one.0) more.0,
       passed-append Kind (session.answer_to config before input) _ ∙ rw (one.0, one.1, more.1)
           (sym (given_by-append octets_in config before (events_in input) (events_through inputs))),
       answered-append Kind (session.answer_to config before input) _ ∙ rw (one.0, one.2, more.2)

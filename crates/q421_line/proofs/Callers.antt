@@ -16,17 +16,17 @@ use Rattle.q421_line.proofs.Seizure.{seizure-short, seizure-hundredth}
 use Rattle.q421_line.proofs.Incoming.{incoming-never}
 
 -- a pair is recognised when the last ten known pairs are it, and stays so until another one is
-pub recognised-by_ten : PairsAreRecognisedByTen
+pub recognised_by_ten : PairsAreRecognisedByTen
 unfolding recognised
-recognised-by_ten = (refl, recognised-replicate, recognised-short)
+recognised_by_ten = (refl, recognised-replicate, recognised-short)
 
 -- no seizure lasts as many signals as the wait has
-pub seizure-released : SeizuresAreReleased
-seizure-released = seizure-short
+pub seizure_released : SeizuresAreReleased
+seizure_released = seizure-short
 
 -- none lasts a hundred if no wait was given
-pub seizure-released_by_the_hundredth : SeizuresAreReleasedByTheHundredth
-seizure-released_by_the_hundredth = seizure-hundredth
+pub seizure_released_by_the_hundredth : SeizuresAreReleasedByTheHundredth
+seizure_released_by_the_hundredth = seizure-hundredth
 
 -- an outcome that is answered by a fault changes nothing
 outcome-refused : (line : LineState) (led : Result State LineFault) (fault : LineFault) → told_of led ≡ Err fault
@@ -35,20 +35,20 @@ outcome-refused line (Ok state) fault refused = cc
 outcome-refused line (Err other) fault refused = refl
 
 -- a refused command changes nothing of the signalling
-pub signalling-refused : RefusedCommandsChangeNothing
-signalling-refused role items asked fault refused =
+pub signalling_refused : RefusedCommandsChangeNothing
+signalling_refused role items asked fault refused =
     signalling-push role items (command asked)
     ∙ outcome-refused (signalling role items) (command_outcome role asked (signalling role items).state) fault refused
 
 -- a wait changes only the wait
-pub signalling-waiting : WaitsChangeNothingElse
-signalling-waiting role items signals = signalling-push role items (wait signals)
+pub signalling_waiting : WaitsChangeNothingElse
+signalling_waiting role items signals = signalling-push role items (wait signals)
 
 -- a nibble that is sent is four bits
-pub sent_nibble-fits : SentPairsFit
+pub sent_nibble_fits : SentPairsFit
 unfolding sent_pair
-sent_nibble-fits = grind arith
+sent_nibble_fits = grind arith
 
 -- an incoming line is never Seized or Releasing
-pub incoming-never_seized : IncomingIsNeverSeized
-incoming-never_seized = incoming-never
+pub incoming_never_seized : IncomingIsNeverSeized
+incoming_never_seized = incoming-never

@@ -4,6 +4,13 @@ ghost use Rattle.satop_packet.specs.Laws.{FaultlessIsPacket, PacketIsFaultless, 
 ghost use Rattle.satop_packet.specs.Laws.{LeastFaultIsTold, PlainIsPacket, PlainIsRead};
 
 /// Octets are the join of some parts exactly if they have no fault.
+#[tactic(
+    auto,
+    using(
+        crate::proofs::Callers::faultless_is_packet,
+        crate::proofs::Callers::packet_is_faultless,
+    )
+)]
 pub fn faultless_octets_are_packets()
     ensures packet { FaultlessIsPacket }
     ensures faultless { PacketIsFaultless }
@@ -15,6 +22,7 @@ pub fn parts_are_unique()
 {}
 
 /// The fault returned is the one with the least number among those that hold.
+#[tactic(auto, using(crate::proofs::Callers::least_fault_is_told))]
 pub fn the_least_fault_is_told()
     ensures { LeastFaultIsTold }
 {}

@@ -5,6 +5,15 @@ ghost use Rattle.satop_playout.specs.Laws.{PlaysGiveTheirOctets, RefusalsChangeN
 ghost use Rattle.satop_playout.specs.Laws.{NothingIsAcceptedTwice, OrderDoesNotMatter};
 
 /// The octets given grow with each play by its octets, and with no other call.
+#[tactic(
+    auto,
+    using(
+        crate::proofs::Turns::nothing_is_given,
+        crate::proofs::Turns::beginnings_give_nothing,
+        crate::proofs::Turns::arrivals_give_nothing,
+        crate::proofs::Turns::plays_give_their_octets,
+    )
+)]
 pub fn plays_give_octets()
     ensures none { NothingIsGiven }
     ensures begins { BeginningsGiveNothing }
@@ -13,6 +22,7 @@ pub fn plays_give_octets()
 {}
 
 /// A refused packet changes nothing.
+#[tactic(auto, using(crate::proofs::Turns::refusals_change_nothing))]
 pub fn refusals_change_nothing()
     ensures { RefusalsChangeNothing }
 {}
@@ -23,6 +33,7 @@ pub fn accepted_packets_are_played()
 {}
 
 /// No number is accepted twice within the 2^15 plays after it; so no packet is played twice.
+#[tactic(auto, using(crate::proofs::Turns::nothing_is_accepted_twice))]
 pub fn nothing_is_accepted_twice()
     ensures { NothingIsAcceptedTwice }
 {}
@@ -30,6 +41,7 @@ pub fn nothing_is_accepted_twice()
 /// The order of arrival does not matter.
 ///
 /// If all packets are accepted in both of two orders, all plays give the same octets in both.
+#[tactic(auto, using(crate::proofs::Orders::order_does_not_matter))]
 pub fn order_does_not_matter()
     ensures { OrderDoesNotMatter }
 {}

@@ -1,5 +1,5 @@
-use Rattle.g704_cas.proofs.Callers.{place-append}
+use Rattle.g704_cas.proofs.Callers.{place_append}
 use Rattle.g704_cas.proofs.laws.places_are_settled.Goals as goal
 
 pub returns : goal.returns
-returns c = place-append
+returns c = place_append

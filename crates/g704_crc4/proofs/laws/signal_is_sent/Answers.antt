@@ -1,5 +1,5 @@
-use Rattle.g704_crc4.proofs.CheckBits.{right-signal}
+use Rattle.g704_crc4.proofs.CheckBits.{right_signal}
 use Rattle.g704_crc4.proofs.laws.signal_is_sent.Goals as goal
 
 pub returns : goal.returns
-returns c = right-signal
+returns c = right_signal

@@ -1,7 +1,7 @@
 use Rattle.std.proofs.Common.{◌≡◌, ◌+◌, ◌%◌, ap, ◌∙◌, arith}
 use Rattle.std.specs.Prelude.{nat_le}
 use Rattle.g704_crc4.specs.Checking.{same, block_event}
-use Rattle.g704_crc4.proofs.Checked.{counted-more, checks-within, checks-last, bits-kept, none-reported, taken-whole}
+use Rattle.g704_crc4.proofs.Checked.{counted-more, checks-within, checks-last, bits-kept, none_reported, taken-whole}
 use Rattle.g704_crc4.proofs.Checked.{block-event-is, far-end-event-is}
 use Rattle.g704_crc4.proofs.checking.Checker.octet.Goals as goal
 
@@ -29,7 +29,7 @@ returns-clause-reply c history s =
     let p = s.place in
     let m = c.args.self.now in
     let next : (m.place + 1) % 65536 % 512 ≡ (m.place + 1) % 512 = omega arith in
-    none-reported m history c.args.octet s (nat_le 128 c.args.octet) c.if-self-eq0.false
+    none_reported m history c.args.octet s (nat_le 128 c.args.octet) c.if-self-eq0.false
     ∙ far-end-event-is m history c.args.octet s ((m.place + 1) % 65536 % 512) next c.if-self-eq0-2.false
 
 pub returns-clause-stands : goal.returns-clause-stands

@@ -1,5 +1,0 @@
-use Rattle.g704_cas.proofs.Callers.{alike-kept}
-use Rattle.g704_cas.proofs.laws.other_places_are_not_read.Goals as goal
-
-pub returns : goal.returns
-returns c = alike-kept
