@@ -119,8 +119,8 @@ open_end : (records : List Record) (octets more : List ℕ) (rs : List Record) (
 open_end records octets more rs ending good e r =
     let later = more_keeps all_kinds octets more rs records ending endings.End r (rw e (reads_all records good)) in
     let whole : flat_map spelled rs ++ (r.rest ++ more) ≡ flat_map spelled rs ++ flat_map spelled later.0 =
-        sym (append_assoc (flat_map spelled rs) r.rest more) ∙ ap (λ (xs : List ℕ). xs ++ more) (sym r.whole) ∙ e
-        ∙ ap (λ (all : List Record). flat_map spelled all) later.1 ∙ flat_map-append spelled rs later.0 in
+    sym (append_assoc (flat_map spelled rs) r.rest more) ∙ ap (λ (xs : List ℕ). xs ++ more) (sym r.whole) ∙ e
+    ∙ ap (λ (all : List Record). flat_map spelled all) later.1 ∙ flat_map-append spelled rs later.0 in
     let behind = append_cancel_left (flat_map spelled rs) (r.rest ++ more) (flat_map spelled later.0) whole in
     open_start r.rest more later.0 ending (good_behind rs later.0 (rw (← later.1) good)) behind r.ends
 
@@ -142,10 +142,10 @@ cut_reads tape tape' happened passed records octets behind ending p has read =
     let all = reads_all p.records p.good in
     let reads = reads_behind passed records octets ending has.good read in
     let longer : flat_map spelled p.records ≡ (first ++ octets) ++ (behind ++ p.took.rest) =
-        p.took.whole ∙ ap (λ (xs : List ℕ). xs ++ p.took.rest) (sym written)
-        ∙ append_assoc first (octets ++ behind) p.took.rest
-        ∙ ap (λ (xs : List ℕ). first ++ xs) (append_assoc octets behind p.took.rest)
-        ∙ sym (append_assoc first octets (behind ++ p.took.rest)) in
+    p.took.whole ∙ ap (λ (xs : List ℕ). xs ++ p.took.rest) (sym written)
+    ∙ append_assoc first (octets ++ behind) p.took.rest
+    ∙ ap (λ (xs : List ℕ). first ++ xs) (append_assoc octets behind p.took.rest)
+    ∙ sym (append_assoc first octets (behind ++ p.took.rest)) in
     let more = more_keeps all_kinds (first ++ octets) (behind ++ p.took.rest) (passed ++ records) p.records ending
     endings.End reads (rw longer at all) in
     record {
@@ -159,8 +159,8 @@ cut_reads tape tape' happened passed records octets behind ending p has read =
           let v = p.whole going in
           let taken : first ++ (octets ++ behind) ≡ flat_map spelled p.records = rw (has.empty, has.took) at v.1 in
           let same : first ++ octets ≡ flat_map spelled p.records =
-              ap (λ (xs : List ℕ). first ++ xs) (sym (append-nil octets))
-              ∙ ap (λ (xs : List ℕ). first ++ (octets ++ xs)) (sym nothing) ∙ taken in
+          ap (λ (xs : List ℕ). first ++ xs) (sym (append-nil octets))
+          ∙ ap (λ (xs : List ℕ). first ++ (octets ++ xs)) (sym nothing) ∙ taken in
           let once = one_reading all_kinds (first ++ octets) (passed ++ records) p.records ending endings.End reads
           (rw (← same) at all) in
           let no_more = append_cancel_left (passed ++ records) more.0 []

@@ -4,13 +4,6 @@ ghost use Rattle.satop_packet.specs.Laws.{FaultlessIsPacket, PacketIsFaultless, 
 ghost use Rattle.satop_packet.specs.Laws.{LeastFaultIsTold, PlainIsPacket, PlainIsRead};
 
 /// Octets are the join of some parts exactly if they have no fault.
-#[tactic(
-    auto,
-    using(
-        crate::proofs::Callers::faultless_is_packet,
-        crate::proofs::Callers::packet_is_faultless,
-    )
-)]
 pub fn faultless_octets_are_packets()
     ensures packet { FaultlessIsPacket }
     ensures faultless { PacketIsFaultless }

@@ -5,15 +5,6 @@ ghost use Rattle.satop_playout.specs.Laws.{PlaysGiveTheirOctets, RefusalsChangeN
 ghost use Rattle.satop_playout.specs.Laws.{NothingIsAcceptedTwice, OrderDoesNotMatter};
 
 /// The octets given grow with each play by its octets, and with no other call.
-#[tactic(
-    auto,
-    using(
-        crate::proofs::Turns::nothing_is_given,
-        crate::proofs::Turns::beginnings_give_nothing,
-        crate::proofs::Turns::arrivals_give_nothing,
-        crate::proofs::Turns::plays_give_their_octets,
-    )
-)]
 pub fn plays_give_octets()
     ensures none { NothingIsGiven }
     ensures begins { BeginningsGiveNothing }
