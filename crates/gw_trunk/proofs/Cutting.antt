@@ -7,7 +7,7 @@ use borrow.Rule.Slice.PartMut.{put_mid}
 use Rattle.std.proofs.lemmas.List.Concat.{flat_map-append}
 use Rattle.std.specs.List.{AllByRecursion}
 use Rattle.gw_records.specs.Records.{Record}
-use Rattle.gw_trunk.specs.Pieces.{GivesWoven, GivesRecord, GivesNone, IsGiven}
+use Rattle.gw_trunk.specs.Pieces.{GivesWoven, GivesRecord, GivesNone, IsServiceRecord}
 
 -- Octets were read behind four, where a front was put then: the front is followed by them.
 pub framed : (room new front : List ℕ) (most n : ℕ) → most ≤ length room → 4 < most → length front ≡ 4
@@ -20,8 +20,8 @@ framed room new front most n fits some len bound =
     ∙ ap (λ (xs : List ℕ). front ++ xs) (take-append-le n new post bound)
 
 -- Records that are given, and one more.
-given-more : (records : List Record) (one : Record) → AllByRecursion IsGiven records → IsGiven one
-    → AllByRecursion IsGiven (records ++ one ∷ [])
+given-more : (records : List Record) (one : Record) → AllByRecursion IsServiceRecord records → IsServiceRecord one
+    → AllByRecursion IsServiceRecord (records ++ one ∷ [])
 given-more [] one all good = (good, tt)
 given-more (r ∷ records) one all good = (all.0, given-more records one all.1 good)
 

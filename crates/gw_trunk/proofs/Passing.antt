@@ -5,33 +5,34 @@ use Rattle.std.proofs.lemmas.Bool.Decides.{nat_tests}
 use Rattle.std.proofs.lemmas.List.{length-take-le, take-take}
 use Rattle.gw_trunk.specs.declared.sink.RecordPosition.{RecordPosition}
 use Rattle.gw_trunk.specs.declared.sink.RecordPosition.TheVariants.{Kind, Circuit, High, Low, Body}
-use Rattle.gw_trunk.specs.Bodies.{HasPassed, StepsOver, place_next, place_after, passed, part_passed, body_after}
-use Rattle.gw_trunk.specs.Bodies.{answered, is_answer}
+use Rattle.gw_trunk.specs.Bodies.{HasPassed, StepsOver, place_next, place_behind, passed, part_passed, body_after}
+use Rattle.gw_trunk.specs.Bodies.{to_clients, is_answer}
 
 -- The place after octets and more is that after the others, from the place after the first.
-pub place_append : (p : RecordPosition) (xs ys : List ℕ) → place_after p (xs ++ ys) ≡ place_after (place_after p xs) ys
-unfolding place_after
+pub place_append : (p : RecordPosition) (xs ys : List ℕ)
+    → place_behind p (xs ++ ys) ≡ place_behind (place_behind p xs) ys
+unfolding place_behind
 place_append p [] ys = refl
 place_append p (x ∷ xs) ys = place_append (place_next p x) xs ys
 
 -- What of octets and more goes to the trunk is that of the first, and then that of the others.
 pub passed-append : (p : RecordPosition) (xs ys : List ℕ)
-    → passed p (xs ++ ys) ≡ passed p xs ++ passed (place_after p xs) ys
-unfolding place_after passed
+    → passed p (xs ++ ys) ≡ passed p xs ++ passed (place_behind p xs) ys
+unfolding place_behind passed
 passed-append p [] ys = refl
 passed-append p (x ∷ xs) ys =
     ap (λ (zs : List ℕ). part_passed p x ++ zs) (passed-append (place_next p x) xs ys)
-    ∙ sym (append_assoc (part_passed p x) (passed (place_next p x) xs) (passed (place_after (place_next p x) xs) ys))
+    ∙ sym (append_assoc (part_passed p x) (passed (place_next p x) xs) (passed (place_behind (place_next p x) xs) ys))
 
 -- What of octets and more goes to clients is that of the first, and then that of the others.
 pub answered-append : (p : RecordPosition) (xs ys : List ℕ)
-    → answered p (xs ++ ys) ≡ answered p xs ++ answered (place_after p xs) ys
-unfolding place_after answered
+    → to_clients p (xs ++ ys) ≡ to_clients p xs ++ to_clients (place_behind p xs) ys
+unfolding place_behind to_clients
 answered-append p [] ys = refl
 answered-append p (x ∷ xs) ys =
     let first : List ℕ = cond (is_answer p x) (x ∷ []) [] in
     ap (λ (zs : List ℕ). first ++ zs) (answered-append (place_next p x) xs ys)
-    ∙ sym (append_assoc first (answered (place_next p x) xs) (answered (place_after (place_next p x) xs) ys))
+    ∙ sym (append_assoc first (to_clients (place_next p x) xs) (to_clients (place_behind (place_next p x) xs) ys))
 
 -- A body goes on where it was after none of its octets.
 body-begins : (to_trunk : Bool) (more : ℕ) → Body to_trunk more ≡ body_after to_trunk more 0
@@ -43,8 +44,8 @@ body-goes to_trunk more n = grind (arith, nat_tests)
 
 -- Octets of a body, as many as it has or fewer: the place after them.
 pub place-body : (to_trunk : Bool) (more : ℕ) (xs : List ℕ) → length xs ≤ suc more
-    → place_after (Body to_trunk more) xs ≡ body_after to_trunk more (length xs)
-unfolding place_after
+    → place_behind (Body to_trunk more) xs ≡ body_after to_trunk more (length xs)
+unfolding place_behind
 place-body to_trunk more [] h = body-begins to_trunk more
 place-body to_trunk zero (x ∷ []) h = refl
 place-body to_trunk zero (x ∷ y ∷ xs) h = absurd (omega (arith, h))
@@ -65,8 +66,8 @@ passed-body false (suc more) (x ∷ xs) h = passed-body false more xs (omega (ar
 
 -- .. and what of them goes to clients.
 pub answered-body : (to_trunk : Bool) (more : ℕ) (xs : List ℕ) → length xs ≤ suc more
-    → answered (Body to_trunk more) xs ≡ cond to_trunk [] xs
-unfolding answered
+    → to_clients (Body to_trunk more) xs ≡ cond to_trunk [] xs
+unfolding to_clients
 answered-body true more [] h = refl
 answered-body false more [] h = refl
 answered-body true zero (x ∷ []) h = refl
@@ -80,7 +81,7 @@ answered-body false (suc more) (x ∷ xs) h =
 pub passes-on : (p q : RecordPosition) (taken went went' told told' xs : List ℕ) → HasPassed p taken went told
     → StepsOver p q went went' told told' xs → HasPassed q (taken ++ xs) went' told'
 passes-on p q taken went went' told told' xs has more = record {
-  place_is = more.place_is ∙ ap (λ (r : RecordPosition). place_after r xs) has.place_is
+  place_is = more.place_is ∙ ap (λ (r : RecordPosition). place_behind r xs) has.place_is
       ∙ sym (place_append Kind taken xs);
   went_are = more.went_are ∙ rw (has.went_are, has.place_is, passed-append) refl;
   told_are = more.told_are ∙ rw (has.told_are, has.place_is, answered-append) refl;
@@ -88,7 +89,7 @@ passes-on p q taken went went' told told' xs has more = record {
 
 -- Before any record.
 pub none-passed : (taken went told : List ℕ) → taken ≡ [] → went ≡ [] → told ≡ [] → HasPassed Kind taken went told
-unfolding place_after passed answered
+unfolding place_behind passed to_clients
 none-passed taken went told t w a = rw (t, w, a) (record { place_is = refl; went_are = refl; told_are = refl })
 
 -- An octet that is in no body: none of it goes to the trunk.
@@ -105,7 +106,7 @@ pub first-passes : (p : RecordPosition) (octet n : ℕ) (octets went told told' 
     → ((d : ℕ) → octet ≡ get_or octets 0 d) → ((to_trunk : Bool) (more : ℕ) → p ≡ Body to_trunk more → ⊥)
     → n ≤ 1 → 0 < n → told' ≡ told ++ cond (is_answer p (slice_index octets 0)) (take n octets) []
     → StepsOver p (place_next p octet) went went told told' (take n octets)
-unfolding place_after passed answered
+unfolding place_behind passed to_clients
 first-passes p octet n [] went told told' some is out few one e = absurd (omega (arith, some))
 first-passes p octet zero (x ∷ xs) went told told' some is out few one e = absurd (omega (arith, one))
 first-passes p octet (suc (suc n)) (x ∷ xs) went told told' some is out few one e = absurd (omega (arith, few))
@@ -118,7 +119,7 @@ first-passes p octet (suc zero) (x ∷ xs) went told told' some is out few one e
 -- No octet passes.
 pub none-passes : (p : RecordPosition) (n : ℕ) (went told told' octets : List ℕ) (c : Bool) → n ≤ 0
     → told' ≡ told ++ cond c (take n octets) [] → StepsOver p p went went told told' (take n octets)
-unfolding place_after passed answered
+unfolding place_behind passed to_clients
 none-passes p (suc n) went told told' octets c none is = absurd (omega (arith, none))
 none-passes p zero went told told' octets true none is =
     record { place_is = refl; went_are = sym (append-nil went); told_are = is }

@@ -23,9 +23,9 @@ part_passed (Body true more) octet = octet ∷ []
 part_passed _ octet = []
 
 -- the place after octets
-unfoldable pub place_after : RecordPosition → List ℕ → RecordPosition
-place_after place [] = place
-place_after place (octet ∷ octets) = place_after (place_next place octet) octets
+unfoldable pub place_behind : RecordPosition → List ℕ → RecordPosition
+place_behind place [] = place
+place_behind place (octet ∷ octets) = place_behind (place_next place octet) octets
 
 -- what of octets goes to the trunk
 unfoldable pub passed : RecordPosition → List ℕ → List ℕ
@@ -45,14 +45,14 @@ is_answer (Low to_trunk high) octet = not to_trunk
 is_answer (Body to_trunk more) octet = not to_trunk
 
 -- what of octets goes to clients
-unfoldable pub answered : RecordPosition → List ℕ → List ℕ
-answered place [] = []
-answered place (octet ∷ octets) =
-    (if is_answer place octet then octet ∷ [] else []) ++ answered (place_next place octet) octets
+unfoldable pub to_clients : RecordPosition → List ℕ → List ℕ
+to_clients place [] = []
+to_clients place (octet ∷ octets) =
+    (if is_answer place octet then octet ∷ [] else []) ++ to_clients (place_next place octet) octets
 
 -- the octets of the records among these that are no T records, whole or cut
 abbrev pub others : List ℕ → List ℕ
-others octets = answered Kind octets
+others octets = to_clients Kind octets
 
 -- where a body goes on after this many octets of it
 abbrev pub body_after : Bool → ℕ → ℕ → RecordPosition
@@ -61,12 +61,12 @@ body_after to_trunk more n = if nat_lt more n then Kind else Body to_trunk (more
 -- Records were taken up to this place. The bodies of the T records among them went to the trunk, and the
 -- others to clients.
 pub record HasPassed (place : RecordPosition) (taken went told : List ℕ) : Type 0 where
-  pub place_is : place ≡ place_after Kind taken
+  pub place_is : place ≡ place_behind Kind taken
   pub went_are : went ≡ bodies taken
   pub told_are : told ≡ others taken
 
 -- octets were taken from one place to another, and what of them goes to the trunk and to clients went
 pub record StepsOver (place place' : RecordPosition) (went went' told told' octets : List ℕ) : Type 0 where
-  pub place_is : place' ≡ place_after place octets
+  pub place_is : place' ≡ place_behind place octets
   pub went_are : went' ≡ went ++ passed place octets
-  pub told_are : told' ≡ told ++ answered place octets
+  pub told_are : told' ≡ told ++ to_clients place octets

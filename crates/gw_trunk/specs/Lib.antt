@@ -4,6 +4,5 @@ pub mod Pieces
 pub mod Bodies
 pub mod Door
 pub mod Clients
-pub mod Serving
 pub mod Multiframes
 pub mod KnownOctets

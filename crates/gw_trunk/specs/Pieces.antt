@@ -15,9 +15,9 @@ abbrev pub client_kinds : AcceptedKinds
 client_kinds = record { trunk = false; datagrams = false; commands = true; codecs = true }
 
 -- a record that is given: a T record of a piece of the trunk, or a good one of a client
-abbrev pub IsGiven : Record → Type 0
-IsGiven (Record.Trunk octets) = IsPiece octets
-IsGiven r = IsGood client_kinds r
+abbrev pub IsServiceRecord : Record → Type 0
+IsServiceRecord (Record.Trunk octets) = IsPiece octets
+IsServiceRecord r = IsGood client_kinds r
 
 -- the octets of the trunk in a record, and the octets of a record of a client
 abbrev pub trunk_part : Record → List ℕ
@@ -37,7 +37,7 @@ from_clients (r ∷ records) = r ∷ from_clients records
 -- What came from a trunk and what clients asked are woven in these records: the bodies of the T records are
 -- what came, and the others are what was asked, each in order and each once.
 pub record Woven (came asked : List ℕ) (records : List Record) : Type 0 where
-  pub good : AllByRecursion IsGiven records
+  pub good : AllByRecursion IsServiceRecord records
   pub came_are : came ≡ flat_map trunk_part records
   pub asked_are : asked ≡ flat_map client_part records
 
@@ -50,7 +50,7 @@ pub record GivesWoven (came asked given : List ℕ) : Type 0 where
 -- one more record was given, and no more came or was asked than it holds
 pub record GivesRecord (came came' asked asked' given : List ℕ) : Type 0 where
   pub one : Record
-  pub good : IsGiven one
+  pub good : IsServiceRecord one
   pub came_is : came' ≡ came ++ trunk_part one
   pub asked_is : asked' ≡ asked ++ client_part one
   pub given_is : given ≡ spelled one

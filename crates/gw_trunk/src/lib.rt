@@ -10,7 +10,6 @@ mod door;
 mod held;
 mod logged_reader;
 mod multiframe_dropper;
-mod serving;
 mod sink;
 mod source;
 mod waiting;
@@ -22,7 +21,6 @@ pub use device::{
 pub use device_calls::{DeviceReader, DeviceWriter};
 pub use door::open_door;
 pub use multiframe_dropper::MultiframeDropper;
-pub use serving::serve_trunk;
 pub use sink::TrunkRecordSink;
 pub use source::TrunkRecordSource;
 pub use waiting::Waiting;

@@ -1,1 +1,3 @@
+mod Written
+mod Carried
 mod Served

@@ -8,7 +8,7 @@ use Rattle.gw_session.specs.Serve.{around}
 use Rattle.gw_session.specs.Tape.{TapeState}
 use Rattle.gw_switch.specs.declared.gateway.Gateway.{Gateway}
 use Rattle.gw_trunk.specs.Multiframes.{GoesInTime}
-use Rattle.gw_trunk.specs.Serving.{Traffic}
+use Rattle.run_trunk.specs.Serving.{Traffic}
 use Rattle.gw_program.proofs.Streams.{on_new, saved_told, told_untouched, untouched, with_gateway}
 use Rattle.gw_program.specs.declared.program_fault.ProgramFault.{ProgramFault}
 use Rattle.gw_program.specs.Performing.{EndedSaved, NotBegun, HasServed, HasConfig}

@@ -8,7 +8,7 @@ use Rattle.gw_switch.specs.Events.{Event}
 use Rattle.gw_switch.specs.Standing.{HasHistory}
 use Rattle.gw_session.specs.Serve.{SessionStreams}
 use Rattle.gw_trunk.specs.Multiframes.{GoesInTime}
-use Rattle.gw_trunk.specs.Serving.{Carried, Traffic}
+use Rattle.run_trunk.specs.Serving.{Carried, Traffic}
 use Rattle.gw_program.specs.Performing.{EndedSaved}
 use Rattle.gw_program.specs.Requests.{CommandLine, ByGateway, OnNewStreams, save_in}
 use Rattle.gw_program.specs.Sessions.{Serves}

@@ -3,5 +3,6 @@
 
 mod carrying;
 mod performing;
+mod serving;
 
 pub use carrying::serve;

@@ -5,13 +5,14 @@ ghost use Rattle.gw_session.specs.Serve.{around};
 ghost use Rattle.gw_program.specs.Performing.{EndedSaved, NotBegun, LacksTapeOrPorts, HasServed, HasConfig};
 ghost use Rattle.gw_program.specs.Sessions.{HasGateway};
 ghost use Rattle.run_trunk.specs.Trunks.{CarriesTrunk};
-ghost use Rattle.gw_trunk.specs.Serving.{traffic};
+ghost use Rattle.run_trunk.specs.Serving.{traffic};
 
+use crate::serving::serve_trunk;
 use gw_config::Config;
 use gw_program::{ProgramFault, System, end_session};
 use gw_session::{Ports, RunFault, Sink, Source, Tape, Totals};
 use gw_switch::Gateway;
-use gw_trunk::{TrunkInput, TrunkOutput, TrunkRecordSink, TrunkRecordSource, serve_trunk};
+use gw_trunk::{TrunkInput, TrunkOutput, TrunkRecordSink, TrunkRecordSource};
 use std::alloc::Global;
 
 // Serves a trunk and its clients with a gateway, sends and receives its datagrams through ports, and records

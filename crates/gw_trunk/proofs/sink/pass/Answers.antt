@@ -1,10 +1,10 @@
 use Rattle.std.proofs.Common.{◌≤◌, suc, length, refl, sym, append-nil, arith}
-use Rattle.gw_trunk.specs.Bodies.{place_after, passed, answered}
+use Rattle.gw_trunk.specs.Bodies.{place_behind, passed, to_clients}
 use Rattle.gw_trunk.proofs.Passing.{first-passes, none-passes, body-passes}
 use Rattle.gw_trunk.proofs.sink.pass.Goals as goal
 
 pub returns-in_default-clause-passes : goal.returns-in_default-clause-passes
-unfolding place_after passed answered
+unfolding place_behind passed to_clients
 returns-in_default-clause-passes g c =
     record { place_is = refl; went_are = sym (append-nil _); told_are = sym (append-nil _) }
 

@@ -14,15 +14,15 @@ use Rattle.gw_session.specs.Serve.{SessionInput, Turn, octet_of, events_in, even
 use Rattle.gw_session.specs.Serve.{given_by, written, served_kinds, coming, arrivals}
 use Rattle.gw_session.proofs.Turns.{given_by-append, turns_have_octets}
 use Rattle.gw_trunk.specs.declared.sink.RecordPosition.TheVariants.{Kind}
-use Rattle.gw_trunk.specs.Bodies.{passed, answered, place_after, body_place}
-use Rattle.gw_trunk.specs.Serving.{answers_for, answer_in}
+use Rattle.gw_trunk.specs.Bodies.{passed, to_clients, place_behind, body_place}
+use Rattle.run_trunk.specs.Serving.{answers_for, answer_in}
 use Rattle.gw_trunk.proofs.Passing.{place_append, passed-append, answered-append}
 use Rattle.gw_trunk.proofs.Passing.{place-body, passed-body, answered-body}
 
 -- A whole body of a T record: the next record begins behind it, all of it goes to the trunk, and none to clients.
-whole-body : (body : List ℕ) → (place_after (body_place true (length body)) body ≡ Kind)
-    × (passed (body_place true (length body)) body ≡ body) × (answered (body_place true (length body)) body ≡ [])
-unfolding place_after passed answered
+whole-body : (body : List ℕ) → (place_behind (body_place true (length body)) body ≡ Kind)
+    × (passed (body_place true (length body)) body ≡ body) × (to_clients (body_place true (length body)) body ≡ [])
+unfolding place_behind passed to_clients
 whole-body [] = (refl, refl, refl)
 whole-body (x ∷ xs) = (
   place-body true (length xs) (x ∷ xs) (omega arith) ∙ grind (arith, nat_tests),
@@ -36,9 +36,9 @@ length-said n h = omega arith
 
 -- The octets of a T record pass its body, none goes to clients, and the next record begins behind them.
 record-passes : (body : List ℕ) → length body < 2 ^ 16
-    → (place_after Kind (record_of 0x54 0 body) ≡ Kind) × (passed Kind (record_of 0x54 0 body) ≡ body)
-    × (answered Kind (record_of 0x54 0 body) ≡ [])
-unfolding place_after passed answered
+    → (place_behind Kind (record_of 0x54 0 body) ≡ Kind) × (passed Kind (record_of 0x54 0 body) ≡ body)
+    × (to_clients Kind (record_of 0x54 0 body) ≡ [])
+unfolding place_behind passed to_clients
 record-passes body short =
     let said = length-said (length body) short in
     let whole = whole-body body in
@@ -87,10 +87,10 @@ as-many config before ts = one-for-each config before (events_of_turns ts) ∙ t
 -- behind it.
 input-passes : (config : GatewayConfig) (before : List Event) (input : SessionInput)
     → IsGood served_kinds (session.input_record input)
-    → (place_after Kind (session.answer_to config before input) ≡ Kind)
+    → (place_behind Kind (session.answer_to config before input) ≡ Kind)
     × (passed Kind (session.answer_to config before input) ≡ octets_for config before (events_in input))
-    × (answered Kind (session.answer_to config before input) ≡ answers_for config before (events_in input))
-unfolding place_after passed answered session.answer_to given_by
+    × (to_clients Kind (session.answer_to config before input) ≡ answers_for config before (events_in input))
+unfolding place_behind passed to_clients session.answer_to given_by
 input-passes config before (SessionInput.Trunk ts) good =
     let body = octets_for config before (events_of_turns ts) in
     let passes = record-passes body (omega (arith, as-many config before ts, good.1, length-map ts octet_of)) in
@@ -103,10 +103,10 @@ input-passes config before (SessionInput.Codec circuit codec payload_type) good 
 -- behind it.
 pub inputs-pass : (config : GatewayConfig) (before : List Event) (inputs : List SessionInput)
     → AllByRecursion (IsGood served_kinds) (map session.input_record inputs)
-    → (place_after Kind (written config before inputs) ≡ Kind)
+    → (place_behind Kind (written config before inputs) ≡ Kind)
     × (passed Kind (written config before inputs) ≡ octets_for config before (events_through inputs))
-    × (answered Kind (written config before inputs) ≡ answers_for config before (events_through inputs))
-unfolding place_after passed answered given_by
+    × (to_clients Kind (written config before inputs) ≡ answers_for config before (events_through inputs))
+unfolding place_behind passed to_clients given_by
 inputs-pass config before [] good = (refl, refl, refl)
 inputs-pass config before (input ∷ inputs) good =
     let one = input-passes config before input good.0 in

@@ -27,21 +27,22 @@ use Rattle.gw_session.specs.Tape.{TapeState}
 use Rattle.gw_session.specs.World.{SessionState}
 use Rattle.gw_session.proofs.ServeLaws.{events_are_told}
 use Rattle.gw_trunk.specs.declared.sink.RecordPosition.TheVariants.{Kind}
-use Rattle.gw_trunk.specs.Bodies.{bodies, others, passed, answered, place_after}
-use Rattle.gw_trunk.specs.Pieces.{Woven, GivesWoven, IsGiven, trunk_part, client_part, from_clients}
-use Rattle.gw_trunk.specs.Serving.{Carries, CarriesUntilWrite, CarriesUntil, Carried, commands_in, traffic}
+use Rattle.gw_trunk.specs.Bodies.{bodies, others, passed, to_clients, place_behind}
+use Rattle.gw_trunk.specs.Pieces.{Woven, GivesWoven, IsServiceRecord, trunk_part, client_part, from_clients}
+use Rattle.run_trunk.specs.Serving.{Carries, CarriesUntilWrite, CarriesUntil, Carried, commands_in, traffic}
 use Rattle.gw_trunk.proofs.Passing.{passed-append, answered-append}
-use Rattle.gw_trunk.proofs.Written.{inputs-pass}
+use Rattle.run_trunk.proofs.Written.{inputs-pass}
 
 -- A record that is given is read in service.
-given-good : (r : Record) → IsGiven r → IsGood served_kinds r
+given-good : (r : Record) → IsServiceRecord r → IsGood served_kinds r
 given-good (Record.Trunk octets) given = (refl, omega (arith, given))
 given-good (Record.Datagram circuit octets) given = cc (given.0)
 given-good (Record.Command circuit command) given = given
 given-good (Record.Codec circuit codec payload_type) given = given
 
 -- .. and all that are given are.
-all-good : (records : List Record) → AllByRecursion IsGiven records → AllByRecursion (IsGood served_kinds) records
+all-good : (records : List Record) → AllByRecursion IsServiceRecord records
+    → AllByRecursion (IsGood served_kinds) records
 all-good [] given = tt
 all-good (r ∷ records) given = (given-good r given.0, all-good records given.1)
 
@@ -52,7 +53,8 @@ unfolding end_of
 records-read records good = record { rest = []; whole = sym (append-nil _); good = good; ends = refl }
 
 -- The first of records that are given are given.
-first-given : (records more : List Record) → AllByRecursion IsGiven (records ++ more) → AllByRecursion IsGiven records
+first-given : (records more : List Record) → AllByRecursion IsServiceRecord (records ++ more)
+    → AllByRecursion IsServiceRecord records
 first-given [] more all = tt
 first-given (r ∷ records) more all = (all.0, first-given records more all.1)
 
@@ -99,7 +101,7 @@ commands-behind [] es = refl
 commands-behind (x ∷ xs) es = commands-behind xs es
 
 -- The commands in the events of records that are given are the events of those of clients.
-commands-given : (records : List Record) → AllByRecursion IsGiven records
+commands-given : (records : List Record) → AllByRecursion IsServiceRecord records
     → commands_in (events records) ≡ events (from_clients records)
 commands-given [] given = refl
 commands-given (Record.Trunk xs ∷ records) given =
@@ -198,8 +200,8 @@ cut-session config before came asked went told given taken around t new f =
     let taken-is : taken ≡ took.written = appends-first _ _ taken _ around.untaken around.took took.appended in
     let both : written config before served.inputs ≡ taken ++ took.rest
     = took.whole ∙ ap (λ (xs : List ℕ). xs ++ took.rest) (sym taken-is) in
-    let lost = passed (place_after Kind taken) took.rest in
-    let untold = answered (place_after Kind taken) took.rest in
+    let lost = passed (place_behind Kind taken) took.rest in
+    let untold = to_clients (place_behind Kind taken) took.rest in
     let sent : went ++ lost ≡ bodies (written config before served.inputs)
     = rw (t.went_are) (sym (ap bodies both ∙ passed-append Kind taken took.rest)) in
     let tells : told ++ untold ≡ others (written config before served.inputs)
@@ -239,7 +241,7 @@ until : {a a' : SessionStreams} (gateway gateway' : Gateway) (config : GatewayCo
     → Trunked came asked went told given taken → HasHistory config gateway before
     → ServesUntil a a' gateway gateway' fault
     → CarriesUntil config before gateway' a.tape a'.tape (traffic came asked went told) fault
-unfolding passed answered place_after
+unfolding passed to_clients place_behind
 until gateway gateway' config before faults.BadKind came asked went told given taken around t new s =
     let e = (whole-session config before came asked went told given taken around t new s.0).0 in cc
 until gateway gateway' config before faults.BadCircuit came asked went told given taken around t new s =

@@ -5,26 +5,24 @@ ghost use Rattle.gw_switch.specs.declared.GatewayConfig.{GatewayConfig};
 ghost use Rattle.gw_switch.specs.Events.{Event};
 ghost use Rattle.gw_switch.specs.Standing.{HasHistory};
 ghost use Rattle.gw_session.specs.Serve.{ServesAll, ServesUntil, around};
-ghost use Rattle.gw_trunk.specs.Serving.{Carried, traffic};
+ghost use Rattle.run_trunk.specs.Serving.{Carried, traffic};
 
-use crate::device::{TrunkInput, TrunkOutput};
-use crate::sink::TrunkRecordSink;
-use crate::source::TrunkRecordSource;
 use gw_session::{Ports, RunFault, Sink, Source, Tape, Totals, serve_recorded};
 use gw_switch::Gateway;
+use gw_trunk::{TrunkInput, TrunkOutput, TrunkRecordSink, TrunkRecordSource};
 use std::alloc::Global;
 
-/// Serves a trunk and its clients by a gateway until no octet comes any more: for each octet that comes the
-/// one goes that the gateway sends with it, in their order, and nothing else goes. For each record of a
-/// client an answer goes to clients, in their order, and nothing else does. Datagrams come and go through the
-/// ports, and the tape takes what happens, as in `serve_recorded`.
-///
-/// # Errors
-///
-/// [`RunFault::Read`] where the device that octets come from fails: all that came is answered.
-/// [`RunFault::Write`] where the other fails. [`RunFault::OutOfMemory`] where memory was refused: nothing
-/// comes, is asked or goes.
-pub fn serve_trunk<I: TrunkInput, O: TrunkOutput, A: TrunkOutput, P: Ports, T: Tape>(
+// Serves a trunk and its clients by a gateway until no octet comes any more: for each octet that comes the
+// one goes that the gateway sends with it, in their order, and nothing else goes. For each record of a
+// client an answer goes to clients, in their order, and nothing else does. Datagrams come and go through the
+// ports, and the tape takes what happens, as in `serve_recorded`.
+//
+// # Errors
+//
+// [`RunFault::Read`] where the device that octets come from fails: all that came is answered.
+// [`RunFault::Write`] where the other fails. [`RunFault::OutOfMemory`] where memory was refused: nothing
+// comes, is asked or goes.
+pub(crate) fn serve_trunk<I: TrunkInput, O: TrunkOutput, A: TrunkOutput, P: Ports, T: Tape>(
     alloc: Global,
     gateway: &mut Gateway,
     ports: &mut P,

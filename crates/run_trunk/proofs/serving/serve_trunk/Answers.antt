@@ -1,7 +1,7 @@
 use Rattle.std.proofs.Common.{ap, refl, Some}
 use Rattle.std.proofs.Math.Logic.{∥∥₁_map}
-use Rattle.gw_trunk.proofs.Carrying.{carried}
-use Rattle.gw_trunk.proofs.serving.serve_trunk.Goals as goal
+use Rattle.run_trunk.proofs.Carried.{carried}
+use Rattle.run_trunk.proofs.serving.serve_trunk.Goals as goal
 
 pub returns : goal.returns
 returns g c = record {
