@@ -1,0 +1,82 @@
+"""Lines for the operator, by the logging of Python: one thread writes them, so no slow disk or reader is waited for.
+The level of a module is set as anywhere: logging.getLogger('e1gw.service.keeper').setLevel(..)."""
+from __future__ import annotations
+
+import logging
+import logging.handlers
+import os
+import queue
+import sys
+import threading
+
+MOST, MINUTE = 20, 60.0             # lines of a kind in a minute
+MOST_WAITING = 20_000               # lines that wait to be written; more are not kept
+NOTICE = 25                         # between INFO and WARNING
+LEVELS = {logging.ERROR: 3, logging.WARNING: 4, NOTICE: 5, logging.INFO: 6, logging.DEBUG: 7}       # of syslog
+TOP = 'e1gw.service'
+
+
+class LineLimit(logging.Filter):
+    """Lets MOST lines of a kind through in a minute, and then says how many more there were. The kind of a line is
+    given as extra={'kind': ..}; lines without one all pass."""
+
+    def __init__(self) -> None:
+        super().__init__()
+        self._kinds: dict[str, tuple[float, int]] = {}
+
+    def filter(self, record: logging.LogRecord) -> bool:
+        kind = getattr(record, 'kind', None)
+        if kind is None:
+            return True
+        began, told = self._kinds.get(kind, (-MINUTE, 0))
+        if record.created - began >= MINUTE:
+            if told > MOST:
+                more = f'{kind}: .. and {told - MOST} more in the last minute'
+                record.msg, record.args = f'{more}\n{record.getMessage()}', None
+            began, told = record.created, 0
+        self._kinds[kind] = began, told + 1
+        return told < MOST
+
+
+class LineFormatter(logging.Formatter):
+    """The level where the journal of systemd reads it (systemd.exec(5)), else the name of the program."""
+
+    def __init__(self, name: str) -> None:
+        super().__init__()
+        about = os.fstat(2)
+        self._has_levels = os.environ.get('JOURNAL_STREAM') == f'{about.st_dev}:{about.st_ino}'
+        self._name = name
+
+    def format(self, record: logging.LogRecord) -> str:
+        front = f'<{LEVELS.get(record.levelno, 6)}>' if self._has_levels else f'{self._name}: '
+        return f'{front}{super().format(record)}'
+
+
+class QuietQueue(logging.handlers.QueueHandler):
+    """What waits for the thread that writes. A line for which there is no room is not kept."""
+
+    def handleError(self, record: logging.LogRecord) -> None:
+        pass
+
+
+class ServiceJournal:
+    """Standard error, from the first line to the last."""
+
+    def __init__(self, name: str) -> None:
+        waiting = queue.Queue[logging.LogRecord](MOST_WAITING)
+        writes = logging.StreamHandler(sys.stderr)
+        writes.setFormatter(LineFormatter(name))
+        sends = QuietQueue(waiting)
+        sends.addFilter(LineLimit())
+        logger = logging.getLogger(TOP)
+        logger.setLevel(logging.INFO)
+        logger.propagate = False
+        logger.handlers[:] = [sends]
+        self._listener = logging.handlers.QueueListener(waiting, writes)
+        self._listener.start()
+
+    def close(self, seconds: float = 2.0) -> None:
+        """Waits so long at most until all is written."""
+        stops = threading.Thread(target=self._listener.stop, daemon=True)
+        stops.start()
+        stops.join(seconds)

@@ -1,0 +1,357 @@
+"""Keeps the trunk carried: a program on it, and a follower over the program's log. `serve` reads from top to bottom:
+begin, wait, what has ended, recover, begin. Each step may be begun again after one that has failed, and each wait has
+an end; so nothing that fails here ends a call."""
+from __future__ import annotations
+
+import asyncio
+import logging
+import os
+import time
+import traceback
+from collections import Counter, deque
+from dataclasses import dataclass, field
+from typing import Callable
+
+from ..explain import config_words, gateway_words
+from ..trunks import Stream
+from .checkpoints import Checkpoints, NoRoom, point
+from .journal import NOTICE
+from .log import Checkpoint, in_memory
+from .program import TrunkProgram
+from .recovery import Handover, Notifier
+from .trunk import TrunkFiles, either
+from .version import ProgramVersion, VersionHistory
+
+START, GRACE = 10.0, 5.0    # seconds for a program to carry the trunk, and to end in order
+TICK = 0.25                 # seconds between two looks while nothing happens
+APART = 60.0                # seconds between two programs that follow for a control socket that is gone
+AGAIN = 0.1                 # seconds before a step that has failed is begun again
+DEATHS, WITHIN, MOST_PAUSE = 5, 2.0, 10.0       # so many in so many seconds: the next one begins without a state
+LOST, ANEW = ', what it had in hand is lost: 2048 octets (8 ms) at most', '; all calls begin anew'
+
+logger = logging.getLogger(__name__)
+
+
+@dataclass
+class TrunkWants:
+    """What is wanted of a trunk. `words` are further options of the program, `both` those of its follower, too."""
+
+    program: str
+    config: str
+    senders: str | None
+    opens: Callable[[], Stream]
+    folder: str
+    control: str                # the socket at which the program of now takes records
+    tell: str | None = None
+    state: str | None = None
+    words: list[str] = field(default_factory=list)
+    both: list[str] = field(default_factory=list)
+    reopens: bool = False
+    totals: bool = False
+
+
+class DeathCount:
+    """Programs that died shortly one after another, and how long to wait before the next one."""
+
+    def __init__(self) -> None:
+        self._last, self._pause = deque[float](maxlen=DEATHS), -1.0
+
+    def died(self, now: float) -> float | None:
+        """None while another one begins at once from the state. Else the seconds to wait: it begins without one."""
+        self._last.append(now)
+        if len(self._last) < DEATHS or now - self._last[0] > max(WITHIN, DEATHS * self._pause):
+            self._pause = -1.0
+            return None
+        self._pause = 0.0 if self._pause < 0 else min(MOST_PAUSE, max(0.5, 2 * self._pause))
+        return self._pause
+
+
+class TrunkKeeper:
+    """One trunk, whose programs follow one another."""
+
+    def __init__(self, wants: TrunkWants, version: ProgramVersion, trunk: TrunkFiles, handover: Handover,
+                 notifier: Notifier) -> None:
+        self.wants, self.trunk, self.versions = wants, trunk, VersionHistory(version)
+        self.checkpoints = Checkpoints(wants.folder, wants.tell, wants.both)
+        self.program: TrunkProgram | None = None
+        self.state, self.why, self.lost = Checkpoint(), 'begins', ''      # of the next program
+        self.number, self.status = 0, None      # type: int, int | None
+        self.was_up = False
+        self.ending, self.wanted = '', ''       # why no other program is to follow, or why one is
+        self._ends, self._wake = asyncio.Event(), asyncio.Event()
+        self._handover, self._notifier = handover, notifier
+        self._silent, self._due, self._deaths = time.monotonic(), 0.0, DeathCount()
+        self._finishing = set[asyncio.Task[None]]()
+
+    # ---- from the beginning to the end ----
+
+    async def serve(self) -> int:
+        """Carries the trunk until its end; returns the status."""
+        while self.status is None:
+            try:
+                if program := await self._begin():
+                    await self._succeed(program, await self._reason(program))
+            except Exception as fault:      # pylint: disable=broad-exception-caught
+                logger.error('the keeper goes on: %s', placed(fault), extra={'kind': 'fault'})
+                await asyncio.sleep(AGAIN)
+        if self._finishing:
+            await asyncio.wait(self._finishing, timeout=GRACE)
+        return self.status
+
+    async def _begin(self) -> TrunkProgram | None:
+        """The program that carries the trunk, started if there is none; None if it does not come up."""
+        if not self.trunk.is_open():
+            await self.trunk.reopen(self._ends)
+        if not self.program and self.ending:
+            self._finish(self.ending, 0)
+            return None
+        program = self.program or self._start()
+        if not program.is_up and not await program.comes_up(START) and not program.ended_well():
+            await self._never_up(program)
+            return None
+        if not program.follower and not program.process.over.is_set():
+            self._follow(program)
+        return program
+
+    def _start(self) -> TrunkProgram:
+        """Starts a program from the state of now, and remembers it before anything else happens."""
+        self.number += 1
+        self.program = program = TrunkProgram.started(
+            self.number, self.versions.now, self.state, f'{self.wants.control}.{self.number}',
+            self.checkpoints.new_path(False), self.trunk.both,
+            ['--senders', self.versions.now.senders, *self.wants.words, *self.wants.both])
+        self.note()
+        return program
+
+    def _follow(self, program: TrunkProgram) -> None:
+        """A program is up: its follower, and what is told of it."""
+        now, pid = time.monotonic(), program.process.pid
+        shadow = self.checkpoints.follow(program).process.pid
+        point(self.wants.control, program.control)
+        if self.wants.state and not self.was_up and os.path.exists(self.wants.state):
+            os.unlink(self.wants.state)
+        after = f' goes on after {(now - self._silent) * 1000:.0f} ms' if self.was_up else ' carries the trunk'
+        behind = f' behind octet {octets}' if (octets := program.begun.counted['octets']) else ''
+        its = f'; program {pid} goes on' if program.is_adopted else f': program {pid}{after}{behind}{self.lost}'
+        logger.log(logging.WARNING if self.lost else NOTICE, '%s%s; shadow %d', self.why, its, shadow)
+        pass_on(program)
+        self.was_up, self.lost = True, ''
+        self.versions.is_up(now)
+        self.note()
+        self._notifier.tell('READY=1', f'STATUS=program {pid}, shadow {shadow}')
+
+    async def _reason(self, program: TrunkProgram) -> str:
+        """Waits until another program has to follow, and returns why; nothing if this one has ended."""
+        while not program.process.over.is_set():
+            if self.ending or self.wanted:
+                return self.ending or self.wanted
+            await either(TICK, program.process.over, self._wake)
+            self._wake.clear()
+            if not program.process.over.is_set():
+                await self._look(program)
+        return ''
+
+    async def _look(self, program: TrunkProgram) -> None:
+        """Sees to what is beside the program that carries the trunk."""
+        now = time.monotonic()
+        self.versions.look(now)
+        if program.process.is_stopped():
+            logger.warning('the program was stopped by a signal, and is killed')
+            await program.process.kill()
+        self.checkpoints.look(program)
+        if self.checkpoints.is_due(program):
+            await self.checkpoints.take(program)
+        os.makedirs(self.wants.folder, 0o700, exist_ok=True)
+        if not os.path.lexists(program.control) and now >= self._due:
+            # (another program has one, once a minute at most)
+            self.wanted, self._due = self.wanted or 'the control socket is gone', now + APART
+        self.note()
+
+    # ---- one after another ----
+
+    async def _succeed(self, program: TrunkProgram, why: str) -> None:
+        """What follows a program that has ended, or that has to end for this reason."""
+        silent = time.monotonic()
+        if why and not await self._ask_end(program, why):
+            return
+        words, is_well = program.last_words(), program.ended_well()
+        state = await self.checkpoints.recover(program, self.versions.before)
+        is_over = not why and (words.startswith(('says: fault 5 ', 'says: fault 6 '))
+                               or is_well and self.trunk.has_ended())
+        if not state:
+            logger.error('the program %s: no state is known', words)
+        self.state = state or Checkpoint(counted=program.checkpoint.counted)
+        pass_on(program)
+        self.lost = ANEW if not state else '' if is_well else LOST
+        self._silent, self.wanted = silent, ''
+        if self.ending or is_over and not self.wants.reopens:
+            return self._finish(self.ending or trunk_words(program, words), 0 if self.ending or is_well else 1)
+        if is_over:
+            self.why = trunk_words(program, words)
+            logger.warning('%s, behind octet %d; it is opened again', self.why, self.state.counted['octets'])
+            self.trunk.close()
+            self.trunk.fault = self.why
+        else:
+            self.why = why if why and is_well else f'the program {words}'
+        self._retire(program)
+        if not (is_over or why and is_well):
+            await self._died()
+
+    async def _ask_end(self, program: TrunkProgram, why: str) -> bool:
+        """Has a program end behind what it has read. Not asked if there is no room for its state: it goes on then."""
+        try:
+            if not self.ending:
+                self.checkpoints.see_room()
+        except NoRoom:
+            logger.error('%s: no room for a state, the program goes on', why)
+            self.wanted = ''
+            if why == 'reload':
+                self.versions.go_back().close()
+            return False
+        program.ask_end()
+        if not await program.process.ends_within(GRACE):
+            await program.process.kill()
+        return True
+
+    async def _died(self) -> None:
+        """A program has died: what the next one begins with, and when."""
+        if self.versions.has_died():
+            return self._go_back(self.why)
+        pause = self._deaths.died(time.monotonic())
+        if pause is not None:
+            logger.error('%s, %d times in a short time: the trunk begins without a state, in %g s', self.why, DEATHS,
+                         pause)
+            self.state, self.lost = Checkpoint(counted=self.state.counted), ANEW
+            await either(pause, self._ends)
+
+    async def _never_up(self, program: TrunkProgram) -> None:
+        """A program does not come up: it has ended, or hangs."""
+        hangs = not program.process.over.is_set()
+        await program.process.kill()
+        words = f'does not begin within {START:g} s' if hangs else program.last_words()
+        if self.ending or not (self.was_up or self.state.state >= 0):
+            for line in words.removeprefix('says: ').split('; '):
+                if told := gateway_words(line, self.wants.config):
+                    logger.error('%s', told)
+            return self._finish(self.ending or f'the program {words}', 0 if self.ending else 1)
+        self._retire(program)
+        if self.versions.before:
+            self._go_back(words)
+        elif words.startswith('says: state ') or not self.was_up:
+            logger.error('the program %s: the trunk begins without a state', words)
+            self.state, self.lost = Checkpoint(counted=self.state.counted), ANEW
+        else:
+            self.why = f'the program {words}'
+            await self._died()
+
+    def _retire(self, program: TrunkProgram) -> None:
+        """Another one follows. The follower still reads the rest of the log, for those whom it tells."""
+        self.program = None
+
+        async def finish() -> None:
+            follower = program.follower
+            if follower and (found := await follower.finish()) and found.state != self.state.state:
+                os.close(found.state)
+            program.close(self.state.state)
+        task = asyncio.create_task(finish())
+        self._finishing.add(task)
+        task.add_done_callback(self._finishing.discard)
+
+    def _finish(self, why: str, status: int) -> None:
+        """No other program follows."""
+        counted = self.state.counted
+        logger.log(logging.ERROR if status else logging.INFO, 'ends: %s, behind octet %d', why, counted['octets'])
+        if self.wants.totals:
+            logger.info('totals: %s', ', '.join(f'{word} {count}' for word, count in counted.items()))
+        if self.wants.state and self.state.state >= 0:
+            try:
+                store(self.state.state, self.wants.state)
+            except OSError as fault:
+                logger.error('the state is not saved: %s', fault)
+                status = 1
+        if self.program:
+            self._retire(self.program)
+        self._notifier.tell('STOPPING=1')
+        self._handover.forget()
+        self.status = status
+
+    # ---- another version, and another service ----
+
+    def renew(self, version: ProgramVersion) -> None:
+        """A program of this version is to follow."""
+        self.versions.renew(version)
+        self.wanted = 'reload'
+        self._wake.set()
+
+    def _go_back(self, words: str) -> None:
+        """To the version before."""
+        self.versions.go_back().close()
+        refused(words, self.wants.config)
+        self._notifier.tell('READY=1')
+
+    def hurry(self) -> None:
+        """The follower is given all that the log has, at once."""
+        if self.program and self.program.follower:
+            self.program.follower.pump.hurry()
+
+    def end(self, why: str) -> None:
+        """The end is asked for."""
+        self.ending = self.ending or why
+        self._ends.set()
+        self._wake.set()
+
+    def files(self) -> dict[str, int]:
+        """The descriptors that the next service has to have."""
+        return self.trunk.named() | (self.program.files() if self.program else {})
+
+    def note(self) -> None:
+        """Notes what the next service has to know if this one ends. What lies behind the checkpoint that is noted is
+        given back."""
+        program = self.program
+        note = {'number': self.number, 'up': self.was_up, 'program': program and program.note()}
+        if self._handover.put(note, self.files()) and program:
+            program.log.free(program.checkpoint.place)
+
+    def take_up(self, number: int, why: str) -> None:
+        """Goes on where the service before this one has left."""
+        self.number, self.was_up, self.why = number, True, why
+
+
+def refused(words: str, config: str) -> None:
+    """Tells why a reload is refused."""
+    why = config_words(config) if words.startswith('config ') else None
+    logger.error('reload: refused, the trunk goes on as it was: %s', f'{words}: {why}' if why else words)
+
+
+def pass_on(program: TrunkProgram) -> None:
+    """Tells what the program says."""
+    for line in program.news():
+        logger.info('program: %s', line)
+
+
+def placed(fault: BaseException) -> str:
+    """What an exception says, and where it was raised."""
+    last = traceback.extract_tb(fault.__traceback__)[-1]
+    return f'{type(fault).__name__}: {fault} ({os.path.basename(last.filename)}:{last.lineno} in {last.name})'
+
+
+def trunk_words(program: TrunkProgram, words: str) -> str:
+    return 'the trunk has ended' if program.ended_well() else f'the trunk has ended: the program {words}'
+
+
+def store(state: int, path: str) -> None:
+    """Puts a state into the place of a file, whole and up to the disk."""
+    octets = os.pread(state, os.fstat(state).st_size, 0)
+    with open(os.open(f'{path}.new', os.O_WRONLY | os.O_CREAT | os.O_TRUNC, 0o640), 'wb') as file:
+        file.write(octets)
+        file.flush()
+        os.fsync(file.fileno())
+    os.replace(f'{path}.new', path)
+
+
+def loaded(path: str | None) -> Checkpoint:
+    """The state that was stored there, if there is one."""
+    if not path or not os.path.exists(path):
+        return Checkpoint()
+    with open(path, 'rb') as file:
+        return Checkpoint(in_memory(file.read()))

@@ -1,0 +1,114 @@
+"""The log of a program: all that it has taken, in a file in memory that grows and has no name. The program appends to
+it and waits for nobody; who reads it has a place of its own. What lies behind the last checkpoint is given back."""
+from __future__ import annotations
+
+import ctypes
+import os
+from collections import Counter
+from dataclasses import dataclass, field
+
+from ..session import HEAD
+
+PAGE = 4096
+STATE_ROOM = 256 << 10      # octets: a state has some 220,000 at most
+KEEP_SIZE, PUNCH_HOLE = 1, 2            # of fallocate(2)
+_fallocate = ctypes.CDLL(None, use_errno=True).fallocate
+_fallocate.argtypes = [ctypes.c_int, ctypes.c_int, ctypes.c_int64, ctypes.c_int64]
+
+
+class TrunkLog:
+    """A log. `file` is its descriptor, by which a program opens it anew."""
+
+    def __init__(self, file: int | None = None) -> None:
+        self.file = os.memfd_create('e1gw-log') if file is None else file
+        self.freed = 0
+
+    def place(self) -> int:
+        """The octets that it has."""
+        return os.fstat(self.file).st_size
+
+    def read(self, place: int, most: int) -> bytes:
+        return os.pread(self.file, most, place)
+
+    def boundary(self, place: int, most: int) -> int:
+        """The end of the last whole record that begins at this boundary or behind it, looking at so many octets."""
+        octets, at = self.read(place, most), 0
+        while at + HEAD.size <= len(octets):
+            end = at + HEAD.size + HEAD.unpack_from(octets, at)[2]
+            if end > len(octets):
+                break
+            at = end
+        return place + at
+
+    def free(self, place: int) -> None:
+        """Gives back the memory of all pages before this place."""
+        end = place // PAGE * PAGE
+        if end > self.freed:
+            if _fallocate(self.file, KEEP_SIZE | PUNCH_HOLE, self.freed, end - self.freed):
+                raise OSError(ctypes.get_errno(), 'the log cannot be freed')
+            self.freed = end
+
+    def held(self) -> int:
+        """The octets of memory that it takes."""
+        return os.fstat(self.file).st_blocks * 512
+
+    def close(self) -> None:
+        os.close(self.file)
+
+
+@dataclass(frozen=True)
+class Checkpoint:
+    """A state, at a place of a log: a file in memory, -1 for a gateway that is new. `counted` is what was counted from
+    the first start of the trunk up to there."""
+
+    state: int = -1
+    place: int = 0
+    counted: Counter[str] = field(default_factory=Counter)
+
+    def words(self) -> list[str]:
+        """The option by which a program begins with it."""
+        return ['--load', f'/dev/fd/{self.state}'] if self.state >= 0 else []
+
+    def files(self) -> list[int]:
+        return [self.state] if self.state >= 0 else []
+
+    def at_begin(self) -> Checkpoint:
+        """The same for the log of the next program."""
+        return Checkpoint(self.state, 0, self.counted)
+
+
+def in_memory(octets: bytes) -> int:
+    """A file in memory that has these octets."""
+    file = os.memfd_create('e1gw')
+    try:
+        while octets:
+            octets = octets[os.write(file, octets):]
+        return file
+    except OSError:
+        os.close(file)
+        raise
+
+
+def take_file(path: str) -> int:
+    """Takes a saved state out of its folder, into memory. Its room is had before the file goes."""
+    with open(path, 'rb') as saved:
+        file = in_memory(saved.read())
+    os.unlink(path)
+    return file
+
+
+def has_room(folder: str) -> bool:
+    """Whether a state can be saved in this folder now."""
+    path = os.path.join(folder, 'room')
+    try:
+        file = os.open(path, os.O_WRONLY | os.O_CREAT | os.O_CLOEXEC, 0o600)
+    except OSError:
+        return False
+    try:
+        os.posix_fallocate(file, 0, STATE_ROOM)
+        return True
+    except OSError:
+        return False
+    finally:
+        os.close(file)
+        os.unlink(path)

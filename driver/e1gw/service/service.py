@@ -1,0 +1,168 @@
+"""Carries an E1 trunk, and keeps it in service: one process, beside `e1gw trunk` and its follower.
+
+The program carries the octets by itself, and logs all that it takes in memory. If it dies another one goes on from the
+state of that log. This process may be killed: the program goes on, and the next start takes it up.
+
+Signals: SIGHUP reload; SIGUSR2 another process in place of this one; SIGTERM, SIGINT end.
+Statuses: 0 ended as asked, or with the trunk's input; 1 the trunk or the program failed; 2 the command line or the
+configuration.
+"""
+from __future__ import annotations
+
+import argparse
+import asyncio
+import logging
+import os
+import shutil
+import signal
+import sys
+import zlib
+from typing import NoReturn
+
+from ..explain import config_words
+from ..faults import Parser, options_words, words_of_fault
+from ..lines import wait_words
+from ..options import add_options
+from ..programs import add_program, program_of
+from ..trunks import add_device, device_of
+from .journal import ServiceJournal
+from .keeper import GRACE, TrunkKeeper, TrunkWants
+from .program import MOST_PATH
+from .recovery import Handover, Notifier, given_files, note_of
+from .reload import ReloadRequests
+from .takeover import CannotBegin, first_keeper, next_keeper
+from .version import VersionRefused
+
+NAME = 'e1gw-trunk'
+SIGN = 0.25                 # seconds between two signs of life
+DIGITS = 11                 # octets that the number of a program adds to a socket's path
+
+logger = logging.getLogger(__name__)
+
+
+def parser() -> argparse.ArgumentParser:
+    """The options."""
+    words = Parser(NAME, description=__doc__, formatter_class=argparse.RawDescriptionHelpFormatter)
+    add_options(words)
+    add_program(words)
+    add_device(words.add_argument_group('the trunk'))
+    words.add_argument('--folder', metavar='DIR', help='where its sockets are, in memory [default: '
+                       'RUNTIME_DIRECTORY, or /dev/shm]')
+    words.add_argument('--program-control', metavar='SOCKET', help='where the program takes records, e1gw(1)')
+    words.add_argument('--tell', metavar='SOCKET', help='where clients are told how the trunk stands, e1gw-tell(5)')
+    return words
+
+
+def name_of(asked: argparse.Namespace) -> str:
+    return str(asked.name or os.path.splitext(os.path.basename(asked.config))[0])
+
+
+def opens_of(asked: argparse.Namespace) -> list[str | None]:
+    """Which trunk it is: the same for a service that is started again."""
+    paths = asked.input, asked.out, asked.unix, asked.program_control
+    return [*(path and os.path.abspath(path) for path in paths), asked.tcp]
+
+
+def folder_of(asked: argparse.Namespace) -> str:
+    """The folder of this trunk, the same for each start."""
+    within = asked.folder or os.environ.get('RUNTIME_DIRECTORY', '').partition(':')[0] or '/dev/shm'
+    return os.path.join(within, f'{name_of(asked)}-{os.getuid()}-{zlib.crc32(repr(opens_of(asked)).encode()):08x}')
+
+
+def wants_of(asked: argparse.Namespace) -> TrunkWants:
+    """What is wanted, of a command line. ValueError if it is not one trunk, or a path is too long."""
+    opens = device_of(asked)
+    assert opens
+    folder = folder_of(asked)
+    control = asked.program_control or os.path.join(folder, 'program')
+    for path in filter(None, (control, asked.tell)):
+        if len(os.fsencode(path)) + DIGITS > MOST_PATH:
+            raise ValueError(f'{path}: a path of a socket has {MOST_PATH - DIGITS} octets at most')
+    program = shutil.which(program_of(asked.program)) or program_of(asked.program)
+    both = wait_words(asked.seizure_wait)
+    return TrunkWants(os.path.abspath(program), asked.config, asked.senders, opens, folder, control, asked.tell,
+                      asked.state, ['--repeat', str(asked.repeat)] * (asked.repeat > 0), both, asked.reopen,
+                      asked.totals)
+
+
+async def sign_of_life(notifier: Notifier) -> None:
+    """Tells systemd that this process does not stand still."""
+    while True:
+        notifier.tell('WATCHDOG=1')
+        await asyncio.sleep(SIGN)
+
+
+def catch_signals(keeper: TrunkKeeper, requests: ReloadRequests) -> None:
+    loop = asyncio.get_running_loop()
+    tasks = set[asyncio.Task[None]]()
+
+    def runs(task: asyncio.Task[None]) -> None:
+        tasks.add(task)
+        task.add_done_callback(tasks.discard)
+    loop.add_signal_handler(signal.SIGHUP, lambda: runs(loop.create_task(requests.reload())))
+    loop.add_signal_handler(signal.SIGUSR2, lambda: runs(loop.create_task(requests.replace())))
+    for number in (signal.SIGTERM, signal.SIGINT):
+        loop.add_signal_handler(number, keeper.end, f'signal {number}')
+
+
+async def serve(asked: argparse.Namespace, wants: TrunkWants) -> int:
+    """Until the end; returns the status."""
+    files, notifier = given_files(), Notifier()
+    os.makedirs(wants.folder, 0o700, exist_ok=True)
+    note = note_of(files, wants.folder, opens_of(asked))
+    handover = Handover(wants.folder, opens_of(asked), notifier, files if note else {})
+    if note:
+        keeper = await next_keeper(wants, handover, notifier, note, files)
+    else:
+        for name, file in files.items():
+            os.close(file)
+            notifier.tell('FDSTOREREMOVE=1', f'FDNAME={name}')
+        keeper = await first_keeper(wants, handover, notifier)
+    catch_signals(keeper, ReloadRequests(keeper, handover, notifier))
+    beside = [asyncio.create_task(sign_of_life(notifier))]
+    status = await keeper.serve()
+    for task in beside:
+        task.cancel()
+    await asyncio.wait(beside, timeout=GRACE)
+    for path in filter(None, (wants.control, wants.tell)):
+        if os.path.islink(path):
+            os.unlink(path)
+    shutil.rmtree(wants.folder, ignore_errors=True)
+    return status
+
+
+def status_of(words: list[str] | None, journal: ServiceJournal) -> int:
+    """Serves by a command line; what is wrong is told in one line."""
+    asked = parser().parse_args(words)
+    try:
+        wants = wants_of(asked)
+    except ValueError as fault:
+        logger.error('%s; see %s --help%s', fault, NAME, options_words())
+        return 2
+    try:
+        # (not asyncio.run: that would wait for threads which wait for a device)
+        return asyncio.new_event_loop().run_until_complete(serve(asked, wants))
+    except VersionRefused as fault:
+        logger.error('%s', fault)
+        if fault.is_config and (why := config_words(asked.config)):
+            logger.error('%s', why)
+    except CannotBegin as fault:
+        logger.error('%s', fault)
+        return fault.status
+    except OSError as fault:
+        logger.error('%s', words_of_fault(fault))
+    return 2
+
+
+def main(words: list[str] | None = None) -> NoReturn:
+    while (file := os.open(os.devnull, os.O_RDWR)) <= 2:
+        pass
+    os.close(file)
+    journal = ServiceJournal(NAME)
+    status = status_of(words, journal)
+    journal.close()
+    os._exit(status)
+
+
+if __name__ == '__main__':
+    main()

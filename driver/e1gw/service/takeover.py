@@ -1,0 +1,107 @@
+"""How a service begins: with a trunk of its own, or where the service before this one has left."""
+from __future__ import annotations
+
+import logging
+import os
+import stat
+from collections import Counter
+from contextlib import suppress
+from typing import Any
+
+from ..faults import words_of_fault
+from ..programs import SENDERS
+from .follower import totals_in
+from .journal import NOTICE
+from .keeper import ANEW, GRACE, TrunkKeeper, TrunkWants, loaded
+from .log import Checkpoint, take_file
+from .process import Child, text_of
+from .program import END, TrunkProgram, connected
+from .recovery import REPLACED, Handover, Notifier
+from .trunk import TrunkFiles
+from .version import version_of_now
+
+logger = logging.getLogger(__name__)
+
+
+class CannotBegin(Exception):
+    """Why a trunk cannot be carried; `status` is that of the command."""
+
+    def __init__(self, why: str, status: int) -> None:
+        super().__init__(why)
+        self.status = status
+
+
+async def first_keeper(wants: TrunkWants, handover: Handover, notifier: Notifier) -> TrunkKeeper:
+    """A keeper that opens its trunk. VersionRefused or CannotBegin if it can't."""
+    version = await version_of_now(wants.program, wants.config, wants.senders, Checkpoint())
+    for option, path in (('--program-control', wants.control), ('--tell', wants.tell)):
+        if path and is_taken(path):
+            raise CannotBegin(f'{option} {path}: somebody listens there, or something else has this name', 2)
+    logger.info('%s', SENDERS[version.senders])
+    trunk = TrunkFiles(wants.opens, {})
+    try:
+        if not wants.reopens:
+            await trunk.open()
+    except OSError as fault:
+        raise CannotBegin(f'the trunk cannot be opened: {words_of_fault(fault)}', 1) from None
+    keeper = TrunkKeeper(wants, version, trunk, handover, notifier)
+    keeper.state = loaded(wants.state)
+    if keeper.state.state >= 0:
+        keeper.why = 'begins with what was saved'
+    return keeper
+
+
+def is_taken(path: str) -> bool:
+    """Whether somebody listens at a socket, or something else has its name."""
+    if not os.path.lexists(path):
+        return False
+    if not (os.path.islink(path) or stat.S_ISSOCK(os.lstat(path).st_mode)):
+        return True
+    with suppress(OSError), connected(path):
+        return True
+    return False
+
+
+async def next_keeper(wants: TrunkWants, handover: Handover, notifier: Notifier, note: dict[str, Any],
+                      files: dict[str, int]) -> TrunkKeeper:
+    """The keeper that goes on where the one before it left: with the program that is there, if it has all its
+    descriptors, else with the state of that program, which ends, on the trunk opened again."""
+    trunk, left = TrunkFiles(wants.opens, files), note['program']
+    how = 'replaced' if os.environ.pop(REPLACED, '') else 'killed'
+    try:
+        program = TrunkProgram.of_note(left, files) if left and trunk.is_open() else None
+    except (KeyError, TypeError, ValueError):
+        program = None
+    number = int(note['number'])
+    if program:
+        keeper = TrunkKeeper(wants, program.version, trunk, handover, notifier)
+        if program.process.over.is_set():
+            logger.log(NOTICE, 'the keeper was %s', how)
+        keeper.take_up(number, f'the keeper was {how}')
+        keeper.program = program
+        return keeper
+    state = await state_left(left) if left else None
+    version = await version_of_now(wants.program, wants.config, wants.senders, Checkpoint())
+    keeper = TrunkKeeper(wants, version, trunk, handover, notifier)
+    keeper.take_up(number, f'the keeper was {how}')
+    keeper.state, keeper.lost = state or keeper.state, '' if state else ANEW
+    return keeper
+
+
+async def state_left(note: dict[str, Any]) -> Checkpoint | None:
+    """Has a program end in order whose descriptors nobody has kept, and returns its state; None if none is known."""
+    process = Child(int(note['pid']), int(note['started']))
+    said = -1
+    if not process.over.is_set():
+        with suppress(OSError):
+            said = os.open(f'/proc/{process.pid}/fd/2', os.O_RDONLY)
+        with suppress(OSError), connected(note['control']) as line:
+            line.send(END)
+            await process.ends_within(GRACE)
+        await process.kill()
+    try:
+        state = take_file(note['saves'])
+    except OSError:
+        return None
+    totals = totals_in(text_of(said)) if said >= 0 else Counter[str]()
+    return Checkpoint(state, 0, Counter(note['begun']) + totals)

@@ -1,0 +1,81 @@
+"""The descriptors of the trunk: opened, opened again, and whether the other end is there."""
+from __future__ import annotations
+
+import asyncio
+import logging
+import os
+import select
+import stat
+import time
+from typing import Any, Callable
+
+from ..faults import words_of_fault
+from ..trunks import Stream
+
+REOPEN, MOST_REOPEN = 0.25, 30.0        # seconds before a trunk is opened again
+NAMES = 'trunk-in', 'trunk-out'         # of the descriptors that are kept
+
+logger = logging.getLogger(__name__)
+
+
+class TrunkFiles:
+    """The trunk's descriptors, if it is open."""
+
+    def __init__(self, opens: Callable[[], Stream], files: dict[str, int]) -> None:
+        """`files` are descriptors that were kept. Of two that are one the first was kept."""
+        self._opens = opens
+        self.since, self.fault = time.time(), ''         # when it was opened, and why it is not
+        reads = files.get(NAMES[0], -1)
+        self.both = reads, files.get(NAMES[1], reads)
+
+    def is_open(self) -> bool:
+        return self.both[0] >= 0
+
+    def named(self) -> dict[str, int]:
+        """The descriptors that are to be kept."""
+        reads, writes = self.both
+        return {name: file for name, file in zip(NAMES, (reads, writes if writes != reads else -1)) if file >= 0}
+
+    async def open(self) -> None:
+        """OSError if it can't be opened."""
+        opened = await asyncio.to_thread(self._opens)
+        self.both = opened.reads, opened.writes
+        self.since, self.fault = time.time(), ''
+
+    async def reopen(self, ending: asyncio.Event) -> None:
+        """Opens it, however long that takes, or until the end is asked for."""
+        wait = REOPEN
+        while not self.is_open() and not ending.is_set():
+            try:
+                await self.open()
+            except OSError as fault:
+                self.fault = f'the trunk cannot be opened: {words_of_fault(fault)}'
+                logger.warning('%s; it is tried again', self.fault)
+                await either(wait, ending)
+                wait = min(MOST_REOPEN, 2 * wait)
+
+    def close(self) -> None:
+        for file in {*self.both} - {-1}:
+            os.close(file)
+        self.both = -1, -1
+
+    def facts(self) -> dict[str, Any]:
+        """Since when it is open, and why it is not, as plain values."""
+        return {'since': self.since, 'fault': self.fault}
+
+    def has_ended(self) -> bool:
+        """Whether the other end has closed it."""
+        reads = self.both[0]
+        if stat.S_ISREG(os.fstat(reads).st_mode):
+            return os.lseek(reads, 0, os.SEEK_CUR) >= os.fstat(reads).st_size
+        poll = select.poll()
+        poll.register(reads, select.POLLIN | select.POLLRDHUP)
+        return any(events & (select.POLLHUP | select.POLLRDHUP | select.POLLERR) for _, events in poll.poll(0))
+
+
+async def either(seconds: float, *events: asyncio.Event) -> None:
+    """Waits until one of these events is set, so long at most."""
+    waits = [asyncio.ensure_future(event.wait()) for event in events]
+    await asyncio.wait(waits, timeout=seconds, return_when=asyncio.FIRST_COMPLETED)
+    for each in waits:
+        each.cancel()

@@ -1,0 +1,181 @@
+"""A program and a configuration as they were at one moment: later changes of their files change neither. A new version
+is tried before anything depends on it."""
+from __future__ import annotations
+
+import asyncio
+import ipaddress
+import os
+import re
+import socket
+import stat
+import tomllib
+from dataclasses import dataclass, replace
+from math import inf
+from typing import Any
+
+from ..lines import tables_of
+from .log import Checkpoint, in_memory
+from .process import output_of
+
+MOST_OCTETS = 65_536        # of a configuration
+CHECK = 10.0                # seconds for the program to check it
+LOOK_UP = 10.0              # seconds for all names to be looked up
+TRIED, MOST_DEATHS = 60.0, 2            # seconds in which a new version is tried, and deaths that it may not have then
+
+
+class VersionRefused(Exception):
+    """Why a version will not do. `words` are the program's own, if it says so."""
+
+    def __init__(self, words: str, is_config: bool = False) -> None:
+        super().__init__(words)
+        self.is_config = is_config
+
+
+@dataclass(frozen=True)
+class ProgramVersion:
+    """A version. `file` is a descriptor of the program, `config` one of the configuration in memory, in which names
+    are addresses."""
+
+    program: str
+    file: int
+    config: int
+    senders: str
+
+    def executable(self) -> str:
+        """What is executed: the file by its path, as long as it is the same one."""
+        try:
+            if os.path.samestat(os.stat(self.program), os.fstat(self.file)):
+                return self.program
+        except OSError:
+            pass
+        return f'/proc/self/fd/{self.file}'
+
+    def config_path(self) -> str:
+        return f'/dev/fd/{self.config}'
+
+    def files(self) -> list[int]:
+        """What a process of it has to be passed."""
+        return [self.file, self.config]
+
+    async def check(self, checkpoint: Checkpoint) -> None:
+        """Has the program check the configuration, and whether it goes on from a state."""
+        words = ['check', '--config', self.config_path(), *checkpoint.words()]
+        status, said = await output_of(self.program, self.executable(), words,
+                                       [*self.files(), *checkpoint.files()], CHECK)
+        if status is None:
+            raise VersionRefused(f'the program does not check the configuration within {CHECK:g} s')
+        if status:
+            lines = [line for line in said.splitlines() if not line.endswith(' begins as new')]
+            raise VersionRefused('; '.join(lines) or f'status {status}', True)
+
+    def close(self) -> None:
+        os.close(self.file)
+        os.close(self.config)
+
+
+async def version_of_now(program: str, config: str, senders: str | None, checkpoint: Checkpoint) -> ProgramVersion:
+    """The program and the configuration of now, tried. VersionRefused says why they will not do."""
+    octets = await asyncio.to_thread(_read, config)
+    file = os.open(program, os.O_RDONLY)
+    held = [file]
+    try:
+        held.append(in_memory(octets))
+        version = ProgramVersion(program, held[0], held[1], senders or 'any')
+        await version.check(checkpoint)         # (before any Python reads it)
+        tables = tomllib.loads(octets.decode())
+        addresses = await look_up(tables)
+        if addresses:
+            os.ftruncate(version.config, 0)
+            os.pwrite(version.config, with_addresses(octets, addresses), 0)
+            await version.check(checkpoint)
+        return replace(version, senders=senders or ('any' if addresses else 'host'))
+    except BaseException as fault:
+        for each in held:
+            os.close(each)
+        if isinstance(fault, (ValueError, RecursionError)):
+            raise VersionRefused(f'the configuration is not understood: {fault}') from None
+        raise
+
+
+def _read(path: str) -> bytes:
+    """The octets of a configuration. What is no file (a FIFO, say) or is too long is refused."""
+    file = os.open(path, os.O_RDONLY | os.O_NONBLOCK | os.O_CLOEXEC)
+    with open(file, 'rb') as opened:
+        if not stat.S_ISREG(os.fstat(file).st_mode):
+            raise VersionRefused(f'{path} is no file')
+        octets = opened.read(MOST_OCTETS + 1)
+    if len(octets) > MOST_OCTETS:
+        raise VersionRefused(f'the configuration has more than {MOST_OCTETS} octets')
+    return octets
+
+
+async def look_up(tables: dict[str, Any]) -> dict[str, str]:
+    """The addresses of the peers that have names."""
+    hosts = {str(table['peer_host']) for _, table in tables_of(tables).values() if 'peer_host' in table}
+    names = sorted(host for host in hosts if not is_address(host))
+    loop = asyncio.get_running_loop()
+    asked = [loop.getaddrinfo(name, None, type=socket.SOCK_DGRAM) for name in names]
+    found: dict[str, str] = {}
+    try:
+        async with asyncio.timeout(LOOK_UP):
+            for name, answer in zip(names, await asyncio.gather(*asked, return_exceptions=True)):
+                if isinstance(answer, BaseException):
+                    raise VersionRefused(f'{name}: {getattr(answer, "strerror", None) or answer}')
+                first = min(answer, key=lambda each: each[0] is not socket.AF_INET)
+                found[name] = str(first[4][0])
+    except TimeoutError:
+        raise VersionRefused(f'names are not looked up within {LOOK_UP:g} s: {", ".join(names)}') from None
+    return found
+
+
+def is_address(host: str) -> bool:
+    try:
+        ipaddress.ip_address(host)
+    except ValueError:
+        return False
+    return True
+
+
+def with_addresses(octets: bytes, addresses: dict[str, str]) -> bytes:
+    """The same configuration with addresses in place of names."""
+    for name, address in addresses.items():
+        pattern = rf'''(?m)^(\s*peer_host\s*=\s*)(["']){re.escape(name)}\2'''
+        octets = re.sub(pattern.encode(), rf'\g<1>\g<2>{address}\g<2>'.encode(), octets)
+    return octets
+
+
+class VersionHistory:
+    """The version in service, and for a minute the one before it. Two deaths of the new one within that minute, or a
+    start that fails, bring the one before back."""
+
+    def __init__(self, now: ProgramVersion) -> None:
+        self.now, self.before = now, None       # type: ProgramVersion, ProgramVersion | None
+        self._deaths, self._until = 0, inf
+
+    def renew(self, version: ProgramVersion) -> None:
+        """This one is to follow."""
+        if self.before:
+            self.before.close()
+        self.before, self.now = self.now, version
+        self._deaths, self._until = 0, inf
+
+    def is_up(self, now: float) -> None:
+        """A program of the version of now carries the trunk."""
+        self._until = min(self._until, now + TRIED)
+
+    def look(self, now: float) -> None:
+        """To be called now and then."""
+        if self.before and now >= self._until:
+            self.before.close()
+            self.before = None
+
+    def has_died(self) -> bool:
+        """A program of the version of now has died: whether the one before is to come back."""
+        self._deaths += 1
+        return self.before is not None and self._deaths >= MOST_DEATHS
+
+    def go_back(self) -> ProgramVersion:
+        """The one before is the one of now again. Returns the other one, which is to be closed."""
+        assert self.before
+        given_up, self.now, self.before = self.now, self.before, None
+        return given_up

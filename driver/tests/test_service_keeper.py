@@ -1,0 +1,504 @@
+"""One process a trunk: what it does when something of it is killed, hangs, fails or is full, with thirty calls up.
+
+It goes in lock step, as test_keeper does; what is heard is what one uncut replay of all records gives."""
+from __future__ import annotations
+
+import contextlib
+import glob
+import json
+import os
+import signal
+import subprocess
+import unittest
+from typing import Any
+from unittest import mock
+
+from . import limits, support, test_keeper, test_keeper_killed
+from .support import SECONDS
+from e1gw.service.log import STATE_ROOM, TrunkLog, in_memory, take_file
+from e1gw.service.version import VersionRefused, look_up, with_addresses
+from e1gw.session import MULTIFRAME, encode_record, trunk_record
+
+END = encode_record(0x45, 0, b'')
+
+
+class ServiceCase(test_keeper.KeeperCase):
+    """The service in place of the keeper."""
+
+    def setUp(self) -> None:
+        around = mock.patch.dict(os.environ, {'E1GW_SERVICE': '1'})
+        around.start()
+        self.addCleanup(around.stop)
+        super().setUp()
+
+    def within(self, **of_modules: Any) -> dict[str, str]:
+        """The environment in which these limits of the service hold: keeper_START=0.5 is keeper.START."""
+        return limits.around({f'service.{name.replace("_", ".", 1)}': value for name, value in of_modules.items()})
+
+    def dies(self, number: int = signal.SIGKILL) -> None:
+        """The program is sent a signal when it has answered all, and another one goes on behind that."""
+        os.kill(self.program, number)
+        self.assertIn(f'behind octet {len(self.heard) * MULTIFRAME}', self.goes_on())
+
+    def followers(self) -> list[str]:
+        """The processes that read the log of a program."""
+        found = []
+        for path in glob.glob('/proc/[0-9]*/cmdline'):
+            try:
+                with open(path, 'rb') as file:
+                    words = file.read().split(b'\0')
+                with open(os.path.join(os.path.dirname(path), 'stat'), encoding='ascii') as file:
+                    parent = int(file.read().rpartition(')')[2].split()[1])
+            except OSError:
+                continue
+            if b'replay' in words[1:2] and parent == self.keeper.pid:
+                found.append(path)
+        return found
+
+    def other_program(self, *cases: str) -> str:
+        """A program that does what these cases of a shell say, else what the program does."""
+        own = ''.join(f'{case} ;;\n' for case in cases)
+        path = self.write('program', f'#!/bin/sh\ncase $1 in\n{own}*) exec {support.program()} "$@" ;;\nesac\n')
+        os.chmod(path, 0o755)
+        return path
+
+
+class ServiceFailureTests(ServiceCase, test_keeper.KeeperFailureTests):
+    """What test_keeper asks of program and shadow; and more, as no state is lost if both are killed."""
+
+    def test_both(self) -> None:
+        """In either order, and at once: the log has all."""
+        self.starts(**self.within(keeper_WITHIN=0.0))       # (else they are taken for a state that does harm)
+        self.calls()
+        for first, second in (('shadow', 'program'), ('program', 'shadow')) * 3:
+            pids = [getattr(self, first), getattr(self, second)]
+            for pid in pids:
+                os.kill(pid, signal.SIGKILL)
+            while self.goes_on() and self.program in pids:
+                pass
+            self.step(self.chance.randrange(1, 30))
+        self.assertNotIn('no state is known', self.told())
+        self.as_uncut()
+        self.ends()
+
+
+class ServiceHandoverTests(ServiceCase, test_keeper.KeeperHandoverTests):
+    """What test_keeper asks of reloads, and of an end in order."""
+
+    def test_configurations(self) -> None:
+        """One that is none and one of another law are refused with no program ended for them; of one with another
+        circuit 7 all other circuits go on."""
+        self.starts()
+        self.calls()
+        program = self.program
+        with open(self.config, encoding='ascii') as file:
+            right = file.read()
+        for text, words in ((right + 'x = 1\n', 'config 2 UnknownKey at 30: .*trunk.toml'),
+                            (right.replace('"A"', '"mu"'), 'state 5 Config at 0')):
+            self.write('trunk.toml', text)
+            self.keeper.send_signal(signal.SIGHUP)
+            self.awaits(f'reload: refused, the trunk goes on as it was: {words}')
+            self.step(10)
+            os.kill(program, 0)
+        self.write('trunk.toml', self.peers.config(prefill=400))
+        self.keeper.send_signal(signal.SIGHUP)
+        self.goes_on()
+        self.awaits('program: circuit 7 begins as new')
+        self.step(60)
+        self.assertNotEqual(self.device.exchange.signals[7], self.up()[7])
+        self.dies()
+        self.step(10)
+        self.assertEqual(self.told().count('begins as new'), 1)
+        self.write('trunk.toml', right)
+        self.as_uncut(7)
+
+    def test_keeper_replaced(self) -> None:
+        """Another service in its place holds what it held, and has a follower of its own."""
+        self.starts()
+        self.calls()
+        program = self.program
+        for _ in range(2):
+            waiting = self.send(2)
+            self.keeper.send_signal(signal.SIGUSR2)
+            self.awaits('the keeper was replaced; (?=program)')
+            self.goes_on()
+            self.assertEqual(self.program, program)
+            self.take(waiting + self.send(2))
+            self.step(20)
+        os.kill(self.shadow, signal.SIGKILL)
+        self.goes_on()
+        self.step(30)
+        self.keeper.send_signal(signal.SIGHUP)
+        self.goes_on()
+        self.step(30)
+        self.assertNotIn('at most', self.told())
+        self.as_uncut()
+        self.ends()
+
+
+class ServiceKilledTests(ServiceCase, test_keeper_killed.RestartedKeeperCase):
+    """It is killed, and begun again as systemd does it."""
+
+    def settles(self) -> None:
+        """Until systemd has the descriptors of the program of now, and no others."""
+        def settled() -> bool:
+            note = self.note()
+            return note is not None and {'kept', 'trunk-in', *note['files'].values()} == {*self.manager.files}
+        support.until(settled)
+
+    def note(self) -> dict[str, Any] | None:
+        """What the service of now has noted of its program."""
+        file = self.manager.files.get('kept')
+        octets = os.pread(file, 65_536, 0).partition(b'\n')[0] if file is not None else b''
+        found: dict[str, Any] = json.loads(octets) if octets else {}
+        program: dict[str, Any] | None = found.get('program')
+        return program if found.get('service', [0])[0] == self.keeper.pid and program and program['up'] else None
+
+    def comes_back(self) -> None:
+        """The service is begun again, and goes on with the program that is there."""
+        self.again()
+        self.awaits('the keeper was killed[;:] (?=program)')
+        self.goes_on()
+        self.settles()
+
+    def test_program_goes_on(self) -> None:
+        """Not an octet is lost, and the next service does all that the first one did."""
+        self.begins()
+        program = self.program
+        for _ in range(2):
+            waiting = self.send(2)
+            self.kill_keeper()
+            self.take(waiting + self.send(2))
+            self.step(20)
+            self.comes_back()
+            self.assertEqual(self.program, program)
+            self.step(20)
+        self.keeper.send_signal(signal.SIGHUP)
+        self.goes_on()
+        self.assertNotEqual(self.program, program)
+        self.step(20)
+        self.settles()
+        self.assertNotIn('at most', self.told())
+        self.dies()
+        self.step(20)
+        self.as_uncut()
+        self.ends()
+        self.assertEqual(os.listdir(self.memory), [])
+        support.until(lambda: not self.manager.files)
+
+    def test_program_that_dies_meanwhile(self) -> None:
+        """The state is that of the log, of which the next service has the descriptor."""
+        self.begins()
+        self.step(20)
+        self.kill_keeper()
+        self.step(20)
+        os.kill(self.program, signal.SIGKILL)
+        self.again()
+        self.awaits('the keeper was killed')
+        self.assertIn(f'behind octet {len(self.heard) * MULTIFRAME}, what it had in hand is lost', self.goes_on())
+        self.step(60)
+        self.as_uncut()
+        self.ends()
+
+    def test_at_any_moment_of_a_reload(self) -> None:
+        """No call ends."""
+        self.begins()
+        for _ in range(6):
+            self.keeper.send_signal(signal.SIGHUP)
+            for _ in range(self.chance.randrange(40)):
+                self.step()
+            self.kill_keeper()
+            self.told_from = len(self.told())
+            self.comes_back()
+            self.step(20)
+        self.assertNotIn('no state is known', self.told())
+        self.as_uncut()
+        self.ends()
+
+    def test_without_systemd(self) -> None:
+        """The program ends in order, and another one begins with its state on the trunk opened again."""
+        self.begins()
+        for _ in range(2):
+            self.kill_keeper()
+            self.step(20)
+            self.manager.files.clear()
+            self.again()
+            line = self.device.line
+            self.device.accept()
+            line.close()
+            self.assertIn(f'behind octet {len(self.heard) * MULTIFRAME}', self.goes_on())
+            self.step(40)
+            self.settles()
+        self.as_uncut()
+        self.ends()
+
+
+class ServiceLogTests(ServiceCase):
+    """The state after any death is that of the log."""
+
+    def test_service_and_follower_that_stand_still(self) -> None:
+        """Three seconds of the trunk, more than any pipe holds: nothing ends, and a death goes on behind them."""
+        self.starts()
+        self.calls()
+        for pid in (self.keeper.pid, self.shadow):
+            os.kill(pid, signal.SIGSTOP)
+        self.step(1500)
+        for pid in (self.shadow, self.keeper.pid):
+            os.kill(pid, signal.SIGCONT)
+        self.dies()
+        self.step(20)
+        self.assertNotIn('no state is known', self.told())
+        self.as_uncut()
+
+    def test_checkpoints(self) -> None:
+        """Another one each 64 KiB: what lies before it is given back, and a death goes on from it."""
+        self.starts(**self.within(checkpoints_LOG_ROOM=65_536))
+        self.calls()
+        self.step(1000)
+        with open(f'/proc/{self.program}/cmdline', 'rb') as file:
+            words = file.read().decode().split('\0')
+        log = os.open(f'/proc/{self.program}/fd/{os.path.basename(words[words.index("--record") + 1])}', os.O_RDONLY)
+        self.addCleanup(os.close, log)
+        while os.fstat(log).st_blocks * 512 > os.fstat(log).st_size // 2:
+            self.step()
+        self.dies()
+        self.step(20)
+        self.as_uncut()
+        self.ends()
+
+
+class ServiceFaultTests(ServiceCase):
+    """A step that fails is told, and ends no call."""
+
+    def test_an_exception_in_each_look(self) -> None:
+        self.starts(**self.within(checkpoints_LOG_ROOM='none'))
+        self.awaits(r'the keeper goes on: TypeError: .* \(checkpoints.py:\d+ in is_due\)')
+        self.calls()
+        self.dies()
+        self.step(20)
+        self.as_uncut()
+        self.ends()
+
+    def test_a_link_that_cannot_be_made(self) -> None:
+        """It is told, and one follower is started, not one for each try."""
+        self.starts()
+        os.unlink(self.path('control'))
+        os.mkdir(self.path('control'))
+        self.step(40)
+        self.dies()
+        self.assertIn('control does not lead to the process of now: Is a directory', self.told())
+        self.step(20)
+        support.until(lambda: len(self.followers()) == 1)
+        self.keeper.terminate()
+        self.assertEqual(self.keeper.wait(SECONDS), 0)
+
+    def test_folder_that_is_gone(self) -> None:
+        """It is made again, with a program that has a control socket there; the calls go on."""
+        self.starts()
+        self.calls()
+        (folder,) = glob.glob(os.path.join(self.memory, '*'))
+        subprocess.run(['rm', '-r', folder], check=True)
+        self.dies()
+        self.step(20)
+        support.until(lambda: os.path.isdir(folder))
+        self.as_uncut()
+        self.ends()
+
+    def test_configurations_that_are_hostile(self) -> None:
+        """They are refused by the program, or by their size, before any Python reads them."""
+        self.starts()
+        self.calls()
+        with open(self.config, encoding='ascii') as file:
+            right = file.read()
+        for text, words in (('x = ' + '[' * 1200, 'config 1 Syntax'), ('#' * 70_000, 'more than 65536 octets'),
+                            (right.replace('peer_port', 'peer_host = "no.such.invalid"\npeer_port', 1),
+                             'no.such.invalid: ')):
+            self.write('trunk.toml', text)
+            self.keeper.send_signal(signal.SIGHUP)
+            self.awaits(f'reload: refused, the trunk goes on as it was: .*{words}')
+            self.step(10)
+        os.unlink(self.config)
+        os.mkfifo(self.config)
+        self.keeper.send_signal(signal.SIGHUP)
+        self.awaits('reload: refused.*trunk.toml is no file')
+        os.unlink(self.config)
+        self.write('trunk.toml', right)
+        self.dies()
+        self.step(20)
+        self.as_uncut()
+        self.ends()
+
+    def test_end_that_was_not_asked_for(self) -> None:
+        """A client's record that ends the session is a death: another program goes on."""
+        self.starts()
+        self.calls()
+        with self.client() as line:
+            line.sendall(END)
+            self.goes_on()
+        self.step(20)
+        self.assertNotIn('at most', self.told())
+        self.as_uncut()
+        self.ends()
+
+
+class ServiceVersionTests(ServiceCase):
+    """A version that does not do: the one before comes back, with all calls."""
+
+    def renewed(self, *cases: str, **limits_: Any) -> None:
+        """Starts with a program, and puts another one in its place."""
+        path = self.other_program()
+        with mock.patch.object(support, 'program', lambda: path):
+            self.starts(**self.within(**limits_))
+        self.calls()
+        os.unlink(path)
+        self.other_program(*cases)
+
+    def test_program_that_hangs(self) -> None:
+        self.renewed('trunk) exec sleep 600', keeper_START=1.0)
+        self.keeper.send_signal(signal.SIGHUP)
+        self.awaits('reload: refused.*does not begin within 1 s')
+        self.goes_on()
+        self.step(20)
+        self.dies()
+        self.step(20)
+        self.as_uncut()
+        self.ends()
+
+    def test_check_that_hangs(self) -> None:
+        self.renewed('check) exec sleep 600', version_CHECK=1.0)
+        self.keeper.send_signal(signal.SIGHUP)
+        self.awaits('reload: refused.*does not check the configuration within 1 s')
+        self.dies()
+        self.step(20)
+        self.as_uncut()
+        self.ends()
+
+    def test_two_deaths_of_a_new_program(self) -> None:
+        """The first one is a death as others; the second one brings the version before back."""
+        self.renewed('never) exit 1')
+        self.keeper.send_signal(signal.SIGHUP)
+        self.goes_on()
+        self.step(20)
+        for _ in range(2):
+            self.dies()
+            self.step(20)
+        self.assertIn('reload: refused, the trunk goes on as it was: the program ended by signal 9', self.told())
+        self.as_uncut()
+        self.ends()
+
+    def test_names_are_looked_up_once(self) -> None:
+        """No program has a name to look up."""
+        text = self.peers.config(prefill=0)
+        self.write('trunk.toml', text.replace('prefill = 0', 'peer_host = "localhost"'))
+        self.starts()
+        with open(f'/proc/{self.program}/cmdline', 'rb') as file:
+            words = file.read().decode().split('\0')
+        number = os.path.basename(words[words.index('--config') + 1])
+        with open(f'/proc/{self.program}/fd/{number}', encoding='ascii') as its:
+            text = its.read()
+        self.assertEqual((text.count('localhost'), text.count('peer_host = "127.0.0.1"')), (0, 1))
+        self.assertEqual(words[words.index('--senders') + 1], 'any')
+        self.ends()
+
+
+class ServiceRoomTests(ServiceCase):
+    """A folder in memory that is full."""
+
+    def setUp(self) -> None:
+        super().setUp()
+        self.small = self.path('small')
+        os.mkdir(self.small)
+        mounts = ['mount', '-t', 'tmpfs', '-o', 'size=1M', 'tmpfs', self.small]
+        if subprocess.run(mounts, stderr=subprocess.DEVNULL, check=False).returncode:
+            self.skipTest('a folder in memory of a given size wants root')
+        self.addCleanup(os.system, f'umount -l {self.small}')
+
+    def fill(self) -> None:
+        with open(os.path.join(self.small, 'full'), 'wb', buffering=0) as file, contextlib.suppress(OSError):
+            while True:
+                file.write(bytes(4096))
+
+    def test_full_folder(self) -> None:
+        """A death and a reload go on with all calls: the state is put elsewhere."""
+        self.starts('--folder', self.small)
+        self.calls()
+        self.fill()
+        self.step(20)
+        self.dies()
+        self.step(20)
+        self.keeper.send_signal(signal.SIGHUP)
+        self.goes_on()
+        self.step(20)
+        self.assertNotIn('no state is known', self.told())
+        self.as_uncut()
+        self.ends()
+
+class ServiceNoRoomTests(ServiceCase):
+    def test_nowhere(self) -> None:
+        """Where no folder has room for a state a program that works is not asked to end."""
+        self.starts(**self.within(log_STATE_ROOM=1 << 60))
+        self.calls()
+        self.keeper.send_signal(signal.SIGHUP)
+        self.awaits('reload: no room for a state, the program goes on')
+        self.step(20)
+        os.kill(self.program, 0)
+        self.as_uncut()
+
+
+class TrunkLogTests(support.FolderCase):
+    """The log of a program as a file in memory."""
+
+    def test_boundary(self) -> None:
+        """The end of the last whole record, whatever is behind it."""
+        log = TrunkLog()
+        self.addCleanup(log.close)
+        records = [trunk_record(bytes(n)) for n in (512, 1, 2048)]
+        ends = [0]
+        for record in records:
+            ends.append(ends[-1] + len(record))
+        whole = b''.join(records)
+        for length in range(0, len(whole) + 1, 7):
+            os.ftruncate(log.file, 0)
+            os.pwrite(log.file, whole[:length], 0)
+            self.assertEqual(log.boundary(0, 1 << 20), max(end for end in ends if end <= length))
+        self.assertEqual([log.boundary(ends[1], most) for most in (4, 5, 6)], [ends[1], ends[2], ends[2]])
+
+    def test_freed(self) -> None:
+        """What lies before a place is given back, and what lies behind it is as it was."""
+        log = TrunkLog()
+        self.addCleanup(log.close)
+        os.write(log.file, bytes(range(256)) * 4096)
+        log.free(500_000)
+        self.assertLess(log.held(), 600_000)
+        self.assertEqual(log.read(500_000, 1000), (bytes(range(256)) * 4096)[500_000:501_000])
+        self.assertEqual(log.place(), 1 << 20)
+
+    def test_state_taken(self) -> None:
+        path = self.write('state', b'state')
+        file = take_file(path)
+        self.addCleanup(os.close, file)
+        self.assertEqual((os.pread(file, 10, 0), os.path.exists(path)), (b'state', False))
+        other = in_memory(bytes(STATE_ROOM))
+        self.addCleanup(os.close, other)
+        self.assertEqual(os.fstat(other).st_size, STATE_ROOM)
+
+
+class PeerNameTests(unittest.IsolatedAsyncioTestCase):
+    """The names of peers are looked up when a configuration is read."""
+
+    async def test_look_up(self) -> None:
+        tables: dict[str, Any] = {'circuit': [{'number': 1, 'peer_host': 'localhost'},
+                                              {'number': 2, 'peer_host': '10.0.0.1'}, {'number': 3}]}
+        self.assertEqual(await look_up(tables), {'localhost': '127.0.0.1'})
+        tables['circuit'][1]['peer_host'] = 'no.such.invalid'
+        with self.assertRaisesRegex(VersionRefused, 'no.such.invalid: '):
+            await look_up(tables)
+
+    def test_addresses(self) -> None:
+        text = b'peer_host = "west"\n  peer_host=\'west\'\npeer_host = "west.x"\n# "west"\n'
+        self.assertEqual(with_addresses(text, {'west': '10.0.0.1'}),
+                         b'peer_host = "10.0.0.1"\n  peer_host=\'10.0.0.1\'\npeer_host = "west.x"\n# "west"\n')
+
+
+if __name__ == '__main__':
+    unittest.main()
