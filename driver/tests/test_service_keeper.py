@@ -136,8 +136,8 @@ class ServiceHandoverTests(ServiceCase, test_keeper.KeeperHandoverTests):
         self.ends()
 
 
-class ServiceKilledTests(ServiceCase, test_keeper_killed.RestartedKeeperCase):
-    """It is killed, and begun again as systemd does it."""
+class ServiceKilledCase(ServiceCase, test_keeper_killed.RestartedKeeperCase):
+    """A service that is killed, and begun again as systemd does it."""
 
     def settles(self) -> None:
         """Until systemd has the descriptors of the program of now, and no others."""
@@ -160,6 +160,10 @@ class ServiceKilledTests(ServiceCase, test_keeper_killed.RestartedKeeperCase):
         self.awaits('the keeper was killed[;:] (?=program)')
         self.goes_on()
         self.settles()
+
+
+class ServiceKilledTests(ServiceKilledCase):
+    """It goes on with what is there."""
 
     def test_program_goes_on(self) -> None:
         """Not an octet is lost, and the next service does all that the first one did."""

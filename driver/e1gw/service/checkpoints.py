@@ -36,7 +36,7 @@ class Checkpoints:
         self._began, self._pause, self._due = 0.0, 0.0, 0.0
         self._number = 0
         self._sample: tuple[float, object] = 0.0, None
-        self._why = 'there was no shadow'
+        self._why, self._unnamed = 'there was no shadow', None      # type: str, str | None
 
     # ---- followers ----
 
@@ -61,9 +61,15 @@ class Checkpoints:
         program.follower = follower = self._started(program, program.version, tell)
         self._began = time.monotonic()
         self._sample = self._began, None
-        if self._tell and tell:
-            point(self._tell, tell)
+        self._unnamed = tell
+        self._name(follower)
         return follower
+
+    def _name(self, follower: LogFollower) -> None:
+        """Has clients find a follower, once it has read what the log has: what it tells then are changes of now."""
+        if self._tell and self._unnamed and follower.has_all():
+            point(self._tell, self._unnamed)
+            self._unnamed = None
 
     def _started(self, program: TrunkProgram, version: ProgramVersion, tell: str | None) -> LogFollower:
         return LogFollower(version, program.log, program.checkpoint, self.new_path(False), tell, self._words)
@@ -81,6 +87,8 @@ class Checkpoints:
         if not program.follower and now >= self._due:
             its = self.follow(program).process.pid
             logger.warning('%s: program %d goes on; shadow %d', self._why, program.process.pid, its)
+        if program.follower:
+            self._name(program.follower)
 
     def _fault(self, follower: LogFollower, now: float) -> str:
         if follower.process.over.is_set():

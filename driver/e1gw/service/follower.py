@@ -18,6 +18,7 @@ from .process import Child, start, text_of
 from .version import ProgramVersion
 
 PIECE = 256 << 10           # octets of the log that are looked at at once
+NEAR = 32 << 10             # octets of the log that a follower may have to read yet and is not behind
 REST = 0.02                 # seconds between two looks for new octets of the log
 FULL = 0.002                # seconds between two tries to write to a pipe that is full
 PATIENCE = 5.0              # seconds in which a follower has to get on
@@ -87,7 +88,7 @@ class LogPump:
         return int.from_bytes(fcntl.ioctl(self.reads, termios.FIONREAD, bytes(4)), sys.byteorder)
 
     def is_behind(self) -> bool:
-        return self.place < self._whole or self._log.place() - self.place > PIECE
+        return self._log.place() - self.place > NEAR
 
     def close(self) -> None:
         self._task.cancel()

@@ -101,6 +101,7 @@ class TrunkKeeper:
     async def _begin(self) -> TrunkProgram | None:
         """The program that carries the trunk, started if there is none; None if it does not come up."""
         if not self.trunk.is_open():
+            self._notifier.tell('READY=1', 'STATUS=the trunk is not open yet')
             await self.trunk.reopen(self._ends)
         if not self.program and self.ending:
             self._finish(self.ending, 0)
@@ -177,7 +178,7 @@ class TrunkKeeper:
         words, is_well = program.last_words(), program.ended_well()
         state = await self.checkpoints.recover(program, self.versions.before)
         is_over = not why and (words.startswith(('says: fault 5 ', 'says: fault 6 '))
-                               or is_well and self.trunk.has_ended())
+                               or is_well and self.trunk.has_ended(program.totals()['octets']))
         if not state:
             logger.error('the program %s: no state is known', words)
         self.state = state or Checkpoint(counted=program.checkpoint.counted)

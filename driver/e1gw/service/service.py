@@ -22,18 +22,21 @@ from typing import NoReturn
 from ..explain import config_words
 from ..faults import Parser, options_words, words_of_fault
 from ..lines import wait_words
-from ..options import add_options
-from ..programs import add_program, program_of
+from ..options import add_calls, add_control, add_options, fields_of
+from ..programs import add_program, program_of, version_of
 from ..trunks import add_device, device_of
+from .commands import CannotListen
 from .journal import ServiceJournal
 from .keeper import GRACE, TrunkKeeper, TrunkWants
 from .program import MOST_PATH
 from .recovery import Handover, Notifier, given_files, note_of
 from .reload import ReloadRequests
-from .takeover import CannotBegin, first_keeper, next_keeper
+from .takeover import CannotBegin, first_keeper, next_keeper, open_first
 from .version import VersionRefused
+from .watch import TrunkWatch, WatchWants
 
 NAME = 'e1gw-trunk'
+WATCHED = 'control', 'http', 'metrics', 'json', 'calls', 'watch'      # what an operator may want of a trunk
 SIGN = 0.25                 # seconds between two signs of life
 DIGITS = 11                 # octets that the number of a program adds to a socket's path
 
@@ -46,6 +49,9 @@ def parser() -> argparse.ArgumentParser:
     add_options(words)
     add_program(words)
     add_device(words.add_argument_group('the trunk'))
+    told = words.add_argument_group('control and what is told')
+    add_control(told)
+    add_calls(told)
     words.add_argument('--folder', metavar='DIR', help='where its sockets are, in memory [default: '
                        'RUNTIME_DIRECTORY, or /dev/shm]')
     words.add_argument('--program-control', metavar='SOCKET', help='where the program takes records, e1gw(1)')
@@ -73,6 +79,8 @@ def wants_of(asked: argparse.Namespace) -> TrunkWants:
     """What is wanted, of a command line. ValueError if it is not one trunk, or a path is too long."""
     opens = device_of(asked)
     assert opens
+    if asked.top:
+        raise ValueError('--top: e1gw-ctl shows the table')
     folder = folder_of(asked)
     control = asked.program_control or os.path.join(folder, 'program')
     for path in filter(None, (control, asked.tell)):
@@ -80,7 +88,8 @@ def wants_of(asked: argparse.Namespace) -> TrunkWants:
             raise ValueError(f'{path}: a path of a socket has {MOST_PATH - DIGITS} octets at most')
     program = shutil.which(program_of(asked.program)) or program_of(asked.program)
     both = wait_words(asked.seizure_wait)
-    return TrunkWants(os.path.abspath(program), asked.config, asked.senders, opens, folder, control, asked.tell,
+    tell = asked.tell or (os.path.join(folder, 'tell') if any(fields_of(asked)[name] for name in WATCHED) else None)
+    return TrunkWants(os.path.abspath(program), asked.config, asked.senders, opens, folder, control, tell,
                       asked.state, ['--repeat', str(asked.repeat)] * (asked.repeat > 0), both, asked.reopen,
                       asked.totals)
 
@@ -90,6 +99,30 @@ async def sign_of_life(notifier: Notifier) -> None:
     while True:
         notifier.tell('WATCHDOG=1')
         await asyncio.sleep(SIGN)
+
+
+async def opened_watch(asked: argparse.Namespace, keeper: TrunkKeeper, goes_on: bool) -> TrunkWatch | None:
+    """Watches the trunk, if an operator wants something of it. One that cannot listen ends no trunk that `goes_on`."""
+    fields, wants = fields_of(asked), keeper.wants
+    if not wants.tell or not any(fields[name] for name in WATCHED):
+        return None
+
+    def ends() -> str:
+        asyncio.get_running_loop().call_later(0.01, keeper.end, 'quit')
+        return 'quit: done'
+    version = await asyncio.to_thread(version_of, wants.program)
+    fields |= {'config': lambda: keeper.versions.now.config_path(), 'tell': wants.tell, 'program': wants.control}
+    del fields['top']
+    watch = TrunkWatch(WatchWants(**fields), ends, keeper.hurry,
+                       lambda: keeper.trunk.facts() | {'version': version})
+    try:
+        await watch.open()
+    except (OSError, CannotListen, KeyError) as fault:
+        words = f'cannot listen: {words_of_fault(fault)}'
+        if not goes_on:
+            raise CannotBegin(words, 2) from None
+        logger.error('%s', words)
+    return watch
 
 
 def catch_signals(keeper: TrunkKeeper, requests: ReloadRequests) -> None:
@@ -120,6 +153,9 @@ async def serve(asked: argparse.Namespace, wants: TrunkWants) -> int:
         keeper = await first_keeper(wants, handover, notifier)
     catch_signals(keeper, ReloadRequests(keeper, handover, notifier))
     beside = [asyncio.create_task(sign_of_life(notifier))]
+    if watch := await opened_watch(asked, keeper, note is not None):
+        beside.append(asyncio.create_task(watch.run()))
+    await open_first(keeper)
     status = await keeper.serve()
     for task in beside:
         task.cancel()

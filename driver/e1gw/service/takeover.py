@@ -32,23 +32,26 @@ class CannotBegin(Exception):
 
 
 async def first_keeper(wants: TrunkWants, handover: Handover, notifier: Notifier) -> TrunkKeeper:
-    """A keeper that opens its trunk. VersionRefused or CannotBegin if it can't."""
+    """A keeper whose trunk is still to be opened. VersionRefused or CannotBegin if there can be none."""
     version = await version_of_now(wants.program, wants.config, wants.senders, Checkpoint())
     for option, path in (('--program-control', wants.control), ('--tell', wants.tell)):
         if path and is_taken(path):
             raise CannotBegin(f'{option} {path}: somebody listens there, or something else has this name', 2)
     logger.info('%s', SENDERS[version.senders])
-    trunk = TrunkFiles(wants.opens, {})
-    try:
-        if not wants.reopens:
-            await trunk.open()
-    except OSError as fault:
-        raise CannotBegin(f'the trunk cannot be opened: {words_of_fault(fault)}', 1) from None
-    keeper = TrunkKeeper(wants, version, trunk, handover, notifier)
+    keeper = TrunkKeeper(wants, version, TrunkFiles(wants.opens, {}), handover, notifier)
     keeper.state = loaded(wants.state)
     if keeper.state.state >= 0:
         keeper.why = 'begins with what was saved'
     return keeper
+
+
+async def open_first(keeper: TrunkKeeper) -> None:
+    """Opens the trunk of a first start, unless that is tried until it can be. CannotBegin if it can't."""
+    if not (keeper.wants.reopens or keeper.was_up):
+        try:
+            await keeper.trunk.open()
+        except OSError as fault:
+            raise CannotBegin(f'the trunk cannot be opened: {words_of_fault(fault)}', 1) from None
 
 
 def is_taken(path: str) -> bool:

@@ -63,9 +63,12 @@ class TrunkFiles:
         """Since when it is open, and why it is not, as plain values."""
         return {'since': self.since, 'fault': self.fault}
 
-    def has_ended(self) -> bool:
-        """Whether the other end has closed it."""
+    def has_ended(self, took: int) -> bool:
+        """Whether the other end has closed it. A device does not tell; it has ended if a program `took` nothing of it
+        before its end."""
         reads = self.both[0]
+        if stat.S_ISCHR(os.fstat(reads).st_mode) and not os.isatty(reads):
+            return took == 0
         if stat.S_ISREG(os.fstat(reads).st_mode):
             return os.lseek(reads, 0, os.SEEK_CUR) >= os.fstat(reads).st_size
         poll = select.poll()

@@ -1,0 +1,198 @@
+"""The control of a trunk: lines of text in, lines of text out, over a Unix stream socket.
+
+A line is answered by one or more lines and an empty one:
+
+  seize N, clear N, answer N, clear-back N, block N, unblock N     `seize 3: done`, or the words of the refusal
+  codec N CODEC TYPE         pcma, pcmu, g726-16, g726-24, g726-32, g726-40 and an RTP payload type, from now on
+  status, status json        the table, or all of it as one line of JSON
+  status N                   the row of circuit N
+  events                     `following`; from then on a line of JSON for each change
+  on-loss clear SECONDS      when the last client that asked for it is gone so long, calls are cleared
+  on-loss block SECONDS      the same, and idle incoming circuits are blocked
+  on-loss keep               takes that back
+  quit                       ends the trunk
+  help                       these lines
+"""
+from __future__ import annotations
+
+import asyncio
+import contextlib
+import grp
+import os
+import socket
+import stat
+import time
+from dataclasses import dataclass, field
+from typing import Protocol
+
+from ..metrics import circuit_table
+from ..session import CIRCUITS, Codec, Command, codec_record, command_record
+from .pages import TrunkPages
+
+MOST_LINE = 4096            # octets of a line
+MOST_CLIENTS = 64
+MOST_HELD = 256 << 10       # octets that wait for a client; one that takes less is closed
+
+COMMANDS = {command.word: command for command in Command}
+CODECS = {'pcma': Codec.G711, 'pcmu': Codec.G711} | {codec.word('A'): codec for codec in Codec}
+
+
+class CannotListen(Exception):
+    """Why nobody could connect."""
+
+
+class CommandTrunk(Protocol):
+    """What carries out commands."""
+
+    pages: TrunkPages
+
+    def law(self) -> str:
+        """The law of the trunk."""
+
+    def outage(self) -> str | None:
+        """Why no seizure can reach the other end, or None."""
+
+    async def command(self, record: bytes, circuit: int, words: str) -> str:
+        """Gives a command or a change of codec; the answer in words."""
+
+    def count(self, circuit: int, words: str, text: str) -> None:
+        """Counts and tells a command, and what answers it."""
+
+    def asked_on_loss(self, client: object, words: list[str]) -> str:
+        """A client asks for what is done when it is gone."""
+
+    def left(self, client: object) -> bool:
+        """A client is gone."""
+
+    def quit(self) -> str:
+        """The end is asked for; the answer in words."""
+
+
+@dataclass(eq=False)
+class ControlPeer:
+    """One who is connected to the control socket."""
+
+    writer: asyncio.StreamWriter
+    follows: bool = False
+    last: float = field(default_factory=time.monotonic)
+
+    def tell(self, line: str) -> None:
+        self.writer.write(f'{line}\n'.encode())
+        if self.writer.transport.get_write_buffer_size() > MOST_HELD:   # type: ignore[attr-defined]
+            self.writer.transport.abort()
+
+
+class CommandServer:
+    """Takes commands of those who connect. Each is asked one line in turn."""
+
+    def __init__(self, trunk: CommandTrunk) -> None:
+        self._trunk, self._peers = trunk, set[ControlPeer]()
+
+    def followers(self) -> list[ControlPeer]:
+        """Who has asked for events."""
+        return [peer for peer in self._peers if peer.follows]
+
+    async def came(self, reader: asyncio.StreamReader, writer: asyncio.StreamWriter) -> None:
+        """A client: a line in, an answer and an empty line out."""
+        if len(self._peers) >= MOST_CLIENTS:
+            idle = [peer for peer in self._peers if not peer.follows]
+            if not idle:
+                writer.write(f'no seat: {MOST_CLIENTS} clients are connected\n\n'.encode())
+                return writer.close()
+            min(idle, key=lambda each: each.last).writer.transport.abort()
+        self._peers.add(peer := ControlPeer(writer))
+        with contextlib.suppress(OSError, ValueError, asyncio.LimitOverrunError):
+            while line := await reader.readline():
+                peer.last = time.monotonic()
+                if words := line.decode(errors='replace').split():
+                    writer.write(f'{await self._obey(words, peer)}\n\n'.encode())
+                    await writer.drain()
+                await asyncio.sleep(0)          # (one line of each who asks)
+                peer.follows |= words == ['events']
+        self._peers.discard(peer)
+        self._trunk.left(peer)
+        writer.close()
+
+    async def _obey(self, words: list[str], peer: ControlPeer) -> str:
+        """Does what a line says."""
+        pages = self._trunk.pages
+        match words:
+            case ['status']:
+                return (await pages.fresh()).table.rstrip('\n')
+            case ['status', 'json']:
+                return (await pages.fresh()).json
+            case ['status', word]:
+                circuit = circuit_of(word)
+                return circuit_table((await pages.fresh()).status, circuit) if circuit else \
+                    f'status {word[:40]}: circuits are 1 to 30'
+            case ['events']:
+                return 'following'
+            case ['on-loss', *rest]:
+                return self._trunk.asked_on_loss(peer, rest)
+            case ['help']:
+                return (__doc__ or '').partition('\n\n')[2].rstrip('\n')
+            case ['quit']:
+                return self._trunk.quit()
+            case [name, *rest] if name in COMMANDS or name == 'codec':
+                return await self._obey_circuit(name, rest)
+        return (f'{words[0][:40]}: no such command; there are {", ".join(COMMANDS)}, codec, status, events, on-loss, '
+                'quit and help')
+
+    async def _obey_circuit(self, name: str, words: list[str]) -> str:
+        trunk = self._trunk
+        if len(words) != (3 if name == 'codec' else 1):
+            return f'{name}: wants ' + ('a circuit, a codec and a payload type' if name == 'codec' else 'a circuit')
+        circuit = circuit_of(words[0])
+        if circuit is None:
+            return f'{name} {words[0][:40]}: circuits are 1 to 30'
+        front = f'{name} {circuit}: '
+        if name == 'codec':
+            if fault := codec_fault(words[1:], trunk.law()):
+                return front + fault
+            record = codec_record(circuit, CODECS[words[1]], int(words[2]))
+        else:
+            if COMMANDS[name] is Command.SEIZE and (fault := trunk.outage()):
+                # The gateway would do it; no exchange could see it, and 200 ms later it would be released.
+                trunk.count(circuit, name, fault)
+                return front + fault
+            record = command_record(circuit, COMMANDS[name])
+        return front + await trunk.command(record, circuit, ' '.join([name, *words[1:]]))
+
+
+def circuit_of(word: str) -> int | None:
+    number = int(word) if word.isascii() and word.isdecimal() and len(word) < 4 else 0
+    return number if number in CIRCUITS else None
+
+
+def codec_fault(words: list[str], law: str) -> str | None:
+    """What is wrong with a codec and a payload type, or None."""
+    name, number = words
+    if name not in CODECS:
+        return f'codecs are {", ".join(CODECS)}'
+    if not (number.isascii() and number.isdecimal() and len(number) < 4 and int(number) <= 127):
+        return 'payload types are 0 to 127'
+    if CODECS[name] is Codec.G711 and name != Codec.G711.word(law):
+        return f'the law of the trunk is {law}'
+    return None
+
+
+def unix_listener(path: str, mode: int, group: str | None) -> socket.socket:
+    """A Unix socket that listens, with its mode and group from the first moment on."""
+    line = socket.socket(socket.AF_UNIX)
+    if os.path.lexists(path):
+        if not stat.S_ISSOCK(os.lstat(path).st_mode):
+            raise CannotListen(f'{path} is there and no socket')
+        if line.connect_ex(path) == 0:
+            raise CannotListen(f'at {path} another one listens')
+        os.unlink(path)
+    before = os.umask(0o777 & ~mode)
+    try:
+        line.bind(path)
+    except OSError as fault:
+        raise CannotListen(f'--control {path}: {fault.strerror}') from None
+    finally:
+        os.umask(before)
+    if group:
+        os.chown(path, -1, int(group) if group.isdecimal() else grp.getgrnam(group).gr_gid)
+    line.listen(MOST_CLIENTS)
+    return line

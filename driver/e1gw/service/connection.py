@@ -1,0 +1,130 @@
+"""The connection to the program of now: C and K records, and their answers. It is made again whenever it is lost."""
+from __future__ import annotations
+
+import asyncio
+import struct
+import time
+from collections import deque
+from contextlib import suppress
+from dataclasses import dataclass, field
+from typing import Callable
+
+from ..faults import words_of_fault
+from ..programs import version_of
+from ..session import HEAD, Kind, Record
+
+AGAIN = 0.1                 # seconds between two tries to connect
+PATIENCE = 0.3              # seconds that an answer of the program waits for the follower
+SOON = 0.002                # seconds between two looks whether it has told
+
+
+class NoAnswer(Exception):
+    """Why a record has no answer."""
+
+
+class BadAnswer(Exception):
+    """The program answers what is no answer."""
+
+
+@dataclass(eq=False)
+class GivenRecord:
+    """A record that was given to the program. `told` is set once the follower has told of it."""
+
+    record: bytes
+    answer: asyncio.Future[Record]
+    told: asyncio.Event = field(default_factory=asyncio.Event)
+
+
+class ProgramConnection:
+    """Gives records to the program that listens at a socket. `stands` is called with whether there is one, and why
+    not; `hurry` while an answer waits for the follower, so that it tells at once."""
+
+    def __init__(self, path: str, stands: Callable[[str, bool, str], None], hurry: Callable[[], None],
+                 fault: Callable[[], str]) -> None:
+        """`fault` says why there is no program, if that is known."""
+        self.version, self._fault = '', fault
+        self._path, self._stands, self._hurry = path, stands, hurry
+        self._given = deque[GivenRecord]()
+        self._writer: asyncio.StreamWriter | None = None
+
+    async def run(self) -> None:
+        """Connects, again and again."""
+        while True:
+            why = 'it has closed the connection'
+            try:
+                reader, self._writer = await asyncio.open_unix_connection(self._path)
+                self._stands('program', True, '')
+                await self._see_version(self._writer)
+                while True:
+                    kind, circuit, length = HEAD.unpack(await reader.readexactly(HEAD.size))
+                    self._take(kind, circuit, await reader.readexactly(length))
+            except BadAnswer:
+                why = 'it answers what is no answer'
+            except asyncio.IncompleteReadError:
+                pass
+            except OSError as fault:
+                why = words_of_fault(fault)
+            finally:
+                self._lose()
+            self._stands('program', False, f'{self._path}: {why}')
+            await asyncio.sleep(AGAIN)
+
+    async def _see_version(self, writer: asyncio.StreamWriter) -> None:
+        """Asks the program at the other end for its version, as a process of its own."""
+        peer = writer.get_extra_info('socket').getsockopt(1, 17, 12)        # SOL_SOCKET, SO_PEERCRED
+        executable = f'/proc/{struct.unpack("iii", peer)[0]}/exe'
+        asyncio.get_running_loop().run_in_executor(None, self._put_version, executable)
+
+    def _put_version(self, executable: str) -> None:
+        self.version = version_of(executable)
+
+    def _take(self, kind: int, circuit: int, body: bytes) -> None:
+        """An answer of the program."""
+        try:
+            record = Record(Kind(kind), circuit, body)
+            record.refusal      # pylint: disable=pointless-statement
+            next(each for each in self._given if not each.answer.done()).answer.set_result(record)
+        except (ValueError, IndexError, StopIteration):
+            raise BadAnswer from None
+
+    def _lose(self) -> None:
+        if self._writer:
+            self._writer.close()
+        self._writer = None
+        for each in self._given:
+            if not each.answer.done():
+                each.answer.set_exception(NoAnswer('no answer, the connection to the program is lost'))
+                each.answer.exception()
+        self._given.clear()
+
+    def give(self, record: bytes) -> GivenRecord:
+        """Gives a record to the program. NoAnswer if there is none."""
+        if not self._writer:
+            raise NoAnswer(self._fault() or 'no connection to the program')
+        self._given.append(given := GivenRecord(record, asyncio.get_running_loop().create_future()))
+        self._writer.write(record)
+        return given
+
+    def let_go(self, given: GivenRecord) -> None:
+        with suppress(ValueError):
+            self._given.remove(given)
+
+    async def ask(self, record: bytes, is_live: Callable[[], bool]) -> Record:
+        """The answer to a record, once the follower has told of the record, too: what follows from it is known
+        then. `is_live` is whether there is one that tells."""
+        given = self.give(record)
+        try:
+            answer = await given.answer
+            until = time.monotonic() + PATIENCE
+            while is_live() and not given.told.is_set() and time.monotonic() < until:
+                self._hurry()
+                await asyncio.sleep(SOON)
+            return answer
+        finally:
+            self.let_go(given)
+
+    def told(self, record: bytes) -> None:
+        """The follower has told of a record."""
+        for each in self._given:
+            if each.record == record and not each.told.is_set():
+                return each.told.set()

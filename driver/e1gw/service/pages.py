@@ -1,0 +1,147 @@
+"""What is seen from outside: the status, its table and metrics, each made once a quarter of a second at most however
+many ask, and served over HTTP."""
+from __future__ import annotations
+
+import asyncio
+import contextlib
+import functools
+import json
+import os
+import sys
+import time
+from typing import Any, Callable
+
+from ..keep import put_file
+from ..lines import Line
+from ..metrics import exposition, table
+from ..sockets import SocketTables, with_sockets
+
+EVERY = 0.25                        # seconds between two statuses
+SECONDS, MOST_VISITORS = 10.0, 64   # for one request, and who may ask at once
+FRESH, DRAWN = 5.0, 60.0            # seconds in which nobody gets another picture, and for one to be drawn
+METRICS_EVERY = 5.0
+WHOLE = b'</html>\n'
+HEAD = ('HTTP/1.0 {status}\r\nContent-Type: {kind}; charset=utf-8\r\nContent-Length: {length}\r\n'
+        'Cache-Control: no-store\r\nConnection: close\r\n\r\n')
+
+
+class StatusTexts:
+    """A status of plain values, and the texts of it, each made once."""
+
+    def __init__(self, status: dict[str, Any], sockets: SocketTables) -> None:
+        self.status, self._sockets = status, sockets
+
+    @functools.cached_property
+    def _whole(self) -> dict[str, Any]:
+        return with_sockets(self.status, self._sockets.found())
+
+    @functools.cached_property
+    def json(self) -> str:
+        return json.dumps(self._whole)
+
+    @functools.cached_property
+    def table(self) -> str:
+        return table(self.status)
+
+    @functools.cached_property
+    def metrics(self) -> str:
+        return exposition(self._whole, str(self.status['name']))
+
+
+class TrunkPages:
+    """The texts of a status of a moment ago, in which all is that was told before. `take` is called so that all that
+    was told is known."""
+
+    def __init__(self, status: Callable[[], dict[str, Any]], take: Callable[[], None], lines: list[Line]) -> None:
+        self._status, self._take, self._sockets = status, take, SocketTables(lines)
+        self._due, self._has_changed = 0.0, True
+        self._last: StatusTexts | None = None
+
+    def changed(self) -> None:
+        """A change was told: what was made before it is old."""
+        self._has_changed = True
+
+    async def fresh(self) -> StatusTexts:
+        """The last one, or if something has changed since the next one."""
+        self._take()
+        wait = self._due - time.monotonic()
+        if wait > 0 and self._has_changed:
+            await asyncio.sleep(wait)
+        if self._last is None or time.monotonic() >= self._due:
+            self._take()
+            self._last = StatusTexts(self._status(), self._sockets)
+            self._has_changed, self._due = False, time.monotonic() + EVERY
+        return self._last
+
+
+class WebServer:
+    """Who asks for pages: one request a connection; the oldest goes for one too many. `picture` are the words of the
+    command that draws the last seconds, if that is wanted."""
+
+    def __init__(self, pages: TrunkPages, picture: list[str] | None = None) -> None:
+        self._pages, self._picture, self._drawn, self._until = pages, picture, b'', 0.0
+        self._visitors: dict[asyncio.Task[None], None] = {}
+        self._draws = asyncio.Lock()
+
+    async def came(self, reader: asyncio.StreamReader, writer: asyncio.StreamWriter) -> None:
+        task = asyncio.current_task()
+        assert task
+        if len(self._visitors) >= MOST_VISITORS:
+            next(iter(self._visitors)).cancel()
+        self._visitors[task] = None
+        with contextlib.suppress(OSError, TimeoutError, ValueError, asyncio.CancelledError,
+                                 asyncio.IncompleteReadError, asyncio.LimitOverrunError):
+            async with asyncio.timeout(SECONDS):
+                request = await reader.readuntil(b'\r\n\r\n')
+                writer.write(await self._answer(*request.split(b' ', 2)[:2]))
+                await writer.drain()
+        self._visitors.pop(task, None)
+        writer.close()
+
+    async def _answer(self, method: bytes, target: bytes) -> bytes:
+        path, status = target.partition(b'?')[0].decode(errors='replace'), '200 OK'
+        now = await self._pages.fresh()
+        kind, body = 'text/plain', b''
+        if method not in (b'GET', b'HEAD'):
+            status, body = '405 Method Not Allowed', b'there are GET and HEAD\n'
+        elif path == '/' and self._picture and (drawn := await self._draw(self._picture)):
+            kind, body = 'text/html', drawn
+        elif path in ('/', '/table'):
+            body = now.table.encode()
+        elif path == '/metrics':
+            kind, body = 'text/plain; version=0.0.4', now.metrics.encode()
+        elif path == '/status':
+            kind, body = 'application/json', f'{now.json}\n'.encode()
+        else:
+            status, body = '404 Not Found', b'there are /, /table, /metrics and /status\n'
+        return HEAD.format(status=status, kind=kind, length=len(body)).encode() + body * (method != b'HEAD')
+
+    async def _draw(self, words: list[str]) -> bytes:
+        """The picture of the last seconds, drawn by a process behind the calls; nothing if it cannot be drawn."""
+        async with self._draws:
+            if time.monotonic() >= self._until:
+                process = await asyncio.create_subprocess_exec(
+                    'nice', '-n', '15', sys.executable, '-B', '-m', 'e1gw', 'picture', *words,
+                    stdin=asyncio.subprocess.DEVNULL, stdout=asyncio.subprocess.PIPE, stderr=asyncio.subprocess.DEVNULL,
+                    env=os.environ | {'PYTHONPATH': os.pathsep.join(sys.path[:1])})
+                try:
+                    async with asyncio.timeout(DRAWN):
+                        self._drawn = (await process.communicate())[0]
+                except TimeoutError:
+                    process.kill()
+                self._until = time.monotonic() + FRESH
+            return self._drawn if self._drawn.endswith(WHOLE) else b''
+
+
+async def keep_metrics(pages: TrunkPages, path: str, ended: Callable[[str, str], None]) -> None:
+    """Keeps a file of metrics for node_exporter up, until it is cancelled or fails."""
+    try:
+        while True:
+            await asyncio.to_thread(put_file, path, (await pages.fresh()).metrics.encode())
+            await asyncio.sleep(METRICS_EVERY)
+    except OSError as fault:
+        ended('metrics', fault.strerror or str(fault))
+    finally:
+        for each in (path, f'{path}.new'):
+            with contextlib.suppress(OSError):
+                os.unlink(each)

@@ -1,0 +1,281 @@
+"""What an operator has of a trunk: status, commands, events, pages, metrics, a line for each call, and what is done
+with calls by themselves (jitter buffers, --dark, --on-loss). All of it may fail, and the trunk goes on."""
+from __future__ import annotations
+
+import asyncio
+import functools
+import logging
+import os
+import socket
+import sys
+import time
+from collections import Counter
+from dataclasses import dataclass, field
+from typing import Any, Awaitable, Callable
+
+from ..calls import CallLog
+from ..clearing import DisconnectPolicy, DisconnectWatch, OutageWatch
+from ..counts import DatagramCounts
+from ..events import words_of
+from ..faults import named, words_of_refusal
+from ..lines import OPEN, Event, Role, State
+from ..restarts import Restarts
+from ..session import Codec, Command, codec_record, command_record
+from .commands import MOST_LINE, CommandServer, unix_listener
+from .connection import NoAnswer, ProgramConnection
+from .events import CallFile, EventFile, json_line, lines_to, tell_journal
+from .pages import TrunkPages, WebServer, keep_metrics
+from .status import TrunkStatus
+
+TICK = 0.1                  # seconds between two looks
+BESIDE = ('json', 'calls', 'metrics', 'pages')      # what may end without the calls
+
+logger = logging.getLogger(__name__)
+
+
+@dataclass(kw_only=True)
+class WatchWants:
+    """What an operator wants to have of a trunk."""
+
+    config: Callable[[], str]   # the path of the configuration of now
+    name: str
+    tell: str                   # the socket at which the follower of now tells
+    program: str                # that at which the program of now takes records
+    control: str | None = None
+    control_mode: int = 0o660
+    control_group: str | None = None
+    http: tuple[str, int] | None = None
+    metrics: str | None = None
+    json: str | None = None
+    calls: str | None = None
+    watch: bool = False
+    dark: float | None = None
+    on_loss: DisconnectPolicy = DisconnectPolicy()
+    picture: list[str] = field(default_factory=list)
+
+
+class TrunkWatch:
+    """One trunk that is watched. `ends` is called when a client asks for its end; `hurry` so that the follower has all
+    that the program has; `facts` says when the trunk was opened, and why it is not open."""
+
+    def __init__(self, wants: WatchWants, ends: Callable[[], str], hurry: Callable[[], None] = lambda: None,
+                 facts: Callable[[], dict[str, Any]] = dict) -> None:
+        self.wants, self._ends, self._facts = wants, ends, facts
+        self._loop = asyncio.get_running_loop()
+        self.ended: dict[str, str | None] = dict.fromkeys(BESIDE)
+        self._restarts = Restarts(self.restart, self.tell)
+        self._counts = DatagramCounts(self._restarts.counted)
+        self.status = TrunkStatus(wants.config, wants.tell, self.tell, self._counts)
+        self._lines = self.status.lines
+        self._hurry = hurry
+        self._program = ProgramConnection(wants.program, self.status.stands, self._hurry_all, self._fault)
+        self.status.fault = self._fault
+        self._lines.commanded = self._program.told
+        self.pages = TrunkPages(self._values, self.status.take_now, list(self._lines.lines.values()))
+        self._server = CommandServer(self)
+        self.status.is_followed = lambda: bool(self._server.followers())
+        self._disconnects = DisconnectWatch(wants.on_loss, self.clear_all)
+        self._outages = OutageWatch(wants.dark, self.clear_all)
+        self._done, self._resyncs, self._began = Counter[tuple[str, str]](), 0, time.time()
+        self._json = EventFile('json', lines_to(sys.stdout if wants.json == '-' else wants.json), self._note,
+                               wants.json) if wants.json else None
+        self._out = EventFile('standard output', lines_to(sys.stdout), lambda *_: None) if wants.watch else None
+        self._calls_out = EventFile('calls', CallFile(wants.calls), self._note, wants.calls) if wants.calls else None
+        self._calls = CallLog(wants.name, self._lines.lines, self._counts, self._put_call) if wants.calls else None
+        self.status.came, self.status.began, self.status.lost = self._came, self._told_all, self._told_no_more
+        if self._calls:
+            self.status.read = self._calls.look
+        self._tasks = set[asyncio.Future[Any]]()
+
+    def _hurry_all(self) -> None:
+        self._hurry()
+        self.status.hurry()
+
+    def _fault(self) -> str:
+        """Why the trunk is not open, if that is known."""
+        return str(self._facts().get('fault') or '')
+
+    # ---- what is done with calls ----
+
+    def law(self) -> str:
+        return self._lines.law
+
+    def outage(self) -> str | None:
+        return self.status.outage()
+
+    async def command(self, record: bytes, circuit: int, words: str) -> str:
+        try:
+            refusal = (await self._program.ask(record, self.status.is_live)).refusal
+            text = refusal.words if refusal else 'done'
+            more = words_of_refusal(refusal, circuit, self._lines.lines[circuit].role) if refusal else text
+        except NoAnswer as fault:
+            text = more = str(fault)
+        self.count(circuit, words, text)
+        return more
+
+    def count(self, circuit: int, words: str, text: str) -> None:
+        self._done[words.split()[0], text] += 1
+        self.tell({'event': 'command', 'circuit': circuit, 'command': words, 'answer': text})
+
+    def clear_all(self, why: str, blocks: bool = False) -> None:
+        """Ends all calls that this end can end: clear at the outgoing end, clear-back at the incoming one. `blocks`
+        blocks idle circuits at the incoming end, too."""
+        cleared = []
+        for n, line in self._lines.lines.items():
+            command = None
+            if line.role is Role.OUTGOING and (line.state in OPEN or line.state is State.SEIZED):
+                command = Command.CLEAR
+            elif line.role is Role.INCOMING and line.state is State.ANSWERED:
+                command = Command.CLEAR_BACK
+            elif blocks and line.role is Role.INCOMING and line.state is State.IDLE:
+                command = Command.BLOCK
+            if command:
+                self._does(self.command(command_record(n, command), n, command.word))
+                cleared += [n] * (command is not Command.BLOCK)
+        if cleared:
+            self.tell({'event': 'cleared', 'why': why, 'circuits': cleared})
+
+    def restart(self, circuits: list[int]) -> None:
+        """Gives open circuits the codec that they have, which restarts their playout."""
+        for n in circuits:
+            line = self._lines.lines[n]
+            codec = next(each for each in Codec if each.word(self._lines.law) == line.codec)
+            self._does(self._renew(codec_record(n, codec, line.payload)))
+        self._resyncs += len(circuits)
+
+    async def _renew(self, record: bytes) -> None:
+        try:
+            await self._program.ask(record, lambda: False)
+        except NoAnswer:
+            pass
+
+    def _does(self, work: Awaitable[Any]) -> None:
+        task = asyncio.ensure_future(work)
+        self._tasks.add(task)
+        task.add_done_callback(self._tasks.discard)
+
+    def asked_on_loss(self, client: object, words: list[str]) -> str:
+        return self._disconnects.asked(client, words)
+
+    def left(self, client: object) -> bool:
+        self._disconnects.left(client, time.monotonic())
+        return True
+
+    def quit(self) -> str:
+        return self._ends()
+
+    def _came(self) -> None:
+        if self._calls:
+            self._calls.changed = self.status.changed
+
+    def _told_all(self) -> None:
+        if self._calls:
+            self._calls.life = self.status.naming.life
+            self._calls.begun()
+
+    def _told_no_more(self) -> None:
+        if self._calls:
+            self._calls.left()
+
+    def _put_call(self, line: bytes) -> None:
+        if self._calls_out:
+            self._calls_out.put(line.decode().rstrip('\n'))
+
+    # ---- what is told ----
+
+    def tell(self, event: Event) -> None:
+        """Tells a change to the journal and to all who follow."""
+        tell_journal(event)
+        if self._calls and event['event'] == 'state':
+            self._calls.took(event)
+        self.pages.changed()
+        text = json_line(event)
+        for peer in self._server.followers():
+            peer.tell(text)
+        if self._json:
+            self._json.put(text)
+        if self._out:
+            self._out.put(words_of(event))
+
+    def _note(self, what: str, why: str) -> None:
+        """From any thread: something beside the calls has ended."""
+        self._loop.call_soon_threadsafe(self.end_beside, what, why)
+
+    def end_beside(self, what: str, why: str) -> None:
+        """Something beside the calls has ended; they go on."""
+        if self.ended.get(what) is None:
+            self.ended[what] = why
+            self.tell({'event': 'ended', 'what': what, 'why': why})
+
+    def _values(self) -> dict[str, Any]:
+        """All that is known, as plain values."""
+        now, facts, fault = time.time(), self._facts(), self._fault() or None
+        status = self.status.values() | {
+            'name': self.wants.name, 'version': self._program.version or facts.get('version', ''),
+            'time': round(now, 3), 'fault': fault,
+            'uptime': 0.0 if fault else round(now - facts.get('since', self._began), 3),
+            'stale': self._counts.stale(), 'ended': dict(self.ended), 'renewed': self._resyncs,
+            'commands': [{'command': name, 'answer': answer, 'count': n}
+                         for (name, answer), n in sorted(self._done.items())]}
+        for row in status['circuits']:
+            row.update(self._counts.status(row['circuit']))
+        return status
+
+    # ---- the whole ----
+
+    async def open(self) -> None:
+        """Opens what others connect to. OSError or CannotListen if it can't be."""
+        wants = self.wants
+        if wants.control:
+            listener = unix_listener(wants.control, wants.control_mode, wants.control_group)
+            await asyncio.start_unix_server(self._server.came, sock=listener, limit=MOST_LINE)
+        if wants.http:
+            family = socket.AF_INET6 if ':' in wants.http[0] else socket.AF_INET
+            try:
+                line = socket.create_server(wants.http, family=family)
+            except OSError as fault:
+                raise named(fault, f'--http {wants.http[0]}:{wants.http[1]}') from None
+            await asyncio.start_server(WebServer(self.pages, wants.picture).came, sock=line, limit=8192)
+
+    async def run(self) -> None:
+        """Watches, until it is cancelled. Whatever fails is begun again."""
+        works: list[Callable[[], Awaitable[None]]] = [self.status.follow, self._program.run, self.status.look_at_flow,
+                                                      self._look]
+        if self.wants.metrics:
+            works.append(functools.partial(keep_metrics, self.pages, self.wants.metrics, self._note))
+        try:
+            await asyncio.gather(*(self._again(work) for work in works))
+        finally:
+            self._close()
+
+    async def _again(self, work: Callable[[], Awaitable[None]]) -> None:
+        """Does a work, and begins it again if it fails."""
+        while True:
+            try:
+                return await work()
+            except Exception:       # pylint: disable=broad-exception-caught
+                logger.exception('the watch of the trunk goes on', extra={'kind': 'fault'})
+                await asyncio.sleep(TICK)
+
+    async def _look(self) -> None:
+        """A few times a second: what is to become of calls."""
+        while True:
+            now = time.monotonic()
+            self._restarts.look(now, self._lines.place, self._lines.open_circuits(), not self._counts.stale())
+            self._disconnects.look(now)
+            self._outages.look(now, self.outage())
+            if self._calls:
+                self._calls.look()
+            await asyncio.sleep(TICK)
+
+    def _close(self) -> None:
+        if self._calls:
+            self._calls.finish()
+        for each in (self._json, self._calls_out, self._out):
+            if each:
+                each.close()
+        if self.wants.control:
+            try:
+                os.unlink(self.wants.control)
+            except OSError:
+                pass
