@@ -78,7 +78,7 @@ class ControlPeer:
 
     def tell(self, line: str) -> None:
         self.writer.write(f'{line}\n'.encode())
-        if self.writer.transport.get_write_buffer_size() > MOST_HELD:   # type: ignore[attr-defined]
+        if self.writer.transport.get_write_buffer_size() > MOST_HELD:
             self.writer.transport.abort()
 
 
