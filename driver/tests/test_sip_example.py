@@ -111,7 +111,7 @@ class SipFrontEndTests(support.FolderCase):
             self.hears('SIP/2.0 100 Trying')
         self.sends('INVITE', 'third')
         self.hears('SIP/2.0 100 Trying', 'SIP/2.0 503 Service Unavailable')
-        self.world.answers = True
+        self.world.exchange.pairs.update({1: ACKNOWLEDGED, 2: ACKNOWLEDGED})
         self.hears('SIP/2.0 183 Session Progress', 'SIP/2.0 183 Session Progress')
         self.sends('CANCEL', 'first')
         self.hears('SIP/2.0 200 OK', 'SIP/2.0 487 Request Terminated')
