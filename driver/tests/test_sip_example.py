@@ -1,17 +1,18 @@
 """The SIP front end of examples/sip: calls between an agent, which this test is, and the exchange of a trunk."""
 from __future__ import annotations
 
+import math
 import os
 import re
 import socket
 import subprocess
 import sys
 from contextlib import ExitStack
+from unittest import mock
 
-from . import support
+from . import support, world
 from .support import SECONDS
 from .test_trunk import aligned
-from .world import ACKNOWLEDGED, World
 from e1gw.testing.datagrams import PACKET, packets, speech
 from e1gw.testing.ports import free_ports
 
@@ -43,7 +44,7 @@ class SipFrontEndTests(support.FolderCase):
         rows = ''.join(f'[[circuit]]\nnumber = {n}\nptime = 10\nprefill = 160\n'
                        f'local_port = {local}\npeer_port = {peer}\n'
                        for n, local, peer in zip((1, 2), ports[:2], ports[2:]))
-        self.world = held.enter_context(World('law = "A"\n' + rows))
+        self.world = held.enter_context(world.World('law = "A"\n' + rows))
         aligned(self.world)
         self.front_end = subprocess.Popen([sys.executable, '-B', FRONT_END, self.world.path('ctl'), self.world.config,
                                            '--sip', f'127.0.0.1:{sip}'], stdout=subprocess.PIPE)
@@ -99,19 +100,17 @@ class SipFrontEndTests(support.FolderCase):
     def test_the_exchange_clears(self) -> None:
         self.is_up('first')
         self.world.answers = False
-        self.world.exchange.pairs[1] = ACKNOWLEDGED         # clear-back, in an answered call (Q.421)
+        self.world.exchange.pairs[1] = world.ACKNOWLEDGED         # clear-back, in an answered call (Q.421)
         self.assertIn('Call-ID: first\r\n', self.hears('BYE sip:a@127.0.0.1 SIP/2.0'))
 
+    @mock.patch.object(world, 'ANSWERS_AFTER', math.inf)
     def test_calls_that_are_not_answered(self) -> None:
-        self.world.answers = False
         self.sends('INVITE', 'other', payload=0)
         self.hears('SIP/2.0 100 Trying', 'SIP/2.0 488 Not Acceptable Here')
         for call in ('first', 'second'):
             self.sends('INVITE', call)
-            self.hears('SIP/2.0 100 Trying')
+            self.hears('SIP/2.0 100 Trying', 'SIP/2.0 183 Session Progress')
         self.sends('INVITE', 'third')
         self.hears('SIP/2.0 100 Trying', 'SIP/2.0 503 Service Unavailable')
-        self.world.exchange.pairs.update({1: ACKNOWLEDGED, 2: ACKNOWLEDGED})
-        self.hears('SIP/2.0 183 Session Progress', 'SIP/2.0 183 Session Progress')
         self.sends('CANCEL', 'first')
         self.hears('SIP/2.0 200 OK', 'SIP/2.0 487 Request Terminated')
