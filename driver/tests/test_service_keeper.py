@@ -237,6 +237,57 @@ class ServiceKilledTests(ServiceKilledCase):
         self.ends()
 
 
+class ServiceSequenceTests(ServiceKilledCase):
+    """Any sequence of what may happen to a trunk."""
+
+    def program_dies(self) -> None:
+        self.dies(self.chance.choice((signal.SIGKILL, signal.SIGSTOP, signal.SIGSEGV)))
+
+    def follower_dies(self) -> None:
+        os.kill(self.shadow, self.chance.choice((signal.SIGKILL, signal.SIGSTOP)))
+        self.goes_on()
+
+    def both_die(self) -> None:
+        before = self.program
+        for pid in self.chance.sample((self.program, self.shadow), 2):
+            os.kill(pid, signal.SIGKILL)
+        while self.goes_on() and self.program == before:
+            pass
+
+    def reloaded(self) -> None:
+        self.keeper.send_signal(signal.SIGHUP)
+        self.goes_on()
+
+    def replaced(self) -> None:
+        self.keeper.send_signal(signal.SIGUSR2)
+        self.awaits('the keeper was replaced; (?=program)')
+        self.goes_on()
+
+    def service_dies(self) -> None:
+        self.settles()
+        self.kill_keeper()
+        self.step(self.chance.randrange(1, 20))
+        if self.chance.randrange(2):
+            return self.comes_back()
+        os.kill(self.program, signal.SIGKILL)
+        self.again()
+        self.awaits('the keeper was killed')
+        self.goes_on()
+
+    def test_any_sequence(self) -> None:
+        """What is heard is what an uncut replay gives, and all calls are up."""
+        events = (self.program_dies, self.follower_dies, self.both_die, self.reloaded, self.replaced, self.service_dies)
+        with mock.patch.dict(os.environ, self.within(keeper_WITHIN=0.0)):
+            self.begins()
+            for event in self.chance.choices(events, k=30):
+                event()
+                self.step(self.chance.randrange(1, 30))
+        self.assertNotIn('no state is known', self.told())
+        self.assertNotIn('the keeper goes on', self.told())
+        self.as_uncut()
+        self.ends()
+
+
 class ServiceLogTests(ServiceCase):
     """The state after any death is that of the log."""
 

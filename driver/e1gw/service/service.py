@@ -15,7 +15,6 @@ import logging
 import os
 import shutil
 import signal
-import sys
 import zlib
 from typing import NoReturn
 

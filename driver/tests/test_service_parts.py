@@ -1,0 +1,163 @@
+"""One process a trunk: its parts, by a clock that the test gives."""
+from __future__ import annotations
+
+import logging
+import os
+import socket
+import unittest
+from unittest import mock
+
+from . import support
+from .manager import Manager
+from e1gw.service import trunk
+from e1gw.service.journal import MINUTE, MOST, LineLimit
+from e1gw.service.keeper import DEATHS, MOST_PAUSE, DeathCount
+from e1gw.service.recovery import Handover, Notifier, note_of
+from e1gw.service.version import TRIED, ProgramVersion, VersionHistory
+
+
+class DeathCountTests(unittest.TestCase):
+    def test_pauses(self) -> None:
+        """Five deaths in two seconds are too many; then there are pauses, up to ten seconds, until one has lived."""
+        deaths, now = DeathCount(), 100.0
+        self.assertEqual([deaths.died(now + place * 0.1) for place in range(DEATHS)], [None] * (DEATHS - 1) + [0.0])
+        pauses, now = [0.0], now + 0.5
+        for _ in range(9):
+            pause = deaths.died(now)
+            assert pause is not None
+            pauses.append(pause)
+            now += pause + 0.01
+        self.assertEqual(pauses, [0.0, 0.5, 1.0, 2.0, 4.0, 8.0, *[MOST_PAUSE] * 4])
+        self.assertIsNone(deaths.died(now + 100))
+
+
+class VersionHistoryTests(unittest.TestCase):
+    """The version before stays for a minute."""
+
+    def version(self) -> ProgramVersion:
+        return ProgramVersion('e1gw', os.open(os.devnull, os.O_RDONLY), os.open(os.devnull, os.O_RDONLY), 'any')
+
+    def test_minute(self) -> None:
+        first, second = self.version(), self.version()
+        history = VersionHistory(first)
+        history.renew(second)
+        history.look(1e9)
+        self.assertIs(history.before, first)            # (the new one is not up yet)
+        history.is_up(100.0)
+        history.is_up(150.0)                            # another program of it changes nothing
+        history.look(100.0 + TRIED - 0.1)
+        self.assertIs(history.before, first)
+        history.look(100.0 + TRIED)
+        self.assertIsNone(history.before)
+        self.assertFalse(history.has_died() or history.has_died())
+        second.close()
+
+    def test_two_deaths(self) -> None:
+        first, second = self.version(), self.version()
+        history = VersionHistory(first)
+        self.assertFalse(history.has_died() or history.has_died())
+        history.renew(second)
+        history.is_up(100.0)
+        self.assertEqual([history.has_died(), history.has_died()], [False, True])
+        self.assertIs(history.go_back(), second)
+        self.assertEqual((history.now, history.before), (first, None))
+        for version in (first, second):
+            version.close()
+
+
+class LineLimitTests(unittest.TestCase):
+    def record(self, created: float, kind: str | None) -> logging.LogRecord:
+        found = logging.LogRecord('e1gw', logging.INFO, '', 0, 'words', None, None)
+        found.created = created
+        if kind:
+            found.kind = kind
+        return found
+
+    def test_twenty_a_minute(self) -> None:
+        """Of each kind; the next line behind that says how many there were. Lines without a kind all pass."""
+        limit = LineLimit()
+        self.assertEqual([limit.filter(self.record(0.0, 'gap')) for _ in range(MOST + 5)], [True] * MOST + [False] * 5)
+        self.assertTrue(limit.filter(self.record(0.0, 'alarm')))
+        self.assertTrue(all(limit.filter(self.record(0.0, None)) for _ in range(MOST + 5)))
+        later = self.record(MINUTE, 'gap')
+        self.assertTrue(limit.filter(later))
+        self.assertEqual(later.getMessage(), 'gap: .. and 5 more in the last minute\nwords')
+
+
+class HandoverTests(support.FolderCase):
+    """What the next service is given."""
+
+    def setUp(self) -> None:
+        super().setUp()
+        self.files = [os.open(os.devnull, os.O_RDONLY), os.memfd_create('one'), os.memfd_create('two')]
+        for file in self.files:
+            self.addCleanup(os.close, file)
+
+    def test_order(self) -> None:
+        """A descriptor is kept before it is noted, and the one that it follows is let go behind that."""
+        manager = Manager(self.path('notify'))
+        self.addCleanup(manager.close)
+        with mock.patch.dict(os.environ, {'NOTIFY_SOCKET': manager.path}):
+            handover = Handover(self.folder, ['x'], Notifier(), {})
+        self.assertTrue(handover.put({'state': 'one'}, {'trunk-in': self.files[0], 'one': self.files[1]}))
+        self.assertTrue(handover.put({'state': 'two'}, {'trunk-in': self.files[0], 'two': self.files[2]}))
+        handover.forget()
+        support.until(lambda: manager.told[-1:] == ['FDNAME=kept'])
+        told = [f'{what} {name}' for what, name in zip(manager.told, manager.told[1:]) if name.startswith('FDNAME=')]
+        self.assertEqual(told, [
+            'FDSTORE=1 FDNAME=kept', 'FDSTORE=1 FDNAME=trunk-in', 'FDSTORE=1 FDNAME=one', 'FDSTORE=1 FDNAME=two',
+            'FDSTOREREMOVE=1 FDNAME=one', 'FDSTOREREMOVE=1 FDNAME=trunk-in', 'FDSTOREREMOVE=1 FDNAME=two',
+            'FDSTOREREMOVE=1 FDNAME=kept'])
+
+    def test_systemd_that_takes_nothing(self) -> None:
+        """It is said that not all is kept, and tried again."""
+        with socket.socket(socket.AF_UNIX, socket.SOCK_DGRAM) as systemd:
+            systemd.bind(self.path('notify'))
+            systemd.setblocking(False)
+            with mock.patch.dict(os.environ, {'NOTIFY_SOCKET': self.path('notify')}):
+                notifier = Notifier()
+            while notifier.tell('WATCHDOG=1'):
+                pass
+            handover = Handover(self.folder, ['x'], notifier, {})
+            self.assertFalse(handover.put({}, {'one': self.files[1]}))
+            while True:
+                try:
+                    systemd.recv(100)
+                except BlockingIOError:
+                    break
+            self.assertTrue(handover.put({}, {'one': self.files[1]}))
+
+    def test_note(self) -> None:
+        """It is of a service that is no more, and of the same trunk; a shorter one leaves nothing of a longer one."""
+        handover = Handover(self.folder, ['x'], Notifier(), {})
+        for state in ('a' * 1000, 'b'):
+            handover.put({'state': state}, {})
+        found = note_of({}, self.folder, ['x'])
+        self.assertEqual(found and found['state'], 'b')
+        self.assertIsNone(note_of({}, self.folder, ['y']))
+        with mock.patch('os.getpid', lambda: 1):
+            self.assertIsNone(note_of({}, self.folder, ['x']))      # (it is there)
+
+
+class TrunkEndTests(support.FolderCase):
+    def test_ends(self) -> None:
+        """A socket, a FIFO and a file tell that they have ended; a device has if nothing was taken of it."""
+        mine, its = socket.socketpair()
+        reads, writes = os.pipe()
+        short = os.open(self.write('short', b'octets'), os.O_RDONLY)
+        device = os.open(os.devnull, os.O_RDONLY)
+        opened = {name: trunk.TrunkFiles(mock.Mock(), {'trunk-in': file}) for name, file in (
+            ('socket', mine.detach()), ('fifo', reads), ('file', short), ('device', device))}
+        self.assertEqual([each.has_ended(7) for each in opened.values()], [False] * 4)
+        its.close()
+        os.close(writes)
+        os.lseek(short, 0, os.SEEK_END)
+        self.assertEqual([each.has_ended(7) for each in opened.values()], [True, True, True, False])
+        self.assertTrue(opened['device'].has_ended(0))
+        for each in opened.values():
+            each.close()
+            self.assertFalse(each.is_open())
+
+
+if __name__ == '__main__':
+    unittest.main()
