@@ -109,14 +109,14 @@ class ProgramConnection:
         with suppress(ValueError):
             self._given.remove(given)
 
-    async def ask(self, record: bytes, is_live: Callable[[], bool]) -> Record:
+    async def ask(self, record: bytes, teller: Callable[[], object]) -> Record:
         """The answer to a record, once the follower has told of the record, too: what follows from it is known
-        then. `is_live` is whether there is one that tells."""
-        given = self.give(record)
+        then. `teller` is who tells now, None if nobody; one that came behind the record may not tell of it."""
+        given, its = self.give(record), teller()
         try:
             answer = await given.answer
             until = time.monotonic() + PATIENCE
-            while is_live() and not given.told.is_set() and time.monotonic() < until:
+            while its and teller() is its and not given.told.is_set() and time.monotonic() < until:
                 self._hurry()
                 await asyncio.sleep(SOON)
             return answer

@@ -65,8 +65,9 @@ class TrunkStatus:
     def has(self, what: str) -> bool:
         return self._connected.get(what, False)
 
-    def is_live(self) -> bool:
-        return self.lines.live
+    def teller(self) -> object:
+        """The connection to the follower that tells changes; None if there is none."""
+        return self._line if self.lines.live else None
 
     def hurry(self) -> None:
         """What is told is read at once."""

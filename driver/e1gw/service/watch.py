@@ -105,7 +105,7 @@ class TrunkWatch:
 
     async def command(self, record: bytes, circuit: int, words: str) -> str:
         try:
-            refusal = (await self._program.ask(record, self.status.is_live)).refusal
+            refusal = (await self._program.ask(record, self.status.teller)).refusal
             text = refusal.words if refusal else 'done'
             more = words_of_refusal(refusal, circuit, self._lines.lines[circuit].role) if refusal else text
         except NoAnswer as fault:
@@ -145,7 +145,7 @@ class TrunkWatch:
 
     async def _renew(self, record: bytes) -> None:
         try:
-            await self._program.ask(record, lambda: False)
+            await self._program.ask(record, lambda: None)
         except NoAnswer:
             pass
 
