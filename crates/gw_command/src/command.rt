@@ -341,6 +341,24 @@ pub fn tell_of<'m>(matches: &'m ArgMatches<'_>) -> Option<&'m str>
     text_of(matches, "tell")
 }
 
+/// The path of the log that the matches name to be followed, the first one, if they name one.
+pub fn follow_of<'m>(matches: &'m ArgMatches<'_>) -> Option<&'m str>
+    ensures { option_map (λ path. path.now) result
+        ≡ text_in (codes "follow") (subcommand_rows_of matches.now) }
+{
+    text_of(matches, "follow")
+}
+
+/// The octet from which on the log is followed, by the first number that the matches name.
+pub fn from_of(matches: &ArgMatches<'_>) -> Option<u64>
+    ensures found { IfSome result (SaysNumberIn 64 (codes "from") (subcommand_rows_of matches.now)) }
+    ensures none { IfNone result ((n : ℕ)
+        → ¬ SaysNumberIn 64 (codes "from") (subcommand_rows_of matches.now) n) }
+{
+    let (_, options) = matches.subcommand()?;
+    options.get_one("from")
+}
+
 /// The path of the state that a session begins with, the first one, if the matches name one.
 pub fn load_of<'m>(matches: &'m ArgMatches<'_>) -> Option<&'m str>
     ensures { option_map (λ path. path.now) result ≡ text_in (codes "load") (subcommand_rows_of matches.now) }

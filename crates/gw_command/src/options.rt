@@ -32,6 +32,10 @@ From standard input come session records with octets of the trunk, datagrams,
 commands and codecs. To standard output go the records of a gateway that answer
 them.
 
+With --follow the records come from a log, which may grow: a file or /dev/fd/N.
+At its end more is waited for, until standard input ends. Then what is there yet
+is read; a part of a record at the end is left.
+
 Example: e1gw replay --config trunk.toml < session.rec > answers.rec";
 
 const CHECK_HELP: &str = "\
@@ -123,6 +127,12 @@ const CONTROL_TEXT: &str =
 const TELL_TEXT: &str =
     "Unix socket at which clients are told how the trunk stands and\nwhat changes";
 
+const FOLLOW_TEXT: &str =
+    "Read records from this log as it grows, until standard input ends";
+
+const FROM_TEXT: &str =
+    "With --follow: the octet of the log at which its first record\nbegins";
+
 const SIZE_TEXT: &str = "Octets in a packet, 32 to 1280, a multiple of 32";
 
 const JITTER_TEXT: &str = "Packets waited for after one that is due, 0 to 500";
@@ -156,6 +166,8 @@ enum OptionName {
     SeizureWait,
     Control,
     Tell,
+    Follow,
+    From,
     Crc4Check,
     Live,
     Reports,
@@ -196,6 +208,8 @@ const OF_REPLAY: &[OptionName] = &[
     OptionName::Totals,
     OptionName::SeizureWait,
     OptionName::Tell,
+    OptionName::Follow,
+    OptionName::From,
 ];
 
 // The options of a session whose answers are not written.
@@ -447,6 +461,19 @@ fn tell_option<'a>(alloc: Global) -> Arg<'a> {
     option(alloc, "tell", TELL_TEXT).value_name("SOCKET")
 }
 
+// The log that is followed.
+fn follow_option<'a>(alloc: Global) -> Arg<'a> {
+    option(alloc, "follow", FOLLOW_TEXT).value_name("LOG")
+}
+
+// The octet of the log from which on it is read.
+fn from_option<'a>(alloc: Global) -> Arg<'a> {
+    option(alloc, "from", FROM_TEXT)
+        .value_name("OCTET")
+        .value_parser(value_parser!(u64))
+        .default_value("0")
+}
+
 // A place that has to be named, without a word before it.
 fn place<'a>(alloc: Global, name: &'a str, value: &'a str, help: &'a str) -> Arg<'a> {
     Arg::new(alloc, name)
@@ -520,6 +547,8 @@ fn declared<'a>(alloc: Global, option: OptionName) -> Arg<'a> {
         OptionName::SeizureWait => seizure_wait_option(alloc),
         OptionName::Control => control_option(alloc),
         OptionName::Tell => tell_option(alloc),
+        OptionName::Follow => follow_option(alloc),
+        OptionName::From => from_option(alloc),
         OptionName::Crc4Check => flag(alloc, "check", CRC4_CHECK_TEXT),
         OptionName::Live => flag(alloc, "live", LIVE_TEXT),
         OptionName::Reports => reports_option(alloc),

@@ -1,6 +1,6 @@
 -- Commands on new streams.
 use Rattle.std.proofs.Common.{◌≡◌, ◌⊎◌, inl, inr, ℕ, List, [], Option, None, Some, Result, Err, refl, sym, subst}
-use Rattle.std.specs.Prelude.{⊤, option_map}
+use Rattle.std.specs.Prelude.{⊤, MatchOption, option_map}
 use Rattle.gw_config.specs.declared.config.Config.{Config}
 use Rattle.gw_records.specs.declared.outcome.Totals.{Totals}
 use Rattle.gw_switch.specs.declared.GatewayConfig.{GatewayConfig}
@@ -14,11 +14,12 @@ use Rattle.gw_session.specs.Tape.{TapeState, no_tape}
 use Rattle.gw_command.specs.declared.command.SessionKind.{SessionKind}
 use Rattle.gw_command.specs.declared.command.SessionKind.TheVariants.{Replay, Check, Serve}
 use Rattle.gw_program.specs.declared.program_fault.ProgramFault.{ProgramFault}
+use Rattle.gw_program.specs.declared.program_fault.ProgramFault.TheVariants as program_faults
 use Rattle.gw_program.specs.Performing.{EndedSaved, NotBegun, HasServed, HasConfig, by_session}
 use Rattle.gw_program.specs.Sessions.{HasGateway, Runs, Serves, Checks}
 use Rattle.gw_program.specs.State.{HasBegun, BeginsWaiting, IsSaved}
-use Rattle.gw_program.specs.Requests.{AsksWait, ByGateway, CommandLine, DoesSession, OnNewStreams, TakesAsked}
-use Rattle.gw_program.specs.Requests.{config_in, load_in, save_in}
+use Rattle.gw_program.specs.Requests.{AsksWait, ByGateway, CommandLine, DoesSession, EndsSession, FollowsLog}
+use Rattle.gw_program.specs.Requests.{OnNewStreams, TakesAsked, config_in, follow_in, load_in, save_in}
 use Rattle.gw_program.specs.Setup.{IsConfigAt, IsMeant, SystemGives}
 
 -- what was done on streams to which nothing had happened was done on new streams
@@ -41,6 +42,29 @@ untouched command does program_fault =
     let sink : SinkState = record { failures = 0; taken = None } in on_new source source sink sink
     (inl (record { program_fault = program_fault; why = tt; told_is = refl; unread = refl; unwritten = refl })) refl
     refl refl refl
+
+-- a session is not begun for a command that names no configuration
+pub no_session : (command : CommandLine) (session : SessionKind) → config_in command ≡ None
+    → DoesSession command session (Err program_faults.Nothing)
+no_session command session none = go (follow_in command)
+  where
+    source : SourceState
+    source = record { failures = 0; reads = 0; given = Some []; to_come = None }
+
+    sink : SinkState
+    sink = record { failures = 0; taken = None }
+
+    go : (o : Option (List ℕ))
+        → MatchOption o (EndsSession command session (λ _. ⊤) (Err program_faults.Nothing))
+        (λ path. FollowsLog command session path (Err program_faults.Nothing))
+    go None = on_new source source sink sink (tt, inl (record {
+      program_fault = program_faults.Nothing;
+      why = tt;
+      told_is = refl;
+      unread = refl;
+      unwritten = refl;
+    })) refl refl refl refl
+    go (Some path) = inr (refl, inl none)
 
 -- why nothing was begun is left out, and what the streams are beside what they tell
 pub told_untouched : {S K : Type 0} {x x' : S} {y y' : K} {why : ProgramFault → Type 0} {told : Result Totals ProgramFault}
@@ -124,7 +148,7 @@ module _ (s s' : SourceState) (k k' : SinkState) {P T : Type 0} (reads : Config 
     → Type 0)
     (lacks_gateway lacks_more : Config → ProgramFault → Type 0) (command : CommandLine)
     (starts : Config → Gateway → Type 0) (saves : Config → Gateway → Result (Unit {0}) ProgramFault → Type 0)
-    (takes : TakesAsked command reads starts saves)
+    (takes : TakesAsked command reads starts saves) (Given : SourceState → Type 0) (given : Given s')
     (opens : Config → P → Type 0) (begins : T → Type 0)
     (ports_tell : P → PortsState) (tape_tells : T → TapeState) {told : Result Totals ProgramFault}
   where
@@ -132,8 +156,8 @@ module _ (s s' : SourceState) (k k' : SinkState) {P T : Type 0} (reads : Config 
     stopped : {why : ProgramFault → Type 0} {does : SessionStreams → SessionStreams → Gateway → Gateway → Type 0}
         → NotBegun s s' k k' why told
         → s.reads ≡ 0 → s.given ≡ Some [] → s.failures ≡ 0 → k.failures ≡ 0
-        → OnNewStreams (λ a a'. ByGateway a a' command told (does a a'))
-    stopped n = on_new s s' k k' (inl (told_untouched (λ e. e) (λ e. e) n))
+        → OnNewStreams (λ a a'. Given a'.source × ByGateway a a' command told (does a a'))
+    stopped n = on_new s s' k k' (given, inl (told_untouched (λ e. e) (λ e. e) n))
 
     -- a session that was done on new streams
     pub session_done : (lacks_watch : ProgramFault → Type 0) (session : SessionKind) → NotBegun s s' k k' lacks told
@@ -146,20 +170,20 @@ module _ (s s' : SourceState) (k k' : SinkState) {P T : Type 0} (reads : Config 
         ⊎ HasServed (opens config) begins (λ ports ports' tape tape'.
         EndedSaved (λ end. Serves (around s k (ports_tell ports) (tape_tells tape))
         (around s' k' (ports_tell ports') (tape_tells tape')) end gateway gateway') (saves config gateway') told))))
-        → s.reads ≡ 0 → s.given ≡ Some [] → s.failures ≡ 0 → k.failures ≡ 0 → DoesSession command session told
+        → s.reads ≡ 0 → s.given ≡ Some [] → s.failures ≡ 0 → k.failures ≡ 0 → EndsSession command session Given told
     session_done lacks_watch session (inl n) a b c d = stopped n a b c d
     session_done lacks_watch Replay (inr h) a b c d = elim h.done [
       | inl n ↦ stopped n a b c d
       | inr w ↦ elim w.done [
         | inl n ↦ stopped n a b c d
-        | inr e ↦ on_new s s' k k' (inr (with_gateway h.config w.gateway w.gateway'
+        | inr e ↦ on_new s s' k k' (given, inr (with_gateway h.config w.gateway w.gateway'
             (takes.read h.config h.read) (takes.begun h.config w.gateway w.begun)
             (saved_told takes h.config w.gateway' e))) a b c d
       ]
     ]
     session_done lacks_watch Check (inr h) a b c d = elim h.done [
       | inl n ↦ stopped n a b c d
-      | inr w ↦ on_new s s' k k' (inr (with_gateway h.config w.gateway w.gateway'
+      | inr w ↦ on_new s s' k k' (given, inr (with_gateway h.config w.gateway w.gateway'
           (takes.read h.config h.read) (takes.begun h.config w.gateway w.begun)
           (saved_told takes h.config w.gateway' w.done))) a b c d
     ]
@@ -171,9 +195,9 @@ module _ (s s' : SourceState) (k k' : SinkState) {P T : Type 0} (reads : Config 
           before = around s k (ports_tell v.ports) (tape_tells v.tape);
           after = around s' k' (ports_tell v.ports') (tape_tells v.tape');
           new = record { unread = a; no_octet = b; no_failed_read = c; no_failed_write = d };
-          done = inr (with_gateway h.config w.gateway w.gateway'
+          done = (given, inr (with_gateway h.config w.gateway w.gateway'
               (takes.read h.config h.read) (takes.begun h.config w.gateway w.begun)
-              (saved_told takes h.config w.gateway' v.done));
+              (saved_told takes h.config w.gateway' v.done)));
         }
       ]
     ]

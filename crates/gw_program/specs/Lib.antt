@@ -9,3 +9,4 @@ pub mod Setup
 pub mod Filters
 pub mod Requests
 pub mod Continuing
+pub mod Following

@@ -1,13 +1,14 @@
 -- What was done of what the command line asks for (module `requests`).
 use Rattle.std.specs.Prelude.{◌≡◌, ◌≢◌, ◌⊎◌, ⊤, ℕ, List, [], Option, Some, None, Result, Err, IfOk}
-use Rattle.std.specs.Prelude.{IfErr}
+use Rattle.std.specs.Prelude.{IfErr, IsErrAnd}
 use Rattle.std.specs.Prelude.{MatchResult, MatchOption, codes}
 use Rattle.clap.specs.Words.{Row}
 use Rattle.gw_config.specs.declared.config.Config.{Config}
 use Rattle.gw_switch.specs.declared.gateway.Gateway.{Gateway}
 use Rattle.gw_records.specs.declared.outcome.Totals.{Totals}
+use Rattle.gw_records.specs.Streams.{SourceState}
 use Rattle.gw_session.specs.Serve.{SessionStreams}
-use Rattle.gw_command.specs.Command.{IsRequest, text_in, SaysWait}
+use Rattle.gw_command.specs.Command.{IsRequest, text_in, SaysNumberIn, SaysWait}
 use Rattle.gw_command.specs.declared.command.Filter.{Filter}
 use Rattle.gw_command.specs.declared.command.Filter.TheVariants.{Align, Crc4}
 use Rattle.gw_command.specs.declared.command.SpeechJob.{SpeechJob}
@@ -17,6 +18,7 @@ use Rattle.gw_command.specs.declared.command.SessionKind.{SessionKind}
 use Rattle.gw_program.specs.declared.program_fault.ProgramFault.{ProgramFault}
 use Rattle.gw_program.specs.declared.program_fault.ProgramFault.TheVariants as program_faults
 use Rattle.gw_program.specs.Filters.{DoesFilter, DoesFilterUntil, HasChecked, HasCheckedUntil}
+use Rattle.gw_program.specs.Following.{IsLogged, SystemLacksLog, log_ended}
 use Rattle.gw_program.specs.Jobs.{Does, DoesUntil}
 use Rattle.gw_program.specs.Performing.{Ended, EndedSaved, NotBegun, HasConfig, by_session}
 use Rattle.gw_program.specs.Setup.{IsConfigAt}
@@ -134,12 +136,46 @@ ByGateway a a' command told does = NotBegun a.source a'.source a.sink a'.sink (�
     ⊎ HasConfig (IsConfigAt (config_in command)) (λ config.
     HasGateway (BeginsWaiting config.gateway (load_in command) (AsksWait command)) does)
 
--- the session that the command names ended with this result
-abbrev pub DoesSession : CommandLine → SessionKind → Result Totals ProgramFault → Type 0
-DoesSession command session told = OnNewStreams (λ a a'. ByGateway a a' command told
+-- the session that the command names ended with this result, and this is known of its source
+abbrev pub EndsSession : CommandLine → SessionKind → (SourceState → Type 0) → Result Totals ProgramFault
+    → Type 0
+EndsSession command session Given told = OnNewStreams (λ a a'. Given a'.source × ByGateway a a' command told
     (λ gateway gateway'. by_session session
     (EndedSaved (λ end. Runs a.source a'.source a.sink a'.sink end gateway gateway')
     (IsSaved (save_in command)) told)
     (EndedSaved (λ end. Checks a.source a'.source a.sink a'.sink end gateway gateway')
     (IsSaved (save_in command)) told)
     (EndedSaved (λ end. Serves a a' end gateway gateway') (IsSaved (save_in command)) told)))
+
+-- the log that the command names to be followed
+abbrev pub follow_in : CommandLine → Option (List ℕ)
+follow_in command = text_in (codes "follow") command
+
+-- the octet that the command names, from which on the log is read
+abbrev pub IsFrom : CommandLine → ℕ → Type 0
+IsFrom command place = SaysNumberIn 64 (codes "from") command place
+
+-- the session was given the octets of the log at this path from this octet on, and ended with this result
+pub record EndsOnLog (command : CommandLine) (session : SessionKind) (path : List ℕ) (place : ℕ)
+    (told : Result Totals ProgramFault) : Type 0 where
+  pub ended : Result Totals ProgramFault
+  pub ends : EndsSession command session (IsLogged path place) ended
+  pub told_is : told ≡ log_ended ended
+
+-- so did the session on the log from the octet on that the command names, or the log was not opened
+pub record HasFollowed (command : CommandLine) (session : SessionKind) (path : List ℕ)
+    (told : Result Totals ProgramFault) : Type 0 where
+  pub place : ℕ
+  pub from : IsFrom command place
+  pub done : IsErrAnd told (SystemLacksLog path place) ⊎ EndsOnLog command session path place told
+
+-- .. or the command names no configuration or no octet, and this is returned
+abbrev pub FollowsLog : CommandLine → SessionKind → List ℕ → Result Totals ProgramFault → Type 0
+FollowsLog command session path told = HasFollowed command session path told
+    ⊎ ((told ≡ Err program_faults.Nothing)
+    × ((config_in command ≡ None) ⊎ ((place : ℕ) → ¬ IsFrom command place)))
+
+-- the session that the command names ended with this result, on standard input or on the log that is followed
+abbrev pub DoesSession : CommandLine → SessionKind → Result Totals ProgramFault → Type 0
+DoesSession command session told = MatchOption (follow_in command) (EndsSession command session (λ _. ⊤) told)
+    (λ path. FollowsLog command session path told)

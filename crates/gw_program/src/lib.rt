@@ -2,6 +2,7 @@
 #![tactic(auto)]
 
 mod filters;
+mod following;
 mod jobs;
 pub mod laws;
 mod listing;

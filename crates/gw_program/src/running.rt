@@ -1,17 +1,20 @@
 //! What runs between standard input and standard output for the command line: a job, a filter or a session.
 
-ghost use Rattle.std.specs.Prelude.{Some, None};
+ghost use Rattle.std.specs.Prelude.{Some, None, ⊤};
 ghost use Rattle.clap.specs.Words.{subcommand_rows_of};
 ghost use Rattle.gw_program.specs.Requests.{DoesJob, RunsFilter, ChecksCrc4, DoesSession, TakesAsked};
-ghost use Rattle.gw_program.specs.Requests.{reports_path_in};
+ghost use Rattle.gw_program.specs.Requests.{reports_path_in, EndsSession, FollowsLog};
 
 use crate::filters::{do_filter, perform_crc4_check};
+use crate::following::{log_ended, open_log};
 use crate::performing::{System, perform_job, perform_session, told_as};
 use crate::program_fault::ProgramFault;
 use crate::report::CheckTells;
 use crate::reports::open_reports;
 use clap::ArgMatches;
-use gw_command::{Filter, SessionKind, SpeechJob, asks_live, reports_of};
+use gw_command::{
+    Filter, SessionKind, SpeechJob, asks_live, follow_of, from_of, reports_of,
+};
 use gw_filter::{NoReports, ReportingSender, ToReports};
 use gw_session::{FromRead, ToWrite, Totals};
 
@@ -116,11 +119,54 @@ pub fn run_crc4_check(rt: &HostRuntime, matches: &ArgMatches<'_>) -> Result<Tota
     }
 }
 
-/// Runs a session from standard input to standard output, with what the system takes for the command line.
+// Runs a session from standard input.
+fn run_on_input<Y: System>(
+    rt: &HostRuntime,
+    matches: &ArgMatches<'_>,
+    system: &Y,
+    session: SessionKind,
+) -> Result<Totals, ProgramFault>
+    requires { TakesAsked (subcommand_rows_of matches.now) (Y.reads system.now) (Y.starts system.now)
+        (Y.saves system.now) }
+    ensures { EndsSession (subcommand_rows_of matches.now) session (λ _. ⊤) result }
+{
+    let mut source = FromRead::new(rt.stdin());
+    let mut sink = ToWrite::new(rt.stdout());
+    perform_session(system, rt.alloc(), session, &mut source, &mut sink)
+}
+
+// Runs a session on the log at the path, from the octet on that the matches name.
+fn run_on_log<Y: System>(
+    rt: &HostRuntime,
+    matches: &ArgMatches<'_>,
+    system: &Y,
+    session: SessionKind,
+    path: &str,
+) -> Result<Totals, ProgramFault>
+    requires { TakesAsked (subcommand_rows_of matches.now) (Y.reads system.now) (Y.starts system.now)
+        (Y.saves system.now) }
+    ensures { FollowsLog (subcommand_rows_of matches.now) session path.now result }
+{
+    let Some(place) = from_of(matches) else {
+        return Err(ProgramFault::Nothing);
+    };
+    let mut source = match open_log(rt, path, place) {
+        Ok(source) => source,
+        Err(fault) => return Err(fault),
+    };
+    let mut sink = ToWrite::new(rt.stdout());
+    let ended = perform_session(system, rt.alloc(), session, &mut source, &mut sink);
+    log_ended(ended)
+}
+
+/// Runs a session to standard output, with what the system takes for the command line: from standard input,
+/// or on the log that the matches name to be followed.
 ///
 /// # Errors
 ///
-/// What the system lacks, [`ProgramFault::Session`] if the session fails, or that its state was not saved.
+/// What the system lacks, [`ProgramFault::Session`] if the session fails, or that its state was not saved;
+/// [`ProgramFault::Log`] if the log can't be followed, and [`ProgramFault::PartRecord`] if it ends with a
+/// part of a record.
 pub fn run_session<Y: System>(
     rt: &HostRuntime,
     matches: &ArgMatches<'_>,
@@ -131,7 +177,8 @@ pub fn run_session<Y: System>(
         (Y.saves system.now) }
     ensures { DoesSession (subcommand_rows_of matches.now) session result }
 {
-    let mut source = FromRead::new(rt.stdin());
-    let mut sink = ToWrite::new(rt.stdout());
-    perform_session(system, rt.alloc(), session, &mut source, &mut sink)
+    match follow_of(matches) {
+        Some(path) => run_on_log(rt, matches, system, session, path),
+        None => run_on_input(rt, matches, system, session),
+    }
 }

@@ -1,17 +1,20 @@
-//! Which streams commands are performed on: standard input and output, and no other type.
+//! Which streams commands are performed on: standard input or a log that is followed, and standard output.
 //!
 //! These traits are public in a module that is not, so no other crate says so of a type of its own. What
 //! passes octets on to standard output, or puts others in their place, is refused by its type.
 
+use crate::following::FollowedLog;
 use gw_session::{FromRead, ToWrite};
 use std::rt::{Stdin, Stdout};
 
-/// Standard input.
+/// Standard input, or a log that is followed in its place.
 pub trait StandardInput {}
 
 /// Standard output.
 pub trait StandardOutput {}
 
 impl StandardInput for FromRead<Stdin> {}
+
+impl StandardInput for FollowedLog {}
 
 impl StandardOutput for ToWrite<Stdout> {}

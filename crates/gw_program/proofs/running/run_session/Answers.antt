@@ -1,9 +1,7 @@
-use Rattle.std.proofs.Common.{refl}
-use Rattle.gw_program.proofs.Streams.{session_done}
 use Rattle.gw_program.proofs.running.run_session.Goals as goal
 
-pub returns : goal.returns
-returns g c =
-    session_done _ _ _ _ _ _ _ _ _ _ _ c.requires _ _ _ _ _ _ c.perform_session.ensures
-    (rw c.new-source.ensures refl) (rw c.new-source.ensures refl) (rw c.new-source.ensures refl)
-    c.new-sink.ensures.failed
+pub returns-in-Some : goal.returns-in-Some
+returns-in-Some g c = rw (← c.in-Some.ensures) c.run_on_log.ensures
+
+pub returns-in-None : goal.returns-in-None
+returns-in-None g c = rw (← c.in-None.ensures) c.run_on_input.ensures

@@ -1,0 +1,117 @@
+"""A log that is followed while it grows: its records are answered as they come, and the state behind the whole ones
+is that of a session that was not cut."""
+from __future__ import annotations
+
+import os
+import random
+import subprocess
+import unittest
+
+from . import support
+from .test_state import config_of, records_of
+
+CUTS = 20
+
+
+class FollowTests(support.FolderCase):
+    """Thirty calls, in a log that is cut anywhere."""
+
+    def setUp(self) -> None:
+        super().setUp()
+        self.rng = random.Random(self.id())
+        self.config = self.write('follow.toml', config_of('A'))
+        self.records = list(records_of(self.rng, 'A', 200))
+
+    def words(self, *words: str) -> list[str]:
+        """The words of a replay that saves its state."""
+        return [support.program(), 'replay', '--config', self.config, '--save', self.path('state'), *words]
+
+    def saved(self) -> bytes:
+        """The state that was saved last."""
+        with open(self.path('state'), 'rb') as file:
+            return file.read()
+
+    def replayed(self, octets: bytes, *words: str) -> tuple[bytes, bytes]:
+        """What answers records, and the state behind them."""
+        done = subprocess.run(self.words(*words), input=octets, stdout=subprocess.PIPE, check=True)
+        return done.stdout, self.saved()
+
+    def followed(self, log: str, *words: str) -> tuple[int, bytes, str]:
+        """The status, the answers and the line of a follower whose standard input has ended before it begins."""
+        done = subprocess.run(self.words('--follow', log, *words), stdin=subprocess.DEVNULL, capture_output=True,
+                              check=False)
+        return done.returncode, done.stdout, done.stderr.decode()
+
+    def test_records_are_answered_as_they_come(self) -> None:
+        log = self.write('log', b'')
+        follower = subprocess.Popen(self.words('--follow', log), stdin=subprocess.PIPE, stdout=subprocess.PIPE)
+        assert follower.stdin and follower.stdout
+        come = answered = b''
+        with follower, open(log, 'ab', buffering=0) as file:
+            for records in (self.records[:40], self.records[40:41], self.records[41:]):
+                octets = b''.join(records)
+                place = self.rng.randrange(len(octets))
+                file.write(octets[:place])
+                file.write(octets[place:])
+                come += octets
+                answers, state = self.replayed(come)
+                answered += follower.stdout.read(len(answers) - len(answered))
+                self.assertEqual(answered, answers)
+            follower.stdin.close()
+            self.assertEqual((follower.wait(), follower.stdout.read()), (0, b''))
+        self.assertEqual(self.saved(), state)
+
+    def test_octets_of_standard_input_are_thrown_away(self) -> None:
+        octets = b''.join(self.records)
+        answers, state = self.replayed(octets)
+        done = subprocess.run(self.words('--follow', self.write('log', octets)), input=bytes(100_000),
+                              capture_output=True, check=False)
+        self.assertEqual((done.returncode, done.stdout, done.stderr, self.saved()), (0, answers, b'', state))
+
+    def test_a_log_that_was_cut_anywhere(self) -> None:
+        octets = b''.join(self.records)
+        for _ in range(CUTS):
+            cut, whole, place = self.rng.randrange(len(octets)), 0, 0
+            while place + len(self.records[whole]) <= cut:
+                place, whole = place + len(self.records[whole]), whole + 1
+            line = 'the log ends with a part of a record\n' if cut > place else ''
+            with self.subTest(cut=cut):
+                answers, state = self.replayed(octets[:place])
+                self.assertEqual(self.followed(self.write('log', octets[:cut])), (0, answers, line))
+                self.assertEqual(self.saved(), state)
+
+    def test_from_a_state_that_was_saved_between_two_records(self) -> None:
+        octets = b''.join(self.records)
+        log, (_, state) = self.write('log', octets), self.replayed(octets)
+        for _ in range(CUTS):
+            place = len(b''.join(self.records[:self.rng.randrange(len(self.records))]))
+            with self.subTest(place=place):
+                self.write('begun', self.replayed(octets[:place])[1])
+                answers, _ = self.replayed(octets[place:], '--load', self.path('begun'))
+                self.assertEqual(self.followed(log, '--from', str(place), '--load', self.path('begun')),
+                                 (0, answers, ''))
+                self.assertEqual(self.saved(), state)
+
+    def test_a_log_in_memory(self) -> None:
+        octets = b''.join(self.records)
+        memory = os.memfd_create('log')
+        self.addCleanup(os.close, memory)
+        os.write(memory, octets)
+        answers, state = self.replayed(octets)
+        done = subprocess.run(self.words('--follow', f'/dev/fd/{memory}'), stdin=subprocess.DEVNULL,
+                              capture_output=True, pass_fds=(memory,), check=False)
+        self.assertEqual((done.returncode, done.stdout, done.stderr, self.saved()), (0, answers, b'', state))
+
+    def test_what_cannot_be_followed(self) -> None:
+        os.mkfifo(self.path('fifo'))
+        log = self.write('log', self.records[0])
+        length = len(self.records[0])
+        for words in ((self.path('none'),), (self.folder,), (self.path('fifo'),), (log, '--from', str(length + 1)),
+                      (log, '--from', str(2 ** 63))):
+            with self.subTest(words=words):
+                self.assertEqual(self.followed(*words), (2, b'', 'cannot follow the log\n'))
+        self.assertEqual(self.followed(log, '--from', str(length)), (0, b'', ''))
+
+
+if __name__ == '__main__':
+    unittest.main()
