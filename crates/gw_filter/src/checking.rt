@@ -1,6 +1,7 @@
 //! The filter `crc4 --check`: CRC-4 multiframes checked, errored submultiframes reported.
 
-ghost use Rattle.std.specs.Prelude.{◌≡◌, ◌+◌, ◌-◌, ◌<◌, ◌≤◌, ◌++◌, ℕ, List, [], length, sum, IfOk, IfErr};
+ghost use Rattle.std.specs.Prelude.{◌≡◌, ◌+◌, ◌-◌, ◌%◌, ◌^◌, ◌<◌, ◌≤◌, ◌++◌, ℕ, List, [], length, sum};
+ghost use Rattle.std.specs.Prelude.{IfOk, IfErr};
 ghost use Rattle.g704_crc4.specs.ReceiverCounts.{receiver_counts_of};
 ghost use Rattle.g704_crc4.specs.Receivers.{ChecksTrunk};
 ghost use Rattle.gw_records.specs.Streams.{CanBegin};
@@ -51,8 +52,9 @@ pub struct ReportingChecker<R, T> {
     // The sum of the reports.
     reported: u64,
     teller: T,
-    // Octets since the counts were written.
+    // Octets since the counts were written, less than those of a second.
     untold: usize,
+    ghost few: { untold < 256000 },
 }
 
 impl<R: ReportSink, T: CountsTeller + Drop> ReportingChecker<R, T> {
@@ -72,6 +74,8 @@ impl<R: ReportSink, T: CountsTeller + Drop> ReportingChecker<R, T> {
 
     // Reports the errored submultiframes that are not reported yet, at most 255.
     fn report(&mut self)
+        ensures checker { self.new.checker ≡ self.old.checker }
+        ensures untold { self.new.untold ≡ self.old.untold }
         ensures stands { (octets returned : List ℕ) → HasReported self.old.checker self.old.reported
             (R.sent self.old.reports) octets returned
             → HasReported self.new.checker self.new.reported (R.sent self.new.reports) octets returned }
@@ -95,15 +99,17 @@ impl<R: ReportSink, T: CountsTeller + Drop> ReportingChecker<R, T> {
 
     // Writes the counts if a second has passed with this many octets.
     fn tell(&mut self, len: usize)
+        requires { len < 2 ^ 63 }
         ensures checker { self.new.checker ≡ self.old.checker }
         ensures reported { self.new.reported ≡ self.old.reported }
         ensures reports { self.new.reports ≡ self.old.reports }
         ensures told { 256000 ≤ self.old.untold + len → (history : List ℕ)
             → ChecksTrunk self.old.checker history → T.has_told self.new.teller (receiver_counts_of history) }
+        ensures untold { self.new.untold ≡ (self.old.untold + len) % 256000 }
     {
-        self.untold = self.untold.saturating_add(len);
-        if self.untold >= SECOND {
-            self.untold %= SECOND;
+        let untold = self.untold + len;
+        self.untold = untold % SECOND;
+        if untold >= SECOND {
             let counts = self.checker.receiver_counts();
             self.teller.tell(&counts);
         }
@@ -114,7 +120,19 @@ impl<R: ReportSink, T: CountsTeller + Drop> BufferFilter for ReportingChecker<R,
     ghost has_returned = { λ c octets returned. HasReported c.checker c.reported (R.sent c.reports)
         octets returned };
 
-    fn filter_buffer(&mut self, octets: &mut [u8]) {
+    fn filter_buffer(&mut self, octets: &mut [u8])
+        ensures len { length octets.new ≡ length octets.old }
+        ensures stands { (taken returned : List ℕ) → HasReported self.old.checker self.old.reported
+            (R.sent self.old.reports) taken returned → HasReported self.new.checker self.new.reported
+            (R.sent self.new.reports) (taken ++ octets.old) (returned ++ octets.new) }
+        ensures reports { (history : List ℕ) → ChecksTrunk self.old.checker history → ReportsUpTo 255
+            ((receiver_counts_of (history ++ octets.old)).errored - self.old.reported)
+            (R.sent self.old.reports) (R.sent self.new.reports) (R.has_refused self.new.reports) }
+        ensures told { 256000 ≤ self.old.untold + length octets.old → (history : List ℕ)
+            → ChecksTrunk self.old.checker history
+            → T.has_told self.new.teller (receiver_counts_of (history ++ octets.old)) }
+        ensures untold { self.new.untold ≡ (self.old.untold + length octets.old) % 256000 }
+    {
         filter_all(&mut self.checker, octets);
         self.report();
         self.tell(octets.len());

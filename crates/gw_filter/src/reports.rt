@@ -1,10 +1,13 @@
 //! To whom errored submultiframes are reported (`ReportSink`), and counts told (`CountsTeller`).
 
-ghost use Rattle.std.specs.Prelude.{◌≡◌, ◌∷◌, ◌++◌, ℕ, List, [], Some, None, false, if◌then◌else◌, ⊤};
+ghost use Rattle.std.specs.Prelude.{◌≡◌, ◌≤◌, ◌∷◌, ◌++◌, ℕ, List, [], Some, None, false, if◌then◌else◌};
+ghost use Rattle.std.specs.Prelude.{⊤, length, IfOk};
+ghost use Rattle.std.specs.Io.KnownBytes.{WriteAppends};
+ghost use Rattle.gw_filter.specs.Reports.{RefusesReport, SystemTookReport};
 
 use g704_crc4::ReceiverCounts;
 use gw_records::{AtStart, Log, Source, SourceFault};
-use std::io::Write;
+use std::io::{ErrorKind, Write};
 
 /// A receiver of reports.
 ///
@@ -68,6 +71,19 @@ impl ReportSink for NoReports {
     }
 }
 
+// Writes octets from the front of `octets`, and returns how many.
+#[tactic(auto, unfolding(crate::specs::Reports::SystemTookReport))]
+fn write_once<W: Write>(writer: &mut W, octets: &[u8]) -> Result<usize, ErrorKind>
+    ensures bound { IfOk result (λ n. n ≤ length octets.now) }
+    ensures octets { WriteAppends (W.contents writer.old) (W.contents writer.new) result octets.now }
+    ensures took { SystemTookReport writer.new result }
+{
+    match writer.write(octets) {
+        Ok(n) => Ok(n),
+        Err(error) => Err(error.kind()),
+    }
+}
+
 /// A writer of std to which reports go, an octet each. It must never wait. If it is known what the writer
 /// holds, that is what it held at the start and the reports.
 #[derive(Drop)]
@@ -97,14 +113,17 @@ impl<W: Write + Drop> ToReports<W> {
 impl<W: Write> ReportSink for ToReports<W> {
     ghost sent = { λ s. s.log.octets };
 
+    ghost has_refused = { λ s. RefusesReport s.writer };
+
     fn send(&mut self, count: u8) -> bool {
         let report = [count];
-        match self.writer.write(&report) {
+        match write_once(&mut self.writer, &report) {
             Ok(1) => {
                 self.log.append(&report, 1);
                 true
             }
-            _ => false,
+            Ok(_) => false,
+            Err(_) => false,
         }
     }
 }

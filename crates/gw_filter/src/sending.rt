@@ -1,9 +1,9 @@
 //! The filter `crc4`: CRC-4 multiframes put into a trunk, with E bits for what is reported.
 
 ghost use Rattle.std.specs.Prelude.{◌≡◌, ◌≤◌, ◌∷◌, ◌++◌, ℕ, List, [], length, map, take, Some, IfOk, IfErr};
-ghost use Rattle.std.specs.Io.KnownBytes.{Appends};
 ghost use Rattle.g704_crc4.specs.Reporting.{SenderInput, Octet, Errored};
 ghost use Rattle.gw_records.specs.Streams.{CanBegin};
+ghost use Rattle.gw_filter.specs.Reports.{ReadsOnce};
 ghost use Rattle.gw_filter.specs.Crc4.{SendsCrc4, HasSent, SendsMultiframes, SendsMultiframesUntil};
 
 use crate::through::{BufferFilter, octets_through};
@@ -66,11 +66,12 @@ impl Crc4Sender {
     }
 }
 
-// Takes the reports that have come to the front of `room`, and returns how many. A read that fails finds none
-// now.
+// Takes the reports that have come to the front of `room`, 64 at most, by one read, and returns how many. A
+// read that fails finds none now.
 fn take_reports<R: Source>(reports: &mut R, room: &mut [u8]) -> usize
+    requires { length room.old ≡ 64 }
     ensures bound { result ≤ length room.new }
-    ensures given { Appends (R.tells reports.old).given (R.tells reports.new).given (take result room.new) }
+    ensures reads { ReadsOnce (R.tells reports.old) (R.tells reports.new) (take result room.new) }
 {
     match reports.read(room) {
         Ok(n) => n,
@@ -105,7 +106,14 @@ impl<R: Source> ReportingSender<R> {
 impl<R: Source> BufferFilter for ReportingSender<R> {
     ghost has_returned = { λ s octets returned. HasSent s.sender (R.tells s.reports).given octets returned };
 
-    fn filter_buffer(&mut self, octets: &mut [u8]) {
+    fn filter_buffer(&mut self, octets: &mut [u8])
+        ensures len { length octets.new ≡ length octets.old }
+        ensures stands { (taken returned : List ℕ) → HasSent self.old.sender
+            (R.tells self.old.reports).given taken returned → HasSent self.new.sender
+            (R.tells self.new.reports).given (taken ++ octets.old) (returned ++ octets.new) }
+        ensures reads { (reports : List ℕ)
+            × ReadsOnce (R.tells self.old.reports) (R.tells self.new.reports) reports }
+    {
         let mut room = [0u8; MOST_REPORTS];
         let n = take_reports(&mut self.reports, &mut room);
         self.sender.report_all(&room[..n]);

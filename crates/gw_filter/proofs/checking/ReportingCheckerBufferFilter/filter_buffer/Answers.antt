@@ -7,3 +7,7 @@ returns-clause-stands g c taken returned s =
     (c.filter_all.ensures.stands taken s.checks) (c.filter_all.ensures.replies taken s.checks) in
     let done = c.report.ensures.stands _ _ more in
     rw (c.tell.ensures.checker, c.tell.ensures.reported, c.tell.ensures.reports) done
+
+pub returns-clause-reports : goal.returns-clause-reports
+returns-clause-reports g c history s =
+    rw (c.tell.ensures.reports) (c.report.ensures.reports _ (c.filter_all.ensures.stands history s))
