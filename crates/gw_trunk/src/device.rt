@@ -114,6 +114,9 @@ pub trait TrunkOutput {
     /// Relates a device to how many octets its last write took.
     ghost has_taken: { Self → ℕ → Type 0 } = { λ _ _. ⊤ };
 
+    /// How many times it was waited for without a limit.
+    ghost waits: { Self → ℕ };
+
     /// How many waits for a while ended without room.
     ghost slow_waits: { Self → ℕ } = { λ _. 0 };
 
@@ -128,6 +131,7 @@ pub trait TrunkOutput {
     fn write(&mut self, octets: &[u8]) -> Result<Option<usize>, DeviceFault>
         ensures bound { IfOk result (λ n. IfSome n (λ m. m ≤ length octets.now)) }
         ensures went { went self.new ≡ went self.old ++ written_of result octets.now }
+        ensures waits { waits self.new ≡ waits self.old }
         ensures slow { slow_waits self.new ≡ slow_waits self.old }
         ensures taken { IfOk result (λ n. IfSome n (λ m. has_taken self.new m × (is_slow self.new ≡ false))) }
         ensures full { IfOk result (λ n. IfNone n (is_full self.new)) }
@@ -136,6 +140,7 @@ pub trait TrunkOutput {
     /// Waits until it may take octets.
     fn wait(&mut self)
         ensures went { went self.new ≡ went self.old }
+        ensures waits { waits self.new ≡ waits self.old + 1 }
         ensures slow { slow_waits self.new ≡ slow_waits self.old };
 
     /// Waits until it may take octets, until it has taken none for 20 ms at most. Returns whether it may.
@@ -158,6 +163,8 @@ pub struct FromDevice<R: DeviceReader> {
 pub struct ToDevice<W: DeviceWriter> {
     writer: W,
     waiting: Waiting,
+    // An octet for each wait without a limit.
+    waits: Log,
     // Whether a wait ended before it took octets, since the last ones.
     is_slow: bool,
     // An octet for each wait that ended so.
@@ -172,6 +179,8 @@ pub struct ToDevice<W: DeviceWriter> {
 #[derive(Drop)]
 pub struct NoClients {
     log: Log,
+    // An octet for each wait.
+    waits: Log,
 }
 
 impl NoClients {
@@ -179,7 +188,10 @@ impl NoClients {
     pub fn new() -> NoClients
         ensures { result.log.octets ≡ [] }
     {
-        NoClients { log: Log::new() }
+        NoClients {
+            log: Log::new(),
+            waits: Log::new(),
+        }
     }
 }
 
@@ -209,6 +221,7 @@ impl<W: DeviceWriter + Drop> ToDevice<W> {
         Ok(ToDevice {
             writer,
             waiting,
+            waits: Log::new(),
             is_slow: false,
             slow_waits: Log::new(),
             start,
@@ -255,6 +268,8 @@ impl<W: DeviceWriter> TrunkOutput for ToDevice<W> {
 
     ghost has_taken = { λ d n. W.has_written d.writer (Ok n) };
 
+    ghost waits = { λ d. length d.waits.octets };
+
     ghost slow_waits = { λ d. length d.slow_waits.octets };
 
     ghost is_slow = { λ d. d.is_slow };
@@ -275,6 +290,7 @@ impl<W: DeviceWriter> TrunkOutput for ToDevice<W> {
 
     fn wait(&mut self) {
         self.waiting.wait();
+        self.waits.append(&[0], 1);
     }
 
     fn wait_a_while(&mut self) -> bool {
@@ -291,12 +307,16 @@ impl<W: DeviceWriter> TrunkOutput for ToDevice<W> {
 impl TrunkOutput for NoClients {
     ghost went = { λ d. d.log.octets };
 
+    ghost waits = { λ d. length d.waits.octets };
+
     fn write(&mut self, octets: &[u8]) -> Result<Option<usize>, DeviceFault> {
         self.log.append(octets, octets.len());
         Ok(Some(octets.len()))
     }
 
-    fn wait(&mut self) {}
+    fn wait(&mut self) {
+        self.waits.append(&[0], 1);
+    }
 
     fn wait_a_while(&mut self) -> bool {
         true

@@ -200,6 +200,8 @@ pub struct MultiframeDropper<O: TrunkOutput, E> {
     held: Held,
     position: MultiframePosition,
     log: Log,
+    // An octet for each wait.
+    waits: Log,
     ghost thinned: { ∥ IsThinned position log.octets (O.went outgoing ++ held.items)
         (O.slow_waits outgoing) ∥₁ },
     ghost below: { position.place < 512 },
@@ -223,6 +225,7 @@ impl<O: TrunkOutput, E: Write> MultiframeDropper<O, E> {
                 discarded: 0,
             },
             log: Log::new(),
+            waits: Log::new(),
         }
     }
 
@@ -252,6 +255,8 @@ impl<O: TrunkOutput, E: Write> MultiframeDropper<O, E> {
 impl<O: TrunkOutput, E: Write> TrunkOutput for MultiframeDropper<O, E> {
     ghost went = { λ d. d.log.octets };
 
+    ghost waits = { λ d. length d.waits.octets };
+
     fn write(&mut self, octets: &[u8]) -> Result<Option<usize>, DeviceFault> {
         let before = self.position.discarded;
         let most = octets.len().min(MULTIFRAME_LEN - self.position.place);
@@ -271,7 +276,9 @@ impl<O: TrunkOutput, E: Write> TrunkOutput for MultiframeDropper<O, E> {
         Ok(Some(n))
     }
 
-    fn wait(&mut self) {}
+    fn wait(&mut self) {
+        self.waits.append(&[0], 1);
+    }
 
     fn wait_a_while(&mut self) -> bool {
         true
