@@ -3,3 +3,4 @@ pub mod Ones
 pub mod Arriving
 pub mod Turning
 pub mod FarEnd
+pub mod Counting

@@ -105,13 +105,13 @@ sent-more receiver pace counts counts' flags flags' received went taken flagged 
 
 -- One more packet is played, which is due.
 pub played-more : (receiver receiver' : Receiver) (pace pace' : PlayClock) (counts counts' : Counts) (flags : List Bool)
-    (received : List (List ℕ)) (went octets : List ℕ) (read_all there later : Bool)
+    (received : List (List ℕ)) (went octets : List ℕ) (there later : Bool)
     → receiver'.settings ≡ receiver.settings → receiver'.rtp ≡ receiver.rtp
     → ((calls : List PlayoutCall) → HasPlayed receiver calls → HasPlayed receiver' (calls ++ PlayoutCall.Plays ∷ []))
     → ((calls : List PlayoutCall) → HasPlayed receiver calls
     → played receiver'.settings (calls ++ PlayoutCall.Plays ∷ []) ≡ played receiver.settings calls ++ octets)
     → ((calls : List PlayoutCall) → HasPlayed receiver calls
-    → is_due pace pace.counted (reach_after receiver.settings calls) read_all ≡ true)
+    → is_due pace pace.counted (reach_after receiver.settings calls) ≡ true)
     → ((calls : List PlayoutCall) → HasPlayed receiver calls → there ≡ is_there receiver.settings calls)
     → ((calls : List PlayoutCall) → HasPlayed receiver calls → later ≡ nat_lt 0 (reach_after receiver.settings calls))
     → pace' ≡ after_play pace → pace'.timing ≡ pace.timing
@@ -119,13 +119,13 @@ pub played-more : (receiver receiver' : Receiver) (pace pace' : PlayClock) (coun
     → PlaysAll receiver pace counts flags received went
     → PlaysAll receiver' pace' counts' flags received (went ++ octets)
 unfolding state_after AllDue datagrams_in
-played-more receiver receiver' pace pace' counts counts' flags received went octets read_all there later
+played-more receiver receiver' pace pace' counts counts' flags received went octets there later
     settings rtp stands given due there-is later-is is timing counted k =
     let calls = (state_of k.past).calls in
     let more : played k.past.settings (calls ++ PlayoutCall.Plays ∷ []) ≡ played k.past.settings calls ++ octets =
     rw (settings, k.settings_are) at (given calls k.stands) in
     record {
-      past = record k.past { events = Plays read_all ∷ k.past.events };
+      past = record k.past { events = Plays ∷ k.past.events };
       settings_are = settings ∙ k.settings_are;
       rtp_is = rtp ∙ k.rtp_is;
       timing_is = timing ∙ k.timing_is;

@@ -1,5 +1,6 @@
 -- What an emulated circuit counts (module `counts`).
-use Rattle.std.specs.Prelude.{◌≡◌, ◌⊎◌, ◌<◌, ℕ, ◌+◌, ◌-◌, ◌^◌, ◌&&◌, not, nat_lt, min, Bool, if◌then◌else◌}
+use Rattle.std.specs.Prelude.{◌≡◌, ◌≢◌, ◌⊎◌, ◌<◌, ◌≤◌, ◌+◌, ◌-◌, ◌^◌, ◌&&◌, ◌++◌, not, nat_lt, min}
+use Rattle.std.specs.Prelude.{ℕ, Bool, List, length, count_by, if◌then◌else◌}
 use Rattle.std.specs.Prelude.{Option, Some, None}
 use Rattle.satop_packet.specs.declared.Control.{Control}
 use Rattle.satop_playout.specs.declared.ArrivalFault.{ArrivalFault}
@@ -89,8 +90,18 @@ counts_by_sending c taken = record c {
   unsent = more_if (not taken) c.unsent;
 }
 
+-- How many of the packets that were sent the system took, and how many not, each up to the greatest number of
+-- 64 bits. They are the last that a far end was given, one for each flag.
+pub record CountsSends (counts : Counts) (flags taken : List Bool) : Type 0 where
+  pub earlier : List Bool
+  pub sends : List Bool
+  pub taken_are : taken ≡ earlier ++ sends
+  pub one_each : length sends ≡ length flags
+  pub sent_is : counts.sent ≡ min (count_by (λ t. t) sends) (2 ^ 64 - 1)
+  pub unsent_is : counts.unsent ≡ min (count_by not sends) (2 ^ 64 - 1)
+
 -- Counts are reported if they are others than those that were reported last, and a second has passed since.
 abbrev pub ReportsChanges : ℕ → Counts → Counts × ℕ → (Counts → Type 0) → Counts × ℕ → Type 0
 ReportsChanges now counts last has_told result =
     ((result ≡ last) × ((counts ≡ last.0) ⊎ (now - last.1 < 1000000)))
-    ⊎ ((result ≡ (counts, now)) × has_told counts)
+    ⊎ ((result ≡ (counts, now)) × has_told counts × (counts ≢ last.0) × (1000000 ≤ now - last.1))

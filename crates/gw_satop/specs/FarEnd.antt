@@ -3,14 +3,16 @@ use Rattle.std.specs.Prelude.{◌≡◌, ◌⊎◌, ℕ, Bool, List, [], ◌∷�
 use Rattle.std.specs.Prelude.{Result, Ok, Err, is_ok}
 use Rattle.std.specs.declared.net.socket_addr.SocketAddr.{SocketAddr}
 use Rattle.gw_records.specs.declared.ports.PortFault.{PortFault}
+use Rattle.gw_satop.specs.declared.log.History.{History}
 use Rattle.gw_udp.specs.Socket.{Bound, KeepsBound, Received, ReceivesAny, Sent}
 
--- a call of the socket: it received a datagram, found none or failed, was given one to send, or was watched
+-- a call of the socket: it received a datagram, found none or failed, was given one to send, which the system
+-- took or not, or was watched
 pub data SocketCall : Type 0 where
   Heard : (octets : List ℕ) → SocketCall
   FoundNone : SocketCall
   Failed : SocketCall
-  Given : (octets : List ℕ) → SocketCall
+  Given : (octets : List ℕ) → (taken : Bool) → SocketCall
   Watched : SocketCall
 
 -- the datagrams that a call received, and those that it was given
@@ -19,8 +21,13 @@ received_by (SocketCall.Heard octets) = octets ∷ []
 received_by call = []
 
 abbrev pub given_to : SocketCall → List (List ℕ)
-given_to (SocketCall.Given octets) = octets ∷ []
+given_to (SocketCall.Given octets taken) = octets ∷ []
 given_to call = []
+
+-- .. and whether the system took it
+abbrev pub taken_of : SocketCall → List Bool
+taken_of (SocketCall.Given octets taken) = taken ∷ []
+taken_of call = []
 
 -- the relations of a socket
 pub record Relations (S : Type 0) : Type 1 where
@@ -42,8 +49,8 @@ IsCalled how there SocketCall.FoundNone old new =
     (room : List ℕ) × ReceivesAny how.receives old new (Ok None) room
 IsCalled how there SocketCall.Failed old new =
     (fault : PortFault) × (room : List ℕ) × ReceivesAny how.receives old new (Err fault) room
-IsCalled how there (SocketCall.Given octets) old new =
-    (answer : Result (Unit {0}) PortFault) × how.sends old new there octets answer
+IsCalled how there (SocketCall.Given octets taken) old new = (answer : Result (Unit {0}) PortFault)
+    × how.sends old new there octets answer × (taken ≡ is_ok answer)
 IsCalled how there SocketCall.Watched old new = KeepsBound how.is_bound old new
 
 -- the last call of a socket was a receive that found none, or failed
@@ -51,12 +58,6 @@ abbrev pub HasFoundNone : {S : Type 0} → Received S → S → Type 0
 HasFoundNone {S} receives socket = (before : S) × (room : List ℕ)
     × (ReceivesAny receives before socket (Ok None) room
     ⊎ ((fault : PortFault) × ReceivesAny receives before socket (Err fault) room))
-
--- the last call of a socket sent a datagram to this address, and this is whether the system took it
-abbrev pub WasTaken : {S : Type 0} → Sent S → SocketAddr → S → Bool → Type 0
-WasTaken {S} sends there socket taken = (before : S) × (octets : List ℕ)
-    × (answer : Result (Unit {0}) PortFault)
-    × sends before socket there octets answer × (taken ≡ is_ok answer)
 
 -- .. one call after another
 abbrev pub AreCalled : {S : Type 0} → Relations S → SocketAddr → List SocketCall → S → S
@@ -67,10 +68,11 @@ AreCalled {S} how there (call ∷ calls) old new = (between : S)
     × AreCalled how there calls between new
 
 -- What came from the far end is what the socket's calls received, in order, and what was sent is what they
--- were given.
+-- were given, each with a flag: whether the system took it.
 pub record IsBySocket {S : Type 0} (how : Relations S) (there : SocketAddr) (opened socket : S)
-    (received sent : List (List ℕ)) : Type 0 where
+    (received : List (List ℕ)) (sent : History) : Type 0 where
   pub calls : List SocketCall
   pub called : AreCalled how there calls opened socket
   pub received_are : received ≡ flat_map received_by calls
-  pub sent_are : sent ≡ flat_map given_to calls
+  pub sent_are : sent.datagrams ≡ flat_map given_to calls
+  pub taken_are : sent.flags ≡ flat_map taken_of calls

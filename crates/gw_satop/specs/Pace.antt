@@ -1,6 +1,6 @@
 -- When packets are played, and when a stream begins (module `pace`). Times are in microseconds.
 use Rattle.std.specs.Prelude.{ℕ, ◌+◌, ◌-◌, ◌*◌, ◌/◌, ◌%◌, ◌^◌, ◌==◌, ◌&&◌, ◌||◌, not}
-use Rattle.std.specs.Prelude.{nat_le, nat_lt, min, max, Bool, false, if◌then◌else◌, Option, Some, None}
+use Rattle.std.specs.Prelude.{nat_le, nat_lt, min, max, Bool, true, false, if◌then◌else◌, Option, Some, None}
 use Rattle.std.specs.Prelude.{Result, Ok, Err}
 use Rattle.satop_playout.specs.declared.ArrivalFault.{ArrivalFault}
 use Rattle.satop_playout.specs.declared.ArrivalFault.TheVariants.{OtherSize, NotBegun, Late, TooFar, Repeat}
@@ -23,6 +23,7 @@ new_pace timing began = record {
   credit = 1000000000;
   counted = began;
   silent = false;
+  listened = false;
   run = None;
 }
 
@@ -112,9 +113,9 @@ by_clock p = p.silent || p.timing.own_clock
 
 -- A packet is due. By packets, once `jitter` later ones have come, and within the rate. By this machine's
 -- clock, each time of a packet; before all that came was read, only those behind which `jitter` others wait.
-abbrev pub is_due : PlayClock → ℕ → ℕ → Bool → Bool
-is_due p now reach read_all = if by_clock p
-    then nat_le p.timing.packet (now - p.reached) && (read_all || nat_lt p.timing.jitter reach)
+abbrev pub is_due : PlayClock → ℕ → ℕ → Bool
+is_due p now reach = if by_clock p
+    then nat_le p.timing.packet (now - p.reached) && (p.listened || nat_lt p.timing.jitter reach)
     else nat_lt p.timing.jitter reach && nat_le (1000 * p.timing.packet) p.credit
 
 -- the pace after a play
@@ -125,12 +126,14 @@ after_play p = if by_clock p then record p { reached = min (p.reached + p.timing
 -- The pace at a time. In thousandths of a microsecond, the credit grows by a thousandth more than time
 -- passes, up to a second: so a thousandth above the rate of the trunk is played at most, except after a stall
 -- of a second at most. If this machine's process itself came so late, what came may still be on its way.
+-- What comes from then on is still to be read.
 abbrev pub at_time : PlayClock → ℕ → PlayClock
 at_time p now = record p {
   credit = min (p.credit + 1001 * min (now - p.counted) 1000000) 1000000000;
   counted = now;
   reached = max p.reached (now - 1000000);
   patient = if nat_lt 20000 (now - p.planned) then min (now + 20000) (2 ^ 64 - 1) else p.patient;
+  listened = false;
 }
 
 -- no packet of the stream has come for 100 ms, and all that may be on its way had time to come
@@ -139,7 +142,7 @@ falls_silent p now = not p.silent && (nat_le 100000 (now - p.heard) && nat_le p.
 
 -- the pace after all that came was read
 abbrev pub after_listening : PlayClock → ℕ → PlayClock
-after_listening p now = record p { silent = p.silent || falls_silent p now }
+after_listening p now = record p { silent = p.silent || falls_silent p now; listened = true }
 
 -- when something is due if no packet comes
 abbrev pub next_time : PlayClock → ℕ → ℕ → ℕ

@@ -17,13 +17,12 @@ use Rattle.gw_satop.specs.Pace.{after_listening, after_outcome, after_plan, afte
 use Rattle.gw_satop.specs.Pace.{is_due, new_pace}
 use Rattle.gw_satop.specs.Packets.{control_in, packet_in}
 
--- What happens: a turn begins at a time; a datagram comes; a packet is played, after all that came was read
--- or before; all that came was read, so that a silence may begin; a packet is sent, which the system takes or
--- not; the next turn is planned.
+-- What happens: a turn begins at a time; a datagram comes; a packet is played; all that came was read, so
+-- that a silence may begin; a packet is sent, which the system takes or not; the next turn is planned.
 pub data TurnEvent : Type 0 where
   Turns : ℕ → TurnEvent
   Hears : List ℕ → TurnEvent
-  Plays : Bool → TurnEvent
+  Plays : TurnEvent
   Listens : TurnEvent
   Sends : Bool → TurnEvent
   Plans : TurnEvent
@@ -62,7 +61,7 @@ after_event settings rtp s (Turns now) = record s { pace = at_time s.pace now }
 after_event settings rtp s (Hears datagram) =
     after_datagram settings s (packet_in rtp settings.size datagram)
     (outcome_at settings s (packet_in rtp settings.size datagram))
-after_event settings rtp s (Plays read_all) = record {
+after_event settings rtp s Plays = record {
   calls = s.calls ++ PlayoutCall.Plays ∷ [];
   pace = after_play s.pace;
   flags = s.flags;
@@ -100,8 +99,7 @@ state_of p = state_after p.settings p.rtp (state_at_first p.timing p.began) p.ev
 
 -- a packet that is played is due
 abbrev pub IsDueAt : Settings → CircuitState → TurnEvent → Type 0
-IsDueAt settings s (Plays read_all) =
-    is_due s.pace s.pace.counted (reach_after settings s.calls) read_all ≡ true
+IsDueAt settings s Plays = is_due s.pace s.pace.counted (reach_after settings s.calls) ≡ true
 IsDueAt settings s event = ⊤
 
 -- .. each of them, when it was

@@ -1,8 +1,8 @@
 //! The loop of `satop` until its trunk ends, and when its counts are reported (`carry_satop`).
 
-ghost use Rattle.std.specs.Prelude.{◌≡◌, ◌++◌, [], ℕ, IfOk, ⊤};
-ghost use Rattle.gw_satop.specs.Counts.{ReportsChanges};
-ghost use Rattle.gw_satop.specs.Doing.{HearsAll};
+ghost use Rattle.std.specs.Prelude.{◌≡◌, ◌⊎◌, ◌≤◌, ◌+◌, ◌^◌, ◌++◌, [], ℕ, IfOk, IfErr, ⊤};
+ghost use Rattle.gw_satop.specs.Counts.{CountsSends, ReportsChanges};
+ghost use Rattle.gw_satop.specs.Doing.{HearsAll, RefusesOctets};
 ghost use Rattle.gw_satop.specs.Session.{HasSettings, PlaysAll, SendsAll};
 
 use crate::circuit::SatopCircuit;
@@ -22,19 +22,25 @@ pub trait Clock {
     /// The time that it told last.
     ghost time: { Self → ℕ };
 
+    /// How many times it waited.
+    ghost waits: { Self → ℕ };
+
     /// Holds of the counts that it reported last.
     ghost has_told: { Self → Counts → Type 0 } = { λ _ _. ⊤ };
 
     /// The time, in microseconds of one clock.
     fn now(&mut self) -> u64
-        ensures { result ≡ time self.new };
+        ensures time { result ≡ time self.new }
+        ensures waits { waits self.new ≡ waits self.old };
 
     /// Waits until something may have come, or for this time.
-    fn wait(&mut self, until: u64);
+    fn wait(&mut self, until: u64)
+        ensures { waits self.new ≡ waits self.old + 1 };
 
     /// Reports counts. It never waits.
     fn report(&mut self, counts: &Counts)
         ensures time { time self.new ≡ time self.old }
+        ensures waits { waits self.new ≡ waits self.old }
         ensures told { has_told self.new counts.now };
 }
 
@@ -47,6 +53,7 @@ fn report_changes<M: Clock>(
 ) -> (Counts, u64)
     ensures reports { ReportsChanges now counts last (M.has_told moments.new) result }
     ensures time { M.time moments.new ≡ M.time moments.old }
+    ensures waits { M.waits moments.new ≡ M.waits moments.old }
 {
     if counts == last.0 || now.saturating_sub(last.1) < REPORT_US {
         return last;
@@ -63,8 +70,8 @@ fn report_changes<M: Clock>(
 ///
 /// # Errors
 ///
-/// [`DeviceFault`] if a device of the trunk fails. All clauses hold then too, and what the trunk did not take
-/// is left.
+/// [`DeviceFault`] if a device of the trunk fails, or takes no octet, or if it was waited for 2^63 times. All
+/// clauses hold then too, and what the trunk did not take is left.
 pub fn carry_satop<I: TrunkInput, O: TrunkOutput, P: Peer, M: Clock>(
     circuit: &mut SatopCircuit<I, O, P>,
     moments: &mut M,
@@ -75,11 +82,16 @@ pub fn carry_satop<I: TrunkInput, O: TrunkOutput, P: Peer, M: Clock>(
     ensures sends { SendsAll circuit.new.sender (P.sent circuit.new.peer) (I.came circuit.new.incoming) }
     ensures same { HasSettings circuit.old.receiver circuit.new.receiver
         circuit.old.sender circuit.new.sender circuit.old.pace circuit.new.pace }
+    ensures counted { ∥ CountsSends circuit.new.counts circuit.new.sender.log.flags
+        (P.taken circuit.new.peer) ∥₁ }
     ensures whole { IfOk result (λ _. circuit.new.left.items ≡ []) }
     ensures ended { IfOk result (λ _. I.has_ended circuit.new.incoming) }
     ensures hears { IfOk result (λ _. (before : P) × HearsAll P.received P.has_none before circuit.new.peer) }
     ensures told { IfOk result (λ _. M.has_told moments.new circuit.new.counts) }
     ensures time { IfOk result (λ _. circuit.new.pace.counted ≡ M.time moments.new) }
+    ensures fault { IfErr result (λ _. (I.has_failed circuit.new.incoming
+        ⊎ RefusesOctets O.has_failed O.has_taken O.waits circuit.new.outgoing)
+        ⊎ (2 ^ 63 ≤ M.waits moments.new)) }
 {
     let mut last = (circuit.counts(), moments.now());
     for _turn in 0..u64::MAX {

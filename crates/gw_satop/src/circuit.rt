@@ -1,14 +1,14 @@
 //! A turn of an emulated circuit: receives, plays what is due, sends (`SatopCircuit`).
 
-ghost use Rattle.std.specs.Prelude.{◌≡◌, ◌++◌, ◌∷◌, ◌+◌, ◌<◌, ◌≤◌, [], ℕ, Bool, List, length, drop};
+ghost use Rattle.std.specs.Prelude.{◌≡◌, ◌⊎◌, ◌++◌, ◌∷◌, ◌+◌, ◌<◌, ◌≤◌, [], ℕ, Bool, List, length, drop};
 ghost use Rattle.std.specs.Prelude.{true, false, nat_lt, IfOk, IfErr};
 ghost use Rattle.gw_satop.specs.declared.line.Receiver.{Receiver};
 ghost use Rattle.gw_satop.specs.declared.pace.PlayClock.{PlayClock};
-ghost use Rattle.gw_satop.specs.Doing.{HasReadTrunk, HearsAll, PlaysDue};
+ghost use Rattle.gw_satop.specs.Doing.{HasReadTrunk, HearsAll, PlaysDue, RefusesOctets};
 ghost use Rattle.gw_satop.specs.Session.{HasSettings, PlaysAll, SendsAll};
-ghost use Rattle.gw_satop.specs.Counts.{counts_by_play, no_counts};
+ghost use Rattle.gw_satop.specs.Counts.{counts_by_play, no_counts, CountsSends};
 ghost use Rattle.gw_satop.specs.Line.{HasPlayed};
-ghost use Rattle.gw_satop.specs.Pace.{after_play, is_due, new_pace};
+ghost use Rattle.gw_satop.specs.Pace.{after_play, falls_silent, is_due, new_pace, next_time};
 ghost use Rattle.gw_satop.specs.Sending.{packets_of};
 ghost use Rattle.satop_playout.specs.Calls.{PlayoutCall};
 ghost use Rattle.satop_playout.specs.Plays.{is_there, reach_after};
@@ -46,6 +46,7 @@ pub struct SatopCircuit<I: TrunkInput, O: TrunkOutput, P: Peer> {
     ghost plays: { ∥ PlaysAll receiver pace counts sender.log.flags (P.received peer)
         (O.went outgoing ++ left.items) ∥₁ },
     ghost sends: { SendsAll sender (P.sent peer) (I.came incoming) },
+    ghost counted: { ∥ CountsSends counts sender.log.flags (P.taken peer) ∥₁ },
 }
 
 // Drops the first octets that are left for the trunk.
@@ -65,27 +66,27 @@ fn put_out<O: TrunkOutput>(
 ) -> Result<(), DeviceFault>
     ensures went { O.went outgoing.new ++ left.new.items ≡ O.went outgoing.old ++ left.old.items }
     ensures all { IfOk result (λ _. left.new.items ≡ []) }
+    ensures fault { IfErr result (λ _. RefusesOctets O.has_failed O.has_taken O.waits outgoing.new) }
 {
     for _turn in 0..u64::MAX {
         if left.is_empty() {
             return Ok(());
         }
         match outgoing.write(left.as_slice()) {
-            Ok(Some(n)) if n > 0 => drop_first(left, n),
+            Ok(Some(0)) => return Err(DeviceFault),
+            Ok(Some(n)) => drop_first(left, n),
             Ok(None) => outgoing.wait(),
-            _ => return Err(DeviceFault),
+            Err(fault) => return Err(fault),
         }
     }
     Err(DeviceFault)
 }
 
-// Plays the next packet, which is due, by a room of its size; it is then left for the trunk. `_read_all` is
-// whether all that came was read.
+// Plays the next packet, which is due, by a room of its size; it is then left for the trunk.
 fn play_into(
     receiver: &mut Receiver,
     pace: &mut PlayClock,
     counts: &mut Counts,
-    _read_all: bool,
     room: &mut [u8],
     left: &mut ArrayVec<u8, 1280>,
 )
@@ -93,12 +94,16 @@ fn play_into(
     requires left { left.old.items ≡ [] }
     requires due { (calls : List PlayoutCall) → HasPlayed receiver.old calls
         → is_due pace.old pace.old.counted
-        (reach_after receiver.old.settings calls) _read_all ≡ true }
+        (reach_after receiver.old.settings calls) ≡ true }
     ensures settings { receiver.new.settings ≡ receiver.old.settings }
     ensures rtp { receiver.new.rtp ≡ receiver.old.rtp }
     ensures timing { pace.new.timing ≡ pace.old.timing }
     ensures time { pace.new.counted ≡ pace.old.counted }
+    ensures listened { pace.new.listened ≡ pace.old.listened }
+    ensures silence { falls_silent pace.new pace.new.counted ≡ falls_silent pace.old pace.old.counted }
     ensures left { length left.new.items ≡ length room.new }
+    ensures sent { counts.new.sent ≡ counts.old.sent }
+    ensures unsent { counts.new.unsent ≡ counts.old.unsent }
     ensures plays { (flags : List Bool) (received : List (List ℕ)) (went : List ℕ)
         → PlaysAll receiver.old pace.old counts.old flags received (went ++ left.old.items)
         → PlaysAll receiver.new pace.new counts.new flags received (went ++ left.new.items) }
@@ -127,6 +132,8 @@ fn send_all<P: Peer>(
     ensures came { sender.new.came.octets ≡ sender.old.came.octets ++ octets.now }
     ensures received { P.received peer.new ≡ P.received peer.old }
     ensures start { sender.new.start ≡ sender.old.start }
+    ensures counted { CountsSends counts.old sender.old.log.flags (P.taken peer.old)
+        → CountsSends counts.new sender.new.log.flags (P.taken peer.new) }
     ensures plays { (receiver : Receiver) (pace : PlayClock) (received : List (List ℕ)) (went : List ℕ)
         → missing ≡ pace.silent
         → PlaysAll receiver pace counts.old sender.old.log.flags received went
@@ -198,8 +205,8 @@ impl<I: TrunkInput, O: TrunkOutput, P: Peer> SatopCircuit<I, O, P> {
         ensures time { self.new.pace.counted ≡ now }
         ensures peer { self.new.peer ≡ self.old.peer }
         ensures incoming { self.new.incoming ≡ self.old.incoming }
-        ensures octets { O.went self.new.outgoing ++ self.new.left.items
-            ≡ O.went self.old.outgoing ++ self.old.left.items }
+        ensures outgoing { self.new.outgoing ≡ self.old.outgoing }
+        ensures left { self.new.left ≡ self.old.left }
     {
         self.pace.advance(now);
     }
@@ -214,8 +221,8 @@ impl<I: TrunkInput, O: TrunkOutput, P: Peer> SatopCircuit<I, O, P> {
             × (P.received self.new.peer ≡ P.received self.old.peer) }
         ensures time { self.new.pace.counted ≡ self.old.pace.counted }
         ensures incoming { self.new.incoming ≡ self.old.incoming }
-        ensures octets { O.went self.new.outgoing ++ self.new.left.items
-            ≡ O.went self.old.outgoing ++ self.old.left.items }
+        ensures outgoing { self.new.outgoing ≡ self.old.outgoing }
+        ensures left { self.new.left ≡ self.old.left }
     {
         let mut room = [0u8; ROOM_LEN];
         let Some(n) = self.peer.receive(&mut room) else {
@@ -232,6 +239,7 @@ impl<I: TrunkInput, O: TrunkOutput, P: Peer> SatopCircuit<I, O, P> {
     /// Gives the trunk the played octets that are left for it.
     pub fn flush(&mut self) -> Result<(), DeviceFault>
         ensures all { IfOk result (λ _. self.new.left.items ≡ []) }
+        ensures fault { IfErr result (λ _. RefusesOctets O.has_failed O.has_taken O.waits self.new.outgoing) }
         ensures same { HasSettings self.old.receiver self.new.receiver self.old.sender self.new.sender
             self.old.pace self.new.pace }
         ensures incoming { self.new.incoming ≡ self.old.incoming }
@@ -245,24 +253,26 @@ impl<I: TrunkInput, O: TrunkOutput, P: Peer> SatopCircuit<I, O, P> {
         put_out(&mut self.outgoing, &mut self.left)
     }
 
-    // Whether a packet is due. `read_all` is whether all that came was read.
-    fn is_due(&self, read_all: bool) -> bool
+    // Whether a packet is due.
+    fn is_due(&self) -> bool
         ensures { (calls : List PlayoutCall) → HasPlayed self.now.receiver calls
             → result ≡ is_due self.now.pace
-            self.now.pace.counted (reach_after self.now.receiver.settings calls) read_all }
+            self.now.pace.counted (reach_after self.now.receiver.settings calls) }
     {
-        self.pace
-            .is_due(self.pace.now(), self.receiver.reach(), read_all)
+        self.pace.is_due(self.pace.now(), self.receiver.reach())
     }
 
     // Plays the next packet, which is due, and is then left for the trunk.
-    fn play_next(&mut self, read_all: bool)
+    fn play_next(&mut self)
         requires left { self.old.left.items ≡ [] }
         requires due { (calls : List PlayoutCall) → HasPlayed self.old.receiver calls → is_due self.old.pace
-            self.old.pace.counted (reach_after self.old.receiver.settings calls) read_all ≡ true }
+            self.old.pace.counted (reach_after self.old.receiver.settings calls) ≡ true }
         ensures same { HasSettings self.old.receiver self.new.receiver self.old.sender self.new.sender
             self.old.pace self.new.pace }
         ensures time { self.new.pace.counted ≡ self.old.pace.counted }
+        ensures listened { self.new.pace.listened ≡ self.old.pace.listened }
+        ensures silence { falls_silent self.new.pace self.new.pace.counted
+            ≡ falls_silent self.old.pace self.old.pace.counted }
         ensures peer { self.new.peer ≡ self.old.peer }
         ensures incoming { self.new.incoming ≡ self.old.incoming }
         ensures outgoing { self.new.outgoing ≡ self.old.outgoing }
@@ -274,47 +284,56 @@ impl<I: TrunkInput, O: TrunkOutput, P: Peer> SatopCircuit<I, O, P> {
             &mut self.receiver,
             &mut self.pace,
             &mut self.counts,
-            read_all,
             &mut room[..size],
             &mut self.left,
         );
     }
 
     // Plays the next packet, which is due, to the trunk.
-    fn play(&mut self, read_all: bool) -> Result<(), DeviceFault>
+    fn play(&mut self) -> Result<(), DeviceFault>
         requires due { (calls : List PlayoutCall) → HasPlayed self.old.receiver calls → is_due self.old.pace
-            self.old.pace.counted (reach_after self.old.receiver.settings calls) read_all ≡ true }
+            self.old.pace.counted (reach_after self.old.receiver.settings calls) ≡ true }
         ensures same { HasSettings self.old.receiver self.new.receiver self.old.sender self.new.sender
             self.old.pace self.new.pace }
         ensures time { self.new.pace.counted ≡ self.old.pace.counted }
+        ensures listened { self.new.pace.listened ≡ self.old.pace.listened }
+        ensures silence { falls_silent self.new.pace self.new.pace.counted
+            ≡ falls_silent self.old.pace self.old.pace.counted }
         ensures peer { self.new.peer ≡ self.old.peer }
         ensures incoming { self.new.incoming ≡ self.old.incoming }
         ensures octets { IfOk result (λ _. length (O.went self.new.outgoing ++ self.new.left.items)
             ≡ length (O.went self.old.outgoing ++ self.old.left.items) + self.old.receiver.settings.size) }
+        ensures all { IfOk result (λ _. self.new.left.items ≡ []) }
+        ensures fault { IfErr result (λ _. RefusesOctets O.has_failed O.has_taken O.waits self.new.outgoing) }
     {
         self.flush()?;
-        self.play_next(read_all);
+        self.play_next();
         self.flush()
     }
 
     // Plays the packets that are due.
-    fn play_due(&mut self, read_all: bool) -> Result<(), DeviceFault>
+    fn play_due(&mut self) -> Result<(), DeviceFault>
         ensures same { HasSettings self.old.receiver self.new.receiver self.old.sender self.new.sender
             self.old.pace self.new.pace }
         ensures time { self.new.pace.counted ≡ self.old.pace.counted }
+        ensures listened { self.new.pace.listened ≡ self.old.pace.listened }
+        ensures silence { falls_silent self.new.pace self.new.pace.counted
+            ≡ falls_silent self.old.pace self.old.pace.counted }
         ensures peer { self.new.peer ≡ self.old.peer }
         ensures incoming { self.new.incoming ≡ self.old.incoming }
-        ensures plays { IfOk result (λ _. PlaysDue self.new.receiver self.new.pace read_all
+        ensures plays { IfOk result (λ _. PlaysDue self.new.receiver self.new.pace
             self.old.receiver.settings.size (O.went self.old.outgoing ++ self.old.left.items)
             (O.went self.new.outgoing ++ self.new.left.items)) }
         ensures grows { IfOk result (λ _. length (O.went self.old.outgoing ++ self.old.left.items)
             ≤ length (O.went self.new.outgoing ++ self.new.left.items)) }
+        ensures all { IfOk result (λ _. self.old.left.items ≡ [] → self.new.left.items ≡ []) }
+        ensures fault { IfErr result (λ _. RefusesOctets O.has_failed O.has_taken O.waits self.new.outgoing) }
     {
         for _play in 0..MOST_PLAYS {
-            if !self.is_due(read_all) {
+            if !self.is_due() {
                 return Ok(());
             }
-            self.play(read_all)?;
+            self.play()?;
         }
         Ok(())
     }
@@ -329,8 +348,8 @@ impl<I: TrunkInput, O: TrunkOutput, P: Peer> SatopCircuit<I, O, P> {
         ensures received { P.received self.new.peer ≡ P.received self.old.peer }
         ensures receiver { self.new.receiver ≡ self.old.receiver }
         ensures pace { self.new.pace ≡ self.old.pace }
-        ensures octets { O.went self.new.outgoing ++ self.new.left.items
-            ≡ O.went self.old.outgoing ++ self.old.left.items }
+        ensures outgoing { self.new.outgoing ≡ self.old.outgoing }
+        ensures left { self.new.left ≡ self.old.left }
     {
         let mut room = [0u8; ROOM_LEN];
         match self.incoming.read(&mut room)? {
@@ -358,25 +377,30 @@ impl<I: TrunkInput, O: TrunkOutput, P: Peer> SatopCircuit<I, O, P> {
         ensures hears { IfOk result (λ _. HearsAll P.received P.has_none self.old.peer self.new.peer) }
         ensures grows { IfOk result (λ _. length (O.went self.old.outgoing ++ self.old.left.items)
             ≤ length (O.went self.new.outgoing ++ self.new.left.items)) }
+        ensures all { IfOk result (λ _. self.old.left.items ≡ [] → self.new.left.items ≡ []) }
+        ensures fault { IfErr result (λ _. RefusesOctets O.has_failed O.has_taken O.waits self.new.outgoing) }
     {
         for _datagram in 0..MOST_DATAGRAMS {
             if !self.hear() {
                 return Ok(());
             }
-            self.play_due(false)?;
+            self.play_due()?;
         }
         Ok(())
     }
 
-    // Notes that all that came was read, so a silence may begin.
+    // Notes that all that came was read, so a silence may begin; then none is to begin any more.
     fn listen(&mut self)
+        requires { (before : P) × HearsAll P.received P.has_none before self.old.peer }
         ensures same { HasSettings self.old.receiver self.new.receiver self.old.sender self.new.sender
             self.old.pace self.new.pace }
+        ensures listened { self.new.pace.listened ≡ true }
+        ensures silence { falls_silent self.new.pace self.new.pace.counted ≡ false }
         ensures time { self.new.pace.counted ≡ self.old.pace.counted }
         ensures peer { self.new.peer ≡ self.old.peer }
         ensures incoming { self.new.incoming ≡ self.old.incoming }
-        ensures octets { O.went self.new.outgoing ++ self.new.left.items
-            ≡ O.went self.old.outgoing ++ self.old.left.items }
+        ensures outgoing { self.new.outgoing ≡ self.old.outgoing }
+        ensures left { self.new.left ≡ self.old.left }
     {
         let now = self.pace.now();
         let begins = self.pace.listen(now);
@@ -392,15 +416,20 @@ impl<I: TrunkInput, O: TrunkOutput, P: Peer> SatopCircuit<I, O, P> {
         ensures ended { IfOk result (λ ended. ended ≡ true → I.has_ended self.new.incoming) }
         ensures time { IfOk result (λ _. self.new.pace.counted ≡ now) }
         ensures hears { IfOk result (λ _. HearsAll P.received P.has_none self.old.peer self.new.peer) }
-        ensures plays { IfOk result (λ _. PlaysDue self.new.receiver self.new.pace true
+        ensures plays { IfOk result (λ _. PlaysDue self.new.receiver self.new.pace
             self.old.receiver.settings.size (O.went self.old.outgoing ++ self.old.left.items)
             (O.went self.new.outgoing ++ self.new.left.items)) }
+        ensures listened { IfOk result (λ _. self.new.pace.listened ≡ true) }
+        ensures silence { IfOk result (λ _. falls_silent self.new.pace self.new.pace.counted ≡ false) }
+        ensures all { IfOk result (λ _. self.old.left.items ≡ [] → self.new.left.items ≡ []) }
         ensures reads { IfOk result (HasReadTrunk I.came I.has_none self.old.incoming self.new.incoming) }
+        ensures fault { IfErr result (λ _. I.has_failed self.new.incoming
+            ⊎ RefusesOctets O.has_failed O.has_taken O.waits self.new.outgoing) }
     {
         self.advance(now);
         self.hear_all()?;
         self.listen();
-        self.play_due(true)?;
+        self.play_due()?;
         self.take()
     }
 
@@ -409,6 +438,8 @@ impl<I: TrunkInput, O: TrunkOutput, P: Peer> SatopCircuit<I, O, P> {
         ensures same { HasSettings self.old.receiver self.new.receiver self.old.sender self.new.sender
             self.old.pace self.new.pace }
         ensures incoming { self.new.incoming ≡ self.old.incoming }
+        ensures time { (calls : List PlayoutCall) → HasPlayed self.old.receiver calls → result
+            ≡ next_time self.old.pace self.old.pace.counted (reach_after self.old.receiver.settings calls) }
     {
         let now = self.pace.now();
         let reach = self.receiver.reach();

@@ -1,6 +1,6 @@
 //! When a packet is due, a silence begins or a new stream is recognised (`PlayClock`).
 
-ghost use Rattle.std.specs.Prelude.{◌≡◌, ◌≤◌};
+ghost use Rattle.std.specs.Prelude.{◌≡◌, ◌≤◌, false};
 ghost use Rattle.gw_satop.specs.Pace.{after_listening, after_packet, after_plan, after_play, after_refusal};
 ghost use Rattle.gw_satop.specs.Pace.{at_time, new_pace};
 ghost use Rattle.gw_satop.specs.Pace.{beginning, by_clock, falls_silent, first_number, is_due, is_in_step};
@@ -97,6 +97,8 @@ pub struct PlayClock {
     counted: u64,
     // no packet comes, and this machine's clock plays
     silent: bool,
+    // all that had come was read since the time was moved on
+    listened: bool,
     run: Option<Run>,
 }
 
@@ -114,6 +116,7 @@ impl PlayClock {
             credit: MOST_CREDIT,
             counted: now,
             silent: false,
+            listened: false,
             run: None,
         }
     }
@@ -206,14 +209,14 @@ impl PlayClock {
         self.silent || self.timing.own_clock
     }
 
-    /// Whether a packet is due if this many are there from the next one to the last, and if all that came was
-    /// read or not.
-    pub fn is_due(&self, now: u64, reach: u16, read_all: bool) -> bool
-        ensures { result ≡ is_due self.now now reach read_all }
+    /// Whether a packet is due if this many are there from the next one to the last.
+    pub fn is_due(&self, now: u64, reach: u16) -> bool
+        ensures { result ≡ is_due self.now now reach }
     {
         let waits = reach > self.timing.jitter;
         if self.by_clock() {
-            return now.saturating_sub(self.reached) >= self.timing.packet && (read_all || waits);
+            return now.saturating_sub(self.reached) >= self.timing.packet
+                && (self.listened || waits);
         }
         waits && 1000 * self.timing.packet <= self.credit
     }
@@ -221,6 +224,8 @@ impl PlayClock {
     /// Notes that a packet was played.
     pub fn play(&mut self)
         ensures stands { self.new ≡ after_play self.old }
+        ensures listened { self.new.listened ≡ self.old.listened }
+        ensures silence { falls_silent self.new self.new.counted ≡ falls_silent self.old self.old.counted }
         ensures timing { self.new.timing ≡ self.old.timing }
         ensures time { self.new.counted ≡ self.old.counted }
     {
@@ -243,16 +248,18 @@ impl PlayClock {
             .saturating_add(CREDIT_PER_US * passed)
             .min(MOST_CREDIT);
         self.counted = now;
+        self.listened = false;
         self.reached = self.reached.max(now.saturating_sub(MOST_BEHIND_US));
         if now.saturating_sub(self.planned) > WOKEN_US {
             self.patient = now.saturating_add(WOKEN_US);
         }
     }
 
-    /// Notes that all that came was read. Returns whether a silence begins.
+    /// Notes that all that came was read. Returns whether a silence begins; then none is to begin any more.
     pub fn listen(&mut self, now: u64) -> bool
         ensures begins { result ≡ falls_silent self.old now }
         ensures stands { self.new ≡ after_listening self.old now }
+        ensures silence { falls_silent self.new now ≡ false }
         ensures timing { self.new.timing ≡ self.old.timing }
         ensures time { self.new.counted ≡ self.old.counted }
     {
@@ -260,6 +267,7 @@ impl PlayClock {
             && now.saturating_sub(self.heard) >= SILENCE_US
             && now >= self.patient;
         self.silent = self.silent || begins;
+        self.listened = true;
         begins
     }
 

@@ -2,7 +2,7 @@
 
 ghost use Rattle.std.specs.Prelude.{◌≡◌, ◌≤◌, ◌++◌, ◌∷◌, ℕ, Bool, List, [], length, take, IfSome, IfNone};
 ghost use Rattle.std.specs.Prelude.{IfOk, IfErr, OnOk};
-ghost use Rattle.gw_satop.specs.FarEnd.{HasFoundNone, IsBySocket, WasTaken};
+ghost use Rattle.gw_satop.specs.FarEnd.{HasFoundNone, IsBySocket};
 ghost use Rattle.gw_satop.specs.Opening.{FailsToJoin, HasAddress, IsJoined, LacksAddress, SystemFinds};
 ghost use Rattle.gw_satop.specs.Opening.{SystemRefusesPeer, SystemRefusesSocket};
 
@@ -28,11 +28,11 @@ pub trait Peer {
     /// The datagrams that the system was given for the far end, in order.
     ghost sent: { Self → List (List ℕ) };
 
+    /// Whether the system took each of them.
+    ghost taken: { Self → List Bool };
+
     /// Holds of a far end if a receive found that no datagram waits, or failed.
     ghost has_none: { Self → Type 0 };
-
-    /// Holds of a far end and whether the system took the datagram that it was given last.
-    ghost was_taken: { Self → Bool → Type 0 };
 
     /// Receives the first datagram that waits to the front of `room`, and returns its length; None if none
     /// waits. It never waits for one.
@@ -42,13 +42,14 @@ pub trait Peer {
             received self.new ≡ received self.old ++ take n room.new ∷ []) }
         ensures kept { IfNone result (received self.new ≡ received self.old) }
         ensures none { IfNone result (has_none self.new) }
-        ensures sent { sent self.new ≡ sent self.old };
+        ensures sent { sent self.new ≡ sent self.old }
+        ensures taken { taken self.new ≡ taken self.old };
 
     /// Gives the system a datagram for the far end, and returns whether it took it. One that it did not take
     /// the far end misses, like one that the network lost.
     fn send(&mut self, datagram: &[u8]) -> bool
         ensures sent { sent self.new ≡ sent self.old ++ datagram.now ∷ [] }
-        ensures taken { was_taken self.new result }
+        ensures taken { taken self.new ≡ taken self.old ++ result ∷ [] }
         ensures received { received self.new ≡ received self.old };
 }
 
@@ -62,7 +63,7 @@ pub struct UdpPeer<S: Socket> {
     received: History,
     sent: History,
     ghost by: { ∥ IsBySocket (record { is_bound = S.is_bound; receives = S.receives; sends = S.sends })
-        address opened.value socket received.datagrams sent.datagrams ∥₁ },
+        address opened.value socket received.datagrams sent ∥₁ },
 }
 
 impl<S: Socket> UdpPeer<S> {
@@ -145,7 +146,7 @@ impl<S: Socket> Peer for UdpPeer<S> {
 
     ghost has_none = { λ p. HasFoundNone S.receives p.socket };
 
-    ghost was_taken = { λ p taken. WasTaken S.sends p.address p.socket taken };
+    ghost taken = { λ p. p.sent.flags };
 
     fn receive(&mut self, room: &mut [u8]) -> Option<usize> {
         match self.socket.receive_any(room) {
@@ -161,6 +162,7 @@ impl<S: Socket> Peer for UdpPeer<S> {
     fn send(&mut self, datagram: &[u8]) -> bool {
         let taken = self.socket.send(datagram, self.address).is_ok();
         self.sent.datagram(datagram, datagram.len());
+        self.sent.flag(taken);
         taken
     }
 }

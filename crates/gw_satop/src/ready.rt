@@ -1,6 +1,7 @@
 //! The trunk of `satop` on standard input, read only if the system reports octets (`WhenReady`).
 
 ghost use Rattle.std.specs.Prelude.{◌≡◌, ◌⊎◌, [], false, IfOk, IfErr, ⊤};
+ghost use Rattle.gw_trunk.specs.System.{SystemReportedNone};
 ghost use Rattle.gw_satop.specs.Opening.{SystemRefusesTrunk};
 
 use gw_trunk::{
@@ -27,10 +28,13 @@ pub trait Readiness {
 }
 
 impl Readiness for Waiting {
+    ghost is_unready = { λ w. SystemReportedNone w 0 };
+
     fn is_ready(&mut self) -> bool {
         self.wait_for(Duration::ZERO)
     }
 
+    #[tactic(auto, unfolding(gw_trunk::specs::System::SystemReportedNone))]
     fn sleep(&mut self) {
         self.wait();
     }

@@ -1,11 +1,12 @@
 //! How `satop` waits, for the socket and the trunk until a time, and reports counts (`SystemClock`).
 
-ghost use Rattle.std.specs.Prelude.{◌≡◌, IfErr};
+ghost use Rattle.std.specs.Prelude.{◌≡◌, length, IfErr};
 ghost use Rattle.gw_satop.specs.Opening.{SystemRefusesTrunk};
 
 use crate::carrying::Clock;
 use crate::counts::Counts;
 use crate::peer::UdpPeer;
+use gw_records::Log;
 use gw_trunk::Waiting;
 use gw_udp::Socket;
 use mio::unix::SourceFd;
@@ -31,6 +32,8 @@ pub struct SystemClock<'r> {
     events: Events,
     descriptor: i32,
     errors: Waiting,
+    // An octet for each wait.
+    waits: Log,
 }
 
 impl<'r> SystemClock<'r> {
@@ -61,6 +64,7 @@ impl<'r> SystemClock<'r> {
             events,
             descriptor,
             errors: Waiting::open(rt, STDERR, Interest::WRITABLE)?,
+            waits: Log::new(),
         })
     }
 }
@@ -74,6 +78,8 @@ fn micros_of(time: Duration) -> u64 {
 
 impl Clock for SystemClock<'_> {
     ghost time = { λ s. s.now };
+
+    ghost waits = { λ s. length s.waits.octets };
 
     fn now(&mut self) -> u64 {
         if let Ok(passed) = self.started.elapsed(self.rt) {
@@ -92,6 +98,7 @@ impl Clock for SystemClock<'_> {
         let _ = self
             .poll
             .poll(&mut self.events, Some(Duration::from_micros(limit)));
+        self.waits.append(&[0], 1);
     }
 
     fn report(&mut self, counts: &Counts) {

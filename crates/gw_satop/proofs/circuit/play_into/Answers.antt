@@ -14,7 +14,7 @@ returns-clause-plays c flags received went k =
     (omega (arith, ap length c.requires.left, c.requires.room, c.args.receiver.now.settings.size_is.1)) in
     rw (left, ← (append_assoc went c.args.left.now.items c.play-is_there.new.room))
     (played-more c.args.receiver.now c.play-is_there.new.self c.args.pace.now c.play-2.new.self c.args.counts.now _
-    flags received (went ++ c.args.left.now.items) c.play-is_there.new.room c.args._read_all
+    flags received (went ++ c.args.left.now.items) c.play-is_there.new.room
     c.play-is_there.result (nat_lt 0 c.reach-later.result)
     c.play-is_there.ensures.settings c.play-is_there.ensures.rtp c.play-is_there.ensures.stands
     c.play-is_there.ensures.played c.requires.due c.play-is_there.ensures.there

@@ -3,6 +3,7 @@ use Rattle.std.proofs.Common.{List}
 use Rattle.std.proofs.Math.Seq.{take-add}
 use Rattle.std.proofs.lemmas.Bool.{leb-false}
 use Rattle.std.proofs.lemmas.List.{length-drop, take_all}
+use Rattle.gw_satop.proofs.Counting.{counted-more}
 use Rattle.gw_satop.proofs.Turning.{sent-more}
 use Rattle.gw_satop.proofs.circuit.send_all.Goals as goal
 
@@ -33,6 +34,9 @@ loop-at-preserved-then-packet g c = record {
   within = stays-within _ _ _ c.loop-at.invariant.within c.fill-at.ensures.bound;
   received = c.send.ensures.received ∙ c.loop-at.invariant.received;
   start = c.packet.ensures.start ∙ c.fill-at.ensures.start ∙ c.loop-at.invariant.start;
+  counted = λ k. counted-more _ _ _ _ _ _ c.args.missing c.send.result
+      (rw (c.if-packet.ensures.flags refl, c.fill-at.ensures.flags) refl) c.send.ensures.taken
+      c.send-then-packet.ensures (c.loop-at.invariant.counted k);
   plays = λ receiver pace received went silent k. sent-more receiver pace _ _ _ _ received went _
       (rw (c.if-packet.ensures.flags refl, c.fill-at.ensures.flags, silent) refl) c.send-then-packet.ensures
       (c.loop-at.invariant.plays receiver pace received went silent k);
@@ -46,6 +50,7 @@ loop-at-preserved g c = record {
   within = stays-within _ _ _ c.loop-at.invariant.within c.fill-at.ensures.bound;
   received = c.loop-at.invariant.received;
   start = c.packet.ensures.start ∙ c.fill-at.ensures.start ∙ c.loop-at.invariant.start;
+  counted = λ k. rw (c.if-packet.ensures.none refl, c.fill-at.ensures.flags) (c.loop-at.invariant.counted k);
   plays = λ receiver pace received went silent k. rw (c.if-packet.ensures.none refl, c.fill-at.ensures.flags)
       (c.loop-at.invariant.plays receiver pace received went silent k);
 }

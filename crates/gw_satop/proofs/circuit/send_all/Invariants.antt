@@ -1,6 +1,7 @@
 use Rattle.std.proofs.Common.{length, take, ◌-◌, ◌≡◌, ◌++◌, ◌<◌, ◌≤◌, ℕ, List}
 use Rattle.gw_satop.specs.declared.line.Receiver.{Receiver}
 use Rattle.gw_satop.specs.declared.pace.PlayClock.{PlayClock}
+use Rattle.gw_satop.specs.Counts.{CountsSends}
 use Rattle.gw_satop.specs.Session.{PlaysAll}
 use Rattle.gw_satop.specs.Sending.{packets_of}
 use Rattle.gw_satop.proofs.circuit.send_all.Given as goal
@@ -14,6 +15,8 @@ invariant-loop-at g l = record {
   within : l.at ≤ length l.octets;
   received : g.P.Peer.received l.peer ≡ g.P.Peer.received l.initial.peer;
   start : l.sender.start ≡ l.initial.sender.start;
+  counted : CountsSends l.initial.counts l.initial.sender.log.flags (g.P.Peer.taken l.initial.peer)
+      → CountsSends l.counts l.sender.log.flags (g.P.Peer.taken l.peer);
   plays : (receiver : Receiver) (pace : PlayClock) (received : List (List ℕ)) (went : List ℕ) → l.missing ≡ pace.silent
       → PlaysAll receiver pace l.initial.counts l.initial.sender.log.flags received went
       → PlaysAll receiver pace l.counts l.sender.log.flags received went;

@@ -7,4 +7,5 @@ invariant_of-self g c = record {
   plays = ∥∥₁_map c.args.self.now.plays (λ k. turned _ _ _ _ _ _ _ _ c.advance.ensures.stands c.advance.ensures.timing
       k);
   sends = c.args.self.now.sends;
+  counted = c.args.self.now.counted;
 }

@@ -1,5 +1,6 @@
 use Rattle.std.proofs.Common.{◌∙◌, refl}
 use Rattle.std.proofs.Math.Logic.{∥∥₁_map}
+use Rattle.gw_satop.proofs.Counting.{counted-datagram}
 use Rattle.gw_satop.proofs.Turning.{heard}
 use Rattle.gw_satop.proofs.circuit.SatopCircuit.hear.Goals as goal
 
@@ -13,4 +14,7 @@ invariant_of-self-2 g c = record {
       c.receive-outcome.ensures.given (rw c.now-now.ensures at c.receive-outcome.ensures.pace)
       c.receive-outcome.ensures.timing (c.bits.ensures ∙ rw (c.receive-2.ensures, c.control-control.ensures) refl) k));
   sends = rw c.receive.ensures.sent c.args.self.now.sends;
+  counted = rw c.receive.ensures.taken (∥∥₁_map c.args.self.now.counted
+      (counted-datagram _ _ c.receive-outcome.result c.control-control.result _ _
+      (c.bits.ensures ∙ rw (c.receive-2.ensures) refl)));
 }

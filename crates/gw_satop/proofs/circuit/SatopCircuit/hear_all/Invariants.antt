@@ -1,4 +1,4 @@
-use Rattle.std.proofs.Common.{◌≡◌, ◌≤◌, ◌++◌, ℕ, List, length}
+use Rattle.std.proofs.Common.{◌≡◌, ◌≤◌, ◌++◌, ℕ, List, [], length}
 use Rattle.gw_satop.specs.Session.{HasSettings}
 use Rattle.gw_satop.proofs.circuit.SatopCircuit.hear_all.Given as goal
 
@@ -13,4 +13,5 @@ invariant-loop-datagram g l = record {
       × (length heard ≡ l._datagram);
   grows : length (g.O.TrunkOutput.went l.initial.self.outgoing ++ l.initial.self.left.items)
       ≤ length (g.O.TrunkOutput.went l.self.outgoing ++ l.self.left.items);
+  all : l.initial.self.left.items ≡ [] → l.self.left.items ≡ [];
 }

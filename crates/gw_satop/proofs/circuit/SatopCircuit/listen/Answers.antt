@@ -1,5 +1,6 @@
 use Rattle.std.proofs.Common.{◌∙◌, refl}
 use Rattle.std.proofs.Math.Logic.{∥∥₁_map}
+use Rattle.gw_satop.proofs.Counting.{counted-alike}
 use Rattle.gw_satop.proofs.Turning.{listened}
 use Rattle.gw_satop.proofs.circuit.SatopCircuit.listen.Goals as goal
 
@@ -10,4 +11,6 @@ invariant_of-self g c = record {
       (c.listen.ensures ∙ rw (c.listen-begins.ensures.begins, c.now-now.ensures) refl) c.listen-begins.ensures.timing
       k);
   sends = c.args.self.now.sends;
+  counted = ∥∥₁_map c.args.self.now.counted
+      (counted-alike _ _ _ _ (rw c.listen.ensures refl) (rw c.listen.ensures refl));
 }

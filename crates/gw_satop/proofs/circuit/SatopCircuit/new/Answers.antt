@@ -3,6 +3,7 @@ use Rattle.satop_playout.specs.Plays.{given_octets, stream}
 use Rattle.g704_framing.specs.Replies.{replies_after}
 use Rattle.gw_satop.specs.Sending.{packets_from}
 use Rattle.gw_satop.specs.Turns.{AllDue, datagrams_in, state_after}
+use Rattle.gw_satop.proofs.Counting.{counted-none}
 use Rattle.gw_satop.proofs.circuit.SatopCircuit.new.Goals as goal
 
 pub invariant_of-result : goal.invariant_of-result
@@ -33,4 +34,5 @@ invariant_of-result g c = record {
     sent_are = rw (c.requires.sent, c.requires.came, c.requires.sender.1) refl;
     rest = c.requires.sender.2;
   };
+  counted = ∣ rw (c.new.ensures, c.requires.sender.1) (counted-none _) ∣₁;
 }

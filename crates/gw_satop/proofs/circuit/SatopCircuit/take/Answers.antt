@@ -17,4 +17,5 @@ invariant_of-self-in-Octets g c =
         sent_are = c.send_all.ensures.sent ∙ rw taken refl;
         rest = c.send_all.ensures.rest;
       };
+      counted = ∥∥₁_map c.args.self.now.counted c.send_all.ensures.counted;
     }
