@@ -17,7 +17,8 @@ pub record Multiframe : Type 0 where
 abbrev pub IsWhole : Multiframe → Type 0
 IsWhole m = length m.octets ≡ 512
 
--- it comes when so many waits have ended without room, and if it is discarded one more does while it comes
+-- it comes when this number of waits have ended without room, and if it is discarded one more does while it
+-- comes
 abbrev pub HasWaited : ℕ → Multiframe → Type 0
 HasWaited waits m = (m.slow_before ≡ waits) × (m.slow_before ≤ m.slow_after)
     × (m.is_discarded ≡ true → m.slow_before < m.slow_after)
@@ -40,8 +41,8 @@ number_discarded [] = 0
 number_discarded (m ∷ ms) = (if m.is_discarded then 1 else 0) + number_discarded ms
 
 -- Octets are sent in multiframes, of which the last one has not come whole. What is left of them is these
--- multiframes without the discarded ones, of this number. While each of these came a wait ended without room,
--- of so many in all.
+-- multiframes without the discarded ones, of this number. While each of these came a wait ended without room;
+-- the last number counts all such waits.
 pub record Thinned (sent left : List ℕ) (discarded slow_waits : ℕ) : Type 0 where
   pub multiframes : List Multiframe
   pub last : Multiframe

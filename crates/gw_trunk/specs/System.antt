@@ -20,9 +20,13 @@ SystemTook writer written = ⊤
 unfoldable pub SystemHasNobody : {S : Type 0} → S → Type 0
 SystemHasNobody door = ⊤
 
--- the system was asked to wait for so many nanoseconds at most, and reported nothing
+-- the system was asked to wait for this many nanoseconds at most, and reported nothing
 unfoldable pub SystemReportedNone : {S : Type 0} → S → ℕ → Type 0
 SystemReportedNone waiting nanoseconds = ⊤
+
+-- .. or it reported something, or refused to wait
+unfoldable pub SystemIsReady : {S : Type 0} → S → ℕ → Type 0
+SystemIsReady waiting nanoseconds = ⊤
 
 -- whether what stands at a path is a socket
 unfoldable pub SystemShowsSocket : List ℕ → Bool → Type 0

@@ -6,7 +6,7 @@ ghost use Rattle.std.specs.Prelude.{Bool, true, false, if◌then◌else◌};
 ghost use Rattle.std.specs.Io.KnownBytes.{IsAtEnd};
 ghost use Rattle.gw_trunk.specs.Device.{IsTaken, WasRead, octets_taken, written_of, IsForLater, HasFailed};
 ghost use Rattle.gw_trunk.specs.Pieces.{AsksRecord};
-ghost use Rattle.gw_trunk.specs.System.{SystemReportedNone};
+ghost use Rattle.gw_trunk.specs.System.{SystemIsReady, SystemReportedNone};
 
 use crate::device_calls::{DeviceReader, DeviceWriter, is_for_later};
 use crate::logged_reader::LoggedReader;
@@ -126,6 +126,9 @@ pub trait TrunkOutput {
     /// Holds of a device if it was waited for 20 ms, and no room was reported.
     ghost has_waited: { Self → Type 0 } = { λ _. ⊤ };
 
+    /// Holds of a device if the last wait for a while ended because it may have room.
+    ghost may_have_room: { Self → Type 0 } = { λ _. ⊤ };
+
     /// Takes octets from the front of `octets`, and returns how many; None if it can take none now. It never
     /// waits.
     fn write(&mut self, octets: &[u8]) -> Result<Option<usize>, DeviceFault>
@@ -147,7 +150,8 @@ pub trait TrunkOutput {
     fn wait_a_while(&mut self) -> bool
         ensures went { went self.new ≡ went self.old }
         ensures slow { slow_waits self.new ≡ slow_waits self.old + (if result then 0 else 1) }
-        ensures waited { result ≡ false → is_slow self.old ≡ false → has_waited self.new };
+        ensures waited { result ≡ false → is_slow self.old ≡ false → has_waited self.new }
+        ensures room { result ≡ true → may_have_room self.new };
 }
 
 /// A reader over a descriptor. What came is what the calls of the reader gave.
@@ -275,6 +279,8 @@ impl<W: DeviceWriter> TrunkOutput for ToDevice<W> {
     ghost is_slow = { λ d. d.is_slow };
 
     ghost has_waited = { λ d. SystemReportedNone d.waiting 20_000_000 };
+
+    ghost may_have_room = { λ d. (limit : ℕ) × SystemIsReady d.waiting limit };
 
     fn write(&mut self, octets: &[u8]) -> Result<Option<usize>, DeviceFault> {
         match self.writer.write_now(octets) {

@@ -1,8 +1,8 @@
 //! How a descriptor is waited for, with or without a time limit (`Waiting`).
 
-ghost use Rattle.std.specs.Prelude.{◌≡◌, false};
+ghost use Rattle.std.specs.Prelude.{◌≡◌, true, false};
 ghost use Rattle.std.specs.Duration.{as_nanos};
-ghost use Rattle.gw_trunk.specs.System.{SystemReportedNone};
+ghost use Rattle.gw_trunk.specs.System.{SystemIsReady, SystemReportedNone};
 
 use mio::unix::SourceFd;
 use mio::{Events, Interest, Poll, Token};
@@ -45,11 +45,12 @@ impl Waiting {
         }
     }
 
-    /// Waits until the descriptor is ready, for so long at most, or a signal comes. Returns whether it may be
-    /// ready.
-    #[tactic(auto, unfolding(crate::specs::System::SystemReportedNone))]
+    /// Waits until the descriptor is ready, for this time at most, or a signal comes. Returns whether it may be
+    /// ready: the system reported it, or refused to wait.
+    #[tactic(auto, unfolding(crate::specs::System::SystemReportedNone, crate::specs::System::SystemIsReady))]
     pub fn wait_for(&mut self, limit: Duration) -> bool
-        ensures { result ≡ false → SystemReportedNone self.new (as_nanos limit) }
+        ensures none { result ≡ false → SystemReportedNone self.new (as_nanos limit) }
+        ensures some { result ≡ true → SystemIsReady self.new (as_nanos limit) }
     {
         let registry = self.poll.registry();
         let source = &mut SourceFd(&self.descriptor);
