@@ -127,11 +127,9 @@ const CONTROL_TEXT: &str =
 const TELL_TEXT: &str =
     "Unix socket at which clients are told how the trunk stands and\nwhat changes";
 
-const FOLLOW_TEXT: &str =
-    "Read records from this log as it grows, until standard input ends";
+const FOLLOW_TEXT: &str = "Read records from this log as it grows, until standard input ends";
 
-const FROM_TEXT: &str =
-    "With --follow: the octet of the log at which its first record\nbegins";
+const FROM_TEXT: &str = "With --follow: the octet of the log at which its first record\nbegins";
 
 const SIZE_TEXT: &str = "Octets in a packet, 32 to 1280, a multiple of 32";
 

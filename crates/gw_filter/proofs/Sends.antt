@@ -1,6 +1,6 @@
 -- A sender of CRC-4 multiframes, one arrival more.
-use Rattle.std.proofs.Common.{◌≡◌, false, ◌+◌, ◌<◌, ◌≤◌, ℕ, suc, List, [], ◌∷◌, ◌++◌, length, take, drop, get_or, slice_set}
-use Rattle.std.proofs.Common.{map}
+use Rattle.std.proofs.Common.{◌≡◌, false, ◌+◌, ◌<◌, ◌≤◌, ℕ, suc, List, [], ◌∷◌, ◌++◌, length, take, drop, get_or}
+use Rattle.std.proofs.Common.{slice_set, map}
 use Rattle.std.proofs.Common.{Option, Some, refl, sym, ap, ◌∙◌, arith, subst, append_assoc, append-nil, length-append}
 use Rattle.std.proofs.Math.Seq.{drop-cons, set-append_seam, get_or-append_seam}
 use Rattle.std.proofs.lemmas.List.{length-set, take_all, drop_all}

@@ -1,6 +1,6 @@
--- What the system answered (modules `following`, `input_end`). Std says nothing of it, so these relations hold
--- of every answer; but they are unfolded only in the functions that ask the system, so for all others they hold
--- only of answers received.
+-- What the system answered (modules `following`, `input_end`). Std says nothing of it, so these relations
+-- hold of every answer; but they are unfolded only in the functions that ask the system, so for all others
+-- they hold only of answers received.
 use Rattle.std.specs.Prelude.{⊤, ℕ, Result}
 use Rattle.gw_records.specs.declared.streams.SourceFault.{SourceFault}
 

@@ -52,12 +52,7 @@ pub trait Waiter {
 
 // Reads on, and waits at the end of the log. It returns 0 only if no more was waited for when the log was
 // read last, and this gave nothing.
-#[tactic(auto, using(
-    crate::proofs::Known::consumes_none,
-    crate::proofs::Known::consumes_then,
-    crate::proofs::Known::keeps_then,
-    crate::proofs::Known::keeps_none
-))]
+#[tactic(auto, using(crate::proofs::Known::consumes_none, crate::proofs::Known::consumes_then, crate::proofs::Known::keeps_then, crate::proofs::Known::keeps_none))]
 fn read_on<R: LogReader, W: Waiter>(
     reader: &mut R,
     waiter: &mut W,

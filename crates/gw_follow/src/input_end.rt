@@ -69,10 +69,7 @@ impl Waiter for InputEnd {
         let mut room = [0u8; ROOM];
         match self.input.read(&mut room) {
             Ok(n) => n == 0,
-            Err(error) => !matches!(
-                error.kind(),
-                ErrorKind::WouldBlock | ErrorKind::Interrupted
-            ),
+            Err(error) => !matches!(error.kind(), ErrorKind::WouldBlock | ErrorKind::Interrupted),
         }
     }
 }

@@ -57,13 +57,16 @@ no_session command session none = go (follow_in command)
     go : (o : Option (List ℕ))
         → MatchOption o (EndsSession command session (λ _. ⊤) (Err program_faults.Nothing))
         (λ path. FollowsLog command session path (Err program_faults.Nothing))
-    go None = on_new source source sink sink (tt, inl (record {
-      program_fault = program_faults.Nothing;
-      why = tt;
-      told_is = refl;
-      unread = refl;
-      unwritten = refl;
-    })) refl refl refl refl
+    go None = on_new source source sink sink (
+      tt,
+      inl (record {
+        program_fault = program_faults.Nothing;
+        why = tt;
+        told_is = refl;
+        unread = refl;
+        unwritten = refl;
+      }),
+    ) refl refl refl refl
     go (Some path) = inr (refl, inl none)
 
 -- why nothing was begun is left out, and what the streams are beside what they tell
@@ -176,16 +179,22 @@ module _ (s s' : SourceState) (k k' : SinkState) {P T : Type 0} (reads : Config 
       | inl n ↦ stopped n a b c d
       | inr w ↦ elim w.done [
         | inl n ↦ stopped n a b c d
-        | inr e ↦ on_new s s' k k' (given, inr (with_gateway h.config w.gateway w.gateway'
-            (takes.read h.config h.read) (takes.begun h.config w.gateway w.begun)
-            (saved_told takes h.config w.gateway' e))) a b c d
+        | inr e ↦ on_new s s' k k' (
+          given,
+          inr (with_gateway h.config w.gateway w.gateway'
+              (takes.read h.config h.read) (takes.begun h.config w.gateway w.begun)
+              (saved_told takes h.config w.gateway' e)),
+        ) a b c d
       ]
     ]
     session_done lacks_watch Check (inr h) a b c d = elim h.done [
       | inl n ↦ stopped n a b c d
-      | inr w ↦ on_new s s' k k' (given, inr (with_gateway h.config w.gateway w.gateway'
-          (takes.read h.config h.read) (takes.begun h.config w.gateway w.begun)
-          (saved_told takes h.config w.gateway' w.done))) a b c d
+      | inr w ↦ on_new s s' k k' (
+        given,
+        inr (with_gateway h.config w.gateway w.gateway'
+            (takes.read h.config h.read) (takes.begun h.config w.gateway w.begun)
+            (saved_told takes h.config w.gateway' w.done)),
+      ) a b c d
     ]
     session_done lacks_watch Serve (inr h) a b c d = elim h.done [
       | inl n ↦ stopped n a b c d
@@ -195,9 +204,12 @@ module _ (s s' : SourceState) (k k' : SinkState) {P T : Type 0} (reads : Config 
           before = around s k (ports_tell v.ports) (tape_tells v.tape);
           after = around s' k' (ports_tell v.ports') (tape_tells v.tape');
           new = record { unread = a; no_octet = b; no_failed_read = c; no_failed_write = d };
-          done = (given, inr (with_gateway h.config w.gateway w.gateway'
-              (takes.read h.config h.read) (takes.begun h.config w.gateway w.begun)
-              (saved_told takes h.config w.gateway' v.done)));
+          done = (
+            given,
+            inr (with_gateway h.config w.gateway w.gateway'
+                (takes.read h.config h.read) (takes.begun h.config w.gateway w.begun)
+                (saved_told takes h.config w.gateway' v.done)),
+          );
         }
       ]
     ]

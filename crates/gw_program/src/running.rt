@@ -12,9 +12,7 @@ use crate::program_fault::ProgramFault;
 use crate::report::CheckTells;
 use crate::reports::open_reports;
 use clap::ArgMatches;
-use gw_command::{
-    Filter, SessionKind, SpeechJob, asks_live, follow_of, from_of, reports_of,
-};
+use gw_command::{Filter, SessionKind, SpeechJob, asks_live, follow_of, from_of, reports_of};
 use gw_filter::{NoReports, ReportingSender, ToReports};
 use gw_session::{FromRead, ToWrite, Totals};
 
