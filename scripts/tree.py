@@ -1,6 +1,8 @@
-"""The crates, and the sources, tests and wrong bodies of each: for scripts/crates and scripts/docs."""
+"""The crates, and the sources, tests and wrong bodies of each, and the modules of the driver: for scripts/crates and
+scripts/docs."""
 from __future__ import annotations
 
+import ast
 import os
 import re
 
@@ -36,6 +38,18 @@ def summary(path: str) -> str:
     head = re.match(r'(?://!.*\n)+', read(path))
     text = ' '.join(line[3:].strip() for line in head[0].split('\n')) if head else ''
     return re.split(r'(?<=\.) ', text.partition('  ')[0].strip(), maxsplit=1)[0]
+
+
+def modules() -> dict[str, str]:
+    """The modules and packages of driver/e1gw, each with the sentence at its head, or nothing if it has none."""
+    root, found = os.path.join(TOP, 'driver', 'e1gw'), {}
+    for folder, folders, files in os.walk(root):
+        folders[:] = sorted(name for name in folders if name != '__pycache__')
+        for path in (os.path.join(folder, name) for name in sorted(files) if name.endswith('.py')):
+            name = os.path.relpath(path, root).removesuffix('.py').removesuffix('__init__')
+            head = (ast.get_docstring(ast.parse(read(path))) or '').replace('\n', ' ')
+            found[name] = re.split(r'(?<=\.) ', head.partition('  ')[0], maxsplit=1)[0]
+    return {name: head for name, head in found.items() if name}
 
 
 def is_test(path: str) -> bool:

@@ -59,6 +59,7 @@ class Tree(unittest.TestCase):
         self.put('crates/small/src/tests.rt', TESTS)
         self.put('crates/small/must-fail/double_is_three.edit', '')
         self.put('docs/PROVED.md', PROVED)
+        self.put('driver/e1gw/calls.py', '"""A line for each call: as CSV.\n\nMore of it."""\n')
 
     def put(self, path: str, text: str) -> None:
         whole = os.path.join(tree.TOP, path)
@@ -84,6 +85,11 @@ class Tree(unittest.TestCase):
             'crates/small: the wrong body three: its name is no sentence of words',
             'docs/PROVED.md: no section of bare', 'crates/bare: no wrong body',
             'crates/bare/src/lib.rt: does not begin with a sentence'])
+
+    def test_module_without_a_head(self) -> None:
+        self.put('driver/e1gw/tie/__init__.py', '')
+        self.assertEqual(tree.modules(), {'calls': 'A line for each call: as CSV.', 'tie/': ''})
+        self.assertEqual(list(self.docs.wrong_heads()), ['driver/e1gw/tie/: does not begin with a sentence'])
 
     def test_what_a_crate_has(self) -> None:
         self.put('crates.txt', 'small:\nsmall_tests: small\n')
