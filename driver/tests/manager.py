@@ -2,11 +2,14 @@
 from __future__ import annotations
 
 import array
+import fcntl
 import os
 import socket
 import subprocess
 import sys
 import threading
+
+APART = 300                 # descriptors that a service is given have numbers from here on before it starts
 
 
 class Manager:
@@ -49,11 +52,10 @@ class Manager:
         script = ('import os, sys\n'
                   'os.environ["LISTEN_PID"] = str(os.getpid())\n'
                   'os.execv(sys.argv[1], sys.argv[1:])\n')
-        held = [os.dup(file) for file in self.files.values()]
-        high = [os.dup2(file, 100 + place) for place, file in enumerate(held)]
+        held = [fcntl.fcntl(file, fcntl.F_DUPFD_CLOEXEC, APART) for file in self.files.values()]
 
         def give() -> None:
-            for place, file in enumerate(high):
+            for place, file in enumerate(held):
                 os.dup2(file, 3 + place, inheritable=True)
         around = {'LISTEN_FDS': str(len(held)), 'LISTEN_FDNAMES': ':'.join(self.files)} if held else {}
         try:
@@ -61,7 +63,7 @@ class Manager:
                                     env={**os.environ, 'NOTIFY_SOCKET': self.path, **around}, close_fds=False,
                                     preexec_fn=give)
         finally:
-            for file in (*held, *high):
+            for file in held:
                 os.close(file)
 
     def close(self) -> None:

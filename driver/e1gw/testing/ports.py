@@ -5,9 +5,10 @@ import itertools
 import os
 import socket
 
-# Even ports below those that the kernel gives to sockets without one (32768-60999). Each process begins elsewhere.
+# Even ports below those that the kernel gives to sockets without one (32768-60999). Each process begins elsewhere, also
+# those that were started one after another.
 _EVEN = range(10_000, 32_000, 2)
-_NEXT = itertools.islice(itertools.cycle(_EVEN), os.getpid() * 64 % len(_EVEN), None)
+_NEXT = itertools.islice(itertools.cycle(_EVEN), os.getpid() * 4099 % len(_EVEN), None)
 
 
 def free_ports(count: int, host: str = '127.0.0.1', kind: int = socket.SOCK_DGRAM) -> list[int]:
