@@ -22,7 +22,7 @@ class Looks(unittest.TestCase):
                 self.assertIsNotNone(found)
                 assert found
                 self.assertEqual(status, int(int(found[2]) > 0))
-                self.assertEqual(int(found[1]) + int(found[2]), {'docs': 8, 'words': 5}[name])
+                self.assertEqual(int(found[1]) + int(found[2]), {'docs': 6, 'words': 5}[name])
 
 
 if __name__ == '__main__':
