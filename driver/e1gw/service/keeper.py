@@ -26,7 +26,7 @@ START, GRACE = 10.0, 5.0    # seconds for a program to carry the trunk, and to e
 TICK = 0.25                 # seconds between two looks while nothing happens
 APART = 60.0                # seconds between two programs that follow for a control socket that is gone
 AGAIN = 0.1                 # seconds before a step that has failed is begun again
-DEATHS, WITHIN, MOST_PAUSE = 5, 2.0, 10.0       # so many in so many seconds: the next one begins without a state
+DEATHS, WITHIN, MOST_PAUSE = 5, 2.0, 10.0       # deaths within seconds: the next one begins without a state
 LOST, ANEW = ', what it had in hand is lost: 2048 octets (8 ms) at most', '; all calls begin anew'
 
 logger = logging.getLogger(__name__)
