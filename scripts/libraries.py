@@ -238,7 +238,7 @@ def is_ahead(name: str, state: State) -> bool:
 def start_ready(uses: dict[str, list[str]], state: State) -> None:
     """Starts what can be built now. Where other libraries wait for these, each has a job but the one that is ahead;
     else they share the lanes."""
-    ready = [it for it in state.left if state.done.issuperset(below(it, uses))]
+    ready = [it for it in state.left if state.done.issuperset(uses[it])]
     are_last = len(ready) == len(state.left)
     for at, name in enumerate(ready):
         free = state.free()
