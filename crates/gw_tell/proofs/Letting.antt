@@ -17,34 +17,27 @@ use Rattle.gw_tell.specs.Telling.{IsNew, LetsIn, TellsRecord}
 still_here : (law : Law) (place : ℕ) (told : GatewayStatus) (seized : List ℕ) (old mid new : Option Client)
     → StaysOrNew law place told seized old mid
     → StaysOrNew law place told seized mid new → StaysOrNew law place told seized old new
-still_here law place told seized old mid None first then = tt
-still_here law place told seized old mid (Some client) first (inl e) = rw e at first
-still_here law place told seized old mid (Some client) first (inr is) = inr is
+still_here law place told seized old mid new first (inl e) = rw (sym e) at first
+still_here law place told seized old mid new first (inr is) = inr is
 
 -- Who is new and stays, is new.
 still_new : (law : Law) (place : ℕ) (told : GatewayStatus) (seized : List ℕ) (mid new : Option Client)
     → IsNew law place told seized mid
     → StaysOrNew law place told seized mid new → IsNew law place told seized new
-still_new law place told seized mid None first then = tt
-still_new law place told seized mid (Some client) first (inl e) = rw e at first
-still_new law place told seized mid (Some client) first (inr is) = is
+still_new law place told seized mid new first (inl e) = rw (sym e) at first
+still_new law place told seized mid new first (inr is) = inr is
 
 -- Who is at a place that was free is new.
 none_here : (law : Law) (place : ℕ) (told : GatewayStatus) (seized : List ℕ) (mid new : Option Client) → mid ≡ None
     → StaysOrNew law place told seized mid new → IsNew law place told seized new
-none_here law place told seized mid None free then = tt
-none_here law place told seized mid (Some client) free (inl e) = cc
-none_here law place told seized mid (Some client) free (inr is) = is
+none_here law place told seized mid new free (inl e) = inl (e ∙ free)
+none_here law place told seized mid new free (inr is) = inr is
 
 -- Before the first one all stay.
 pub none_let_in : (law : Law) (place : ℕ) (gateway : Gateway) (told : GatewayStatus) (seized : List ℕ)
     (places : List ClientSlot)
     → LetsIn law place gateway told told seized places places
-none_let_in law place gateway told seized places = inl (refl, λ k. stays (at places k))
-  where
-    stays : (client : Option Client) → StaysOrNew law place told seized client client
-    stays None = tt
-    stays (Some client) = inl refl
+none_let_in law place gateway told seized places = inl (refl, λ k. inl refl)
 
 -- One more is accepted.
 pub one_let_in : (law : Law) (place : ℕ) (gateway : Gateway) (told told' told'' : GatewayStatus)

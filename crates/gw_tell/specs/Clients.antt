@@ -57,8 +57,11 @@ pub record TellsChanges (place : ℕ) (r : Record) (code : ℕ) (gateway : Gatew
   pub true_picture : IsStatusOf is told
   pub told_all : AllAreTold places places' (place_after place r) lines
 
--- the client at a place stays as it was, or is disconnected, or is a new one that was sent the whole state
+-- a client is here that came at a place of the trunk and was sent these octets
+abbrev pub IsSeated : ℕ → List ℕ → Option Client → Type 0
+IsSeated place octets None = ⊥
+IsSeated place octets (Some client) = (sent client ≡ octets) × (client.last ≡ place)
+
+-- the client of a place stays as it was, or one is new here that was sent the whole state
 abbrev pub StaysOrNew : Law → ℕ → GatewayStatus → List ℕ → Option Client → Option Client → Type 0
-StaysOrNew law place told seized old None = ⊤
-StaysOrNew law place told seized old (Some client') = (old ≡ Some client')
-    ⊎ ((sent client' ≡ whole_state law place told seized) × (client'.last ≡ place))
+StaysOrNew law place told seized old new = (new ≡ old) ⊎ IsSeated place (whole_state law place told seized) new

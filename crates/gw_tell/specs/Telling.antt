@@ -7,7 +7,7 @@ use Rattle.gw_tell.specs.declared.client.Client.{Client}
 use Rattle.gw_tell.specs.declared.gateway_status.GatewayStatus.{GatewayStatus}
 use Rattle.gw_tell.specs.declared.place.ClientSlot.{ClientSlot}
 use Rattle.gw_tell.specs.declared.teller.Teller.{Teller}
-use Rattle.gw_tell.specs.Clients.{at, sent, Gets, AllFree, TellsChanges, StaysOrNew}
+use Rattle.gw_tell.specs.Clients.{at, sent, Gets, AllFree, TellsChanges, StaysOrNew, IsSeated}
 use Rattle.gw_tell.specs.Reports.{Shows, place_after, whole_state}
 use Rattle.gw_tell.specs.Seizures.{AreCounted, no_seizures}
 
@@ -21,9 +21,7 @@ pub record HasBegun (t : Teller) (law : Law) (gateway : Gateway) : Type 0 where
 
 -- a place has no client, or a new one that was sent the whole state
 abbrev pub IsNew : Law → ℕ → GatewayStatus → List ℕ → Option Client → Type 0
-IsNew law place told seized None = ⊤
-IsNew law place told seized (Some client) = (sent client ≡ whole_state law place told seized)
-    × (client.last ≡ place)
+IsNew law place told seized new = (new ≡ None) ⊎ IsSeated place (whole_state law place told seized) new
 
 -- New clients were accepted: each was sent the whole state as last reported, and those before them stay.
 -- If there was none before them, that may be the gateway's present state.

@@ -1,11 +1,12 @@
 //! One of eight places for clients of `--tell`: its client, or the room that it has (`ClientSlot`).
 
-ghost use Rattle.std.specs.Prelude.{◌≡◌, ◌≤◌, ◌++◌, [], length, take, drop, IfOk, None};
-ghost use Rattle.gw_tell.specs.Clients.{Gets, IsTold};
+ghost use Rattle.std.specs.Prelude.{◌≡◌, ◌⊎◌, ◌≤◌, ◌++◌, [], length, take, drop, IfOk, None};
+ghost use Rattle.gw_tell.specs.Clients.{Gets, IsTold, IsSeated};
 ghost use Rattle.gw_tell.specs.Lines.{at_line};
 
 use crate::backlog::Backlog;
 use crate::client::Client;
+use mio::net::UnixStream;
 use std::alloc::Global;
 use std::io::{self, ErrorKind};
 
@@ -27,6 +28,20 @@ impl ClientSlot {
                 room: Some(room),
             }),
             Err(_) => Err(io::Error::from(ErrorKind::OutOfMemory)),
+        }
+    }
+
+    /// Gives the place to a client that comes at a place of the trunk, and sends it these octets. The place
+    /// stays as it is if it has no room, or the client is gone.
+    pub fn seat(&mut self, stream: UnixStream, at: u64, octets: &[u8])
+        ensures { (self.new.client ≡ self.old.client) ⊎ IsSeated at octets.now self.new.client }
+    {
+        let Some(room) = self.room.take() else {
+            return;
+        };
+        let mut client = Client::new(stream, at, room);
+        if client.give(octets).is_ok() {
+            self.client = Some(client);
         }
     }
 

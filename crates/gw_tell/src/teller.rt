@@ -8,7 +8,6 @@ ghost use Rattle.gw_tell.specs.Clients.{AllAreTold, AllFree, Gets, at};
 ghost use Rattle.gw_tell.specs.Telling.{HasBegun, TellsRecord};
 
 use crate::backlog::Backlog;
-use crate::client::Client;
 use crate::gateway_status::GatewayStatus;
 use crate::lines::push_at;
 use crate::place::ClientSlot;
@@ -80,13 +79,6 @@ fn free_place(places: &[ClientSlot; 8]) -> Option<usize>
         }
     }
     None
-}
-
-// Takes the room of a free place, for a new client.
-fn take_room(place: &mut ClientSlot) -> Option<Backlog>
-    ensures { place.new.client ≡ place.old.client }
-{
-    place.room.take()
 }
 
 // Two free places, with the room of each. The error is that memory was refused.
@@ -196,13 +188,7 @@ impl Teller {
             &self.seized,
             &mut self.text,
         );
-        let Some(room) = take_room(&mut self.places[free]) else {
-            return;
-        };
-        let mut client = Client::new(stream, self.place, room);
-        if client.give(self.text.as_slice()).is_ok() {
-            self.places[free].client = Some(client);
-        }
+        self.places[free].seat(stream, self.place, self.text.as_slice());
     }
 
     // Whether clients are looked at behind a record that began at this place: with each record if there is
