@@ -1,0 +1,45 @@
+//! What the command line says of senders, of repeats and of the recording.
+
+ghost use Rattle.std.specs.Prelude.{◌≡◌, IfSome, option_map, codes};
+ghost use Rattle.clap.specs.Words.{subcommand_rows_of};
+ghost use Rattle.gw_command.specs.Command.{text_in};
+ghost use Rattle.gw_system.specs.Asked.{AreSenders, IsRepeat};
+
+use clap::ArgMatches;
+use gw_command::{recording_of, records_over, repeat_of, senders_of};
+use gw_program::Recording;
+use gw_udp::SourceFilter;
+
+// Which senders are accepted: any, if the matches name none.
+pub(crate) fn senders_asked(matches: &ArgMatches<'_>) -> SourceFilter
+    ensures { AreSenders (subcommand_rows_of matches.now) result }
+{
+    match senders_of(matches) {
+        Some(name) => SourceFilter::named(name).unwrap_or(SourceFilter::Any),
+        None => SourceFilter::Any,
+    }
+}
+
+// After how many datagrams of a circuit each is sent again; 0 if the matches name no number.
+pub(crate) fn repeat_asked(matches: &ArgMatches<'_>) -> u8
+    ensures { IsRepeat (subcommand_rows_of matches.now) result }
+{
+    match repeat_of(matches) {
+        Some(count) => count,
+        None => 0,
+    }
+}
+
+// The recording that the matches ask for. `waits` says whether it is waited for.
+pub(crate) fn recording_asked<'m>(matches: &'m ArgMatches<'_>, waits: bool) -> Option<Recording<'m>>
+    ensures path { option_map (λ recording. recording.path.now) result
+        ≡ text_in (codes "record") (subcommand_rows_of matches.now) }
+    ensures waits { IfSome result (λ recording. recording.waits ≡ waits) }
+{
+    let path = recording_of(matches)?;
+    Some(Recording {
+        path,
+        over: records_over(matches),
+        waits,
+    })
+}

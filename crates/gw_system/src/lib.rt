@@ -1,0 +1,7 @@
+//! What a session or a trunk takes from this machine: files, sockets, and what the command line says of them.
+#![tactic(auto)]
+
+mod asked;
+mod local;
+
+pub use local::{Local, local_of};

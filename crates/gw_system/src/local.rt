@@ -1,0 +1,189 @@
+//! The system of a session: this machine's files and sockets, as the command line names them.
+
+ghost use Rattle.std.specs.Prelude.{◌≡◌, IfSome, option_map, codes};
+ghost use Rattle.clap.specs.Words.{subcommand_rows_of};
+ghost use Rattle.gw_command.specs.Command.{text_in};
+ghost use Rattle.gw_program.specs.Requests.{load_in, save_in, AsksWait};
+ghost use Rattle.gw_system.specs.Asked.{AreSenders, IsRepeat};
+ghost use Rattle.gw_system.specs.Opening.{trouble_of_opening};
+
+use crate::asked::{recording_asked, repeat_asked, senders_asked};
+use clap::ArgMatches;
+use gw_command::{load_of, save_of, seizure_wait_of, tell_of};
+use gw_config::Config;
+use gw_program::{
+    ProgramFault, Recording, RecordingFile, System, Tape, begin, begin_gateway, keep_gateway,
+    read_config,
+};
+use gw_repeat::{Repeating, packet_words};
+use gw_session::Recorder;
+use gw_switch::Gateway;
+use gw_tell::Teller;
+use gw_udp::{OpenFault, Resting, Socket, SourceFilter, UdpPorts, open_sockets};
+use std::fs::File;
+use std::net::UdpSocket;
+use std::rt::Stderr;
+
+// The program's fault if the circuits' sockets are not opened.
+fn of_opening(fault: OpenFault) -> ProgramFault
+    ensures { result ≡ trouble_of_opening fault }
+{
+    match fault {
+        OpenFault::Socket(circuit) => ProgramFault::Socket(circuit),
+        OpenFault::OutOfMemory => ProgramFault::OutOfMemory,
+    }
+}
+
+/// What a session or a trunk takes from this system, by the matches of the command line.
+#[derive(Drop)]
+pub struct Local<'m> {
+    rt: &'m HostRuntime,
+    /// The path of the configuration.
+    pub path: &'m str,
+    /// Who may send to the circuits.
+    pub senders: SourceFilter,
+    /// After how many datagrams of a circuit each is sent again, or 0.
+    pub repeat: u8,
+    /// The path of the state to load.
+    pub load: Option<&'m str>,
+    /// The path at which the state is saved at the end.
+    pub save: Option<&'m str>,
+    /// The wait for an acknowledgement in signals, if `--seizure-wait` is there.
+    pub wait: Option<u16>,
+    /// The recording that is asked for.
+    pub recording: Option<Recording<'m>>,
+    /// The socket of `--tell`, if it is asked for.
+    pub tell: Option<&'m str>,
+}
+
+impl System for Local<'_> {
+    ghost use Rattle.std.specs.Prelude.{⊤, string_bytes, []};
+    ghost use Rattle.gw_program.specs.Performing.{IsBegun};
+    ghost use Rattle.gw_program.specs.Setup.{IsMeant, SystemGives};
+    ghost use Rattle.gw_program.specs.State.{BeginsWaiting, LacksGateway, IsSaved};
+    ghost use Rattle.gw_udp.specs.Names.{SystemLooksUp};
+    ghost use Rattle.gw_udp.specs.Udp.{HasEndpoints};
+    ghost use Rattle.gw_udp.specs.Opening.{FailsToOpen as FailsToOpenPorts};
+    ghost use Rattle.gw_system.specs.Opening.{IsOfOpening};
+    ghost use Rattle.gw_udp.specs.Calls.{IsFresh};
+    ghost use Rattle.gw_repeat.specs.Words.{HasPacketWords};
+
+    type Ports = Repeating<UdpPorts<Resting<UdpSocket>>>;
+
+    type Tape = Tape;
+
+    type Watch = Option<Teller>;
+
+    ghost reads = { λ s config. IsMeant (SystemGives s.path.now) config };
+
+    ghost lacks_config = { λ _ _. ⊤ };
+
+    ghost starts = { λ s config gateway.
+        BeginsWaiting config.gateway s.load (λ wait. wait ≡ s.wait) gateway };
+
+    ghost lacks_gateway = { λ s config program_fault. LacksGateway config.gateway s.load program_fault };
+
+    ghost saves = { λ s config gateway saved. IsSaved s.save saved };
+
+    ghost lacks_tape = { λ _ _. ⊤ };
+
+    ghost lacks_watch = { λ _ _. ⊤ };
+
+    ghost begins = { λ s tape. IsBegun s.recording
+        (⟦<Option<Recorder<RecordingFile<File, Stderr>>> as gw_session::Tape>⟧.tells tape) };
+
+    ghost opens = { λ s config ports. HasEndpoints ⟦<Resting<UdpSocket> as Socket>⟧.is_bound SystemLooksUp
+        (string_bytes config.host) s.senders config.ports ports.ports.endpoints.items 30
+        × IsFresh ports.ports.endpoints.items ports.ports.opened.value.items ports.ports.log.calls
+        × (ports.opened.value ≡ ports.ports) × (ports.count ≡ s.repeat)
+        × HasPacketWords config.gateway.circuits ports.words × (ports.log.calls ≡ []) };
+
+    ghost lacks_ports = { λ s config. IsOfOpening
+        (FailsToOpenPorts ⟦<Resting<UdpSocket> as Socket>⟧.is_bound ⟦<Resting<UdpSocket> as Socket>⟧.refuses
+        SystemLooksUp (string_bytes config.host) s.senders config.ports) };
+
+    fn read_config(&self) -> Result<Config, ProgramFault> {
+        read_config(self.rt, self.path)
+    }
+
+    fn begin_gateway(&self, config: &Config) -> Result<Gateway, ProgramFault> {
+        begin_gateway(self.rt, &config.gateway, self.load, self.wait)
+    }
+
+    fn save_gateway(&self, config: &Config, gateway: &Gateway) -> Result<(), ProgramFault> {
+        keep_gateway(self.rt, &config.gateway, gateway, self.save)
+    }
+
+    fn begin_tape(&self) -> Result<Tape, ProgramFault> {
+        begin(self.rt, self.recording)
+    }
+
+    fn open_ports(&self, config: &Config) -> Result<Self::Ports, ProgramFault> {
+        let ports = match open_sockets(self.rt, self.rt.alloc(), config, self.senders) {
+            Ok(ports) => ports,
+            Err(fault) => return Err(of_opening(fault)),
+        };
+        let words = packet_words(&config.gateway.circuits);
+        match Repeating::open(self.rt.alloc(), ports, self.repeat, words) {
+            Ok(ports) => Ok(ports),
+            Err(_) => Err(ProgramFault::OutOfMemory),
+        }
+    }
+
+    fn open_watch(
+        &self,
+        config: &Config,
+        gateway: &Gateway,
+    ) -> Result<Option<Teller>, ProgramFault> {
+        let Some(path) = self.tell else {
+            return Ok(None);
+        };
+        match Teller::open(self.rt, path, config.gateway.law, gateway) {
+            Ok(teller) => Ok(Some(teller)),
+            Err(error) => Err(ProgramFault::of(&error, ProgramFault::Tell)),
+        }
+    }
+
+    fn end_watch(&self, watch: &mut Option<Teller>) {
+        if let Some(teller) = watch {
+            teller.end();
+        }
+    }
+
+    fn tell(&self, program_fault: &ProgramFault) {
+        let _ = eprintln!(self.rt; "{}", program_fault);
+    }
+}
+
+/// What the matches say of the session or the trunk that they ask for, with its configuration at the path.
+/// `waits` says whether its recording is waited for: that of a trunk never is.
+pub fn local_of<'m>(
+    rt: &'m HostRuntime,
+    matches: &'m ArgMatches<'_>,
+    path: &'m str,
+    waits: bool,
+) -> Local<'m>
+    ensures path { result.path.now ≡ path.now }
+    ensures senders { AreSenders (subcommand_rows_of matches.now) result.senders }
+    ensures repeat { IsRepeat (subcommand_rows_of matches.now) result.repeat }
+    ensures recording { option_map (λ recording. recording.path.now) result.recording
+        ≡ text_in (codes "record") (subcommand_rows_of matches.now) }
+    ensures waits { IfSome result.recording (λ recording. recording.waits ≡ waits) }
+    ensures tell { option_map (λ path. path.now) result.tell
+        ≡ text_in (codes "tell") (subcommand_rows_of matches.now) }
+    ensures load { option_map (λ path. path.now) result.load ≡ load_in (subcommand_rows_of matches.now) }
+    ensures save { option_map (λ path. path.now) result.save ≡ save_in (subcommand_rows_of matches.now) }
+    ensures wait { AsksWait (subcommand_rows_of matches.now) result.wait }
+{
+    Local {
+        rt,
+        path,
+        senders: senders_asked(matches),
+        repeat: repeat_asked(matches),
+        load: load_of(matches),
+        save: save_of(matches),
+        wait: seizure_wait_of(matches),
+        recording: recording_asked(matches, waits),
+        tell: tell_of(matches),
+    }
+}
