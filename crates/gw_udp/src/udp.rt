@@ -284,6 +284,16 @@ fn send_from<S: Socket>(
     }
 }
 
+// Counts a fault, if this is one.
+#[inline]
+fn count_fault<T>(failed: &mut u64, came: &Result<T, PortFault>)
+    ensures { CountsFault failed.old failed.new came.now }
+{
+    if came.is_err() {
+        *failed = failed.saturating_add(1);
+    }
+}
+
 impl<S: Socket> UdpPorts<S> {
     /// Opens the sockets of the circuits that have ports.
     ///
@@ -354,9 +364,7 @@ impl<S: Socket> Ports for UdpPorts<S> {
         let came = self.readiness.came(circuit);
         let received = receive_at(self.endpoints.as_mut_slice(), circuit, came, room);
         self.log.received(circuit, &received, room);
-        if received.is_err() {
-            self.receive_failed = self.receive_failed.saturating_add(1);
-        }
+        count_fault(&mut self.receive_failed, &received);
         received
     }
 
@@ -378,9 +386,7 @@ impl<S: Socket> Ports for UdpPorts<S> {
     {
         let sent = send_from(self.endpoints.as_mut_slice(), circuit, datagram);
         self.log.sent(circuit, datagram, &sent);
-        if sent.is_err() {
-            self.send_failed = self.send_failed.saturating_add(1);
-        }
+        count_fault(&mut self.send_failed, &sent);
         sent
     }
 }

@@ -20,21 +20,3 @@ invariant_of-self g c =
           c.send_from-sent.ensures.some (rw same at c.send_from-sent.ensures.own)
           (rw same at c.send_from-sent.ensures.others))));
     }
-
-pub invariant_of-self-else-is_err : goal.invariant_of-self-else-is_err
-invariant_of-self-else-is_err g c =
-    let was = c.args.self.now.endpoints in
-    let endpoints = c.send_from-sent.new.endpoints in
-    let same = c.as_mut_slice.ensures.value in
-    let whole = take_at endpoints (drop (length endpoints) was.items) was.len
-    (omega (arith, c.send_from-sent.auto.endpoints, c.as_mut_slice.ensures.len)) in
-    record {
-      thirty = c.args.self.now.thirty;
-      memory = c.args.self.now.memory;
-      bound = c.args.self.now.bound;
-      called = ∥∥₁_map c.args.self.now.called (λ called. rw (c.sent.ensures, whole)
-          (called_more _ _ _ _ _ _ _ called
-          (send_called _ _ c.args.circuit _ _ c.args.datagram.now c.send_from-sent.result
-          c.send_from-sent.ensures.some (rw same at c.send_from-sent.ensures.own)
-          (rw same at c.send_from-sent.ensures.others))));
-    }
