@@ -15,6 +15,7 @@ use Rattle.gw_circuit.specs.declared.config.CircuitConfig.{CircuitConfig}
 use Rattle.gw_circuit.specs.declared.CodecFault.{CodecFault}
 use Rattle.gw_circuit.specs.declared.Dropped.{Dropped}
 use Rattle.gw_circuit.specs.declared.Status.{Status}
+use Rattle.gw_circuit.specs.Items as given
 use Rattle.gw_circuit.specs.Replies as alone
 use Rattle.gw_circuit.specs.Coding as coding
 use Rattle.gw_circuit.specs.Lone as lone
@@ -24,7 +25,7 @@ use Rattle.gw_switch.specs.declared.OctetSent.{OctetSent}
 use Rattle.gw_switch.specs.declared.Alarms.{Alarms}
 use Rattle.gw_switch.specs.Hearing.{slot16_octets, heard, signalled, remote_frame, remote_multiframe}
 use Rattle.gw_switch.specs.Events.{Event, octets, view}
-use Rattle.gw_switch.specs.Events.Event.{Octet, Datagram, Command, Codec, Wait, Configure}
+use Rattle.gw_switch.specs.Events.Event.{Octet, Given, GivenAll}
 
 -- what is sent in an octet's turn: the octet, and a datagram with its circuit's number, if any
 pub record Sending : Type 0 where
@@ -130,25 +131,21 @@ alarms_of s = record {
 abbrev pub alarms_after : List Event → Alarms
 alarms_after events = alarms_of (octets events)
 
--- the reply to one event; a wait and a configuration have no answer
+-- what circuit c by itself replies to what it is given
+abbrev pub lone_reply : GatewayConfig → List Event → given.CircuitEvent → ℕ → given.Reply
+lone_reply config before item c = lone.reply_to config.law (config_of config c) (view c before) item
+
+-- the reply to one event: what is sent, the answer of the circuit, or those of all circuits
 pub data Reply : Type 0 where
   Sent : (sending : Sending) → Reply
-  Admitted : (answer : Result (Unit {0}) Dropped) → Reply
-  Obeyed : (answer : Result (Unit {0}) LineFault) → Reply
-  Changed : (answer : Result (Unit {0}) CodecFault) → Reply
-  Waited : Reply
-  Begun : Reply
+  Answered : (answer : given.Reply) → Reply
+  AllAnswered : (answer : ℕ → given.Reply) → Reply
 
 -- the reply to an event, after the events before it
 abbrev pub reply_to : GatewayConfig → List Event → Event → Reply
 reply_to config before (Octet octet) = Reply.Sent (octet_reply config before octet)
-reply_to config before (Datagram c data_octets) =
-    Reply.Admitted (datagram_reply config before c data_octets)
-reply_to config before (Command c asked) = Reply.Obeyed (command_reply config before c asked)
-reply_to config before (Codec c kind payload_type) =
-    Reply.Changed (codec_reply config before c kind payload_type)
-reply_to config before (Wait signals) = Reply.Waited
-reply_to config before (Configure c other) = Reply.Begun
+reply_to config before (Given c item) = Reply.Answered (lone_reply config before item c)
+reply_to config before (GivenAll item) = Reply.AllAnswered (lone_reply config before item)
 
 -- the replies to events, after the events before them
 abbrev pub whole_from : GatewayConfig → List Event → List Event → List Reply
