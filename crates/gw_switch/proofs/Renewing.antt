@@ -8,12 +8,11 @@ use Rattle.std.proofs.lemmas.Bool.{cases_eq}
 use Rattle.std.proofs.lemmas.List.Sums.{fold-append}
 use Rattle.gw_circuit.specs.declared.config.CircuitConfig.{CircuitConfig}
 use Rattle.gw_circuit.specs.Items.{CircuitEvent}
-use Rattle.gw_circuit.specs.Lives.{next_config}
 use Rattle.gw_switch.specs.declared.GatewayConfig.{GatewayConfig}
 use Rattle.gw_switch.specs.declared.gateway.Gateway.{Gateway}
 use Rattle.gw_switch.specs.Events.{Event, view}
-use Rattle.gw_switch.specs.Whole.{config_of, spare_config}
-use Rattle.gw_switch.specs.Saved.{config_in}
+use Rattle.gw_switch.specs.Lives.{next_config}
+use Rattle.gw_switch.specs.Whole.{config_of, config_in, spare_config}
 use Rattle.gw_switch.specs.Reconfigured.{IsRenewal, AreRenewals, HasTaken, RenewalsConfigure}
 use Rattle.gw_switch.proofs.Views.{view-given}
 
