@@ -27,7 +27,7 @@ use Rattle.gw_circuit.specs.Coding.{format_after}
 use Rattle.gw_circuit.specs.Speech.{SpeechHistory}
 use Rattle.gw_circuit.specs.Replies.{packet_size}
 use Rattle.gw_circuit.specs.Saved.{saved_coding, saved_packet, saved_speech, saved_numbers, saved_circuit}
-use Rattle.gw_circuit.specs.Standing.{HistorySince}
+use Rattle.gw_circuit.specs.Standing.{HasHistory}
 use Rattle.gw_circuit.proofs.Spells.{stretch-none}
 use Rattle.gw_circuit.proofs.Turns.{keeps-of, with_parts, stands-new}
 
@@ -143,11 +143,11 @@ same-circuit one other law config line speech clock sequence sent received dropp
 -- a circuit with a new line, and speech that begins anew, stands before its first item
 pub stands-cleared : (c : Circuit) (law : Law) (config : CircuitConfig) (items : List CircuitEvent) (l : Line)
     (s : Speech)
-    → HistorySince c law config items → line.HasHistory l c.config.role []
+    → HasHistory c law config items → line.HasHistory l c.config.role []
     → SpeechHistory s c.law (record { kind = c.config.codec; payload_type = c.config.payload_type })
     (packet_size c.config)
     c.config.prefill [] [] → c.config.sequence < 2 ^ 16
-    → HistorySince (record {
+    → HasHistory (record {
       law = c.law;
       config = c.config;
       line = l;
@@ -163,11 +163,11 @@ stands-cleared c law config items l s stands at speaks small =
     rw (← keeps.law_is, ← keeps.config_is) (stands-new c.law c.config l s at speaks small)
 
 -- so does a circuit that stands there, with these parts
-with-parts : (c : Circuit) (law : Law) (config : CircuitConfig) (l : Line) (s : Speech) → HistorySince c law config []
+with-parts : (c : Circuit) (law : Law) (config : CircuitConfig) (l : Line) (s : Speech) → HasHistory c law config []
     → line.HasHistory l config.role []
     → SpeechHistory s law (format_after law config []) (packet_size config) config.prefill [] []
-    → HistorySince (with_parts c l s) law config []
-unfolding HistorySince
+    → HasHistory (with_parts c l s) law config []
+unfolding HasHistory
 with-parts c law config l s keeps at speaks = record {
   law_is = keeps.law_is;
   config_is = keeps.config_is;
@@ -183,14 +183,14 @@ with-parts c law config l s keeps at speaks = record {
 
 -- the same where its line was read already
 pub stands-reset : (k c : Circuit) (law : Law) (config : CircuitConfig) (l : Line) (s : Speech)
-    → k ≡ record c { line = k.line } → HistorySince c law config [] → line.HasHistory l k.config.role []
+    → k ≡ record c { line = k.line } → HasHistory c law config [] → line.HasHistory l k.config.role []
     → SpeechHistory s k.law (format_after law config []) (packet_size config) config.prefill [] []
-    → HistorySince (with_parts k l s) law config []
+    → HasHistory (with_parts k l s) law config []
 stands-reset k c law config l s is stands at speaks =
     let keeps = keeps-of c law config [] stands in
     let law_is : k.law ≡ law = ap (λ (x : Circuit). x.law) is ∙ keeps.law_is in
     let config_is : k.config ≡ config = ap (λ (x : Circuit). x.config) is ∙ keeps.config_is in
-    subst (λ (x : Circuit). HistorySince (with_parts x l s) law config []) (sym is)
+    subst (λ (x : Circuit). HasHistory (with_parts x l s) law config []) (sym is)
     (with-parts c law config l s stands (rw config_is at at) (rw law_is at speaks))
 
 -- where a result is tested to be none, what it says of that holds

@@ -21,7 +21,7 @@ use Rattle.gw_circuit.specs.Histories.{count, since}
 use Rattle.gw_circuit.specs.Coding.{fits, format_after, codec_reply}
 use Rattle.gw_circuit.specs.Spells.{open_after, spell, stretch}
 use Rattle.gw_circuit.specs.Packets.{is_full, payload_of, sound_of}
-use Rattle.gw_circuit.specs.Replies.{slot_reply_since, signal_reply_since, datagram_reply_since, completes}
+use Rattle.gw_circuit.specs.Replies.{slot_reply, signal_reply, datagram_reply, completes}
 use Rattle.gw_circuit.specs.Replies.{header_after}
 
 -- an incoming circuit, payload type 8, 10 ms, no prefill, SSRC 9, first numbers 0
@@ -57,21 +57,21 @@ abbrev seized : List CircuitEvent
 seized = signals 0b1001 ++ signals 0b0001
 
 -- it sends blocking until idle is recognised, then idle, then the acknowledgement
-nibbles : (signal_reply_since A config [] (Some 0b1001) ≡ 0b1101)
-    × (signal_reply_since A config (replicate 9 (Signal (Some 0b1001))) (Some 0b1001) ≡ 0b1001)
-    × (signal_reply_since A config (signals 0b1001 ++ replicate 9 (Signal (Some 0b0001))) (Some 0b0001) ≡ 0b1101)
-unfolding signal_reply_since signalling recognised sent_pair next_state
+nibbles : (signal_reply A config [] (Some 0b1001) ≡ 0b1101)
+    × (signal_reply A config (replicate 9 (Signal (Some 0b1001))) (Some 0b1001) ≡ 0b1001)
+    × (signal_reply A config (signals 0b1001 ++ replicate 9 (Signal (Some 0b0001))) (Some 0b0001) ≡ 0b1101)
+unfolding signal_reply signalling recognised sent_pair next_state
 nibbles = (refl, refl, refl)
 
 -- a datagram is admitted while the path is open
-admitted : datagram_reply_since A config seized two_words ≡ Ok tt
-unfolding datagram_reply_since open_after signalling recognised is_open next_state format_after stretch spell since
+admitted : datagram_reply A config seized two_words ≡ Ok tt
+unfolding datagram_reply open_after signalling recognised is_open next_state format_after stretch spell since
     offer_answer due read_of parts_of header_of marker_of extension_of padding_len words_of
 admitted = refl
 
 -- a datagram for a circuit whose seizure is not acknowledged is refused as NotOpen
-not_open : datagram_reply_since A config (seized ++ signals 0b1001) two_words ≡ Err NotOpen
-unfolding datagram_reply_since open_after signalling recognised is_open next_state
+not_open : datagram_reply A config (seized ++ signals 0b1001) two_words ≡ Err NotOpen
+unfolding datagram_reply open_after signalling recognised is_open next_state
 not_open = refl
 
 -- G.726 has dynamic payload types alone, and G.711 that of its law beside them
@@ -83,26 +83,26 @@ unfolding codec_reply fits
 types = (refl, refl, refl, refl, refl, refl, refl, refl)
 
 -- the words of the datagram are played one after the other, and then the idle octet
-played : ((slot_reply_since A config (seized ++ Datagram two_words ∷ []) (Some 0xD4)).0 ≡ 0xD5)
-    × ((slot_reply_since A config (seized ++ Datagram two_words ∷ sent 1) (Some 0xD4)).0 ≡ 0xD4)
-    × ((slot_reply_since A config (seized ++ Datagram two_words ∷ sent 2) (Some 0xD4)).0 ≡ 0xD5)
-unfolding slot_reply_since open_after signalling recognised is_open next_state format_after stretch spell since sound_of
+played : ((slot_reply A config (seized ++ Datagram two_words ∷ []) (Some 0xD4)).0 ≡ 0xD5)
+    × ((slot_reply A config (seized ++ Datagram two_words ∷ sent 1) (Some 0xD4)).0 ≡ 0xD4)
+    × ((slot_reply A config (seized ++ Datagram two_words ∷ sent 2) (Some 0xD4)).0 ≡ 0xD5)
+unfolding slot_reply open_after signalling recognised is_open next_state format_after stretch spell since sound_of
     offer_answer take_answer due drawn_words take_answers dec read_of parts_of header_of marker_of extension_of
     padding_len words_of
 played = (refl, refl, refl)
 
 -- the datagram of the eightieth slot
-first_datagram : (slot_reply_since A config (seized ++ Datagram two_words ∷ sent 79) (Some 0xD4)).1
+first_datagram : (slot_reply A config (seized ++ Datagram two_words ∷ sent 79) (Some 0xD4)).1
     ≡ Some (0x80 ∷ 8 ∷ 0 ∷ 0 ∷ 0 ∷ 0 ∷ 0 ∷ 0 ∷ 0 ∷ 0 ∷ 0 ∷ 9 ∷ replicate 80 0xD4)
-unfolding slot_reply_since open_after signalling recognised is_open next_state format_after stretch spell since count
+unfolding slot_reply open_after signalling recognised is_open next_state format_after stretch spell since count
     is_full payload_of enc octets_of plain_datagram
 first_datagram = refl
 
 -- Forty more slots, the end of the call, and eighty slots of a second one: the packet that was not full is
 -- discarded, sequence number and sample clock go on.
-second_datagram : (slot_reply_since A config (seized ++ sent 120 ++ seized ++ sent 79) (Some 0xD4)).1
+second_datagram : (slot_reply A config (seized ++ sent 120 ++ seized ++ sent 79) (Some 0xD4)).1
     ≡ Some (0x80 ∷ 8 ∷ 0 ∷ 1 ∷ 0 ∷ 0 ∷ 0 ∷ 120 ∷ 0 ∷ 0 ∷ 0 ∷ 9 ∷ replicate 80 0xD4)
-unfolding slot_reply_since open_after signalling recognised is_open next_state format_after stretch spell since count
+unfolding slot_reply open_after signalling recognised is_open next_state format_after stretch spell since count
     is_full payload_of enc octets_of plain_datagram
 second_datagram = refl
 

@@ -4,7 +4,7 @@ use Rattle.std.specs.Prelude.{Option, Some, None, Result, Ok, ⊤}
 use Rattle.std.specs.Io.KnownBytes.{IsAtEnd}
 use Rattle.gw_switch.specs.declared.GatewayConfig.{GatewayConfig}
 use Rattle.gw_switch.specs.declared.gateway.Gateway.{Gateway}
-use Rattle.gw_switch.specs.Events.{Event}
+use Rattle.gw_switch.specs.Events.{CircuitEvent, Event}
 use Rattle.gw_switch.specs.Standing.{HasHistory}
 use Rattle.gw_records.specs.Streams.{SourceState, SinkState, GivesOctets, FailsAfterPrefix}
 use Rattle.gw_state.specs.declared.fault.LoadFault.{LoadFault}
@@ -78,7 +78,7 @@ HasBegun config (Some path) gateway = IsFromState config gateway
 abbrev pub WasGiven : ℕ → Gateway → Gateway → Type 0
 WasGiven signals first gateway = (config : GatewayConfig) (events : List Event)
     → HasHistory config first events
-    → HasHistory config gateway (events ++ Event.Wait signals ∷ [])
+    → HasHistory config gateway (events ++ Event.GivenAll (CircuitEvent.Wait signals) ∷ [])
 
 -- a gateway is given the wait that is asked for, and is as it was if none is
 abbrev pub Waits : Option ℕ → Gateway → Gateway → Type 0

@@ -4,7 +4,7 @@ use Rattle.gw_session.proofs.Common.{flat_map, flat_map-append, GatewayConfig, E
 use Rattle.gw_session.proofs.Common.{Record, Written, written_out, answers, trunk_in, datagrams_in, code_of, octets_in}
 use Rattle.gw_session.proofs.Common.{packets_in, SessionInput, Turn, events_through, events_in, events_of_turns, coming}
 use Rattle.gw_session.proofs.Common.{arrivals, answer_to, octets_for, packets_for, given_by, written, all_answers}
-use Rattle.gw_session.proofs.Common.{answers_to, command_in, RecordingsAnswerAlike}
+use Rattle.gw_session.proofs.Common.{answers_to, command_in, RecordingsAnswerAlike, Datagram, Command, Codec}
 use Rattle.gw_session.specs.Answers as records_of
 use Rattle.gw_session.proofs.Cutting.{Splits, given_by-splits, trunk_has, trunk_is, datagrams_are, all_of}
 
@@ -27,8 +27,8 @@ trunk_input config before input = refl
 
 -- the answer to an event, if it is a command or a codec
 abbrev obeys : Event → Reply → List (ℕ × ℕ × ℕ)
-obeys (Event.Command circuit command) reply = (circuit, 0x43, code_of reply) ∷ []
-obeys (Event.Codec circuit kind payload_type) reply = (circuit, 0x4B, code_of reply) ∷ []
+obeys (Event.Given circuit (Command command)) reply = (circuit, 0x43, code_of reply) ∷ []
+obeys (Event.Given circuit (Codec kind payload_type)) reply = (circuit, 0x4B, code_of reply) ∷ []
 obeys _ reply = []
 
 -- the answers to the commands among events
@@ -61,7 +61,8 @@ none_coming : (config : GatewayConfig) (before : List Event) (ds : List (ℕ × 
     → ((b : List Event) → obeyed config b es ≡ []) → obeyed config before (coming ds ++ es) ≡ []
 unfolding obeyed
 none_coming config before [] es none = none before
-none_coming config before (d ∷ ds) es none = none_coming config (before ++ Event.Datagram d.0 d.1 ∷ []) ds es none
+none_coming config before (d ∷ ds) es none =
+    none_coming config (before ++ Event.Given d.0 (Datagram d.1) ∷ []) ds es none
 
 -- the events of turns have no command to answer
 none_turns : (config : GatewayConfig) (before : List Event) (ts : List Turn)

@@ -1,5 +1,6 @@
 -- The names that most modules of this crate cite, passed on from one place. Declares nothing.
 pub use Rattle.byteorder.specs.Endian.{big_bytes}
+pub use Rattle.gw_circuit.specs.Items.{Datagram, Command, Codec, Answers, Obeys, Changes}
 pub use Rattle.gw_circuit.specs.declared.Dropped.{Dropped}
 pub use Rattle.gw_records.proofs.Sessions.{five, goes_up, starts, first_held, record_taken, stops_in, stops_behind}
 pub use Rattle.gw_records.proofs.Sessions.{reads_more, ended, gives_up, ends_so, Stage}

@@ -1,7 +1,7 @@
 -- Worked rows, of records and of what is written for them by given replies.
 use Rattle.gw_session.proofs.Common.{◌≡◌, ℕ, List, [], ◌∷◌, ◌++◌, take, refl, arith, Some, None, Ok, Err, map, Reply}
 use Rattle.gw_session.proofs.Common.{Record, Reads, end_of, render, all_kinds, replicate, has_bad_kind, has_bad_circuit}
-use Rattle.gw_session.proofs.Common.{has_bad_length, is_cut, has_bad_command}
+use Rattle.gw_session.proofs.Common.{has_bad_length, is_cut, has_bad_command, Answers, Obeys, Changes}
 use Rattle.q421_line.specs.declared.LineFault.TheVariants as line
 use Rattle.q421_line.specs.Commands.{fault_number}
 use Rattle.gw_circuit.specs.declared.Dropped.TheVariants as dropped
@@ -33,7 +33,7 @@ refused_records = record {
 
 -- .. and the refusals of both are written as two answers
 refusals_written : render (seize ∷ stray ∷ [])
-    (Reply.Obeyed (Err line.NotIdle) ∷ Reply.Admitted (Err dropped.NotOpen) ∷ [])
+    (Reply.Answered (Obeys (Err line.NotIdle)) ∷ Reply.Answered (Answers (Err dropped.NotOpen)) ∷ [])
     ≡ 0x52 ∷ 1 ∷ 0 ∷ 2 ∷ 0x43 ∷ 2 ∷ 0x52 ∷ 1 ∷ 0 ∷ 2 ∷ 0x44 ∷ 0x14 ∷ []
 unfolding fault_number
 refusals_written = refl
@@ -64,12 +64,12 @@ codec_record = record {
 }
 
 -- a codec that is taken is answered with no fault
-codec_taken : render (Record.Codec 1 4 0x60 ∷ []) (Reply.Changed (Ok tt) ∷ [])
+codec_taken : render (Record.Codec 1 4 0x60 ∷ []) (Reply.Answered (Changes (Ok tt)) ∷ [])
     ≡ 0x52 ∷ 1 ∷ 0 ∷ 2 ∷ 0x4B ∷ 0 ∷ []
 codec_taken = refl
 
 -- a codec that is refused is answered with the number of its fault
-codec_refused : render (Record.Codec 1 4 8 ∷ []) (Reply.Changed (Err codec.PayloadType) ∷ [])
+codec_refused : render (Record.Codec 1 4 8 ∷ []) (Reply.Answered (Changes (Err codec.PayloadType)) ∷ [])
     ≡ 0x52 ∷ 1 ∷ 0 ∷ 2 ∷ 0x4B ∷ 0x1F ∷ []
 codec_refused = refl
 
@@ -78,7 +78,7 @@ empty_trunk : render (Record.Trunk [] ∷ []) [] ≡ 0x54 ∷ 0 ∷ 0 ∷ 0 ∷ 
 empty_trunk = refl
 
 -- an empty datagram is refused with an answer, as others are
-empty_datagram : render (Record.Datagram 1 [] ∷ []) (Reply.Admitted (Err dropped.NotOpen) ∷ [])
+empty_datagram : render (Record.Datagram 1 [] ∷ []) (Reply.Answered (Answers (Err dropped.NotOpen)) ∷ [])
     ≡ 0x52 ∷ 1 ∷ 0 ∷ 2 ∷ 0x44 ∷ 0x14 ∷ []
 empty_datagram = refl
 

@@ -6,7 +6,7 @@ use Rattle.gw_session.proofs.Common.{IsGood, spelled, RunFault, SinkState, Appen
 use Rattle.gw_session.proofs.Common.{Appends-none, Appends-join, events, events_of, all_kinds, Turn, of_circuit}
 use Rattle.gw_session.proofs.Common.{arrivals, coming, events_of_turns, RecordsBehind, TapeState, Recorded, RecordedBut}
 use Rattle.gw_session.proofs.Common.{OnOk, is_err, AppendsPrefix-join, HasEnded, HasLong, AreSpelled, WritesRecords}
-use Rattle.gw_session.proofs.Common.{Taping, taping, Batches, RecordsAll, flat_map}
+use Rattle.gw_session.proofs.Common.{Taping, taping, Batches, RecordsAll, flat_map, Datagram}
 use Rattle.std.proofs.lemmas.List.Elements.{Contains-append_left, Contains-append_right, Contains-push}
 use Rattle.gw_session.proofs.Receiving.{of_more}
 use Rattle.gw_records.proofs.Sessions.{All-join}
@@ -36,11 +36,11 @@ recorded_over a es over = took_none a a es refl (λ f. cc) (λ e f. cc) (λ e. r
 
 -- a tape ends at a datagram that is too long
 pub recorded_long : (a b : TapeState) (circuit : ℕ) (bytes : List ℕ) → HasEnded a b → 2 ^ 16 ≤ length bytes
-    → Recorded a b (Event.Datagram circuit bytes ∷ [])
+    → Recorded a b (Event.Given circuit (Datagram bytes) ∷ [])
 recorded_long a b circuit bytes p long =
     let ended = p.0 in
     took_none a b _ p.1 (λ f. cc)
-    (λ e f. (circuit, bytes, Contains-push [] (Event.Datagram circuit bytes), long)) p.2
+    (λ e f. (circuit, bytes, Contains-push [] (Event.Given circuit (Datagram bytes)), long)) p.2
 
 -- events, and then others
 joined : (a b c : TapeState) (es fs : List Event) (ended : Bool) → b.ended ≡ ended → Recorded a b es → Recorded b c fs
@@ -217,12 +217,12 @@ behind_none a heard recorded within = record {
 -- one datagram more came
 pub behind_more : (a b c : Taping) (heard fresh : List ℕ) (r r' n : ℕ) (circuit : ℕ) (came : List (List ℕ))
     (d : List ℕ) → RecordsBehind a b heard r r' (coming (of_circuit (Some circuit) came)) → fresh ≡ drop r' heard
-    → n ≡ length heard → Batches b c (map Event.Octet fresh ++ Event.Datagram circuit d ∷ [])
+    → n ≡ length heard → Batches b c (map Event.Octet fresh ++ Event.Given circuit (Datagram d) ∷ [])
     → RecordsBehind a c heard r n (coming (of_circuit (Some circuit) (came ++ d ∷ [])))
 behind_more a b c heard fresh r r' n circuit came d p e all q =
-    let D = Event.Datagram circuit d ∷ [] in
+    let D = Event.Given circuit (Datagram d) ∷ [] in
     let O = map Event.Octet fresh in
-    let more = sym (map-append (λ (x : ℕ × List ℕ). Event.Datagram x.0 x.1) (of_circuit (Some circuit) came)
+    let more = sym (map-append (λ (x : ℕ × List ℕ). Event.Given x.0 (Datagram x.1)) (of_circuit (Some circuit) came)
     ((circuit, d) ∷ [])) ∙ ap coming (of_more circuit came d) in
     record {
       within = omega (arith, all);

@@ -2,7 +2,7 @@
 -- `exchange` and `processing`).
 use Rattle.std.specs.Prelude.{ℕ, List, [], ◌∷◌, ◌++◌, length, take, drop, map, Option, Some, None, Err}
 use Rattle.std.specs.Prelude.{flat_map}
-use Rattle.gw_session.specs.Prelude.{Event, Reply, Record, record_of}
+use Rattle.gw_session.specs.Prelude.{CircuitEvent, Answers, Obeys, Changes, Event, Reply, Record, record_of}
 use Rattle.q421_line.specs.Commands.{fault_number}
 use Rattle.gw_circuit.specs.Faults as refusals
 use Rattle.gw_records.specs.Octets.{command_of, codec_of}
@@ -10,9 +10,11 @@ use Rattle.gw_records.specs.Octets.{command_of, codec_of}
 -- the events of a record
 abbrev pub events_of : Record → List Event
 events_of (Record.Trunk octets) = map Event.Octet octets
-events_of (Record.Datagram circuit octets) = Event.Datagram circuit octets ∷ []
-events_of (Record.Command circuit command) = Event.Command circuit (command_of command) ∷ []
-events_of (Record.Codec circuit codec payload_type) = Event.Codec circuit (codec_of codec) payload_type ∷ []
+events_of (Record.Datagram circuit octets) = Event.Given circuit (CircuitEvent.Datagram octets) ∷ []
+events_of (Record.Command circuit command) =
+    Event.Given circuit (CircuitEvent.Command (command_of command)) ∷ []
+events_of (Record.Codec circuit codec payload_type) =
+    Event.Given circuit (CircuitEvent.Codec (codec_of codec) payload_type) ∷ []
 
 abbrev pub events : List Record → List Event
 events records = flat_map events_of records
@@ -54,9 +56,9 @@ as_record p = Written.Datagram p.0 p.1
 
 -- 0, or the number of the fault
 abbrev pub code_of : Reply → ℕ
-code_of (Reply.Admitted (Err dropped)) = refusals.code_of dropped
-code_of (Reply.Obeyed (Err fault)) = fault_number fault
-code_of (Reply.Changed (Err fault)) = refusals.fault_number fault
+code_of (Reply.Answered (Answers (Err dropped))) = refusals.code_of dropped
+code_of (Reply.Answered (Obeys (Err fault))) = fault_number fault
+code_of (Reply.Answered (Changes (Err fault))) = refusals.fault_number fault
 code_of _ = 0
 
 -- What answers a record, by the replies to its events: the datagrams that go with the octets of a trunk

@@ -1,4 +1,5 @@
 -- The names that most modules of this crate cite, passed on from one place. Declares nothing.
+pub use Rattle.gw_circuit.specs.Items.{CircuitEvent, Datagram, Command, Codec, Answers, Obeys, Changes}
 pub use Rattle.gw_records.specs.Outcome.{nothing_counted, EndsAll, EndsUntil, OrNoMemory}
 pub use Rattle.gw_records.specs.Ports.{Waiting, PortsState, IfKnown, Extends, counted, PortCall}
 pub use Rattle.gw_records.specs.Records.{Record, record_of, IsGood}

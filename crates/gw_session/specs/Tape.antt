@@ -3,7 +3,7 @@ use Rattle.std.specs.Prelude.{Contains, ◌≡◌, ◌⊎◌, ◌^◌, ◌<◌, 
 use Rattle.std.specs.Prelude.{Option, None, Some, length, map, flat_map}
 use Rattle.std.specs.Io.KnownBytes.{Appends}
 use Rattle.std.specs.List.{AllByRecursion}
-use Rattle.gw_session.specs.Prelude.{Event, Record, IsGood, AppendsPrefix}
+use Rattle.gw_session.specs.Prelude.{Datagram, Event, Record, IsGood, AppendsPrefix}
 use Rattle.gw_records.specs.declared.records.RecordHead.{RecordHead}
 use Rattle.gw_records.specs.declared.records.RecordHead.TheVariants as heads
 use Rattle.gw_records.specs.Records.{spelled}
@@ -29,7 +29,8 @@ tells_of tells (Some tape) = tells tape
 -- a datagram among events is longer than a record can say
 abbrev pub HasLong : List Event → Type 0
 HasLong es =
-    (circuit : ℕ) × (bytes : List ℕ) × Contains es (Event.Datagram circuit bytes) × (2 ^ 16 ≤ length bytes)
+    (circuit : ℕ) × (bytes : List ℕ) × Contains es (Event.Given circuit (Datagram bytes))
+    × (2 ^ 16 ≤ length bytes)
 
 -- Events were recorded: the tape took the octets of good records, or a prefix of them, and the events of
 -- these records are the first of the events that happened. As long as the tape has not ended, they are all of

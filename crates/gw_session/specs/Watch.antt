@@ -3,7 +3,7 @@ use Rattle.std.specs.Prelude.{◌≡◌, ◌⊎◌, ◌++◌, ◌∷◌, ⊤, �
 use Rattle.std.specs.Prelude.{MatchResult}
 use Rattle.gw_records.specs.Octets.{command_of, codec_of}
 use Rattle.gw_session.specs.Prelude.{GatewayConfig, Gateway, Event, HasHistory, Record, Totals, RunFault}
-use Rattle.gw_session.specs.Prelude.{EndsAll, EndsUntil, OrNoMemory}
+use Rattle.gw_session.specs.Prelude.{Datagram, Command, Codec, EndsAll, EndsUntil, OrNoMemory}
 use Rattle.gw_switch.specs.Whole.{reply_to}
 use Rattle.gw_session.specs.Answers.{code_of}
 use Rattle.gw_session.specs.Running.{all_kinds, RunsThrough, RunsUntilWrite}
@@ -38,11 +38,11 @@ IsCalled {W} shows w w' (l ∷ looks) = (v : W) × shows w v l.shown l.code l.ga
 abbrev pub code_after : GatewayConfig → List Event → Record → ℕ
 code_after config before (Record.Trunk octets) = 0
 code_after config before (Record.Datagram circuit octets) =
-    code_of (reply_to config before (Event.Datagram circuit octets))
+    code_of (reply_to config before (Event.Given circuit (Datagram octets)))
 code_after config before (Record.Command circuit command) =
-    code_of (reply_to config before (Event.Command circuit (command_of command)))
+    code_of (reply_to config before (Event.Given circuit (Command (command_of command))))
 code_after config before (Record.Codec circuit codec payload_type) =
-    code_of (reply_to config before (Event.Codec circuit (codec_of codec) payload_type))
+    code_of (reply_to config before (Event.Given circuit (Codec (codec_of codec) payload_type)))
 
 -- .. after all that had happened to a gateway
 abbrev pub IsCodeAfter : Gateway → Record → ℕ → Type 0

@@ -1,5 +1,6 @@
 //! What a session does for each octet of the trunk: datagrams received, packets sent.
 ghost use Rattle.std.specs.Prelude.{◌≡◌, ◌∷◌, List, [], Some};
+ghost use Rattle.gw_circuit.specs.Items.{Datagram};
 ghost use Rattle.gw_switch.specs.declared.GatewayConfig.{GatewayConfig};
 ghost use Rattle.gw_switch.specs.Events.{Event};
 ghost use Rattle.gw_switch.specs.Whole.{reply_to};
@@ -29,7 +30,7 @@ pub fn give_datagram(
     ensures given { IsGiven gateway.old gateway.new totals.old totals.new ((circuit, octets.now) ∷ []) }
     ensures others { totals.new ≡ record totals.old { dropped = totals.new.dropped } }
     ensures code { (config : GatewayConfig) (before : List Event) → HasHistory config gateway.old before
-        → result ≡ code_of (reply_to config before (Event.Datagram circuit octets.now)) }
+        → result ≡ code_of (reply_to config before (Event.Given circuit (Datagram octets.now))) }
 {
     match gateway.datagram(circuit, octets) {
         Ok(()) => 0,

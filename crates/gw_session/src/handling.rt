@@ -1,6 +1,7 @@
 //! What a session does for one record of any kind, and how it is answered (`handle_record`).
 ghost use Rattle.std.specs.Prelude.{◌≡◌, ◌^◌, ◌<◌, ◌≤◌, ◌∷◌, ◌++◌, length, OnOk};
 ghost use Rattle.byteorder.specs.Endian.{big_bytes};
+ghost use Rattle.gw_circuit.specs.Items.{Command, Codec, Obeys, Changes};
 ghost use Rattle.gw_switch.specs.Events.{Event};
 ghost use Rattle.gw_switch.specs.Whole.{Reply};
 ghost use Rattle.gw_records.specs.Streams.{CanCount, Puts};
@@ -23,7 +24,7 @@ const ANSWER: u8 = 0x52;
 
 // 0, or the number of a fault of the line.
 fn line_code(answer: Result<(), LineFault>) -> u8
-    ensures { result ≡ code_of (Reply.Obeyed answer) }
+    ensures { result ≡ code_of (Reply.Answered (Obeys answer)) }
 {
     match answer {
         Ok(()) => 0,
@@ -33,7 +34,7 @@ fn line_code(answer: Result<(), LineFault>) -> u8
 
 // 0, or the number of a fault of the codec.
 fn codec_code(answer: Result<(), CodecFault>) -> u8
-    ensures { result ≡ code_of (Reply.Changed answer) }
+    ensures { result ≡ code_of (Reply.Answered (Changes answer)) }
 {
     match answer {
         Ok(()) => 0,
@@ -43,14 +44,14 @@ fn codec_code(answer: Result<(), CodecFault>) -> u8
 
 // Gives a command to its circuit, and returns 0 or the number of the refusal.
 fn give_command(gateway: &mut Gateway, circuit: CircuitNo, command: Cmd) -> u8
-    ensures { TakesEvent gateway.old gateway.new (Event.Command circuit command) result }
+    ensures { TakesEvent gateway.old gateway.new (Event.Given circuit (Command command)) result }
 {
     line_code(gateway.command(circuit, command))
 }
 
 // Gives a codec to its circuit, and returns 0 or the number of the refusal.
 fn give_codec(gateway: &mut Gateway, circuit: CircuitNo, codec: CodecKind, payload_type: u8) -> u8
-    ensures { TakesEvent gateway.old gateway.new (Event.Codec circuit codec payload_type) result }
+    ensures { TakesEvent gateway.old gateway.new (Event.Given circuit (Codec codec payload_type)) result }
 {
     codec_code(gateway.codec(circuit, codec, payload_type))
 }

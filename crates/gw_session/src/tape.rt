@@ -1,5 +1,6 @@
 //! In which order events are recorded, and which are collected for one write (`Tape`).
 ghost use Rattle.std.specs.Prelude.{◌≡◌, ◌+◌, ◌^◌, ◌<◌, ◌≤◌, ◌∷◌, ◌++◌, [], length, map, true, false, None};
+ghost use Rattle.gw_circuit.specs.Items.{Datagram};
 ghost use Rattle.gw_switch.specs.Events.{Event};
 ghost use Rattle.gw_records.specs.Records.{IsGood, named};
 ghost use Rattle.gw_session.specs.Answers.{events_of};
@@ -184,7 +185,7 @@ fn batch_octets<T: Tape>(tape: &mut T, batch: &mut Batch, octets: &[u8])
 // Puts a datagram of a circuit into the batch. One that is too long for a record ends the tape.
 fn batch_datagram<T: Tape>(tape: &mut T, batch: &mut Batch, circuit: CircuitNo, octets: &[u8])
     ensures { Batches (taping (T.tells tape.old) batch.old.items) (taping (T.tells tape.new) batch.new.items)
-        (Event.Datagram circuit octets.now ∷ []) }
+        (Event.Given circuit (Datagram octets.now) ∷ []) }
 {
     if octets.len() > LONGEST {
         write_batch(tape, batch);
@@ -208,7 +209,7 @@ pub fn batch_arrival<T: Tape>(
 )
     requires { length fresh.now < 2 ^ 16 }
     ensures { Batches (taping (T.tells tape.old) batch.old.items) (taping (T.tells tape.new) batch.new.items)
-        (map Event.Octet fresh.now ++ Event.Datagram circuit octets.now ∷ []) }
+        (map Event.Octet fresh.now ++ Event.Given circuit (Datagram octets.now) ∷ []) }
 {
     batch_octets(tape, batch, fresh);
     batch_datagram(tape, batch, circuit, octets);

@@ -11,8 +11,7 @@ use Rattle.gw_switch.specs.Standing.{HasHistory, CircuitsStand}
 use Rattle.gw_switch.specs.Saved.{saved_gateway, saved_trunk, saved_circuits, GatewayFits, IsSame, AreAlike}
 use Rattle.gw_switch.specs.Saved.{AreConfiguredAlike}
 use Rattle.gw_switch.specs.Whole.{spare_config}
-use Rattle.gw_circuit.specs.Lives.{config_after, items_since}
-use Rattle.gw_circuit.specs.Standing as alone
+use Rattle.gw_switch.specs.Lives.{config_after, life}
 
 -- the octets of a gateway begin with those of its trunk
 pub gateway-octets : (g : Gateway) (all rest : List ℕ) → all ≡ saved_gateway g ++ rest
@@ -37,7 +36,7 @@ same-stands config g other events trunk circuits stands = (
 pub are-alike : (config other : GatewayConfig) (mine saved : Gateway) (before events : List Event)
     → HasHistory config mine before → HasHistory other saved events → AreConfiguredAlike other events config before
     → GatewayFits saved → AreAlike mine.circuits.channels.items saved.circuits.channels.items
-unfolding HasHistory alone.HasHistory
+unfolding HasHistory
 are-alike config other mine saved before events ours theirs alike fits = record {
   many = omega (
     arith,
@@ -54,8 +53,8 @@ are-alike config other mine saved before events ours theirs alike fits = record 
       record {
         law = config.law;
         config = config_after (slice_index_or config.circuits i spare_config) (view (i + 1) before);
-        items = items_since (view (i + 1) events);
-        before = items_since (view (i + 1) before);
+        items = life (i + 1) events;
+        before = life (i + 1) before;
         theirs = rw (alike.law, rw number at (alike.each (i + 1) (omega arith) last))
             at (rw number at (theirs.circuits (i + 1) (omega arith) last e));
         ours = rw number at (ours.circuits (i + 1) (omega arith) last d);

@@ -1,23 +1,13 @@
 -- What circuits see of a gateway that is reconfigured.
-use Rattle.std.proofs.Common.{◌≡◌, ◌≢◌, ◌⊎◌, ℕ, zero, suc, ◌<◌, ◌≤◌, List, [], ◌∷◌, ◌++◌, inl, inr, refl, sym, ap, ◌∙◌}
+use Rattle.std.proofs.Common.{◌≡◌, ◌≢◌, ℕ, zero, suc, ◌<◌, ◌≤◌, List, [], ◌∷◌, ◌++◌, inl, inr, refl, sym, ap, ◌∙◌}
 use Rattle.std.proofs.Common.{append_assoc, append-nil, arith}
-use Rattle.std.proofs.lemmas.Bool.{eq-eqb, ne_eqb, cases_eq}
-use Rattle.gw_circuit.specs.declared.config.CircuitConfig.{CircuitConfig}
+use Rattle.std.proofs.lemmas.Bool.{cases_eq}
 use Rattle.gw_circuit.specs.Items.{CircuitEvent}
 use Rattle.gw_switch.specs.declared.GatewayConfig.{GatewayConfig}
 use Rattle.gw_switch.specs.Events.{Event, octets, view}
 use Rattle.gw_switch.specs.Whole.{config_of}
 use Rattle.gw_switch.specs.Reconfigured.{IsRenewal, AreRenewals, RenewalsAreApart}
-use Rattle.gw_switch.proofs.Views.{view-push, view-join, octets-push_other}
-
--- a circuit sees that it is configured, and not that another one is
-view-configured : (c d : ℕ) (new : CircuitConfig) (events : List Event)
-    → ((d ≡ c) × (view c (events ++ Event.Configure d new ∷ []) ≡ view c events ++ CircuitEvent.Configure new ∷ []))
-    ⊎ ((d ≢ c) × (view c (events ++ Event.Configure d new ∷ []) ≡ view c events))
-view-configured c d new events = elim (cases_eq d c) [
-  | inl e ↦ inl (e, view-push c events (Event.Configure d new) ∙ rw (eq-eqb d c e) refl)
-  | inr ne ↦ inr (ne, view-push c events (Event.Configure d new) ∙ rw (ne_eqb d c ne) (append-nil (view c events)))
-]
+use Rattle.gw_switch.proofs.Views.{view-given, view-join, octets-push_other}
 
 -- what circuit c has seen of what happened to it
 record HasSeen (c : ℕ) (old new : GatewayConfig) (before after : List Event) : Type 0 where
@@ -47,8 +37,9 @@ seen-next old new events after last n seen (inl same) = rw (same.1, append-nil a
   left = λ c low. seen.left c (omega arith);
 })
 seen-next old new events after last n seen (inr other) = rw other.1 (record {
-  trunk = octets-push_other after (Event.Configure (suc n) (config_of new (suc n))) refl ∙ seen.trunk;
-  done = λ c low high. elim (view-configured c (suc n) (config_of new (suc n)) after) [
+  trunk = octets-push_other after (Event.Given (suc n) (CircuitEvent.Configure (config_of new (suc n)))) refl
+      ∙ seen.trunk;
+  done = λ c low high. elim (view-given c (suc n) (CircuitEvent.Configure (config_of new (suc n))) after) [
     | inl own ↦ record {
       same = λ alike. absurd (other.0 (rw (← own.0) at alike));
       other = λ ne. own.1 ∙ ap (λ v. v ++ CircuitEvent.Configure (config_of new (suc n)) ∷ [])
@@ -60,7 +51,7 @@ seen-next old new events after last n seen (inr other) = rw other.1 (record {
       other = λ unlike. ne.1 ∙ (seen.done c low (omega (arith, ne.0))).other unlike;
     }
   ];
-  left = λ c low. elim (view-configured c (suc n) (config_of new (suc n)) after) [
+  left = λ c low. elim (view-given c (suc n) (CircuitEvent.Configure (config_of new (suc n))) after) [
     | inl own ↦ absurd (omega (arith, own.0))
     | inr ne ↦ ne.1 ∙ seen.left c (omega arith)
   ];

@@ -4,34 +4,31 @@ use Rattle.std.proofs.Common.{ap, ◌∙◌}
 use Rattle.std.proofs.Common.{append_assoc, append-nil, arith, slice_index_or, length}
 use Rattle.std.proofs.lemmas.List.{get_or_default}
 use Rattle.std.proofs.Common.{Option, Some, None, SomeIff}
-use Rattle.std.proofs.lemmas.Bool.{eq-eqb, ne_eqb, cases_eq}
+use Rattle.std.proofs.lemmas.Bool.{cases_eq}
 use Rattle.std.proofs.lemmas.List.Sums.{fold-append}
 use Rattle.gw_circuit.specs.declared.config.CircuitConfig.{CircuitConfig}
 use Rattle.gw_circuit.specs.Items.{CircuitEvent}
-use Rattle.gw_circuit.specs.Lives.{next_config, config_after}
 use Rattle.gw_switch.specs.declared.GatewayConfig.{GatewayConfig}
 use Rattle.gw_switch.specs.declared.gateway.Gateway.{Gateway}
-use Rattle.gw_switch.specs.Events.{Event, view, own_one}
-use Rattle.gw_switch.specs.Whole.{config_of, spare_config}
-use Rattle.gw_switch.specs.Saved.{config_in}
+use Rattle.gw_switch.specs.Events.{Event, view}
+use Rattle.gw_switch.specs.Lives.{next_config}
+use Rattle.gw_switch.specs.Whole.{config_of, config_in, spare_config}
 use Rattle.gw_switch.specs.Reconfigured.{IsRenewal, AreRenewals, HasTaken, RenewalsConfigure}
-use Rattle.gw_switch.proofs.Views.{view-push}
+use Rattle.gw_switch.proofs.Views.{view-given}
 
 -- the configuration of a circuit after a configuration that is its own, or another's
-config-own : (first : CircuitConfig) (items : List CircuitEvent) (c d : ℕ) (new : CircuitConfig)
-    → ((d ≡ c) × (config_after first (items ++ own_one c d (CircuitEvent.Configure new)) ≡ new))
-    ⊎ ((d ≢ c) × (config_after first (items ++ own_one c d (CircuitEvent.Configure new)) ≡ config_after first items))
-config-own first items c d new = elim (cases_eq d c) [
-  | inl e ↦ inl (e, rw (eq-eqb d c e) (fold-append next_config first items (CircuitEvent.Configure new ∷ [])))
-  | inr ne ↦ inr (ne, rw (ne_eqb d c ne) (ap (config_after first) (append-nil items)))
-]
-
--- the same of what a circuit is configured to be after events
 config-push : (first : GatewayConfig) (events : List Event) (c d : ℕ) (new : CircuitConfig)
-    → ((d ≡ c) × (config_in first (events ++ Event.Configure d new ∷ []) c ≡ new))
-    ⊎ ((d ≢ c) × (config_in first (events ++ Event.Configure d new ∷ []) c ≡ config_in first events c))
-config-push first events c d new =
-    rw (view-push c events (Event.Configure d new)) (config-own (config_of first c) (view c events) c d new)
+    → ((d ≡ c) × (config_in first (events ++ Event.Given d (CircuitEvent.Configure new) ∷ []) c ≡ new))
+    ⊎ ((d ≢ c) × (config_in first (events ++ Event.Given d (CircuitEvent.Configure new) ∷ []) c
+    ≡ config_in first events c))
+config-push first events c d new = elim (view-given c d (CircuitEvent.Configure new) events) [
+  | inl own ↦ inl (
+    own.0,
+    rw own.1
+        (fold-append next_config (config_of first c) (view c events) (CircuitEvent.Configure new ∷ [])),
+  )
+  | inr other ↦ inr (other.0, rw other.1 refl)
+]
 
 -- circuits up to this one are configured by the new configuration, and those behind it as they were
 record AreUpTo (first : GatewayConfig) (events : List Event) (old new : GatewayConfig) (n : ℕ) : Type 0 where

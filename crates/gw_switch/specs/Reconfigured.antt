@@ -12,7 +12,7 @@ use Rattle.gw_switch.specs.Saved.{AreConfiguredAlike}
 -- what happens to circuit c: nothing if its configuration is the same, else it is configured by the new one
 abbrev pub IsRenewal : ℕ → CircuitConfig → CircuitConfig → List Event → Type 0
 IsRenewal c old new events =
-    ((old ≡ new) × (events ≡ [])) ⊎ ((old ≢ new) × (events ≡ Event.Configure c new ∷ []))
+    ((old ≡ new) × (events ≡ [])) ⊎ ((old ≢ new) × (events ≡ Event.Given c (CircuitEvent.Configure new) ∷ []))
 
 -- what happens to this many circuits from the first, one after the other
 abbrev pub AreRenewals : GatewayConfig → GatewayConfig → ℕ → List Event → Type 0

@@ -8,11 +8,10 @@ use Rattle.e1_g711.specs.declared.Law.{Law}
 use Rattle.gw_circuit.specs.declared.config.CircuitConfig.{CircuitConfig}
 use Rattle.gw_circuit.specs.Items.{CircuitEvent}
 use Rattle.gw_circuit.specs.Saved.{saved_circuit, CircuitFits}
-use Rattle.gw_circuit.specs.Lives.{config_after}
-use Rattle.gw_circuit.specs.Standing.{HistorySince}
+use Rattle.gw_circuit.specs.Standing.{HasHistory}
 use Rattle.gw_switch.specs.declared.GatewayConfig.{GatewayConfig}
-use Rattle.gw_switch.specs.Events.{Event, view}
-use Rattle.gw_switch.specs.Whole.{config_of}
+use Rattle.gw_switch.specs.Events.{Event}
+use Rattle.gw_switch.specs.Whole.{config_in}
 use Rattle.gw_switch.specs.Standing as gateway
 use Rattle.gw_switch.specs.declared.circuits.BoxedCircuit.{BoxedCircuit}
 use Rattle.gw_switch.specs.declared.gateway.Gateway.{Gateway}
@@ -85,10 +84,6 @@ pub record IsSame (g other : Gateway) : Type 0 where
   pub trunk : g.trunk ≡ other.trunk
   pub circuits : g.circuits.channels.items ≡ other.circuits.channels.items
 
--- how circuit c is configured after events
-abbrev pub config_in : GatewayConfig → List Event → ℕ → CircuitConfig
-config_in config events c = config_after (config_of config c) (view c events)
-
 -- the law of both gateways and the present configuration of each circuit are the same
 pub record AreConfiguredAlike (config : GatewayConfig) (events : List Event) (other : GatewayConfig)
     (before : List Event) : Type 0 where
@@ -106,8 +101,8 @@ pub record IsAlike (mine saved : BoxedCircuit) : Type 0 where
   pub config : CircuitConfig
   pub items : List CircuitEvent
   pub before : List CircuitEvent
-  pub theirs : HistorySince saved.circuit law config items
-  pub ours : HistorySince mine.circuit law config before
+  pub theirs : HasHistory saved.circuit law config items
+  pub ours : HasHistory mine.circuit law config before
   pub fits : ChannelFits saved
 
 -- so does each of the saved circuits

@@ -15,6 +15,7 @@ use Rattle.gw_circuit.specs.declared.config.CircuitConfig.{CircuitConfig}
 use Rattle.gw_circuit.specs.declared.CodecFault.{CodecFault}
 use Rattle.gw_circuit.specs.declared.Dropped.{Dropped}
 use Rattle.gw_circuit.specs.declared.Status.{Status}
+use Rattle.gw_circuit.specs.Items as given
 use Rattle.gw_circuit.specs.Replies as alone
 use Rattle.gw_circuit.specs.Coding as coding
 use Rattle.gw_circuit.specs.Lone as lone
@@ -24,7 +25,8 @@ use Rattle.gw_switch.specs.declared.OctetSent.{OctetSent}
 use Rattle.gw_switch.specs.declared.Alarms.{Alarms}
 use Rattle.gw_switch.specs.Hearing.{slot16_octets, heard, signalled, remote_frame, remote_multiframe}
 use Rattle.gw_switch.specs.Events.{Event, octets, view}
-use Rattle.gw_switch.specs.Events.Event.{Octet, Datagram, Command, Codec, Wait, Configure}
+use Rattle.gw_switch.specs.Lives.{config_after, life}
+use Rattle.gw_switch.specs.Events.Event.{Octet, Given, GivenAll}
 
 -- what is sent in an octet's turn: the octet, and a datagram with its circuit's number, if any
 pub record Sending : Type 0 where
@@ -58,6 +60,10 @@ spare_config = record {
 abbrev pub config_of : GatewayConfig → ℕ → CircuitConfig
 config_of config c = slice_index_or config.circuits (c - 1) spare_config
 
+-- how circuit c is configured after events
+abbrev pub config_in : GatewayConfig → List Event → ℕ → CircuitConfig
+config_in config events c = config_after (config_of config c) (view c events)
+
 -- slot 0: the frame alignment signal in even frames; in odd ones bit A is the alarm (ITU-T G.704, 2.3.2)
 abbrev pub slot_zero : ℕ → Bool → ℕ
 slot_zero frame alarm = if frame % 2 == 0 then 0x9b else (if alarm then 0xff else 0xdf)
@@ -77,7 +83,7 @@ plain octet = record { octet = octet; packet = None }
 -- the nibble that a circuit sends in the turn of octet n, s being the octets up to it
 abbrev pub nibble_sent : GatewayConfig → List Event → List ℕ → ℕ → ℕ → ℕ
 nibble_sent config before s n c =
-    alone.signal_reply config.law (config_of config c) (view c before) (signalled c s n)
+    alone.signal_reply config.law (config_in config before c) (life c before) (signalled c s n)
 
 -- what is sent in the turn of octet n, which is in this slot of this frame, s being the octets up to it
 abbrev pub sent : GatewayConfig → List Event → List ℕ → ℕ → ℕ → ℕ → Sending
@@ -88,7 +94,7 @@ sent config before s n slot frame =
     then (if frame == 0
     then plain (multiframe_signal (multiframes.alarm_after (slot16_octets s (length s))))
     else plain (16 * nibble_sent config before s n frame + nibble_sent config before s n (frame + 15)))
-    else speech_out c (alone.slot_reply config.law (config_of config c) (view c before) (heard c s n)))
+    else speech_out c (alone.slot_reply config.law (config_in config before c) (life c before) (heard c s n)))
 
 -- the reply to an octet
 unfoldable pub octet_reply : GatewayConfig → List Event → ℕ → Sending
@@ -99,19 +105,19 @@ octet_reply config before octet =
 -- the replies to what is given to a circuit are those of the circuit by itself
 abbrev pub datagram_reply : GatewayConfig → List Event → ℕ → List ℕ → Result (Unit {0}) Dropped
 datagram_reply config before c data_octets =
-    alone.datagram_reply config.law (config_of config c) (view c before) data_octets
+    alone.datagram_reply config.law (config_in config before c) (life c before) data_octets
 
 abbrev pub command_reply : GatewayConfig → List Event → ℕ → Cmd → Result (Unit {0}) LineFault
 command_reply config before c asked =
-    alone.command_reply config.law (config_of config c) (view c before) asked
+    alone.command_reply config.law (config_in config before c) (life c before) asked
 
 abbrev pub codec_reply : GatewayConfig → List Event → ℕ → CodecKind → ℕ → Result (Unit {0}) CodecFault
 codec_reply config before c kind payload_type =
-    coding.codec_reply config.law (config_of config c) (view c before) kind payload_type
+    coding.codec_reply config.law (config_in config before c) (life c before) kind payload_type
 
 -- so is its status
 abbrev pub status_after : GatewayConfig → List Event → ℕ → Status
-status_after config events c = lone.status_after config.law (config_of config c) (view c events)
+status_after config events c = lone.status_after config.law (config_in config events c) (life c events)
 
 -- the circuit whose slot is sent in the turn of octet n, if one is
 abbrev pub next_circuit : ℕ → Option ℕ
@@ -130,25 +136,21 @@ alarms_of s = record {
 abbrev pub alarms_after : List Event → Alarms
 alarms_after events = alarms_of (octets events)
 
--- the reply to one event; a wait and a configuration have no answer
+-- what circuit c by itself replies to what it is given
+abbrev pub lone_reply : GatewayConfig → List Event → given.CircuitEvent → ℕ → given.Reply
+lone_reply config before item c = lone.reply_to config.law (config_in config before c) (life c before) item
+
+-- the reply to one event: what is sent, the answer of the circuit, or those of all circuits
 pub data Reply : Type 0 where
   Sent : (sending : Sending) → Reply
-  Admitted : (answer : Result (Unit {0}) Dropped) → Reply
-  Obeyed : (answer : Result (Unit {0}) LineFault) → Reply
-  Changed : (answer : Result (Unit {0}) CodecFault) → Reply
-  Waited : Reply
-  Begun : Reply
+  Answered : (answer : given.Reply) → Reply
+  AllAnswered : (answer : ℕ → given.Reply) → Reply
 
 -- the reply to an event, after the events before it
 abbrev pub reply_to : GatewayConfig → List Event → Event → Reply
 reply_to config before (Octet octet) = Reply.Sent (octet_reply config before octet)
-reply_to config before (Datagram c data_octets) =
-    Reply.Admitted (datagram_reply config before c data_octets)
-reply_to config before (Command c asked) = Reply.Obeyed (command_reply config before c asked)
-reply_to config before (Codec c kind payload_type) =
-    Reply.Changed (codec_reply config before c kind payload_type)
-reply_to config before (Wait signals) = Reply.Waited
-reply_to config before (Configure c other) = Reply.Begun
+reply_to config before (Given c item) = Reply.Answered (lone_reply config before item c)
+reply_to config before (GivenAll item) = Reply.AllAnswered (lone_reply config before item)
 
 -- the replies to events, after the events before them
 abbrev pub whole_from : GatewayConfig → List Event → List Event → List Reply

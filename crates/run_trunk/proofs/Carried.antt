@@ -6,7 +6,7 @@ use Rattle.std.specs.Io.KnownBytes.{Appends}
 use Rattle.std.proofs.lemmas.List.Concat.{flat_map-append}
 use Rattle.gw_switch.specs.declared.GatewayConfig.{GatewayConfig}
 use Rattle.gw_switch.specs.declared.gateway.Gateway.{Gateway}
-use Rattle.gw_switch.specs.Events.{Event, octets}
+use Rattle.gw_switch.specs.Events.{CircuitEvent, Event, octets}
 use Rattle.gw_switch.specs.Standing.{HasHistory}
 use Rattle.gw_records.specs.declared.outcome.Totals.{Totals}
 use Rattle.gw_records.specs.declared.outcome.RunFault.{RunFault}
@@ -76,24 +76,15 @@ octets-given (Record.Codec circuit codec payload_type ∷ records) = octets-give
 octets-without : (es : List Event) → octets (without_datagrams es) ≡ octets es
 octets-without [] = refl
 octets-without (Event.Octet o ∷ es) = ap (λ (ys : List ℕ). o ∷ ys) (octets-without es)
-octets-without (Event.Datagram circuit bytes ∷ es) = octets-without es
-octets-without (Event.Command circuit command ∷ es) = octets-without es
-octets-without (Event.Codec circuit kind payload_type ∷ es) = octets-without es
-octets-without (Event.Wait signals ∷ es) = octets-without es
-octets-without (Event.Configure circuit config ∷ es) = octets-without es
+octets-without (Event.Given circuit (CircuitEvent.Datagram bytes) ∷ es) = octets-without es
+octets-without (_ ∷ es) = octets-without es
 
 -- .. and no commands.
 commands-without : (es : List Event) → commands_in (without_datagrams es) ≡ commands_in es
 commands-without [] = refl
 commands-without (Event.Octet o ∷ es) = commands-without es
-commands-without (Event.Datagram circuit bytes ∷ es) = commands-without es
-commands-without (Event.Command circuit command ∷ es) =
-    ap (λ (xs : List Event). Event.Command circuit command ∷ xs) (commands-without es)
-commands-without (Event.Codec circuit kind payload_type ∷ es) =
-    ap (λ (xs : List Event). Event.Codec circuit kind payload_type ∷ xs) (commands-without es)
-commands-without (Event.Wait signals ∷ es) = ap (λ (xs : List Event). Event.Wait signals ∷ xs) (commands-without es)
-commands-without (Event.Configure circuit config ∷ es) =
-    ap (λ (xs : List Event). Event.Configure circuit config ∷ xs) (commands-without es)
+commands-without (Event.Given circuit (CircuitEvent.Datagram bytes) ∷ es) = commands-without es
+commands-without (event ∷ es) = ap (λ (xs : List Event). event ∷ xs) (commands-without es)
 
 -- Octets of the trunk before events are no commands.
 commands-behind : (xs : List ℕ) (es : List Event) → commands_in (map Event.Octet xs ++ es) ≡ commands_in es

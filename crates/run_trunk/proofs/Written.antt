@@ -5,7 +5,7 @@ use Rattle.std.specs.List.{AllByRecursion}
 use Rattle.std.proofs.lemmas.Bool.Decides.{nat_tests}
 use Rattle.std.proofs.lemmas.List.{length-map}
 use Rattle.gw_switch.specs.declared.GatewayConfig.{GatewayConfig}
-use Rattle.gw_switch.specs.Events.{Event, octets}
+use Rattle.gw_switch.specs.Events.{CircuitEvent, Event, octets}
 use Rattle.gw_switch.specs.Whole.{whole_from, reply_to}
 use Rattle.gw_records.specs.Records.{IsGood, record_of}
 use Rattle.gw_session.specs.Answers.{octets_in}
@@ -59,7 +59,7 @@ coming-unanswered : (config : GatewayConfig) (ds : List (ℕ × List ℕ)) (befo
     → ((b : List Event) → answers_for config b es ≡ []) → answers_for config before (coming ds ++ es) ≡ []
 coming-unanswered config [] before es quiet = quiet before
 coming-unanswered config (d ∷ ds) before es quiet =
-    coming-unanswered config ds (before ++ Event.Datagram d.0 d.1 ∷ []) es quiet
+    coming-unanswered config ds (before ++ Event.Given d.0 (CircuitEvent.Datagram d.1) ∷ []) es quiet
 
 -- No client has an answer to the events of turns.
 turns-unanswered : (config : GatewayConfig) (ts : List Turn) (before : List Event)

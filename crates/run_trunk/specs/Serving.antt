@@ -2,7 +2,7 @@
 use Rattle.std.specs.Prelude.{◌≡◌, ◌++◌, ◌∷◌, ℕ, List, [], flat_map, Result, MatchResult}
 use Rattle.gw_switch.specs.declared.GatewayConfig.{GatewayConfig}
 use Rattle.gw_switch.specs.declared.gateway.Gateway.{Gateway}
-use Rattle.gw_switch.specs.Events.{Event, octets}
+use Rattle.gw_switch.specs.Events.{CircuitEvent, Event, octets}
 use Rattle.gw_switch.specs.Standing.{HasHistory}
 use Rattle.gw_switch.specs.Whole.{Reply, reply_to}
 use Rattle.gw_records.specs.declared.outcome.Totals.{Totals}
@@ -20,14 +20,14 @@ use Rattle.gw_trunk.specs.Pieces.{Woven, from_clients}
 abbrev pub commands_in : List Event → List Event
 commands_in [] = []
 commands_in (Event.Octet octet ∷ es) = commands_in es
-commands_in (Event.Datagram circuit bytes ∷ es) = commands_in es
+commands_in (Event.Given circuit (CircuitEvent.Datagram bytes) ∷ es) = commands_in es
 commands_in (event ∷ es) = event ∷ commands_in es
 
 -- the R record that answers a command or a codec, by the gateway's reply to it; none answers other events
 abbrev pub answer_in : Event → Reply → List ℕ
-answer_in (Event.Command circuit asked) reply =
+answer_in (Event.Given circuit (CircuitEvent.Command asked)) reply =
     flat_map written_out (answers (Record.Command circuit (octet_of_command asked)) (reply ∷ []))
-answer_in (Event.Codec circuit kind payload_type) reply =
+answer_in (Event.Given circuit (CircuitEvent.Codec kind payload_type)) reply =
     flat_map written_out (answers (Record.Codec circuit (octet_of_codec kind) payload_type) (reply ∷ []))
 answer_in event reply = []
 

@@ -11,7 +11,7 @@ ghost use Rattle.gw_circuit.specs.declared.circuit.Circuit.{Circuit};
 ghost use Rattle.gw_circuit.specs.Items.{CircuitEvent};
 ghost use Rattle.gw_circuit.specs.Saved.{saved_circuit, saved_clocks, saved_counts, saved_numbers};
 ghost use Rattle.gw_circuit.specs.Saved.{NumbersFit, CircuitFits};
-ghost use Rattle.gw_circuit.specs.Standing.{HistorySince};
+ghost use Rattle.gw_circuit.specs.Standing.{HasHistory};
 
 use crate::circuit::Circuit;
 use q421_line::{Line, Role};
@@ -62,7 +62,7 @@ impl Circuit {
     /// Puts the circuit back to what it was before its first item. It takes no memory.
     pub fn clear(&mut self)
         ensures stands { (law : Law) (config : CircuitConfig) (items : List CircuitEvent)
-            → HistorySince self.old law config items → HistorySince self.new law config [] }
+            → HasHistory self.old law config items → HasHistory self.new law config [] }
         ensures config { (self.new.law ≡ self.old.law) × (self.new.config ≡ self.old.config) }
     {
         self.speech
@@ -87,12 +87,12 @@ impl Circuit {
     pub fn load(&mut self, octets: &mut OctetReader<'_>) -> Option<()>
         ensures loaded { (other : Circuit) (law : Law) (config : CircuitConfig)
             (items before : List CircuitEvent)
-            (rest : List ℕ) → HistorySince other law config items → CircuitFits other
-            → HistorySince self.old law config before → octets.old ≡ saved_circuit other ++ rest
+            (rest : List ℕ) → HasHistory other law config items → CircuitFits other
+            → HasHistory self.old law config before → octets.old ≡ saved_circuit other ++ rest
             → (result ≡ Some tt) × (self.new ≡ other) × (octets.new ≡ rest) }
         ensures read { IfSome result (λ done. octets.old ≡ saved_circuit self.new ++ octets.new) }
         ensures none { (law : Law) (config : CircuitConfig) (items : List CircuitEvent)
-            → HistorySince self.old law config items → IfNone result (HistorySince self.new law config []) }
+            → HasHistory self.old law config items → IfNone result (HasHistory self.new law config []) }
         ensures config { (self.new.law ≡ self.old.law) × (self.new.config ≡ self.old.config) }
     {
         self.clear();

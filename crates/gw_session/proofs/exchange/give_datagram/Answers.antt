@@ -1,4 +1,4 @@
-use Rattle.gw_session.proofs.Common.{ap, ◌∙◌, Result, Dropped, Reply, code_of}
+use Rattle.gw_session.proofs.Common.{ap, ◌∙◌, Result, Dropped, Answers, Reply, code_of}
 use Rattle.gw_session.proofs.Turns.{dropped_given}
 use Rattle.gw_session.proofs.exchange.give_datagram.Goals as goal
 
@@ -16,9 +16,10 @@ returns-in-Err-clause-given c = λ config before h. (
 
 pub returns-in-Ok-clause-code : goal.returns-in-Ok-clause-code
 returns-in-Ok-clause-code c = λ config before h.
-    ap (λ (r : Result (Unit {0}) Dropped). code_of (Reply.Admitted r)) (c.in-Ok.ensures.reply config before h)
+    ap (λ (r : Result (Unit {0}) Dropped). code_of (Reply.Answered (Answers r))) (c.in-Ok.ensures.reply config before h)
 
 pub returns-in-Err-clause-code : goal.returns-in-Err-clause-code
 returns-in-Err-clause-code c = λ config before h.
     c.code.ensures
-    ∙ ap (λ (r : Result (Unit {0}) Dropped). code_of (Reply.Admitted r)) (c.in-Err.ensures.reply config before h)
+    ∙ ap (λ (r : Result (Unit {0}) Dropped). code_of (Reply.Answered (Answers r)))
+    (c.in-Err.ensures.reply config before h)

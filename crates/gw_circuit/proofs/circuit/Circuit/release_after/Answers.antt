@@ -1,11 +1,7 @@
-use Rattle.std.proofs.Common.{refl}
-use Rattle.gw_circuit.specs.Items.{Wait}
-use Rattle.gw_circuit.proofs.Lives.{lifts}
 use Rattle.gw_circuit.proofs.Turns.{stands-waiting}
 use Rattle.gw_circuit.proofs.circuit.Circuit.release_after.Goals as goal
 
 pub returns : goal.returns
-returns c =
-    lifts _ _ (Wait c.args.signals) (λ before. refl) (λ other. refl) (λ law config items stands.
+returns c law config items stands =
     stands-waiting c.waits_change_nothing_else.ensures c.args.self.now law config items c.args.signals
-    c.release_after.new.self stands c.release_after.ensures)
+    c.release_after.new.self stands c.release_after.ensures

@@ -1,5 +1,5 @@
 use Rattle.gw_session.proofs.Common.{refl, ◌∙◌, Event, TakesEvent, SessionInput, answer_to, given_by, dropped_for}
-use Rattle.gw_session.proofs.Common.{kind_and_circuit}
+use Rattle.gw_session.proofs.Common.{kind_and_circuit, Datagram}
 use Rattle.gw_records.specs.Octets.{octet_of_command, octet_of_codec}
 use Rattle.gw_records.proofs.Again.{command_again, codec_again}
 use Rattle.gw_session.proofs.Inputs.{one_inputs, on_ok_always}
@@ -29,7 +29,7 @@ returns-in-Datagram-clause-inputs g c =
     let given = c.give_datagram-code.ensures.given in
     let code = c.give_datagram-code.ensures.code in
     let takes : TakesEvent c.args.gateway.now c.give_datagram-code.new.gateway
-    (Event.Datagram circuit body) c.give_datagram-code.result =
+    (Event.Given circuit (Datagram body)) c.give_datagram-code.result =
     λ config before h. ((given config before h).0, code config before h) in
     rw c.in-Datagram.is (one_inputs (SessionInput.Datagram circuit body) _ c.give_datagram-code.new.totals _ _ _ _ _ _
     c.put_answer.result refl refl (λ config before. refl) (λ config before. refl) (λ config before. refl) takes

@@ -7,8 +7,9 @@ use Rattle.gw_switch.specs.declared.GatewayConfig.{GatewayConfig}
 use Rattle.gw_switch.specs.Circuits.{StandsAt}
 use Rattle.gw_switch.specs.Lending.{with_circuit}
 use Rattle.gw_switch.specs.Hearing.{signalled}
-use Rattle.gw_switch.specs.Events.{Event, octets, view}
-use Rattle.gw_switch.specs.Whole.{octet_reply, config_of, nibble_sent}
+use Rattle.gw_switch.specs.Events.{Event, octets}
+use Rattle.gw_switch.specs.Lives.{life}
+use Rattle.gw_switch.specs.Whole.{octet_reply, config_in, nibble_sent}
 use Rattle.gw_switch.specs.Standing.{HasHistory}
 use Rattle.gw_switch.proofs.Rounds.{frame_with-low, frame_with-high}
 use Rattle.gw_switch.proofs.Sendings.{sent_at, sends_abcd, slot_of-not16, frame_with-only}
@@ -18,10 +19,10 @@ use Rattle.gw_switch.proofs.gateway.Gateway.send_nibbles.Goals as goal
 
 -- what a circuit replies to what was signalled to it is sent for it
 sent_for : (config : GatewayConfig) (events : List Event) (s : List ℕ) (n c k nibble : ℕ) (heard : Option ℕ)
-    → nibble ≡ alone.signal_reply config.law (config_of config c) (view c events) heard → heard ≡ signalled c s n
+    → nibble ≡ alone.signal_reply config.law (config_in config events c) (life c events) heard → heard ≡ signalled c s n
     → c ≡ k → nibble ≡ nibble_sent config events s n k
 sent_for config events s n c k nibble heard told is own =
-    told ∙ ap (alone.signal_reply config.law (config_of config c) (view c events)) is
+    told ∙ ap (alone.signal_reply config.law (config_in config events c) (life c events)) is
     ∙ ap (nibble_sent config events s n) own
 
 pub returns : goal.returns
@@ -48,7 +49,7 @@ returns c = λ config events o h sixteen j-is room.
     let first_others = others_kept circuits j c.signal-high.new.self in
     let second_others = others_kept between k c.signal-low.new.self in
     let first_stood = lent_stands circuits j _ _ _ c.at.result.now c.at.ensures.value (h.circuits j is.0 is.1) in
-    let was : StandsAt k config.law (config_of config k) between.channels.items (view k events)
+    let was : StandsAt k config.law (config_in config events k) between.channels.items (life k events)
     = λ d. rw (first_others (k - 1) d (omega arith)) (h.circuits k is2.0 is2.1 d) in
     let second_stood = lent_stands between k _ _ _ c.at-2.result.now c.at-2.ensures.value was in
     record {

@@ -3,8 +3,9 @@ use Rattle.gw_circuit.specs.Items.{CircuitEvent}
 use Rattle.gw_circuit.specs.Replies as alone
 use Rattle.g704_cas.specs.Numbers.{slot_of, circuit_in}
 use Rattle.gw_switch.specs.Hearing.{heard}
-use Rattle.gw_switch.specs.Events.{Event, octets, view}
-use Rattle.gw_switch.specs.Whole.{octet_reply, config_of, speech_out}
+use Rattle.gw_switch.specs.Events.{Event, octets}
+use Rattle.gw_switch.specs.Lives.{life}
+use Rattle.gw_switch.specs.Whole.{octet_reply, config_in, speech_out}
 use Rattle.gw_switch.specs.Standing.{HasHistory}
 use Rattle.gw_switch.proofs.Sendings.{sends_speech, circuit_in-slot_of, slot_of-not0, slot_of-not16}
 use Rattle.gw_switch.proofs.Heard.{slot_of-turn}
@@ -25,19 +26,20 @@ returns c = λ config events o h.
     let hears = c.take_speech-heard.ensures.heard s n h.trunk place in
     let stood = lent_stands circuits k _ _ _ c.at.result.now c.at.ensures.value (h.circuits k is.0 is.1) in
     record {
-      reply = c.send_speech.ensures.reply config.law (config_of config k) (view k events) stood
-          ∙ ap (λ x. speech_out k (alone.slot_reply config.law (config_of config k) (view k events) x)) hears
-          ∙ ap (λ j. speech_out j (alone.slot_reply config.law (config_of config j) (view j events) (heard j s n)))
+      reply = c.send_speech.ensures.reply _ _ _ stood
+          ∙ ap (λ x. speech_out k (alone.slot_reply config.law (config_in config events k) (life k events) x)) hears
+          ∙ ap (λ j. speech_out j
+          (alone.slot_reply config.law (config_in config events j) (life j events) (heard j s n)))
           (sym (circuit_in-slot_of k) ∙ ap circuit_in (sym place))
           ∙ sym (sends_speech config events s n (n % 32) _ (λ e. slot_of-not0 k is.0 (sym place ∙ e))
           (λ e. slot_of-not16 k (sym place ∙ e)));
-      kept = c.send_speech.ensures.kept config.law (config_of config k) (view k events) stood;
+      kept = c.send_speech.ensures.kept _ _ _ stood;
       stands = record {
         trunk = rw (octets-append events (Event.Octet o ∷ [])) (c.take_speech-heard.ensures.sent s n h.trunk place);
         circuits = CircuitsStand-push config _ _ events (Event.Octet o) h.circuits (λ i low high.
             goes_by config _ _ events (Event.Octet o) k (CircuitEvent.Slot (heard k s n))
             (left_stands circuits k _ _ _ left is
-            (rw (sym hears) (c.send_speech.ensures.stands config.law (config_of config k) (view k events) stood)))
+            (rw (sym hears) (c.send_speech.ensures.stands _ _ _ stood)))
             (others_kept circuits k left) (sees_slot k s n place) is.0 i low
             (λ differ. sees_nothing i s n
             (λ e. differ (sym (circuit_in-slot_of i) ∙ ap circuit_in (sym e ∙ place) ∙ circuit_in-slot_of k))

@@ -1,10 +1,12 @@
--- What a circuit is configured to be. A word that ends in `_since` speaks of the items since the circuit was
--- configured last, and the same word without it of all items.
-use Rattle.std.specs.Prelude.{List, [], ◌∷◌, ◌++◌, fold}
+-- A circuit of a gateway, which begins as new if it is configured again: what it is now, and its replies.
+use Rattle.std.specs.Prelude.{ℕ, List, [], ◌∷◌, ◌++◌, fold}
+use Rattle.e1_g711.specs.declared.Law.{Law}
 use Rattle.q421_line.specs.Laws.{wait_after}
 use Rattle.gw_circuit.specs.declared.config.CircuitConfig.{CircuitConfig}
-use Rattle.gw_circuit.specs.Items.{CircuitEvent, Wait, Configure}
+use Rattle.gw_circuit.specs.Items.{CircuitEvent, Wait, Configure, Reply}
 use Rattle.gw_circuit.specs.Spells.{line_items}
+use Rattle.gw_circuit.specs.Lone.{reply_to}
+use Rattle.gw_switch.specs.Events.{Event, view}
 
 -- the configuration after one item more
 abbrev pub next_config : CircuitConfig → CircuitEvent → CircuitConfig
@@ -24,3 +26,18 @@ next_since items item = items ++ item ∷ []
 -- the items since the circuit began as new: all of them if it was never configured again
 abbrev pub items_since : List CircuitEvent → List CircuitEvent
 items_since items = fold next_since [] items
+
+-- what circuit c has seen since it began as new
+abbrev pub life : ℕ → List Event → List CircuitEvent
+life c events = items_since (view c events)
+
+-- the replies of one circuit by itself to items, after the items before them
+abbrev pub replies_from : Law → CircuitConfig → List CircuitEvent → List CircuitEvent → List Reply
+replies_from law config before [] = []
+replies_from law config before (item ∷ items) =
+    reply_to law (config_after config before) (items_since before) item
+    ∷ replies_from law config (before ++ item ∷ []) items
+
+-- the replies of one circuit by itself
+abbrev pub lone : Law → CircuitConfig → List CircuitEvent → List Reply
+lone law config items = replies_from law config [] items
