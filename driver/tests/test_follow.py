@@ -68,16 +68,34 @@ class FollowTests(support.FolderCase):
                               capture_output=True, check=False)
         self.assertEqual((done.returncode, done.stdout, done.stderr, self.saved()), (0, answers, b'', state))
 
+    def whole(self, cut: int) -> int:
+        """The octets of the whole records of a log that was cut here."""
+        place = 0
+        for record in self.records:
+            if place + len(record) > cut:
+                break
+            place += len(record)
+        return place
+
+    def told(self, log: str, *words: str) -> tuple[int, str]:
+        """The place of its state and the totals that a follower tells."""
+        status, _, said = self.followed(log, '--totals', *words)
+        place, _, totals = said.removeprefix('place ').partition('\n')
+        self.assertEqual(status, 0)
+        return int(place), totals
+
+    def totals(self, octets: bytes) -> str:
+        """The totals of a replay of these records."""
+        return subprocess.run(self.words('--totals'), input=octets, capture_output=True, check=True).stderr.decode()
+
     def test_a_log_that_was_cut_anywhere(self) -> None:
         octets = b''.join(self.records)
         for _ in range(CUTS):
-            cut, whole, place = self.rng.randrange(len(octets)), 0, 0
-            while place + len(self.records[whole]) <= cut:
-                place, whole = place + len(self.records[whole]), whole + 1
-            line = 'the log ends with a part of a record\n' if cut > place else ''
+            cut = self.rng.randrange(len(octets))
+            place = self.whole(cut)
             with self.subTest(cut=cut):
                 answers, state = self.replayed(octets[:place])
-                self.assertEqual(self.followed(self.write('log', octets[:cut])), (0, answers, line))
+                self.assertEqual(self.followed(self.write('log', octets[:cut])), (0, answers, ''))
                 self.assertEqual(self.saved(), state)
 
     def test_from_a_state_that_was_saved_between_two_records(self) -> None:
@@ -91,6 +109,23 @@ class FollowTests(support.FolderCase):
                 self.assertEqual(self.followed(log, '--from', str(place), '--load', self.path('begun')),
                                  (0, answers, ''))
                 self.assertEqual(self.saved(), state)
+
+    def test_on_from_the_place_that_is_told(self) -> None:
+        octets = b''.join(self.records)
+        _, state = self.replayed(octets)
+        for _ in range(CUTS):
+            cut = self.rng.randrange(len(octets))
+            with self.subTest(cut=cut):
+                place, totals = self.told(self.write('log', octets[:cut]))
+                os.replace(self.path('state'), self.path('begun'))
+                self.assertEqual((place, totals), (self.whole(cut), self.totals(octets[:place])))
+                words = '--from', str(place), '--load', self.path('begun')
+                self.assertEqual(self.told(self.write('log', octets), *words)[0], len(octets))
+                self.assertEqual(self.saved(), state)
+
+    def test_no_place_is_told_after_a_fault(self) -> None:
+        log = self.write('log', self.records[0] + bytes(4))
+        self.assertEqual(self.followed(log, '--totals')[::2], (1, 'fault 1 BadKind\n'))
 
     def test_a_log_in_memory(self) -> None:
         octets = b''.join(self.records)

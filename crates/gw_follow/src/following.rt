@@ -4,10 +4,8 @@ ghost use Rattle.std.specs.Prelude.{◌≡◌, ◌⊎◌, ◌<◌, ◌≤◌, �
 ghost use Rattle.std.specs.Prelude.{Ok, Err, IfOk, OnErr};
 ghost use Rattle.std.specs.Io.KnownBytes.{Consumes, ReadConsumes};
 ghost use Rattle.gw_records.specs.declared.streams.SourceFault.{SourceFault};
-ghost use Rattle.gw_follow.specs.System.{SystemRead};
 
 use gw_records::{Log, Source, SourceFault};
-use std::io::Read;
 
 /// Reads the octets of a log that are there.
 ///
@@ -19,25 +17,11 @@ pub trait LogReader {
     /// Relates a reader to what its last read returned.
     ghost has_read: { Self → Result ℕ SourceFault → Type 0 };
 
-    /// Reads octets to the front of `room`, and returns how many: 0 if there are no more yet, or no room.
+    /// Reads octets to the front of `room`, and returns how many: 0 if there are no more to be given yet.
     fn read_more(&mut self, room: &mut [u8]) -> Result<usize, SourceFault>
         ensures bound { IfOk result (λ n. n ≤ length room.new) }
         ensures octets { ReadConsumes (remaining self.old) (remaining self.new) result room.new }
         ensures read { has_read self.new result };
-}
-
-impl<R: Read> LogReader for R {
-    ghost remaining = { λ r. R.remaining r };
-
-    ghost has_read = { SystemRead };
-
-    #[tactic(auto, unfolding(crate::specs::System::SystemRead))]
-    fn read_more(&mut self, room: &mut [u8]) -> Result<usize, SourceFault> {
-        match self.read(room) {
-            Ok(n) => Ok(n),
-            Err(_) => Err(SourceFault),
-        }
-    }
 }
 
 /// Waits for more of a log, and says when no more is waited for.

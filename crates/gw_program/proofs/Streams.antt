@@ -16,6 +16,7 @@ use Rattle.gw_command.specs.declared.command.SessionKind.TheVariants.{Replay, Ch
 use Rattle.gw_program.specs.declared.program_fault.ProgramFault.{ProgramFault}
 use Rattle.gw_program.specs.declared.program_fault.ProgramFault.TheVariants as program_faults
 use Rattle.gw_program.specs.Performing.{EndedSaved, NotBegun, HasServed, HasConfig, by_session}
+use Rattle.gw_program.specs.Places.{EndsAt}
 use Rattle.gw_program.specs.Sessions.{HasGateway, Runs, Serves, Checks}
 use Rattle.gw_program.specs.State.{HasBegun, BeginsWaiting, IsSaved}
 use Rattle.gw_program.specs.Requests.{AsksWait, ByGateway, CommandLine, DoesSession, EndsSession, FollowsLog}
@@ -55,18 +56,22 @@ no_session command session none = go (follow_in command)
     sink = record { failures = 0; taken = None }
 
     go : (o : Option (List ℕ))
-        → MatchOption o (EndsSession command session (λ _. ⊤) (Err program_faults.Nothing))
+        → MatchOption o
+        ((place : ℕ) × EndsSession command session (λ _. ⊤) 0 place (Err program_faults.Nothing))
         (λ path. FollowsLog command session path (Err program_faults.Nothing))
-    go None = on_new source source sink sink (
-      tt,
-      inl (record {
-        program_fault = program_faults.Nothing;
-        why = tt;
-        told_is = refl;
-        unread = refl;
-        unwritten = refl;
-      }),
-    ) refl refl refl refl
+    go None = (
+      0,
+      on_new source source sink sink (
+        tt,
+        inl (record {
+          program_fault = program_faults.Nothing;
+          why = tt;
+          told_is = refl;
+          unread = refl;
+          unwritten = refl;
+        }),
+      ) refl refl refl refl,
+    )
     go (Some path) = inr (refl, inl none)
 
 -- why nothing was begun is left out, and what the streams are beside what they tell
@@ -163,19 +168,22 @@ module _ (s s' : SourceState) (k k' : SinkState) {P T : Type 0} (reads : Config 
     stopped n = on_new s s' k k' (given, inl (told_untouched (λ e. e) (λ e. e) n))
 
     -- a session that was done on new streams
-    pub session_done : (lacks_watch : ProgramFault → Type 0) (session : SessionKind) → NotBegun s s' k k' lacks told
+    pub session_done : (lacks_watch : ProgramFault → Type 0) (session : SessionKind) (from place : ℕ)
+        → NotBegun s s' k k' lacks told
         ⊎ HasConfig reads (λ config. NotBegun s s' k k' (lacks_gateway config) told
         ⊎ HasGateway (starts config) (λ gateway gateway'. by_session session
         (NotBegun s s' k k' lacks_watch told
-        ⊎ EndedSaved (λ end. Runs s s' k k' end gateway gateway') (saves config gateway') told)
+        ⊎ EndedSaved (λ end. Runs s s' k k' end gateway gateway' × EndsAt s s' gateway gateway' from place end)
+        (saves config gateway') told)
         (EndedSaved (λ end. Checks s s' k k' end gateway gateway') (saves config gateway') told)
         (NotBegun s s' k k' (lacks_more config) told
         ⊎ HasServed (opens config) begins (λ ports ports' tape tape'.
         EndedSaved (λ end. Serves (around s k (ports_tell ports) (tape_tells tape))
         (around s' k' (ports_tell ports') (tape_tells tape')) end gateway gateway') (saves config gateway') told))))
-        → s.reads ≡ 0 → s.given ≡ Some [] → s.failures ≡ 0 → k.failures ≡ 0 → EndsSession command session Given told
-    session_done lacks_watch session (inl n) a b c d = stopped n a b c d
-    session_done lacks_watch Replay (inr h) a b c d = elim h.done [
+        → s.reads ≡ 0 → s.given ≡ Some [] → s.failures ≡ 0 → k.failures ≡ 0
+        → EndsSession command session Given from place told
+    session_done lacks_watch session from place (inl n) a b c d = stopped n a b c d
+    session_done lacks_watch Replay from place (inr h) a b c d = elim h.done [
       | inl n ↦ stopped n a b c d
       | inr w ↦ elim w.done [
         | inl n ↦ stopped n a b c d
@@ -187,7 +195,7 @@ module _ (s s' : SourceState) (k k' : SinkState) {P T : Type 0} (reads : Config 
         ) a b c d
       ]
     ]
-    session_done lacks_watch Check (inr h) a b c d = elim h.done [
+    session_done lacks_watch Check from place (inr h) a b c d = elim h.done [
       | inl n ↦ stopped n a b c d
       | inr w ↦ on_new s s' k k' (
         given,
@@ -196,7 +204,7 @@ module _ (s s' : SourceState) (k k' : SinkState) {P T : Type 0} (reads : Config 
             (saved_told takes h.config w.gateway' w.done)),
       ) a b c d
     ]
-    session_done lacks_watch Serve (inr h) a b c d = elim h.done [
+    session_done lacks_watch Serve from place (inr h) a b c d = elim h.done [
       | inl n ↦ stopped n a b c d
       | inr w ↦ elim w.done [
         | inl n ↦ stopped n a b c d

@@ -1,13 +1,10 @@
 -- A log that is followed (module `following`).
-use Rattle.std.specs.Prelude.{◌≡◌, ⊤, ℕ, List, Some, Result, Err}
+use Rattle.std.specs.Prelude.{◌≡◌, ⊤, ℕ, List, Some}
 use Rattle.gw_records.specs.Streams.{SourceState}
-use Rattle.gw_records.specs.declared.outcome.RunFault.TheVariants as faults
-use Rattle.gw_records.specs.declared.outcome.Totals.{Totals}
 use Rattle.gw_program.specs.declared.program_fault.ProgramFault.{ProgramFault}
-use Rattle.gw_program.specs.declared.program_fault.ProgramFault.TheVariants as program_faults
 
--- Std says nothing of files, so these two relations hold of all; but each is unfolded only where a log is
--- opened, so for all others they hold of what the system answered.
+-- Std says nothing of files and of what is printed, so these three relations hold of all; but each is
+-- unfolded only where a log is opened or a place reported, so for all others they hold of what was done.
 
 -- the system did not open the log at this path from this octet on, and this is returned
 unfoldable pub SystemLacksLog : List ℕ → ℕ → ProgramFault → Type 0
@@ -23,7 +20,6 @@ pub record IsLogged (path : List ℕ) (place : ℕ) (source : SourceState) : Typ
   pub given : source.given ≡ Some octets
   pub logged : SystemLogged path place octets
 
--- the result of a session on a log: a part of a record at its end is no fault
-abbrev pub log_ended : Result Totals ProgramFault → Result Totals ProgramFault
-log_ended (Err (program_faults.Session faults.Truncated)) = Err program_faults.PartRecord
-log_ended told = told
+-- this place was reported, if totals are asked for
+unfoldable pub SystemIsTold : ℕ → Type 0
+SystemIsTold place = ⊤

@@ -10,3 +10,4 @@ pub mod Filters
 pub mod Requests
 pub mod Continuing
 pub mod Following
+pub mod Places

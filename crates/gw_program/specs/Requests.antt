@@ -1,6 +1,6 @@
 -- What was done of what the command line asks for (module `requests`).
 use Rattle.std.specs.Prelude.{◌≡◌, ◌≢◌, ◌⊎◌, ⊤, ℕ, List, [], Option, Some, None, Result, Err, IfOk}
-use Rattle.std.specs.Prelude.{IfErr, IsErrAnd}
+use Rattle.std.specs.Prelude.{IfErr, IsErrAnd, OnOk}
 use Rattle.std.specs.Prelude.{MatchResult, MatchOption, codes}
 use Rattle.clap.specs.Words.{Row}
 use Rattle.gw_config.specs.declared.config.Config.{Config}
@@ -18,10 +18,11 @@ use Rattle.gw_command.specs.declared.command.SessionKind.{SessionKind}
 use Rattle.gw_program.specs.declared.program_fault.ProgramFault.{ProgramFault}
 use Rattle.gw_program.specs.declared.program_fault.ProgramFault.TheVariants as program_faults
 use Rattle.gw_program.specs.Filters.{DoesFilter, DoesFilterUntil, HasChecked, HasCheckedUntil}
-use Rattle.gw_program.specs.Following.{IsLogged, SystemLacksLog, log_ended}
+use Rattle.gw_program.specs.Following.{IsLogged, SystemIsTold, SystemLacksLog}
 use Rattle.gw_program.specs.Jobs.{Does, DoesUntil}
 use Rattle.gw_program.specs.Performing.{Ended, EndedSaved, NotBegun, HasConfig, by_session}
 use Rattle.gw_program.specs.Setup.{IsConfigAt}
+use Rattle.gw_program.specs.Places.{EndsAt}
 use Rattle.gw_program.specs.Sessions.{HasGateway, Runs, Serves, Checks}
 use Rattle.gw_program.specs.State.{BeginsWaiting, IsSaved}
 
@@ -136,12 +137,15 @@ ByGateway a a' command told does = NotBegun a.source a'.source a.sink a'.sink (�
     ⊎ HasConfig (IsConfigAt (config_in command)) (λ config.
     HasGateway (BeginsWaiting config.gateway (load_in command) (AsksWait command)) does)
 
--- the session that the command names ended with this result, and this is known of its source
-abbrev pub EndsSession : CommandLine → SessionKind → (SourceState → Type 0) → Result Totals ProgramFault
-    → Type 0
-EndsSession command session Given told = OnNewStreams (λ a a'. Given a'.source × ByGateway a a' command told
+-- The session that the command names ended with this result, and this is known of its source. A replay began
+-- at the place `from`, and ended at the place `place`.
+abbrev pub EndsSession : CommandLine → SessionKind → (SourceState → Type 0) → ℕ → ℕ
+    → Result Totals ProgramFault → Type 0
+EndsSession command session Given from place told = OnNewStreams (λ a a'. Given a'.source
+    × ByGateway a a' command told
     (λ gateway gateway'. by_session session
-    (EndedSaved (λ end. Runs a.source a'.source a.sink a'.sink end gateway gateway')
+    (EndedSaved (λ end. Runs a.source a'.source a.sink a'.sink end gateway gateway'
+    × EndsAt a.source a'.source gateway gateway' from place end)
     (IsSaved (save_in command)) told)
     (EndedSaved (λ end. Checks a.source a'.source a.sink a'.sink end gateway gateway')
     (IsSaved (save_in command)) told)
@@ -155,12 +159,13 @@ follow_in command = text_in (codes "follow") command
 abbrev pub IsFrom : CommandLine → ℕ → Type 0
 IsFrom command place = SaysNumberIn 64 (codes "from") command place
 
--- the session was given the octets of the log at this path from this octet on, and ended with this result
-pub record EndsOnLog (command : CommandLine) (session : SessionKind) (path : List ℕ) (place : ℕ)
+-- The session was given the octets of the log at this path from this octet on, and ended with this result.
+-- The place at which a replay ended was reported, if it ended well.
+pub record EndsOnLog (command : CommandLine) (session : SessionKind) (path : List ℕ) (from : ℕ)
     (told : Result Totals ProgramFault) : Type 0 where
-  pub ended : Result Totals ProgramFault
-  pub ends : EndsSession command session (IsLogged path place) ended
-  pub told_is : told ≡ log_ended ended
+  pub place : ℕ
+  pub ends : EndsSession command session (IsLogged path from) from place told
+  pub tells : OnOk told (SystemIsTold place)
 
 -- so did the session on the log from the octet on that the command names, or the log was not opened
 pub record HasFollowed (command : CommandLine) (session : SessionKind) (path : List ℕ)
@@ -177,5 +182,6 @@ FollowsLog command session path told = HasFollowed command session path told
 
 -- the session that the command names ended with this result, on standard input or on the log that is followed
 abbrev pub DoesSession : CommandLine → SessionKind → Result Totals ProgramFault → Type 0
-DoesSession command session told = MatchOption (follow_in command) (EndsSession command session (λ _. ⊤) told)
+DoesSession command session told = MatchOption (follow_in command)
+    ((place : ℕ) × EndsSession command session (λ _. ⊤) 0 place told)
     (λ path. FollowsLog command session path told)

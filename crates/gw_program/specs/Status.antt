@@ -1,6 +1,6 @@
 -- What a failed call comes to, and the status of the program at each trouble: 1 at a fault of a session, a
 -- socket or a trunk other than want of memory and if a state is not saved, 2 if the command line, a file or
--- the configuration is refused, 3 for want of memory, 0 where a log ends with a part of a record.
+-- the configuration is refused, 3 for want of memory.
 use Rattle.std.specs.Prelude.{ℕ}
 use Rattle.std.specs.declared.io.ErrorKind as kinds
 use Rattle.std.specs.declared.io.ErrorKind.TheVariants as errors
@@ -46,7 +46,6 @@ program_fault_status program_faults.File = 2
 program_fault_status program_faults.Recording = 2
 program_fault_status program_faults.OldRecording = 2
 program_fault_status program_faults.Log = 2
-program_fault_status program_faults.PartRecord = 0
 program_fault_status program_faults.Reports = 2
 program_fault_status program_faults.NoState = 2
 program_fault_status (program_faults.State fault) = load_status fault

@@ -1,16 +1,15 @@
-//! How the log of `--follow` is opened, and how its end is told.
+//! How the log of `--follow` is opened.
 
 ghost use Rattle.std.specs.Prelude.{◌≡◌, [], IfOk, IfErr};
-ghost use Rattle.gw_program.specs.Following.{SystemLacksLog, log_ended};
+ghost use Rattle.gw_program.specs.Following.{SystemLacksLog};
 
 use crate::program_fault::ProgramFault;
-use gw_follow::{Following, InputEnd};
-use gw_session::{RunFault, Totals};
+use gw_follow::{Following, InputEnd, WholeRecords};
 use std::fs::{self, File};
 use std::io::{self, Seek, SeekFrom};
 
-/// The log of `--follow`, from an octet on.
-pub type FollowedLog = Following<File, InputEnd>;
+/// The whole records of the log of `--follow`, from an octet on.
+pub type FollowedLog = Following<WholeRecords<File>, InputEnd>;
 
 // Opens the file at the path, a regular one or in memory, at this octet, which it must have reached.
 fn open_file(rt: &HostRuntime, path: &str, place: u64) -> io::Result<Option<File>> {
@@ -41,19 +40,11 @@ pub fn open_log(rt: &HostRuntime, path: &str, place: u64) -> Result<FollowedLog,
         Ok(None) => return Err(ProgramFault::Log),
         Err(error) => return Err(ProgramFault::of(&error, ProgramFault::Log)),
     };
+    let Ok(records) = WholeRecords::new(rt.alloc(), file) else {
+        return Err(ProgramFault::OutOfMemory);
+    };
     match InputEnd::open(rt) {
-        Ok(end) => Ok(Following::new(file, end)),
+        Ok(end) => Ok(Following::new(records, end)),
         Err(error) => Err(ProgramFault::of(&error, ProgramFault::Log)),
-    }
-}
-
-/// The result of a session on a log, by that of the session: a part of a record at the end of the log is no
-/// fault.
-pub fn log_ended(told: Result<Totals, ProgramFault>) -> Result<Totals, ProgramFault>
-    ensures { result ≡ log_ended told }
-{
-    match told {
-        Err(ProgramFault::Session(RunFault::Truncated)) => Err(ProgramFault::PartRecord),
-        told => told,
     }
 }

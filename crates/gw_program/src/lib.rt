@@ -7,6 +7,7 @@ mod jobs;
 pub mod laws;
 mod listing;
 mod performing;
+mod place;
 mod program_fault;
 mod recording;
 mod report;

@@ -4,11 +4,13 @@ ghost use Rattle.std.specs.Prelude.{◌≡◌, ◌⊎◌, ◌-◌, ◌^◌, ◌<
 ghost use Rattle.gw_records.specs.Streams.{CanBegin};
 ghost use Rattle.gw_session.specs.Serve.{around};
 ghost use Rattle.gw_program.specs.Jobs.{Does, DoesUntil};
+ghost use Rattle.gw_program.specs.Places.{EndsAt};
 ghost use Rattle.gw_program.specs.Sessions.{HasGateway, Runs, Serves, Checks};
 ghost use Rattle.gw_program.specs.Performing.{Ended, NotBegun, LacksTapeOrPorts, HasServed, HasConfig};
 ghost use Rattle.gw_program.specs.Performing.{by_session, told_as, IsTold, EndedSaved};
 
 use crate::jobs::do_job;
+use crate::place::PlaceWatch;
 use crate::program_fault::ProgramFault;
 use crate::report::passed_over;
 use crate::sealed::{StandardInput, StandardOutput};
@@ -161,12 +163,14 @@ pub fn end_session<Y: System>(
     }
 }
 
-// Replays with a gateway, and shows each record to a watch of the system.
+// Replays with a gateway, and shows each record to a watch of the system. The first record begins at `place`,
+// which becomes the place behind the last whole one.
 fn perform_replay<Y: System, S: Source, K: Sink>(
     system: &Y,
     alloc: Global,
     config: &Config,
     gateway: &mut Gateway,
+    place: &mut u64,
     source: &mut S,
     sink: &mut K,
 ) -> Result<Totals, ProgramFault>
@@ -174,12 +178,14 @@ fn perform_replay<Y: System, S: Source, K: Sink>(
     ensures { NotBegun (S.tells source.old) (S.tells source.new) (K.tells sink.old) (K.tells sink.new)
         (Y.lacks_watch system.now) result
         ⊎ EndedSaved (λ end. Runs (S.tells source.old) (S.tells source.new) (K.tells sink.old)
-        (K.tells sink.new)
-        end gateway.old gateway.new) (Y.saves system.now config.now gateway.new) result }
+        (K.tells sink.new) end gateway.old gateway.new
+        × EndsAt (S.tells source.old) (S.tells source.new) gateway.old gateway.new place.old place.new end)
+        (Y.saves system.now config.now gateway.new) result }
 {
-    let mut watch = system.open_watch(config, gateway)?;
+    let mut watch = PlaceWatch::new(system.open_watch(config, gateway)?, *place);
     let ended = replay_watched(alloc, gateway, source, sink, &mut watch);
-    system.end_watch(&mut watch);
+    system.end_watch(&mut watch.watch);
+    *place = watch.place;
     end_session(system, config, gateway, ended)
 }
 
@@ -211,11 +217,13 @@ fn perform_serve<Y: System, S: Source, K: Sink>(
 
 /// Runs a session with the configuration and the gateway of the system, and saves the gateway's state.
 /// `serve` uses the system's ports and tape. If the system cannot provide one of these, its fault is
-/// returned, and nothing was read or written.
+/// returned, and nothing was read or written. The first record of a replay begins at `place`, which becomes
+/// the place behind the last whole one.
 pub fn perform_session<Y: System, S: Source + StandardInput, K: Sink + StandardOutput>(
     system: &Y,
     alloc: Global,
     session: SessionKind,
+    place: &mut u64,
     source: &mut S,
     sink: &mut K,
 ) -> Result<Totals, ProgramFault>
@@ -229,8 +237,9 @@ pub fn perform_session<Y: System, S: Source + StandardInput, K: Sink + StandardO
         (NotBegun (S.tells source.old) (S.tells source.new) (K.tells sink.old) (K.tells sink.new)
         (Y.lacks_watch system.now) result
         ⊎ EndedSaved (λ end. Runs (S.tells source.old) (S.tells source.new) (K.tells sink.old)
-        (K.tells sink.new)
-        end gateway gateway') (Y.saves system.now config gateway') result)
+        (K.tells sink.new) end gateway gateway'
+        × EndsAt (S.tells source.old) (S.tells source.new) gateway gateway' place.old place.new end)
+        (Y.saves system.now config gateway') result)
         (EndedSaved (λ end. Checks (S.tells source.old) (S.tells source.new) (K.tells sink.old)
         (K.tells sink.new)
         end gateway gateway') (Y.saves system.now config gateway') result)
@@ -245,7 +254,15 @@ pub fn perform_session<Y: System, S: Source + StandardInput, K: Sink + StandardO
     let config = system.read_config()?;
     let mut gateway = system.begin_gateway(&config)?;
     match session {
-        SessionKind::Replay => perform_replay(system, alloc, &config, &mut gateway, source, sink),
+        SessionKind::Replay => perform_replay(
+            system,
+            alloc,
+            &config,
+            &mut gateway,
+            place,
+            source,
+            sink,
+        ),
         SessionKind::Check => {
             let ended = check(alloc, &mut gateway, source, sink);
             end_session(system, &config, &gateway, ended)

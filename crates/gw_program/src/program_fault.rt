@@ -57,9 +57,6 @@ pub enum ProgramFault {
     /// The log can't be followed.
     #[error("cannot follow the log")]
     Log,
-    /// A log that was followed ends with a part of a record.
-    #[error("the log ends with a part of a record")]
-    PartRecord,
     /// The file of reports can't be opened.
     #[error("cannot open the file of --reports")]
     Reports,
@@ -98,8 +95,7 @@ impl ProgramFault {
     }
 
     /// The exit status: 1 for a fault of a session, a socket or a trunk or if a state is not saved, 2 if the
-    /// command line, a file or the configuration is refused, 3 if out of memory, and 0 if a log ends with a
-    /// part of a record.
+    /// command line, a file or the configuration is refused, and 3 if out of memory.
     pub fn status(&self) -> u8
         ensures { result ≡ program_fault_status self.now }
     {
@@ -113,7 +109,6 @@ impl ProgramFault {
             | ProgramFault::FarEnd
             | ProgramFault::Trunk
             | ProgramFault::NotSaved => FAULT,
-            ProgramFault::PartRecord => DONE,
             ProgramFault::NotText
             | ProgramFault::PacketSize
             | ProgramFault::Nothing

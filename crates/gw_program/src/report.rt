@@ -40,6 +40,11 @@ pub fn print_totals(rt: &impl Eprint, totals: &Totals) {
     let _ = eprintln!(rt; "port_faults {}", totals.port_faults);
 }
 
+/// Prints the place in a log behind which a state stands on standard error, in the form of the totals.
+pub fn print_place(rt: &impl Eprint, place: u64) {
+    let _ = eprintln!(rt; "place {}", place);
+}
+
 /// Prints the number of discarded multiframes of a trunk on standard error, in the form of the totals.
 pub fn print_discarded(rt: &impl Eprint, discarded: u64) {
     let _ = eprintln!(rt; "discarded_multiframes {}", discarded);

@@ -1,18 +1,21 @@
 //! What runs between standard input and standard output for the command line: a job, a filter or a session.
 
-ghost use Rattle.std.specs.Prelude.{Some, None, ⊤};
+ghost use Rattle.std.specs.Prelude.{ℕ, OnOk, Some, None, ⊤};
 ghost use Rattle.clap.specs.Words.{subcommand_rows_of};
+ghost use Rattle.gw_program.specs.Following.{SystemIsTold};
 ghost use Rattle.gw_program.specs.Requests.{DoesJob, RunsFilter, ChecksCrc4, DoesSession, TakesAsked};
 ghost use Rattle.gw_program.specs.Requests.{reports_path_in, EndsSession, FollowsLog};
 
 use crate::filters::{do_filter, perform_crc4_check};
-use crate::following::{log_ended, open_log};
+use crate::following::open_log;
 use crate::performing::{System, perform_job, perform_session, told_as};
 use crate::program_fault::ProgramFault;
-use crate::report::CheckTells;
+use crate::report::{CheckTells, print_place};
 use crate::reports::open_reports;
 use clap::ArgMatches;
-use gw_command::{Filter, SessionKind, SpeechJob, asks_live, follow_of, from_of, reports_of};
+use gw_command::{
+    Filter, SessionKind, SpeechJob, asks_live, follow_of, from_of, reports_of, wants_totals,
+};
 use gw_filter::{NoReports, ReportingSender, ToReports};
 use gw_session::{FromRead, ToWrite, Totals};
 
@@ -126,11 +129,43 @@ fn run_on_input<Y: System>(
 ) -> Result<Totals, ProgramFault>
     requires { TakesAsked (subcommand_rows_of matches.now) (Y.reads system.now) (Y.starts system.now)
         (Y.saves system.now) }
-    ensures { EndsSession (subcommand_rows_of matches.now) session (λ _. ⊤) result }
+    ensures { (place : ℕ) × EndsSession (subcommand_rows_of matches.now) session (λ _. ⊤) 0 place result }
 {
     let mut source = FromRead::new(rt.stdin());
     let mut sink = ToWrite::new(rt.stdout());
-    perform_session(system, rt.alloc(), session, &mut source, &mut sink)
+    let mut place = 0;
+    perform_session(
+        system,
+        rt.alloc(),
+        session,
+        &mut place,
+        &mut source,
+        &mut sink,
+    )
+}
+
+// Reports a place on standard error, if the matches ask for totals.
+#[tactic(auto, unfolding(crate::specs::Following::SystemIsTold))]
+fn tell_place(rt: &HostRuntime, matches: &ArgMatches<'_>, place: u64)
+    ensures { SystemIsTold place }
+{
+    if wants_totals(matches) {
+        print_place(rt, place);
+    }
+}
+
+// Reports the place of a session on a log that ended well.
+fn tell_end(
+    rt: &HostRuntime,
+    matches: &ArgMatches<'_>,
+    ended: &Result<Totals, ProgramFault>,
+    place: u64,
+)
+    ensures { OnOk ended.now (SystemIsTold place) }
+{
+    if ended.is_ok() {
+        tell_place(rt, matches, place);
+    }
 }
 
 // Runs a session on the log at the path, from the octet on that the matches name.
@@ -145,16 +180,25 @@ fn run_on_log<Y: System>(
         (Y.saves system.now) }
     ensures { FollowsLog (subcommand_rows_of matches.now) session path.now result }
 {
-    let Some(place) = from_of(matches) else {
+    let Some(from) = from_of(matches) else {
         return Err(ProgramFault::Nothing);
     };
-    let mut source = match open_log(rt, path, place) {
+    let mut source = match open_log(rt, path, from) {
         Ok(source) => source,
         Err(fault) => return Err(fault),
     };
     let mut sink = ToWrite::new(rt.stdout());
-    let ended = perform_session(system, rt.alloc(), session, &mut source, &mut sink);
-    log_ended(ended)
+    let mut place = from;
+    let ended = perform_session(
+        system,
+        rt.alloc(),
+        session,
+        &mut place,
+        &mut source,
+        &mut sink,
+    );
+    tell_end(rt, matches, &ended, place);
+    ended
 }
 
 /// Runs a session to standard output, with what the system takes for the command line: from standard input,
@@ -163,8 +207,7 @@ fn run_on_log<Y: System>(
 /// # Errors
 ///
 /// What the system lacks, [`ProgramFault::Session`] if the session fails, or that its state was not saved;
-/// [`ProgramFault::Log`] if the log can't be followed, and [`ProgramFault::PartRecord`] if it ends with a
-/// part of a record.
+/// [`ProgramFault::Log`] if the log can't be followed.
 pub fn run_session<Y: System>(
     rt: &HostRuntime,
     matches: &ArgMatches<'_>,

@@ -1,8 +1,12 @@
 //! Which session `replay`, `check` and `serve` run, and what `check` lists after a fault.
 
-ghost use Rattle.std.specs.Prelude.{◌≡◌, ◌≤◌, ◌-◌, ◌^◌, ◌<◌, None};
+ghost use Rattle.std.specs.Prelude.{◌≡◌, ◌≤◌, ◌-◌, ◌^◌, ◌<◌, None, map};
 ghost use Rattle.gw_records.specs.Streams.{CanBegin};
+ghost use Rattle.gw_session.specs.Answers.{events_of};
+ghost use Rattle.gw_session.specs.PacketPorts.{no_ports};
 ghost use Rattle.gw_session.specs.Serve.{around};
+ghost use Rattle.gw_session.specs.Tape.{no_tape};
+ghost use Rattle.gw_session.specs.Watch.{RunsWatched, Watched};
 ghost use Rattle.gw_program.specs.Sessions.{Runs, Serves, Checks, Lists, checked};
 
 use crate::listing::listing;
@@ -30,7 +34,7 @@ pub fn replay<S: Source, K: Sink>(
     run(alloc, gateway, source, sink)
 }
 
-/// Processes records as `replay` does, and shows each to a watch.
+/// Processes records as `replay` does, and shows each to a watch, as `run_watched` of `gw_session` does.
 #[inline(never)]
 pub fn replay_watched<S: Source, K: Sink, W: Watch>(
     alloc: Global,
@@ -40,8 +44,12 @@ pub fn replay_watched<S: Source, K: Sink, W: Watch>(
     watch: &mut W,
 ) -> Result<Totals, RunFault>
     requires { CanBegin (S.tells source.old) (K.tells sink.old) }
-    ensures { Runs (S.tells source.old) (S.tells source.new) (K.tells sink.old) (K.tells sink.new) result
+    ensures runs { Runs (S.tells source.old) (S.tells source.new) (K.tells sink.old) (K.tells sink.new) result
         gateway.old gateway.new }
+    ensures watched { RunsWatched (around (S.tells source.old) (K.tells sink.old) no_ports no_tape)
+        (around (S.tells source.new) (K.tells sink.new) no_ports no_tape) gateway.old gateway.new
+        (λ records. Watched W.shows gateway.old watch.old watch.new records (map events_of records))
+        (watch.new ≡ watch.old) result }
 {
     cut_recordings_recover();
     run_watched(alloc, gateway, source, sink, watch)

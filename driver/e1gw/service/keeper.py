@@ -293,7 +293,7 @@ class TrunkKeeper:
     def hurry(self) -> None:
         """The follower is given all that the log has, at once."""
         if self.program and self.program.follower:
-            self.program.follower.pump.hurry()
+            self.program.follower.hurry()
 
     def end(self, why: str) -> None:
         """The end is asked for."""

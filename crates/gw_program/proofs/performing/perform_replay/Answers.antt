@@ -1,9 +1,19 @@
 use Rattle.std.proofs.Common.{inr}
+use Rattle.gw_session.specs.PacketPorts.{no_ports}
+use Rattle.gw_session.specs.Serve.{around}
+use Rattle.gw_session.specs.Tape.{no_tape}
+use Rattle.gw_program.proofs.Places.{ends_at}
 use Rattle.gw_program.proofs.performing.perform_replay.Goals as goal
 
 pub returns : goal.returns
 returns g c = inr (record {
   end = c.replay_watched-ended.result;
-  done = c.replay_watched-ended.ensures;
+  done = (
+    c.replay_watched-ended.ensures.runs,
+    rw c.new-watch.ensures.place at (ends_at _ (λ watch. watch.place) (λ w w' r code gateway shown. shown.0)
+        (around _ _ no_ports no_tape) (around _ _ no_ports no_tape) _ _ _ _ _
+        (rw c.new-watch.ensures.place c.new-watch.ensures.counts)
+        c.replay_watched-ended.ensures.runs.ran c.replay_watched-ended.ensures.watched),
+  );
   tells = c.end_session.ensures;
 })

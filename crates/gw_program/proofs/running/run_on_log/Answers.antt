@@ -5,20 +5,20 @@ use Rattle.gw_program.proofs.running.run_on_log.Goals as goal
 
 pub returns-in-Err : goal.returns-in-Err
 returns-in-Err g c =
-    inl (record { place = c.in-Some.place; from = c.in-Some.ensures.found; done = inl c.in-Err.ensures.err })
+    inl (record { place = c.in-Some.from; from = c.in-Some.ensures.found; done = inl c.in-Err.ensures.err })
 
 pub returns : goal.returns
 unfolding SystemLogged
 returns g c = inl (record {
-  place = c.in-Some.place;
+  place = c.in-Some.from;
   from = c.in-Some.ensures.found;
   done = inr (record {
-    ended = c.perform_session-ended.result;
+    place = c.perform_session-ended.new.place;
     ends =
-        session_done _ _ _ _ _ _ _ _ _ _ _ c.requires (IsLogged c.args.path.now c.in-Some.place)
+        session_done _ _ _ _ _ _ _ _ _ _ _ c.requires (IsLogged c.args.path.now c.in-Some.from)
         (record { octets = c.perform_session-ended.new.source.log.octets; given = refl; logged = tt })
-        _ _ _ _ _ _ c.perform_session-ended.ensures c.in-Ok.ensures.reads (rw c.in-Ok.ensures.log refl)
+        _ _ _ _ _ _ _ _ c.perform_session-ended.ensures c.in-Ok.ensures.reads (rw c.in-Ok.ensures.log refl)
         c.in-Ok.ensures.failed c.new-sink.ensures.failed;
-    told_is = c.log_ended.ensures;
+    tells = c.tell_end.ensures;
   });
 })
