@@ -1,6 +1,7 @@
--- What the system answered (modules `device_calls`, `client_stream`, `clients`, `waiting`, `door`). Std says
--- nothing of it, so each of these relations holds of every answer; but they are unfolded only in the
--- functions that ask the system, so for all others they hold only of answers received.
+-- What the system answered (modules `device_calls`, `client_stream`, `clients`, `readiness`, `waiting`,
+-- `door`, `with_clients`). Std says nothing of it, so each of these relations holds of every answer; but
+-- they are unfolded only in the functions that ask the system, so for all others they hold only of answers
+-- received.
 use Rattle.std.specs.Prelude.{⊤, ℕ, Bool, List, Option, Result}
 use Rattle.std.specs.declared.io.ErrorKind.{ErrorKind}
 
@@ -15,6 +16,23 @@ SystemWrote writer octets written = ⊤
 -- the last write to a device returned this
 unfoldable pub SystemTook : {S : Type 0} → S → Result ℕ ErrorKind → Type 0
 SystemTook writer written = ⊤
+
+-- a connection that waited at a door was accepted
+unfoldable pub SystemAccepted : {D S : Type 0} → D → S → Type 0
+SystemAccepted door stream = ⊤
+
+-- the system was asked to report what comes of a source under a token, and this is whether it agreed
+unfoldable pub SystemWatches : {P S : Type 0} → P → S → ℕ → Bool → Type 0
+SystemWatches poll source token agreed = ⊤
+
+-- .. to report anew what came of a descriptor before
+unfoldable pub SystemRenews : {P S I : Type 0} → P → S → I → Bool → Type 0
+SystemRenews poll descriptor interest agreed = ⊤
+
+-- .. to wait for events, for this many nanoseconds at most if there is a limit, and reported these; none if
+-- it refused
+unfoldable pub SystemReports : {P E : Type 0} → P → Option ℕ → List E → Type 0
+SystemReports poll nanoseconds events = ⊤
 
 -- nobody waited at a door that could be let in
 unfoldable pub SystemHasNobody : {S : Type 0} → S → Type 0
@@ -35,6 +53,14 @@ SystemShowsSocket path is_socket = ⊤
 -- a connection to a path was made, or had this error
 unfoldable pub SystemConnects : List ℕ → Option ErrorKind → Type 0
 SystemConnects path error = ⊤
+
+-- a door was opened at a path
+unfoldable pub SystemListens : {D : Type 0} → List ℕ → D → Type 0
+SystemListens path door = ⊤
+
+-- what is written to one connection is read from the other
+unfoldable pub SystemPairs : {S : Type 0} → S → S → Type 0
+SystemPairs near far = ⊤
 
 -- a path was given these permissions
 unfoldable pub SystemSetsMode : List ℕ → ℕ → Type 0

@@ -1,7 +1,7 @@
 //! Whether the clients' Unix socket can be opened, and an old one at its path replaced.
 
-ghost use Rattle.std.specs.Prelude.{◌≡◌, true, Option, OnOk};
-ghost use Rattle.gw_trunk.specs.System.{SystemShowsSocket, SystemConnects, SystemSetsMode};
+ghost use Rattle.std.specs.Prelude.{◌≡◌, true, Option, IfOk, OnOk};
+ghost use Rattle.gw_trunk.specs.System.{SystemShowsSocket, SystemConnects, SystemListens, SystemSetsMode};
 ghost use Rattle.gw_trunk.specs.Door.{IsLeftOver};
 
 use mio::net::{UnixListener, UnixStream};
@@ -62,15 +62,24 @@ fn remove_left_over(rt: &HostRuntime, path: &str) -> io::Result<()>
     fs::remove_file(rt, path)
 }
 
+// Listens at a path. The error is the system's.
+#[tactic(auto, unfolding(crate::specs::System::SystemListens))]
+fn listen(rt: &HostRuntime, path: &str) -> io::Result<UnixListener>
+    ensures { IfOk result (SystemListens path.now) }
+{
+    UnixListener::bind(rt, path)
+}
+
 /// Listens at a path. An old socket there at which nobody listens is replaced; anything else is left, and the
 /// call fails. Owner and group may connect. The error is the system's.
 pub fn open_door(rt: &HostRuntime, path: &str) -> io::Result<UnixListener>
-    ensures { OnOk result (SystemSetsMode path.now 432) }
+    ensures listens { IfOk result (SystemListens path.now) }
+    ensures mode { OnOk result (SystemSetsMode path.now 432) }
 {
     if is_left_over(rt, path) {
         remove_left_over(rt, path)?;
     }
-    let door = UnixListener::bind(rt, path)?;
+    let door = listen(rt, path)?;
     set_mode(rt, path, MODE)?;
     Ok(door)
 }

@@ -1,9 +1,11 @@
 //! How a descriptor is waited for, with or without a time limit (`Waiting`).
 
-ghost use Rattle.std.specs.Prelude.{◌≡◌, true, false};
+ghost use Rattle.std.specs.Prelude.{◌≡◌, Bool, true, false, IfOk};
 ghost use Rattle.std.specs.Duration.{as_nanos};
-ghost use Rattle.gw_trunk.specs.System.{SystemIsReady, SystemReportedNone};
+ghost use Rattle.gw_trunk.specs.System.{SystemIsReady, SystemReportedNone, SystemWatches};
+ghost use Rattle.gw_trunk.specs.Waiting.{Waits};
 
+use crate::readiness::{renew, wait_for_events, watch_descriptor};
 use mio::unix::SourceFd;
 use mio::{Events, Interest, Poll, Token};
 use std::io;
@@ -20,13 +22,15 @@ pub struct Waiting {
 
 impl Waiting {
     /// Waits for a descriptor in the way of `interest`. The error is the system's.
-    pub fn open(rt: &HostRuntime, descriptor: i32, interest: Interest) -> io::Result<Waiting> {
+    pub fn open(rt: &HostRuntime, descriptor: i32, interest: Interest) -> io::Result<Waiting>
+        ensures watched { IfOk result (λ w. (agreed : Bool) × SystemWatches w.poll descriptor 0 agreed) }
+        ensures descriptor { IfOk result (λ w. w.descriptor ≡ descriptor) }
+        ensures interest { IfOk result (λ w. w.interest ≡ interest) }
+    {
         let poll = Poll::new(rt)?;
         let events = Events::with_capacity(rt.alloc(), 1)?;
         // (A regular file can't be waited for, and never has to be.)
-        let _ = poll
-            .registry()
-            .register(&mut SourceFd(&descriptor), Token(0), interest);
+        let _ = watch_descriptor(&poll, descriptor, 0, interest);
         Ok(Waiting {
             poll,
             events,
@@ -37,11 +41,11 @@ impl Waiting {
 
     /// Waits until the descriptor is ready, or a signal comes. (It is registered again each time, so that the
     /// system reports what came before.)
-    pub fn wait(&mut self) {
-        let registry = self.poll.registry();
-        let source = &mut SourceFd(&self.descriptor);
-        if registry.reregister(source, Token(0), self.interest).is_ok() {
-            let _ = self.poll.poll(&mut self.events, None);
+    pub fn wait(&mut self)
+        ensures { Waits self.old self.new }
+    {
+        if renew(&self.poll, self.descriptor, self.interest) {
+            wait_for_events(&mut self.poll, &mut self.events, None);
         }
     }
 
