@@ -1,6 +1,6 @@
 -- The clients of a trunk: what they give and what they get (modules `client` and `clients`).
 use Rattle.std.specs.Prelude.{◌≡◌, ◌≢◌, ◌⊎◌, ◌==◌, ◌||◌, ◌&&◌, ◌+◌, ◌-◌, ◌<◌, ◌≤◌, ◌^◌, ◌%◌, ◌++◌, ◌∷◌, ⊤}
-use Rattle.std.specs.Prelude.{if◌then◌else◌, ℕ, Bool, true, false, not, List, [], length, take}
+use Rattle.std.specs.Prelude.{if◌then◌else◌, ℕ, ℤ, Bool, true, false, not, List, [], length, take}
 use Rattle.std.specs.Prelude.{slice_index_or, Option, Some, None, MatchOption, Result, Ok, Err}
 use Rattle.std.specs.declared.io.ErrorKind.{ErrorKind}
 use Rattle.std.specs.List.{list_any}
@@ -348,8 +348,9 @@ GivesAnswer clients clients' = MatchOption clients.asker (clients' ≡ clients) 
 
 -- There are no clients, and somebody may knock. The system reports what comes of the trunk, unless it refuses
 -- to, and of the door.
-pub record AreOpened {D : Type 0} (descriptor : D) (door : UnixListener) (answers : UnixStream)
-    (clients : Clients) : Type 0 where
+pub record AreOpened (descriptor : ℤ) (door : UnixListener) (answers : UnixStream) (clients : Clients)
+    : Type 0 where
+  pub descriptor_is : clients.descriptor ≡ descriptor
   pub watched : SystemWatches clients.poll descriptor 0 clients.is_waited_for
   pub door_watched : SystemWatches clients.poll door 1 true
   pub door_is : clients.door ≡ door
@@ -358,4 +359,5 @@ pub record AreOpened {D : Type 0} (descriptor : D) (door : UnixListener) (answer
   pub unread : (clients.octets ≡ false) × (clients.is_drained ≡ false)
   pub knocks : clients.knocks ≡ true
   pub unasked : clients.asker ≡ None
+  pub next_is : clients.next ≡ 0
   pub came_is : clients.came ≡ 0

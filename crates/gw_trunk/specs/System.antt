@@ -3,6 +3,7 @@
 -- they are unfolded only in the functions that ask the system, so for all others they hold only of answers
 -- received.
 use Rattle.std.specs.Prelude.{⊤, ℕ, Bool, List, Option, Result}
+use Rattle.std.specs.declared.io.Error.{Error}
 use Rattle.std.specs.declared.io.ErrorKind.{ErrorKind}
 
 -- the last read of a reader returned this
@@ -53,6 +54,14 @@ SystemShowsSocket path is_socket = ⊤
 -- a connection to a path was made, or had this error
 unfoldable pub SystemConnects : List ℕ → Option ErrorKind → Type 0
 SystemConnects path error = ⊤
+
+-- a wait for streams, or memory for it, is refused with this error
+unfoldable pub SystemRefusesStream : Error → Type 0
+SystemRefusesStream error = ⊤
+
+-- a socket that clients connect to at a path is refused with this error
+unfoldable pub SystemRefusesDoor : List ℕ → Error → Type 0
+SystemRefusesDoor path error = ⊤
 
 -- a door was opened at a path
 unfoldable pub SystemListens : {D : Type 0} → List ℕ → D → Type 0

@@ -1,11 +1,11 @@
 //! Clients that give commands: accepted, asked in turn, disconnected; whether the trunk can be read now.
 
 ghost use Rattle.std.specs.Prelude.{◌≡◌, ◌==◌, ◌||◌, ◌&&◌, ◌-◌, ◌+◌, ◌<◌, ◌≤◌, ℕ, true, false, length};
-ghost use Rattle.std.specs.Prelude.{IfSome, IfNone, IfOk, Some, None, option_map};
+ghost use Rattle.std.specs.Prelude.{IfSome, IfNone, IfOk, IfErr, Some, None, option_map};
 ghost use Rattle.std.specs.List.{list_all};
 ghost use Rattle.std.specs.Duration.{as_nanos};
 ghost use Rattle.mio.specs.Events.{items};
-ghost use Rattle.gw_trunk.specs.System.{SystemHasNobody, SystemAccepted};
+ghost use Rattle.gw_trunk.specs.System.{SystemAccepted, SystemHasNobody, SystemRefusesStream};
 ghost use Rattle.gw_trunk.specs.Clients.{Answers, AnswersKnock, AreAllKnown, AreOpened, AreWoken, Asks};
 ghost use Rattle.gw_trunk.specs.Clients.{CanRead, FindsNobody, Gets, GetsRead, GivesAnswer, IsWokenAt};
 ghost use Rattle.gw_trunk.specs.Clients.{Looks, LooksAnew, LooksForOctets, MakesRoom, OnlyAt, ServesDoor};
@@ -15,10 +15,9 @@ use crate::client::{Client, ClientPoll};
 use crate::client_stream::ClientStream;
 use crate::device_calls::DeviceReader;
 use crate::logged_reader::LoggedReader;
-use crate::readiness::{renew, wait_for_events, watch, watch_descriptor};
-use mio::event::Source;
+use crate::readiness::{open_poll, renew, wait_for_events, watch, watch_descriptor};
 use mio::net::{UnixListener, UnixStream};
-use mio::{Events, Interest, Poll, Token};
+use mio::{Events, Interest, Poll};
 use std::io::{self, ErrorKind};
 use std::time::Duration;
 
@@ -226,10 +225,10 @@ impl Clients {
         mut door: UnixListener,
         answers: UnixStream,
     ) -> io::Result<Clients>
-        ensures { IfOk result (AreOpened descriptor door answers) }
+        ensures ok { IfOk result (AreOpened descriptor door answers) }
+        ensures err { IfErr result SystemRefusesStream }
     {
-        let poll = Poll::new(rt)?;
-        let events = Events::with_capacity(rt.alloc(), 16)?;
+        let (poll, events) = open_poll(rt, 16)?;
         let is_waited_for = watch_descriptor(&poll, descriptor, TRUNK, Interest::READABLE);
         watch(&poll, &mut door, DOOR)?;
         Ok(Clients {

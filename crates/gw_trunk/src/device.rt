@@ -7,8 +7,8 @@ ghost use Rattle.std.specs.Io.KnownBytes.{IsAtEnd};
 ghost use Rattle.gw_trunk.specs.Device.{IsTaken, WasRead, ReadResult, octets_taken, written_of, IsForLater};
 ghost use Rattle.gw_trunk.specs.Device.{HasFailed};
 ghost use Rattle.gw_trunk.specs.Pieces.{AsksRecord};
-ghost use Rattle.gw_trunk.specs.System.{SystemIsReady, SystemReportedNone};
-ghost use Rattle.gw_trunk.specs.Waiting.{Waits};
+ghost use Rattle.gw_trunk.specs.System.{SystemIsReady, SystemRefusesStream, SystemReportedNone};
+ghost use Rattle.gw_trunk.specs.Waiting.{Waits, WaitsFor};
 
 use crate::device_calls::{DeviceReader, DeviceWriter, is_for_later};
 use crate::logged_reader::LoggedReader;
@@ -223,6 +223,8 @@ impl<R: DeviceReader + Drop> FromDevice<R> {
         ensures reader { IfOk result (λ d. d.reader.reader ≡ reader) }
         ensures start { IfOk result (λ d. d.reader.start.value ≡ reader) }
         ensures log { IfOk result (λ d. d.reader.log.octets ≡ []) }
+        ensures waiting { IfOk result (λ d. WaitsFor descriptor Interest.READABLE d.waiting) }
+        ensures err { IfErr result SystemRefusesStream }
     {
         Ok(FromDevice {
             waiting: Waiting::open(rt, descriptor, Interest::READABLE)?,
@@ -237,6 +239,8 @@ impl<W: DeviceWriter + Drop> ToDevice<W> {
         ensures writer { IfOk result (λ d. d.writer ≡ writer) }
         ensures start { IfOk result (λ d. d.start.value ≡ writer) }
         ensures log { IfOk result (λ d. d.log.octets ≡ []) }
+        ensures waiting { IfOk result (λ d. WaitsFor descriptor Interest.WRITABLE d.waiting) }
+        ensures err { IfErr result SystemRefusesStream }
     {
         let waiting = Waiting::open(rt, descriptor, Interest::WRITABLE)?;
         let start = AtStart::of(&writer);

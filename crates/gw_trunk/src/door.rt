@@ -1,7 +1,8 @@
 //! Whether the clients' Unix socket can be opened, and an old one at its path replaced.
 
-ghost use Rattle.std.specs.Prelude.{◌≡◌, true, Option, IfOk, OnOk};
-ghost use Rattle.gw_trunk.specs.System.{SystemShowsSocket, SystemConnects, SystemListens, SystemSetsMode};
+ghost use Rattle.std.specs.Prelude.{◌≡◌, true, Option, IfOk, IfErr, OnOk};
+ghost use Rattle.gw_trunk.specs.System.{SystemShowsSocket, SystemConnects, SystemListens, SystemRefusesDoor};
+ghost use Rattle.gw_trunk.specs.System.{SystemSetsMode};
 ghost use Rattle.gw_trunk.specs.Door.{IsLeftOver};
 
 use mio::net::{UnixListener, UnixStream};
@@ -35,9 +36,10 @@ fn error_of_connection(rt: &HostRuntime, path: &str) -> Option<ErrorKind>
 }
 
 // Gives the path these permissions. The error is the system's.
-#[tactic(auto, unfolding(crate::specs::System::SystemSetsMode))]
+#[tactic(auto, unfolding(crate::specs::System::SystemSetsMode, crate::specs::System::SystemRefusesDoor))]
 fn set_mode(rt: &HostRuntime, path: &str, mode: u32) -> io::Result<()>
-    ensures { OnOk result (SystemSetsMode path.now mode) }
+    ensures ok { OnOk result (SystemSetsMode path.now mode) }
+    ensures err { IfErr result (SystemRefusesDoor path.now) }
 {
     fs::set_permissions(rt, path, Permissions::from_mode(mode))
 }
@@ -56,16 +58,19 @@ fn is_left_over(rt: &HostRuntime, path: &str) -> bool
 }
 
 // Removes a socket at which nobody listens. The error is the system's.
+#[tactic(auto, unfolding(crate::specs::System::SystemRefusesDoor))]
 fn remove_left_over(rt: &HostRuntime, path: &str) -> io::Result<()>
     requires { IsLeftOver path.now }
+    ensures { IfErr result (SystemRefusesDoor path.now) }
 {
     fs::remove_file(rt, path)
 }
 
 // Listens at a path. The error is the system's.
-#[tactic(auto, unfolding(crate::specs::System::SystemListens))]
+#[tactic(auto, unfolding(crate::specs::System::SystemListens, crate::specs::System::SystemRefusesDoor))]
 fn listen(rt: &HostRuntime, path: &str) -> io::Result<UnixListener>
-    ensures { IfOk result (SystemListens path.now) }
+    ensures ok { IfOk result (SystemListens path.now) }
+    ensures err { IfErr result (SystemRefusesDoor path.now) }
 {
     UnixListener::bind(rt, path)
 }
@@ -75,6 +80,7 @@ fn listen(rt: &HostRuntime, path: &str) -> io::Result<UnixListener>
 pub fn open_door(rt: &HostRuntime, path: &str) -> io::Result<UnixListener>
     ensures listens { IfOk result (SystemListens path.now) }
     ensures mode { OnOk result (SystemSetsMode path.now 432) }
+    ensures err { IfErr result (SystemRefusesDoor path.now) }
 {
     if is_left_over(rt, path) {
         remove_left_over(rt, path)?;

@@ -1,9 +1,9 @@
 //! What the system is asked to report, and what it reports (`watch`, `renew`, `wait_for_events`).
 
-ghost use Rattle.std.specs.Prelude.{◌≡◌, is_ok, option_map};
+ghost use Rattle.std.specs.Prelude.{◌≡◌, is_ok, option_map, IfErr};
 ghost use Rattle.std.specs.Duration.{as_nanos};
 ghost use Rattle.mio.specs.Events.{items};
-ghost use Rattle.gw_trunk.specs.System.{SystemRenews, SystemReports, SystemWatches};
+ghost use Rattle.gw_trunk.specs.System.{SystemRefusesStream, SystemRenews, SystemReports, SystemWatches};
 
 use mio::event::Source;
 use mio::unix::SourceFd;
@@ -11,11 +11,22 @@ use mio::{Events, Interest, Poll, Token};
 use std::io;
 use std::time::Duration;
 
+/// What is waited by, for this many events at once. The error is the system's.
+#[tactic(auto, unfolding(crate::specs::System::SystemRefusesStream))]
+pub fn open_poll(rt: &HostRuntime, capacity: usize) -> io::Result<(Poll, Events)>
+    ensures { IfErr result SystemRefusesStream }
+{
+    let poll = Poll::new(rt)?;
+    let events = Events::with_capacity(rt.alloc(), capacity)?;
+    Ok((poll, events))
+}
+
 /// Has the system report what comes of a source under this token. The error is the system's.
-#[tactic(auto, unfolding(crate::specs::System::SystemWatches))]
+#[tactic(auto, unfolding(crate::specs::System::SystemRefusesStream, crate::specs::System::SystemWatches))]
 pub fn watch<S: Source>(poll: &Poll, source: &mut S, token: usize) -> io::Result<()>
     ensures watched { SystemWatches poll.now source.new token (is_ok result) }
     ensures kept { S.keeps source.old source.new }
+    ensures err { IfErr result SystemRefusesStream }
 {
     let registry = poll.registry();
     registry.register(source, Token(token), Interest::READABLE)

@@ -1,11 +1,11 @@
 //! How a descriptor is waited for, with or without a time limit (`Waiting`).
 
-ghost use Rattle.std.specs.Prelude.{◌≡◌, Bool, true, false, IfOk};
+ghost use Rattle.std.specs.Prelude.{◌≡◌, true, false, IfOk, IfErr};
 ghost use Rattle.std.specs.Duration.{as_nanos};
-ghost use Rattle.gw_trunk.specs.System.{SystemIsReady, SystemReportedNone, SystemWatches};
-ghost use Rattle.gw_trunk.specs.Waiting.{Waits};
+ghost use Rattle.gw_trunk.specs.System.{SystemIsReady, SystemRefusesStream, SystemReportedNone};
+ghost use Rattle.gw_trunk.specs.Waiting.{Waits, WaitsFor};
 
-use crate::readiness::{renew, wait_for_events, watch_descriptor};
+use crate::readiness::{open_poll, renew, wait_for_events, watch_descriptor};
 use mio::unix::SourceFd;
 use mio::{Events, Interest, Poll, Token};
 use std::io;
@@ -23,12 +23,10 @@ pub struct Waiting {
 impl Waiting {
     /// Waits for a descriptor in the way of `interest`. The error is the system's.
     pub fn open(rt: &HostRuntime, descriptor: i32, interest: Interest) -> io::Result<Waiting>
-        ensures watched { IfOk result (λ w. (agreed : Bool) × SystemWatches w.poll descriptor 0 agreed) }
-        ensures descriptor { IfOk result (λ w. w.descriptor ≡ descriptor) }
-        ensures interest { IfOk result (λ w. w.interest ≡ interest) }
+        ensures ok { IfOk result (WaitsFor descriptor interest) }
+        ensures err { IfErr result SystemRefusesStream }
     {
-        let poll = Poll::new(rt)?;
-        let events = Events::with_capacity(rt.alloc(), 1)?;
+        let (poll, events) = open_poll(rt, 1)?;
         // (A regular file can't be waited for, and never has to be.)
         let _ = watch_descriptor(&poll, descriptor, 0, interest);
         Ok(Waiting {
@@ -49,8 +47,8 @@ impl Waiting {
         }
     }
 
-    /// Waits until the descriptor is ready, for this time at most, or a signal comes. Returns whether it may be
-    /// ready: the system reported it, or refused to wait.
+    /// Waits until the descriptor is ready, for this time at most, or a signal comes. Returns whether it may
+    /// be ready: the system reported it, or refused to wait.
     #[tactic(auto, unfolding(crate::specs::System::SystemReportedNone, crate::specs::System::SystemIsReady))]
     pub fn wait_for(&mut self, limit: Duration) -> bool
         ensures none { result ≡ false → SystemReportedNone self.new (as_nanos limit) }

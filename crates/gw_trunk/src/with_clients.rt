@@ -1,12 +1,12 @@
 //! A trunk with clients: when it is read, when a client is asked, and what ends it (`WithClients`).
 
-ghost use Rattle.std.specs.Prelude.{◌≡◌, ◌||◌, ◌&&◌, ℕ, List, [], true, false, IfOk, Some, Err};
+ghost use Rattle.std.specs.Prelude.{◌≡◌, ◌||◌, ◌&&◌, ℕ, List, [], true, false, IfOk, IfErr, Some, Err, ◌⊎◌};
 ghost use Rattle.std.specs.Io.KnownBytes.{IsAtEnd};
 ghost use Rattle.std.specs.List.{list_all};
 ghost use Rattle.gw_trunk.specs.Clients.{is_quiet};
 ghost use Rattle.gw_trunk.specs.Clients.{AreOpened};
 ghost use Rattle.gw_trunk.specs.Device.{HasFailed};
-ghost use Rattle.gw_trunk.specs.System.{SystemListens, SystemPairs};
+ghost use Rattle.gw_trunk.specs.System.{SystemListens, SystemPairs, SystemRefusesDoor, SystemRefusesStream};
 
 use crate::client::ClientPoll;
 use crate::clients::Clients;
@@ -56,6 +56,7 @@ impl<R: DeviceReader + Drop> WithClients<R> {
         ensures logs { IfOk result (λ d. (d.reader.log.octets ≡ []) × (d.asked.octets ≡ [])) }
         ensures clients { IfOk result (λ d. AreOpened descriptor door answers d.clients) }
         ensures goes { IfOk result (λ d. d.ended ≡ false) }
+        ensures err { IfErr result SystemRefusesStream }
     {
         let clients = Clients::open(rt, descriptor, door, answers)?;
         Ok(WithClients {
@@ -71,9 +72,10 @@ impl<R: DeviceReader + Drop> WithClients<R> {
 }
 
 // Two connections, each the other's end. The error is the system's.
-#[tactic(auto, unfolding(crate::specs::System::SystemPairs))]
+#[tactic(auto, unfolding(crate::specs::System::SystemPairs, crate::specs::System::SystemRefusesStream))]
 fn open_pair(rt: &HostRuntime) -> io::Result<(UnixStream, UnixStream)>
-    ensures { IfOk result (λ both. SystemPairs both.0 both.1) }
+    ensures ok { IfOk result (λ both. SystemPairs both.0 both.1) }
+    ensures err { IfErr result SystemRefusesStream }
 {
     UnixStream::pair(rt)
 }
@@ -93,6 +95,9 @@ pub fn open_clients<R: DeviceReader + Drop>(
     ensures door { IfOk result (λ both. SystemListens path.now both.0.clients.door) }
     ensures joined { IfOk result (λ both. SystemPairs both.0.clients.answers.reader both.1.writer) }
     ensures goes { IfOk result (λ both. both.0.ended ≡ false) }
+    ensures clients { IfOk result (λ both. AreOpened descriptor both.0.clients.door
+        both.0.clients.answers.reader both.0.clients) }
+    ensures err { IfErr result (λ e. SystemRefusesDoor path.now e ⊎ SystemRefusesStream e) }
 {
     let door = open_door(rt, path)?;
     let (near, far) = open_pair(rt)?;
