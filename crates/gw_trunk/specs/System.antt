@@ -51,6 +51,10 @@ SystemIsReady waiting nanoseconds = ⊤
 unfoldable pub SystemShowsSocket : List ℕ → Bool → Type 0
 SystemShowsSocket path is_socket = ⊤
 
+-- what stands at a path was removed, or the system refused that
+unfoldable pub SystemRemoves : List ℕ → Type 0
+SystemRemoves path = ⊤
+
 -- a connection to a path was made, or had this error
 unfoldable pub SystemConnects : List ℕ → Option ErrorKind → Type 0
 SystemConnects path error = ⊤

@@ -2,8 +2,8 @@
 
 ghost use Rattle.std.specs.Prelude.{◌≡◌, true, Option, IfOk, IfErr, OnOk};
 ghost use Rattle.gw_trunk.specs.System.{SystemShowsSocket, SystemConnects, SystemListens, SystemRefusesDoor};
-ghost use Rattle.gw_trunk.specs.System.{SystemSetsMode};
-ghost use Rattle.gw_trunk.specs.Door.{IsLeftOver};
+ghost use Rattle.gw_trunk.specs.System.{SystemRemoves, SystemSetsMode};
+ghost use Rattle.gw_trunk.specs.Door.{ClearsDoor, IsLeftOver, LooksAt};
 
 use mio::net::{UnixListener, UnixStream};
 use std::fs::{self, Permissions};
@@ -46,7 +46,8 @@ fn set_mode(rt: &HostRuntime, path: &str, mode: u32) -> io::Result<()>
 
 // Whether a socket stands at the path at which nobody listens.
 fn is_left_over(rt: &HostRuntime, path: &str) -> bool
-    ensures { result ≡ true → IsLeftOver path.now }
+    ensures is { result ≡ true → IsLeftOver path.now }
+    ensures looks { LooksAt path.now result }
 {
     if !is_socket(rt, path) {
         return false;
@@ -58,10 +59,11 @@ fn is_left_over(rt: &HostRuntime, path: &str) -> bool
 }
 
 // Removes a socket at which nobody listens. The error is the system's.
-#[tactic(auto, unfolding(crate::specs::System::SystemRefusesDoor))]
+#[tactic(auto, unfolding(crate::specs::System::SystemRemoves, crate::specs::System::SystemRefusesDoor))]
 fn remove_left_over(rt: &HostRuntime, path: &str) -> io::Result<()>
     requires { IsLeftOver path.now }
-    ensures { IfErr result (SystemRefusesDoor path.now) }
+    ensures removes { SystemRemoves path.now }
+    ensures err { IfErr result (SystemRefusesDoor path.now) }
 {
     fs::remove_file(rt, path)
 }
@@ -80,6 +82,7 @@ fn listen(rt: &HostRuntime, path: &str) -> io::Result<UnixListener>
 pub fn open_door(rt: &HostRuntime, path: &str) -> io::Result<UnixListener>
     ensures listens { IfOk result (SystemListens path.now) }
     ensures mode { OnOk result (SystemSetsMode path.now 432) }
+    ensures clears { ClearsDoor path.now }
     ensures err { IfErr result (SystemRefusesDoor path.now) }
 {
     if is_left_over(rt, path) {
