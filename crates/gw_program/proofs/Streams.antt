@@ -34,16 +34,6 @@ on_new s s' k k' done reads given failures writes = record {
   done = done;
 }
 
--- a fault is told of streams that nothing was done with
-pub untouched : (command : CommandLine)
-    (does : SessionStreams → SessionStreams → Gateway → Gateway → Type 0) (program_fault : ProgramFault)
-    → OnNewStreams (λ a a'. ByGateway a a' command (Err program_fault) (does a a'))
-untouched command does program_fault =
-    let source : SourceState = record { failures = 0; reads = 0; given = Some []; to_come = None } in
-    let sink : SinkState = record { failures = 0; taken = None } in on_new source source sink sink
-    (inl (record { program_fault = program_fault; why = tt; told_is = refl; unread = refl; unwritten = refl })) refl
-    refl refl refl
-
 -- a session is not begun for a command that names no configuration
 pub no_session : (command : CommandLine) (session : SessionKind) → config_in command ≡ None
     → DoesSession command session (Err program_faults.Nothing)

@@ -2,6 +2,7 @@
 
 ghost use Rattle.std.specs.Prelude.{◌≡◌, ◌⊎◌, [], false, IfOk, IfErr, ⊤};
 ghost use Rattle.gw_trunk.specs.System.{SystemReportedNone};
+ghost use Rattle.gw_trunk.specs.Waiting.{Waits};
 ghost use Rattle.gw_satop.specs.Opening.{SystemRefusesTrunk};
 
 use gw_trunk::{
@@ -18,17 +19,23 @@ pub trait Readiness {
     /// Holds if it was found last that nothing has come.
     ghost is_unready: { Self → Type 0 } = { λ _. ⊤ };
 
+    /// Relates a descriptor before and after a wait for it.
+    ghost sleeps: { Self → Self → Type 0 } = { λ _ _. ⊤ };
+
     /// Whether something may have come. It never waits.
     fn is_ready(&mut self) -> bool
         ensures { result ≡ false → is_unready self.new };
 
     /// Waits until something may have come. What was found last stays.
     fn sleep(&mut self)
-        ensures { is_unready self.old → is_unready self.new };
+        ensures found { is_unready self.old → is_unready self.new }
+        ensures sleeps { sleeps self.old self.new };
 }
 
 impl Readiness for Waiting {
     ghost is_unready = { λ w. SystemReportedNone w 0 };
+
+    ghost sleeps = { Waits };
 
     fn is_ready(&mut self) -> bool {
         self.wait_for(Duration::ZERO)
@@ -114,6 +121,8 @@ impl<I: TrunkInput, W: Readiness> TrunkInput for WhenReady<I, W> {
     ghost has_none = { λ r. W.is_unready r.waiting ⊎ I.has_none r.incoming };
 
     ghost has_failed = { λ r. I.has_failed r.incoming };
+
+    ghost sleeps = { λ r r'. W.sleeps r.waiting r'.waiting × (r'.incoming ≡ r.incoming) };
 
     fn read(&mut self, room: &mut [u8]) -> Result<DeviceRead, DeviceFault> {
         if !self.waiting.is_ready() {

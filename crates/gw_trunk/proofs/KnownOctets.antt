@@ -1,5 +1,5 @@
 -- What a reader has given grows by what each read gives.
-use Rattle.std.proofs.Common.{◌≡◌, ◌++◌, ℕ, List, Option, Some, None, Result, Ok, Err, refl, length, take, drop}
+use Rattle.std.proofs.Common.{◌≡◌, ◌++◌, ℕ, List, Option, Some, None, Result, Ok, Err, Bool, refl, length, take, drop}
 use Rattle.std.proofs.Common.{append_assoc, append-nil, take-append-drop, sym, ap, ◌∙◌}
 use lib.Seq.{take-append_seam}
 use Rattle.std.specs.declared.io.ErrorKind.{ErrorKind}
@@ -86,9 +86,9 @@ holds-more a (Some x) (Some y) got answer (Err kind) h w before e =
     let f = h before e in rw (append-nil got) cc
 
 -- What the last read gave stays so.
-pub none-kept : (before after : Result ℕ ErrorKind → Type 0) → ((read : Result ℕ ErrorKind) → before read
-    → after read) → FoundNone before → FoundNone after
-none-kept before after kept found = (found.0, kept found.0 found.1, found.2)
+pub none-kept : (before after : Result ℕ ErrorKind → Type 0) (ended : Bool) → ((read : Result ℕ ErrorKind)
+    → before read → after read) → FoundNone before ended → FoundNone after ended
+none-kept before after ended kept found = (found.0, kept found.0 found.1, found.2, found.3)
 
 -- .. and whether it was the last
 pub over-kept : (before after : Result ℕ ErrorKind → Type 0) → ((read : Result ℕ ErrorKind) → before read

@@ -4,3 +4,6 @@ pub mod Placing
 pub mod Thinning
 mod Rows
 pub mod KnownOctets
+pub mod Noting
+pub mod Answering
+pub mod Telling

@@ -1,84 +1,61 @@
 -- The clients of a trunk at their places.
-use Rattle.std.proofs.Common.{◌≡◌, ◌+◌, ◌-◌, ◌%◌, ◌<◌, ◌∷◌, ◌∙◌, ◌||◌, ℕ, suc, Bool, true, false, List, []}
-use Rattle.std.proofs.Common.{◌⊎◌, Option, Some, None, Result, length, refl, subst, arith, inl, inr}
-use Rattle.std.specs.declared.io.ErrorKind.{ErrorKind}
+use Rattle.std.proofs.Common.{◌≡◌, ◌+◌, ◌-◌, ◌%◌, ◌<◌, ◌∷◌, ◌∙◌, ◌||◌, ℕ, suc, Bool, true, false}
+use Rattle.std.proofs.Common.{List, [], ◌⊎◌, Option, Some, None, length, take, refl, arith, inl, inr}
 use Rattle.std.specs.List.{list_all}
-use Rattle.std.proofs.lemmas.Bool.{cases_eq}
-use Rattle.gw_records.specs.declared.records.RecordsEnd.TheVariants as endings
-use Rattle.gw_records.specs.Records.{end_of}
-use Rattle.gw_trunk.specs.Clients.{HasNoRecord}
+use Rattle.gw_trunk.specs.declared.client.Client.{Client}
 use Rattle.gw_trunk.specs.declared.client.ClientPoll.{ClientPoll}
 use Rattle.gw_trunk.specs.declared.client.ClientPoll.TheVariants.{Command, Nothing, End, Gone}
-use Rattle.gw_trunk.specs.declared.client.Client.{Client}
-use Rattle.gw_trunk.specs.Clients.{Stays, MayGo, KeepsClient, StaysAt, Answers, AllKeep, OnlyAt, at, is_quiet}
+use Rattle.gw_trunk.specs.Clients.{Stays, GaveOne, Replies, GaveNone, GaveNothing, at, is_quiet, place_at}
 
--- A client that stays, and then stays, does so in all.
-pub stays-trans : {S : Type 0} {m : _} (p q r : Client S m) → Stays p q → Stays q r → Stays p r
-stays-trans p q r a b = record {
+-- An end that was read is read.
+left-once : (ended q r ended' : Bool) → q ≡ (false || ended) → ended' ≡ ended → r ≡ (q || ended')
+    → r ≡ (false || ended')
+left-once true q r ended' a same b = cc
+left-once false q r ended' a same b = cc
+
+-- It has left where an end was read before, or is read then.
+left-then : (p q r ended ended' : Bool) → q ≡ (p || ended) → ended' ≡ ended ⊎ ended ≡ false → r ≡ (q || ended')
+    → r ≡ (p || ended')
+left-then true q r ended ended' a same b = cc
+left-then false q r ended ended' a (inl same) b = left-once ended q r ended' a same b
+left-then false q r ended ended' a (inr goes) b = cc
+
+-- A client that stays, and then stays, does so in all. Its end was not read before, or nothing is read then.
+pub stays-then : {S : Type 0} {m : _} (p q r : Client S m) → Stays p q → (r.ended ≡ q.ended) ⊎ (q.ended ≡ false)
+    → Stays q r → Stays p r
+stays-then p q r a read b = record {
   start_is = b.start_is ∙ a.start_is;
   gave_is = b.gave_is ∙ a.gave_is;
   got_is = b.got_is ∙ a.got_is;
   known_is = b.known_is ∙ a.known_is;
   number_is = b.number_is ∙ a.number_is;
+  left_is = left-then p.left q.left r.left q.ended r.ended a.left_is read b.left_is;
 }
 
--- A client that stays, and then stays or is disconnected, does so in all.
-pub keeps-trans : {S : Type 0} {m : _} (may_go : Client S m → Type 0) (p q r : Option (Client S m))
-    → KeepsClient may_go p q → KeepsClient may_go q r → KeepsClient may_go p r
-keeps-trans may_go None None None a b = tt
-keeps-trans may_go None None (Some r) a b = absurd b
-keeps-trans may_go None (Some q) r a b = absurd a
-keeps-trans may_go (Some p) None None a b = a
-keeps-trans may_go (Some p) None (Some r) a b = absurd b
-keeps-trans may_go (Some p) (Some q) None a b = (b.0, stays-trans p q b.0 a b.1, b.2)
-keeps-trans may_go (Some p) (Some q) (Some r) a b = stays-trans p q r a b
+-- A client that stays, and then gives a record, gave it in all.
+gave-then : {S : Type 0} {m : _} (p q r : Client S m) (octets : List ℕ) → Stays p q → r.ended ≡ q.ended
+    → GaveOne q r octets → GaveOne p r octets
+gave-then p q r octets a read b = record {
+  start_is = b.start_is ∙ a.start_is;
+  gave_is = record {
+    one = b.gave_is.one;
+    good = b.gave_is.good;
+    spells = b.gave_is.spells;
+    asked_is = rw (← a.gave_is) b.gave_is.asked_is;
+  };
+  got_is = b.got_is ∙ a.got_is;
+  known_is = b.known_is;
+  number_is = b.number_is ∙ a.number_is;
+  left_is = left-then p.left q.left r.left q.ended r.ended a.left_is (inl read) b.left_is;
+}
 
--- One that stays is not disconnected.
-pub keeps-stay : {S : Type 0} {m : _} (may_go : Client S m → Type 0) (p q : Option (Client S m)) → StaysAt p q
-    → KeepsClient may_go p q
-keeps-stay may_go None None a = tt
-keeps-stay may_go None (Some q) a = absurd a
-keeps-stay may_go (Some p) None a = absurd a.2
-keeps-stay may_go (Some p) (Some q) a = a
-
--- A client that was asked, gave nothing and did not ask for the end stays or is disconnected, and has nothing.
-pub asked-none : {S : Type 0} {m : _} (has_read : S → Result ℕ ErrorKind → Type 0) (asked : ClientPoll)
-    (p p' : Option (Client S m)) (room : List ℕ) → Answers has_read asked p p' room
-    → (asked ≡ Nothing) ⊎ (asked ≡ Gone)
-    → KeepsClient (MayGo has_read (length room)) p p' × (is_quiet p' ≡ true)
-asked-none has_read Nothing p p' room a none = (keeps-stay _ p p' a.0, a.1)
-asked-none has_read Gone p p' room a none = (a.0, rw (a.1) refl)
-asked-none has_read (Command n) p p' room a none = elim none [ inl e ↦ cc | inr e ↦ cc ]
-asked-none has_read End p p' room a none = elim none [ inl e ↦ cc | inr e ↦ cc ]
-
--- All clients stay or are disconnected where one place changes.
-pub all-kept : {S : Type 0} {m : _} (may_go : Client S m → Type 0) (first places places' : List (Option (Client S m)))
-    (place : ℕ) → AllKeep may_go first places → OnlyAt place places places'
-    → KeepsClient may_go (at places place) (at places' place) → AllKeep may_go first places'
-all-kept may_go first places places' place kept only one = λ k. elim (cases_eq k place) [
-  | inl e ↦ keeps-trans may_go (at first k) (at places k) (at places' k) (kept k) (rw e one)
-  | inr other ↦ rw (only k other) (kept k)
-]
-
--- Where one may go for want of room it may for want of as much.
-pub kept-room : {S : Type 0} {m : _} (has_read : S → Result ℕ ErrorKind → Type 0) (room room' : ℕ)
-    (p p' : Option (Client S m)) → room ≡ room' → KeepsClient (MayGo has_read room) p p'
-    → KeepsClient (MayGo has_read room') p p'
-kept-room has_read room room' p p' e kept =
-    let P : ℕ → Type 0 = λ n. KeepsClient (MayGo has_read n) p p' in subst P e kept
-
--- One more client was asked and has nothing.
-pub quiet-turn : {S : Type 0} {m : _} (n turn : ℕ) (places places' : List (Option (Client S m)))
-    → ((j : ℕ) → j < turn → is_quiet (at places ((n % 8 + j) % 8)) ≡ true)
-    → OnlyAt ((n % 8 + turn) % 8) places places' → is_quiet (at places' ((n % 8 + turn) % 8)) ≡ true
-    → (j : ℕ) → j < turn + 1 → is_quiet (at places' ((n % 8 + j) % 8)) ≡ true
-quiet-turn n turn places places' before only now = λ j b. elim (cases_eq ((n % 8 + j) % 8) ((n % 8 + turn) % 8)) [
-  | inl e ↦ rw e now
-  | inr other ↦ elim (cases_eq j turn) [
-    | inl same ↦ rw same now
-    | inr less ↦ rw (only ((n % 8 + j) % 8) other) (before j (omega arith))
-  ]
-]
+-- What a client did after it was read it did in all.
+pub replies-then : {S : Type 0} {m : _} (reply : ClientPoll) (p q r : Client S m) (room : List ℕ) → Stays p q
+    → r.ended ≡ q.ended → Replies reply q r room → Replies reply p r room
+replies-then (Command n) p q r room a read b = (b.0, gave-then p q r (take n room) a read b.1)
+replies-then Nothing p q r room a read b = (stays-then p q r a (inl read) b.0, b.1)
+replies-then End p q r room a read b = (stays-then p q r a (inl read) b.0, b.1)
+replies-then Gone p q r room a read b = (stays-then p q r a (inl read) b.0, b.1)
 
 -- Eight turns reach each place.
 reached : (m k : ℕ) → m < 8 → k < 8 → (m + (k + 8 - m) % 8) % 8 ≡ k
@@ -93,24 +70,15 @@ quiet-all (p ∷ places) h =
     let first : is_quiet p ≡ true = h 0 (omega arith) in
     rw first (quiet-all places (λ k b. h (suc k) (omega arith)))
 
+-- A place where nothing was given has nothing whole.
+quiet-none : {S : Type 0} {m : _} (room : ℕ) (p p' : Option (Client S m)) → GaveNone room p p' → is_quiet p' ≡ true
+quiet-none room p None a = refl
+quiet-none room None (Some client) a = absurd a
+quiet-none room (Some client) (Some client') a = rw (a.1.none) refl
+
 -- After eight turns none has anything.
-pub quiet-round : {S : Type 0} {m : _} (n : ℕ) (places : List (Option (Client S m))) → length places ≡ 8
-    → ((j : ℕ) → j < 8 → is_quiet (at places ((n % 8 + j) % 8)) ≡ true) → list_all is_quiet places ≡ true
-quiet-round n places eight turns = quiet-all places (λ k b.
-    let e = reached (n % 8) k (omega arith) (omega arith) in
-    rw e at (turns ((k + 8 - n % 8) % 8) (omega arith)))
-
--- Fewer than four octets begin with no whole record.
-pub short-is-none : (octets : List ℕ) → length octets < 4 → HasNoRecord octets
-unfolding end_of
-short-is-none [] short = (endings.End, refl)
-short-is-none (x ∷ []) short = (endings.Truncated, refl)
-short-is-none (x ∷ y ∷ []) short = (endings.Truncated, refl)
-short-is-none (x ∷ y ∷ z ∷ []) short = (endings.Truncated, refl)
-short-is-none (x ∷ y ∷ z ∷ w ∷ octets) short = absurd (omega arith)
-
--- A knock that is not heard after an event was not before.
-pub kept-knock : (is_knock knocks knocks' : Bool) → knocks' ≡ (is_knock || knocks) → knocks' ≡ false → knocks ≡ false
-kept-knock is_knock false knocks' e none = refl
-kept-knock true true knocks' e none = cc
-kept-knock false true knocks' e none = cc
+pub quiet-round : {S : Type 0} {m : _} (first turns room : ℕ) (places places' : List (Option (Client S m)))
+    → turns ≡ 8 → length places' ≡ 8 → GaveNothing first turns room places places' → list_all is_quiet places' ≡ true
+quiet-round first turns room places places' all eight none = quiet-all places' (λ k b.
+    let e = reached (first % 8) k (omega arith) (omega arith) in
+    rw e at (quiet-none room _ _ (none.asked ((k + 8 - first % 8) % 8) (omega arith))))

@@ -1,23 +1,34 @@
 -- The clients of a trunk: what they give and what they get (modules `client` and `clients`).
-use Rattle.std.specs.Prelude.{◌≡◌, ◌≢◌, ◌⊎◌, ◌==◌, ◌||◌, ◌+◌, ◌<◌, ◌≤◌, ◌^◌, ◌-◌, ◌++◌, ◌∷◌, if◌then◌else◌, ⊤}
-use Rattle.std.specs.Prelude.{ℕ, Bool, true, false, not, List, [], length, take, slice_index_or}
-use Rattle.std.specs.Prelude.{Option, Some, None, Result, Ok, Err}
+use Rattle.std.specs.Prelude.{◌≡◌, ◌≢◌, ◌⊎◌, ◌==◌, ◌||◌, ◌&&◌, ◌+◌, ◌-◌, ◌<◌, ◌≤◌, ◌^◌, ◌%◌, ◌++◌, ◌∷◌, ⊤}
+use Rattle.std.specs.Prelude.{if◌then◌else◌, ℕ, ℤ, Bool, true, false, not, List, [], length, take}
+use Rattle.std.specs.Prelude.{slice_index_or, Option, Some, None, MatchOption, Result, Ok, Err}
 use Rattle.std.specs.declared.io.ErrorKind.{ErrorKind}
-use Rattle.std.specs.List.{list_all}
+use Rattle.std.specs.List.{list_any}
+use Rattle.mio.specs.declared.event.event.Event.{Event}
+use Rattle.mio.specs.declared.net.uds.listener.UnixListener.{UnixListener}
+use Rattle.mio.specs.declared.net.uds.stream.UnixStream.{UnixStream}
+use Rattle.mio.specs.Event.{event_token, is_read_closed}
+use Rattle.mio.specs.Events.{items}
+use Rattle.mio.specs.Interest.{is_readable}
+use Rattle.mio.specs.declared.interest.Interest.{Interest}
 use Rattle.gw_trunk.specs.declared.client.ClientPoll.{ClientPoll}
 use Rattle.gw_trunk.specs.declared.client.ClientPoll.TheVariants.{Command, Nothing, End, Gone}
 use Rattle.gw_trunk.specs.declared.client.Client.{Client}
-use Rattle.gw_trunk.specs.Device.{IsOver, passed_count, is_broken_pipe}
+use Rattle.gw_trunk.specs.declared.clients.Clients.{Clients}
+use Rattle.gw_trunk.specs.Device.{GaveBehind, passed_count, is_broken_pipe}
 use Rattle.gw_trunk.specs.Pieces.{AsksRecord, client_kinds}
+use Rattle.gw_trunk.specs.System.{SystemAccepted, SystemHasNobody, SystemRead, SystemRenews, SystemReports}
+use Rattle.gw_trunk.specs.System.{SystemWatches, SystemWrote}
 use Rattle.gw_records.specs.declared.records.RecordsEnd.{RecordsEnd}
 use Rattle.gw_records.specs.Records.{end_of, is_open}
 use Rattle.gw_records.specs.Streams.{at_most}
 
--- octets begin with no whole record of a client
-abbrev pub HasNoRecord : List ℕ → Type 0
-HasNoRecord octets = (ending : RecordsEnd) × (end_of client_kinds octets ≡ Some ending)
+-- octets begin with no whole record of a client, and may with more octets behind them
+abbrev pub IsOpen : List ℕ → Type 0
+IsOpen octets = (ending : RecordsEnd) × (end_of client_kinds octets ≡ Some ending)
+    × (is_open ending ≡ true)
 
--- .. nor do they with others behind them
+-- .. and do not with others behind them either
 abbrev pub BeginsNone : List ℕ → Type 0
 BeginsNone octets = (ending : RecordsEnd) × (end_of client_kinds octets ≡ Some ending)
     × (is_open ending ≡ false)
@@ -26,13 +37,14 @@ BeginsNone octets = (ending : RecordsEnd) × (end_of client_kinds octets ≡ Som
 abbrev pub AsksEnd : List ℕ → Type 0
 AsksEnd octets = take 4 octets ≡ 0x45 ∷ 0 ∷ 0 ∷ 0 ∷ []
 
--- a client gave nothing more and got nothing more
+-- a client gave nothing more and got nothing more; it has left too if its end was read
 pub record Stays {S : Type 0} {m : _} (client client' : Client S m) : Type 0 where
   pub start_is : client'.start.value ≡ client.start.value
   pub gave_is : client'.gave.octets ≡ client.gave.octets
   pub got_is : client'.got.octets ≡ client.got.octets
   pub known_is : client'.known ≡ client.known
   pub number_is : client'.number ≡ client.number
+  pub left_is : client'.left ≡ (client.left || client'.ended)
 
 -- a client gave one more record, and got nothing more
 pub record GaveOne {S : Type 0} {m : _} (client client' : Client S m) (octets : List ℕ) : Type 0 where
@@ -41,36 +53,51 @@ pub record GaveOne {S : Type 0} {m : _} (client client' : Client S m) (octets : 
   pub got_is : client'.got.octets ≡ client.got.octets
   pub known_is : client'.known ≡ true
   pub number_is : client'.number ≡ client.number
+  pub left_is : client'.left ≡ (client.left || client'.ended)
 
--- A client may be disconnected: no whole record of it is held, and its end was read, or 64 octets are held,
--- or octets with which no record begins. (Or there is no room for a record.)
-abbrev pub MayGo : {S : Type 0} {m : _} → (S → Result ℕ ErrorKind → Type 0) → ℕ → Client S m → Type 0
-MayGo has_read room client = (HasNoRecord client.held.items
-    × (∥ IsOver (has_read client.stream) ∥₁
-    ⊎ ((length client.held.items ≡ 64) ⊎ BeginsNone client.held.items)))
-    ⊎ (room < 64)
+-- a client has nothing whole, but its end was not read, and what is held of it may become a record
+pub record HasNothing {S : Type 0} {m : _} (client : Client S m) : Type 0 where
+  pub none : client.ready ≡ false
+  pub goes : client.ended ≡ false
+  pub part : IsOpen client.held.items
+  pub room : length client.held.items < 64
+
+-- A client is to be disconnected: what is held of it is no whole record, and its end was read or 64 octets
+-- are held; or it begins with none, nor asks for the end. (Or there is no room for a record.)
+abbrev pub MayGo : {S : Type 0} {m : _} → ℕ → Client S m → Type 0
+MayGo room client = (IsOpen client.held.items × ((client.ended ≡ true) ⊎ (length client.held.items ≡ 64)))
+    ⊎ ((BeginsNone client.held.items × (¬ AsksEnd client.held.items)) ⊎ (room < 64))
 
 -- What a client did that was asked: it gave a record, which stands at the front of a room; or it gave none
 -- and has nothing that is whole; or it asks for the end; or it is to be disconnected.
-abbrev pub Replies : {S : Type 0} {m : _} → (S → Result ℕ ErrorKind → Type 0) → ClientPoll
-    → Client S m → Client S m → List ℕ → Type 0
-Replies has_read (Command n) client client' room = (n ≤ length room) × GaveOne client client' (take n room)
-Replies has_read Nothing client client' room =
-    Stays client client' × (client'.ready ≡ false) × HasNoRecord client'.held.items
-Replies has_read End client client' room = Stays client client' × AsksEnd client'.held.items
-Replies has_read Gone client client' room = Stays client client' × MayGo has_read (length room) client'
+abbrev pub Replies : {S : Type 0} {m : _} → ClientPoll → Client S m → Client S m → List ℕ → Type 0
+Replies (Command n) client client' room = (n ≤ length room) × GaveOne client client' (take n room)
+Replies Nothing client client' room = Stays client client' × HasNothing client'
+Replies End client client' room = Stays client client' × AsksEnd client'.held.items
+Replies Gone client client' room = Stays client client' × MayGo (length room) client'
 
--- the client at a place stays, with what it gave and got, or is disconnected as it may be
-abbrev pub KeepsClient : {S : Type 0} {m : _} → (Client S m → Type 0) → Option (Client S m)
-    → Option (Client S m) → Type 0
-KeepsClient may_go None None = ⊤
-KeepsClient may_go None (Some client') = ⊥
-KeepsClient {S} {m} may_go (Some client) None = (last : Client S m) × Stays client last × may_go last
-KeepsClient may_go (Some client) (Some client') = Stays client client'
+-- something may have come from a client if it is woken, and it has left if so it is said; all else is as it
+-- was
+pub record IsWoken {S : Type 0} {m : _} (is_woken has_left : Bool) (client client' : Client S m)
+    : Type 0 where
+  pub stream_is : client'.stream ≡ client.stream
+  pub held_is : client'.held.items ≡ client.held.items
+  pub ended_is : client'.ended ≡ client.ended
+  pub start_is : client'.start.value ≡ client.start.value
+  pub gave_is : client'.gave.octets ≡ client.gave.octets
+  pub got_is : client'.got.octets ≡ client.got.octets
+  pub known_is : client'.known ≡ client.known
+  pub number_is : client'.number ≡ client.number
+  pub ready_is : client'.ready ≡ (is_woken || client.ready)
+  pub left_is : client'.left ≡ (has_left || client.left)
 
--- .. and is not disconnected
-abbrev pub StaysAt : {S : Type 0} {m : _} → Option (Client S m) → Option (Client S m) → Type 0
-StaysAt place place' = KeepsClient (λ _. ⊥) place place'
+-- the client at a place was asked and gave nothing: it stays and has nothing whole, or is disconnected as it
+-- may be; or there is none
+abbrev pub GaveNone : {S : Type 0} {m : _} → ℕ → Option (Client S m) → Option (Client S m) → Type 0
+GaveNone room None None = ⊤
+GaveNone room None (Some client') = ⊥
+GaveNone {S} {m} room (Some client) None = (last : Client S m) × Stays client last × MayGo room last
+GaveNone room (Some client) (Some client') = Stays client client' × HasNothing client'
 
 -- the client at a place gave one more record
 abbrev pub GaveAt : {S : Type 0} {m : _} → Option (Client S m) → Option (Client S m) → List ℕ → Type 0
@@ -78,9 +105,9 @@ GaveAt (Some client) (Some client') octets = GaveOne client client' octets
 GaveAt _ _ octets = ⊥
 
 -- the client at a place asks for the end
-abbrev pub AsksEndAt : {S : Type 0} {m : _} → Option (Client S m) → Type 0
-AsksEndAt None = ⊥
-AsksEndAt (Some client) = AsksEnd client.held.items
+abbrev pub AsksEndAt : {S : Type 0} {m : _} → Option (Client S m) → Option (Client S m) → Type 0
+AsksEndAt (Some client) (Some client') = Stays client client' × AsksEnd client'.held.items
+AsksEndAt _ _ = ⊥
 
 -- A client got as much of an answer as a write to it took, and gave nothing more. It has hung up if the write
 -- says so.
@@ -114,20 +141,12 @@ abbrev pub is_quiet : {S : Type 0} {m : _} → Option (Client S m) → Bool
 is_quiet None = true
 is_quiet (Some client) = not client.ready
 
--- a place has no client, or one from whom something may have come, and who has left if so it is said
-abbrev pub IsAwake : {S : Type 0} {m : _} → Bool → Option (Client S m) → Option (Client S m) → Type 0
-IsAwake has_left (Some client) (Some client') =
-    (client'.ready ≡ true) × (client'.left ≡ (client.left || has_left))
-IsAwake has_left place place' = ⊤
-
--- what the client at a place did that was asked: one that is to be disconnected is
-abbrev pub Answers : {S : Type 0} {m : _} → (S → Result ℕ ErrorKind → Type 0) → ClientPoll
-    → Option (Client S m) → Option (Client S m) → List ℕ → Type 0
-Answers has_read (Command n) place place' room = (n ≤ length room) × GaveAt place place' (take n room)
-Answers has_read Nothing place place' room = StaysAt place place' × (is_quiet place' ≡ true)
-Answers has_read End place place' room = StaysAt place place' × AsksEndAt place'
-Answers has_read Gone place place' room =
-    KeepsClient (MayGo has_read (length room)) place place' × (place' ≡ None)
+-- what the client at a place did that was asked
+abbrev pub Answers : {S : Type 0} {m : _} → ClientPoll → Option (Client S m) → Option (Client S m) → List ℕ
+    → Type 0
+Answers (Command n) place place' room = (n ≤ length room) × GaveAt place place' (take n room)
+Answers End place place' room = AsksEndAt place place'
+Answers _ place place' room = GaveNone (length room) place place'
 
 -- the client at a place
 abbrev pub at : {S : Type 0} {m : _} → List (Option (Client S m)) → ℕ → Option (Client S m)
@@ -145,46 +164,94 @@ GetsRead has_written (Ok n) room place place' =
     (n ≡ 0 → place' ≡ place) × (0 < n → Gets has_written place place' (take n room))
 GetsRead has_written (Err kind) room place place' = place' ≡ place
 
--- The answer to the last record was read, and what came goes whole to the client whose record it was, if it
--- is still there. The clients at all other places are as they were.
+-- The answer to the last record was read into a room of 64 octets, and what came goes to the client whose
+-- record it was, if it is still there. The clients at all other places are as they were.
 pub record HasAnswered {S : Type 0} {m : _} (has_written : S → List ℕ → Result ℕ ErrorKind → Type 0)
     (gave : Result ℕ ErrorKind → List ℕ → Type 0) (places places' : List (Option (Client S m))) (place : ℕ)
     : Type 0 where
   pub read : Result ℕ ErrorKind
   pub room : List ℕ
+  pub long : length room ≡ 64
   pub was_read : gave read room
   pub gets : GetsRead has_written read room (at places place) (at places' place)
   pub others : OnlyAt place places places'
 
--- all clients stay, or are disconnected as they may be
-abbrev pub AllKeep : {S : Type 0} {m : _} → (Client S m → Type 0) → List (Option (Client S m))
+-- the place that is asked at a turn, from a first one on
+abbrev pub place_at : ℕ → ℕ → ℕ
+place_at first turn = (first % 8 + turn) % 8
+
+-- The clients at this many places, in turn, were asked and gave nothing. Those at others are as they were.
+pub record GaveNothing {S : Type 0} {m : _} (first turns room : ℕ)
+    (places places' : List (Option (Client S m))) : Type 0 where
+  pub asked : (turn : ℕ) → turn < turns
+      → GaveNone room (at places (place_at first turn)) (at places' (place_at first turn))
+  pub others : (k : ℕ) → ((turn : ℕ) → turn < turns → k ≢ place_at first turn) → at places' k ≡ at places k
+
+-- Clients were asked in turn, those before one at a place gave nothing, and this one did this. Those behind
+-- it were not asked.
+pub record HasTurned {S : Type 0} {m : _} (first room : ℕ) (places places' : List (Option (Client S m)))
+    (place : ℕ) (does : Option (Client S m) → Option (Client S m) → Type 0) : Type 0 where
+  pub turn : ℕ
+  pub in_turn : turn < 8
+  pub place_is : place ≡ place_at first turn
+  pub between : List (Option (Client S m))
+  pub before : GaveNothing first turn room places between
+  pub done : does (at between place) (at places' place)
+  pub others : OnlyAt place between places'
+
+-- What clients did that were asked in turn, from the place on that is next: one gave a record, to which the
+-- answer is for it, and those behind it are asked first the next time; or none has anything; or one asks for
+-- the end. One that is to be disconnected is, and that ends nothing.
+abbrev pub Asks : ClientPoll → Clients → Clients → List ℕ → Type 0
+Asks (Command n) clients clients' room = (n ≤ length room) × ((place : ℕ)
+    × (clients' ≡ record clients { places = clients'.places; asker = Some place; next = place + 1 })
+    × HasTurned clients.next (length room) clients.places clients'.places place
+    (λ client client'. GaveAt client client' (take n room)))
+Asks Nothing clients clients' room = (clients' ≡ record clients { places = clients'.places })
+    × GaveNothing clients.next 8 (length room) clients.places clients'.places
+Asks End clients clients' room = (clients' ≡ record clients { places = clients'.places }) × ((place : ℕ)
+    × HasTurned clients.next (length room) clients.places clients'.places place AsksEndAt)
+Asks Gone clients clients' room = ⊥
+
+-- events have one of this token, or one of it that says that the other end has left
+abbrev pub comes : ℕ → List Event → Bool
+comes token events = list_any (λ e. (event_token e).0 == token) events
+
+abbrev pub leaves : ℕ → List Event → Bool
+leaves token events = list_any (λ e. (event_token e).0 == token && is_read_closed e) events
+
+-- a client at a place is woken, or it is said that it has left; or there is none
+abbrev pub IsWokenAt : {S : Type 0} {m : _} → Bool → Bool → Option (Client S m) → Option (Client S m) → Type 0
+IsWokenAt is_woken has_left None None = ⊤
+IsWokenAt is_woken has_left None (Some client') = ⊥
+IsWokenAt is_woken has_left (Some client) None = ⊥
+IsWokenAt is_woken has_left (Some client) (Some client') = IsWoken is_woken has_left client client'
+
+-- each client is woken by events of its token, which follow that of the door
+abbrev pub AreWoken : {S : Type 0} {m : _} → List Event → List (Option (Client S m))
     → List (Option (Client S m)) → Type 0
-AllKeep may_go places places' = (k : ℕ) → KeepsClient may_go (at places k) (at places' k)
+AreWoken events places places' = (k : ℕ) → k < 8
+    → IsWokenAt (comes (k + 2) events) (leaves (k + 2) events) (at places k) (at places' k)
 
--- .. and none is disconnected
-abbrev pub AllStay : {S : Type 0} {m : _} → List (Option (Client S m)) → List (Option (Client S m)) → Type 0
-AllStay places places' = AllKeep (λ _. ⊥) places places'
+-- The system was asked for events, for a time at most, and they are noted: those of the trunk, of the door
+-- and of clients.
+pub record Looks (limit : Option ℕ) (clients clients' : Clients) : Type 0 where
+  pub reported : SystemReports clients'.poll limit (items clients'.events)
+  pub octets_is : clients'.octets ≡ (comes 0 (items clients'.events) || clients.octets)
+  pub knocks_is : clients'.knocks ≡ (comes 1 (items clients'.events) || clients.knocks)
+  pub woken : AreWoken (items clients'.events) clients.places clients'.places
+  pub same : clients' ≡ record clients {
+    poll = clients'.poll;
+    events = clients'.events;
+    octets = clients'.octets;
+    knocks = clients'.knocks;
+    places = clients'.places;
+  }
 
--- A client gave one more record: the answer to it is for this client. The others stay, or are disconnected as
--- they may be.
-pub record HasGiven {S : Type 0} {m : _} (may_go : Client S m → Type 0)
-    (places places' : List (Option (Client S m))) (asker : Option ℕ) (octets : List ℕ) : Type 0 where
-  pub place : ℕ
-  pub asker_is : asker ≡ Some place
-  pub gives : GaveAt (at places place) (at places' place) octets
-  pub others : (k : ℕ) → k ≢ place → KeepsClient may_go (at places k) (at places' k)
-
--- What clients did that were asked in turn: one of them gave a record, or none has anything, or one asks for
--- the end. A client that is to be disconnected is, and that ends nothing.
-abbrev pub Asks : {S : Type 0} {m : _} → (S → Result ℕ ErrorKind → Type 0) → ClientPoll
-    → List (Option (Client S m)) → List (Option (Client S m)) → Option ℕ → List ℕ → Type 0
-Asks has_read (Command n) places places' asker room =
-    (n ≤ length room) × HasGiven (MayGo has_read (length room)) places places' asker (take n room)
-Asks has_read Nothing places places' asker room =
-    AllKeep (MayGo has_read (length room)) places places' × (list_all is_quiet places' ≡ true)
-Asks has_read End places places' asker room =
-    AllKeep (MayGo has_read (length room)) places places' × ((k : ℕ) × AsksEndAt (at places' k))
-Asks has_read Gone places places' asker room = ⊥
+-- the same, once the system was asked to report octets of the trunk that came before
+abbrev pub LooksAnew : Option ℕ → Clients → Clients → Type 0
+LooksAnew limit clients clients' = (interest : Interest) × (agreed : Bool) × (is_readable interest ≡ true)
+    × SystemRenews clients.poll clients.descriptor interest agreed × Looks limit clients clients'
 
 -- The rank of a place for a new client: it takes the lowest, a free one, else that of a client that has left,
 -- else that of the one that came first of those who never gave a record; never one of the last rank.
@@ -203,12 +270,94 @@ pub record MakesRoom {S : Type 0} {m : _} (places : List (Option (Client S m))) 
 abbrev pub AreAllKnown : {S : Type 0} {m : _} → List (Option (Client S m)) → Type 0
 AreAllKnown places = (k : ℕ) → k < 8 → rank (at places k) ≡ 2 ^ 64 - 1
 
--- a new client is at a place
-abbrev pub IsNew : {S : Type 0} {m : _} → Option (Client S m) → Type 0
-IsNew None = ⊥
-IsNew (Some client) = (client.gave.octets ≡ []) × (client.got.octets ≡ []) × (client.known ≡ false)
+-- the client at a place is new: this is its connection, and this many came before it
+abbrev pub IsNew : {S : Type 0} {m : _} → S → ℕ → Option (Client S m) → Type 0
+IsNew stream number None = ⊥
+IsNew stream number (Some client) = (client.start.value ≡ stream) × (client.number ≡ number)
+    × (client.gave.octets ≡ []) × (client.got.octets ≡ []) × (client.known ≡ false) × (client.left ≡ false)
 
--- a client that was let in has the place that is a new client's, and all other places are as they were
-abbrev pub LetsIn : {S : Type 0} {m : _} → List (Option (Client S m)) → List (Option (Client S m)) → Type 0
-LetsIn places places' = ((k : ℕ) → at places' k ≡ at places k)
-    ⊎ ((place : ℕ) × MakesRoom places place × IsNew (at places' place) × OnlyAt place places places')
+-- a connection is that of a client who is new at this place
+pub record HasNew (stream : UnixStream) (place : ℕ) (clients clients' : Clients) : Type 0 where
+  pub watched : SystemWatches clients.poll stream (place + 2) true
+  pub is_new : IsNew stream clients.came (at clients'.places place)
+  pub others : OnlyAt place clients.places clients'.places
+  pub same : clients' ≡ record clients { places = clients'.places; came = at_most (clients.came + 1) }
+
+-- A connection was accepted. It is that of a new client, at the place of one. It is dropped if each place
+-- has a client that is there and gave a record, or if the system refuses to report what comes of it.
+pub record LetsIn (stream : UnixStream) (clients clients' : Clients) : Type 0 where
+  pub accepted : SystemAccepted clients.door stream
+  pub does : (AreAllKnown clients.places × (clients' ≡ clients))
+      ⊎ ((place : ℕ) × MakesRoom clients.places place × (HasNew stream place clients clients'
+      ⊎ (SystemWatches clients.poll stream (place + 2) false × (clients' ≡ clients))))
+
+-- nobody was found at the door, and it is noted that nobody knocks
+abbrev pub FindsNobody : Clients → Clients → Type 0
+FindsNobody clients clients' =
+    SystemHasNobody clients.door × (clients' ≡ record clients { knocks = false })
+
+-- connections were accepted, one after another, and each client was let in
+abbrev pub LetAllIn : List UnixStream → Clients → Clients → Type 0
+LetAllIn [] clients clients' = clients' ≡ clients
+LetAllIn (stream ∷ streams) clients clients' =
+    (between : Clients) × LetsIn stream clients between × LetAllIn streams between clients'
+
+-- Connections were accepted until nobody was found at the door, or eight.
+pub record AnswersDoor (clients clients' : Clients) : Type 0 where
+  pub streams : List UnixStream
+  pub last : Clients
+  pub let_in : LetAllIn streams clients last
+  pub ends : ((length streams ≡ 8) × (clients' ≡ last)) ⊎ ((length streams < 8) × FindsNobody last clients')
+
+-- the door is answered if somebody knocks
+abbrev pub AnswersKnock : Clients → Clients → Type 0
+AnswersKnock clients clients' = ((clients.knocks ≡ false) × (clients' ≡ clients))
+    ⊎ ((clients.knocks ≡ true) × AnswersDoor clients clients')
+
+-- .. and it is looked for before where the trunk is a file, for which the system was not asked
+abbrev pub ServesDoor : Clients → Clients → Type 0
+ServesDoor clients clients' = ((clients.is_waited_for ≡ true) × AnswersKnock clients clients')
+    ⊎ ((clients.is_waited_for ≡ false)
+    × ((between : Clients) × Looks (Some 0) clients between × AnswersKnock between clients'))
+
+-- The system is asked to report octets of the trunk, unless some are noted, or the last read took all that
+-- had come.
+abbrev pub LooksForOctets : Clients → Clients → Type 0
+LooksForOctets clients clients' = ((clients.octets || clients.is_drained ≡ true) × (clients' ≡ clients))
+    ⊎ ((clients.octets || clients.is_drained ≡ false) × LooksAnew (Some 0) clients clients')
+
+-- Whether the trunk can be read: octets are noted, or it is a file, which is not waited for. They are
+-- forgotten then.
+abbrev pub CanRead : Clients → Clients → Bool → Type 0
+CanRead clients clients' is_ready =
+    ((clients.is_waited_for ≡ false) × (is_ready ≡ true) × (clients' ≡ clients))
+    ⊎ ((clients.is_waited_for ≡ true) × ((between : Clients) × LooksForOctets clients between
+    × (is_ready ≡ between.octets) × (clients' ≡ record between { octets = false; is_drained = false })))
+
+-- The system was asked to wait for events without an end. It was not if some are noted.
+abbrev pub Waits : Clients → Clients → Type 0
+Waits clients clients' = ((clients.octets || clients.knocks ≡ true) × (clients' ≡ clients))
+    ⊎ ((clients.octets || clients.knocks ≡ false) × LooksAnew None clients clients')
+
+-- The answer to the last record of a client is given to it, if one is to come.
+abbrev pub GivesAnswer : Clients → Clients → Type 0
+GivesAnswer clients clients' = MatchOption clients.asker (clients' ≡ clients) (λ place.
+    (clients' ≡ record clients { answers = clients'.answers; places = clients'.places; asker = None })
+    × HasAnswered SystemWrote (GaveBehind (SystemRead clients'.answers.reader)
+    clients.answers.log.octets clients'.answers.log.octets) clients.places clients'.places place)
+
+-- There are no clients, and somebody may knock. The system reports what comes of the trunk, unless it refuses
+-- to, and of the door.
+pub record AreOpened (descriptor : ℤ) (door : UnixListener) (answers : UnixStream) (clients : Clients)
+    : Type 0 where
+  pub descriptor_is : clients.descriptor ≡ descriptor
+  pub watched : SystemWatches clients.poll descriptor 0 clients.is_waited_for
+  pub door_watched : SystemWatches clients.poll door 1 true
+  pub door_is : clients.door ≡ door
+  pub answers_are : clients.answers.reader ≡ answers
+  pub nobody : (k : ℕ) → k < 8 → at clients.places k ≡ None
+  pub unread : (clients.octets ≡ false) × (clients.is_drained ≡ false)
+  pub knocks : clients.knocks ≡ true
+  pub unasked : clients.asker ≡ None
+  pub next_is : clients.next ≡ 0
+  pub came_is : clients.came ≡ 0

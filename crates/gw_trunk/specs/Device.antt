@@ -19,6 +19,10 @@ WasRead (Octets n) = ⊤
 WasRead NoneNow = ⊤
 WasRead Ended = ⊥
 
+-- what a read is told of
+abbrev pub ReadResult : Type 0
+ReadResult = Result DeviceRead DeviceFault
+
 -- the octets that a read took into a room
 abbrev pub octets_taken : Result DeviceRead DeviceFault → List ℕ → List ℕ
 octets_taken (Ok (Octets n)) room = take n room
@@ -76,9 +80,10 @@ abbrev pub is_broken_pipe : Result ℕ ErrorKind → Bool
 is_broken_pipe (Err BrokenPipe) = true
 is_broken_pipe read = false
 
--- a read gave no octets
-abbrev pub FoundNone : (Result ℕ ErrorKind → Type 0) → Type 0
-FoundNone has_read = (read : Result ℕ ErrorKind) × has_read read × (has_octets read ≡ false)
+-- a read gave no octets, and this is whether nothing comes any more
+abbrev pub FoundNone : (Result ℕ ErrorKind → Type 0) → Bool → Type 0
+FoundNone has_read ended = (read : Result ℕ ErrorKind) × has_read read × (has_octets read ≡ false)
+    × (is_over read ≡ ended)
 
 -- a read ended so that nothing comes any more
 abbrev pub IsOver : (Result ℕ ErrorKind → Type 0) → Type 0

@@ -6,3 +6,5 @@ pub mod Door
 pub mod Clients
 pub mod Multiframes
 pub mod KnownOctets
+pub mod Waiting
+pub mod Turns

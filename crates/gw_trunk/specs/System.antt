@@ -1,7 +1,9 @@
--- What the system answered (modules `device_calls`, `client_stream`, `clients`, `waiting`, `door`). Std says
--- nothing of it, so each of these relations holds of every answer; but they are unfolded only in the
--- functions that ask the system, so for all others they hold only of answers received.
+-- What the system answered (modules `device_calls`, `client_stream`, `clients`, `readiness`, `waiting`,
+-- `door`, `with_clients`). Std says nothing of it, so each of these relations holds of every answer; but
+-- they are unfolded only in the functions that ask the system, so for all others they hold only of answers
+-- received.
 use Rattle.std.specs.Prelude.{⊤, ℕ, Bool, List, Option, Result}
+use Rattle.std.specs.declared.io.Error.{Error}
 use Rattle.std.specs.declared.io.ErrorKind.{ErrorKind}
 
 -- the last read of a reader returned this
@@ -15,6 +17,23 @@ SystemWrote writer octets written = ⊤
 -- the last write to a device returned this
 unfoldable pub SystemTook : {S : Type 0} → S → Result ℕ ErrorKind → Type 0
 SystemTook writer written = ⊤
+
+-- a connection that waited at a door was accepted
+unfoldable pub SystemAccepted : {D S : Type 0} → D → S → Type 0
+SystemAccepted door stream = ⊤
+
+-- the system was asked to report what comes of a source under a token, and this is whether it agreed
+unfoldable pub SystemWatches : {P S : Type 0} → P → S → ℕ → Bool → Type 0
+SystemWatches poll source token agreed = ⊤
+
+-- .. to report anew what came of a descriptor before
+unfoldable pub SystemRenews : {P S I : Type 0} → P → S → I → Bool → Type 0
+SystemRenews poll descriptor interest agreed = ⊤
+
+-- .. to wait for events, for this many nanoseconds at most if there is a limit, and reported these; none if
+-- it refused
+unfoldable pub SystemReports : {P E : Type 0} → P → Option ℕ → List E → Type 0
+SystemReports poll nanoseconds events = ⊤
 
 -- nobody waited at a door that could be let in
 unfoldable pub SystemHasNobody : {S : Type 0} → S → Type 0
@@ -32,9 +51,29 @@ SystemIsReady waiting nanoseconds = ⊤
 unfoldable pub SystemShowsSocket : List ℕ → Bool → Type 0
 SystemShowsSocket path is_socket = ⊤
 
+-- what stands at a path was removed, or the system refused that
+unfoldable pub SystemRemoves : List ℕ → Type 0
+SystemRemoves path = ⊤
+
 -- a connection to a path was made, or had this error
 unfoldable pub SystemConnects : List ℕ → Option ErrorKind → Type 0
 SystemConnects path error = ⊤
+
+-- a wait for streams, or memory for it, is refused with this error
+unfoldable pub SystemRefusesStream : Error → Type 0
+SystemRefusesStream error = ⊤
+
+-- a socket that clients connect to at a path is refused with this error
+unfoldable pub SystemRefusesDoor : List ℕ → Error → Type 0
+SystemRefusesDoor path error = ⊤
+
+-- a door was opened at a path
+unfoldable pub SystemListens : {D : Type 0} → List ℕ → D → Type 0
+SystemListens path door = ⊤
+
+-- what is written to one connection is read from the other
+unfoldable pub SystemPairs : {S : Type 0} → S → S → Type 0
+SystemPairs near far = ⊤
 
 -- a path was given these permissions
 unfoldable pub SystemSetsMode : List ℕ → ℕ → Type 0

@@ -68,8 +68,9 @@ pub struct Client<S: ClientStream> {
     ghost stays_known: { StaysKnown (S.remaining start.value) (S.remaining stream) },
     ghost holds: { (before : List ℕ) → S.contents start.value ≡ Some before
         → S.contents stream ≡ Some (before ++ got.octets) },
-    ghost quiet: { ready ≡ false → ∥ FoundNone (S.has_read stream) ∥₁ },
+    ghost quiet: { ready ≡ false → ∥ FoundNone (S.has_read stream) ended ∥₁ },
     ghost over: { ended ≡ true → ∥ IsOver (S.has_read stream) ∥₁ },
+    ghost gone: { ended ≡ true → left ≡ true },
 }
 
 // Reads once what has come, behind the octets held.
@@ -133,12 +134,13 @@ fn is_broken_pipe(written: Result<usize, ErrorKind>) -> bool
 }
 
 impl<S: ClientStream> Client<S> {
-    ghost use Rattle.gw_trunk.specs.Clients.{HasNoRecord, Replies, Stays, Takes};
+    ghost use Rattle.gw_trunk.specs.Clients.{IsOpen, IsWoken, Replies, Stays, Takes};
 
     /// A client that may have sent something, and how many came before it.
     pub fn new(stream: S, number: u64) -> Client<S>
         ensures gave { result.gave.octets ≡ [] }
         ensures got { result.got.octets ≡ [] }
+        ensures number { result.number ≡ number }
         ensures known { result.known ≡ false }
         ensures left { result.left ≡ false }
         ensures start { result.start.value ≡ stream }
@@ -160,12 +162,10 @@ impl<S: ClientStream> Client<S> {
 
     /// Notes that the client may have sent something, or has hung up.
     pub fn wake(&mut self, has_left: bool)
-        ensures stays { Stays self.old self.new }
-        ensures ready { self.new.ready ≡ true }
-        ensures left { self.new.left ≡ (self.old.left || has_left) }
+        ensures { IsWoken true has_left self.old self.new }
     {
         self.ready = true;
-        self.left = self.left || has_left;
+        self.left = has_left || self.left;
     }
 
     // Reads once what has come. What came before the client's end is still to be acted on.
@@ -198,9 +198,9 @@ impl<S: ClientStream> Client<S> {
     // The poll of a client without a whole record: none yet, unless its end was read, or it has sent too
     // much.
     fn nothing(&self, room: &[u8]) -> ClientPoll
-        requires none { HasNoRecord self.now.held.items }
+        requires part { IsOpen self.now.held.items }
         requires all { self.now.ready ≡ true → self.now.ended ≡ false → 64 ≤ length self.now.held.items }
-        ensures { Replies S.has_read result self.now self.now room.now }
+        ensures { Replies result self.now self.now room.now }
     {
         if self.ended || self.held.is_full() {
             ClientPoll::Gone
@@ -212,7 +212,8 @@ impl<S: ClientStream> Client<S> {
     // The client's next record, in the octets that are held.
     fn next_record(&mut self, room: &mut [u8]) -> ClientPoll
         requires { self.old.ready ≡ true → self.old.ended ≡ false → 64 ≤ length self.old.held.items }
-        ensures { Replies S.has_read result self.old self.new room.new }
+        ensures replies { Replies result self.old self.new room.new }
+        ensures ended { self.new.ended ≡ self.old.ended }
     {
         let held = self.held.as_slice();
         match first_record(&KINDS, held) {
@@ -227,6 +228,7 @@ impl<S: ClientStream> Client<S> {
                 ClientPoll::Command(first.len)
             }
             Err(RecordsEnd::End | RecordsEnd::Truncated) => self.nothing(room),
+            Err(_) if held.starts_with(&END) => ClientPoll::End,
             Err(_) => ClientPoll::Gone,
         }
     }
@@ -234,16 +236,9 @@ impl<S: ClientStream> Client<S> {
     /// Takes the client's next record to `room`, if it is whole. A client that has hung up is disconnected
     /// only behind its last whole record.
     pub fn ask(&mut self, room: &mut [u8]) -> ClientPoll
-        ensures { Replies S.has_read result self.old self.new room.new }
+        ensures { Replies result self.old self.new room.new }
     {
         self.refill();
-        let held = self.held.as_slice();
-        if held.len() < END.len() && END.starts_with(held) {
-            return self.nothing(room);
-        }
-        if held.starts_with(&END) {
-            return ClientPoll::End;
-        }
         self.next_record(room)
     }
 

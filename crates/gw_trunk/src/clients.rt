@@ -1,21 +1,23 @@
 //! Clients that give commands: accepted, asked in turn, disconnected; whether the trunk can be read now.
 
-ghost use Rattle.std.specs.Prelude.{◌≡◌, ◌⊎◌, ◌==◌, ◌||◌, ◌-◌, ◌<◌, ◌≤◌, Some, None, true, false, length};
-ghost use Rattle.std.specs.Prelude.{IfSome, IfNone, IfOk};
+ghost use Rattle.std.specs.Prelude.{◌≡◌, ◌==◌, ◌||◌, ◌&&◌, ◌-◌, ◌+◌, ◌<◌, ◌≤◌, ℕ, true, false, length};
+ghost use Rattle.std.specs.Prelude.{IfSome, IfNone, IfOk, IfErr, Some, None, option_map};
 ghost use Rattle.std.specs.List.{list_all};
-ghost use Rattle.gw_trunk.specs.Device.{GaveBehind};
-ghost use Rattle.gw_trunk.specs.System.{SystemHasNobody};
-ghost use Rattle.gw_trunk.specs.Clients.{Answers, Asks, AllStay, Gets, HasAnswered, IsAwake, StaysAt};
-ghost use Rattle.gw_trunk.specs.Clients.{OnlyAt, GetsRead, MakesRoom, AreAllKnown, LetsIn};
-ghost use Rattle.gw_trunk.specs.Clients.{at, is_quiet, rank};
+ghost use Rattle.std.specs.Duration.{as_nanos};
+ghost use Rattle.mio.specs.Events.{items};
+ghost use Rattle.gw_trunk.specs.System.{SystemAccepted, SystemHasNobody, SystemRefusesStream};
+ghost use Rattle.gw_trunk.specs.Clients.{Answers, AnswersKnock, AreAllKnown, AreOpened, AreWoken, Asks};
+ghost use Rattle.gw_trunk.specs.Clients.{CanRead, FindsNobody, Gets, GetsRead, GivesAnswer, IsWokenAt};
+ghost use Rattle.gw_trunk.specs.Clients.{Looks, LooksAnew, LooksForOctets, MakesRoom, OnlyAt, ServesDoor};
+ghost use Rattle.gw_trunk.specs.Clients.{LetsIn, Waits, at, comes, is_quiet, rank};
 
 use crate::client::{Client, ClientPoll};
 use crate::client_stream::ClientStream;
 use crate::device_calls::DeviceReader;
 use crate::logged_reader::LoggedReader;
+use crate::readiness::{open_poll, renew, wait_for_events, watch, watch_descriptor};
 use mio::net::{UnixListener, UnixStream};
-use mio::unix::SourceFd;
-use mio::{Events, Interest, Poll, Token};
+use mio::{Events, Interest, Poll};
 use std::io::{self, ErrorKind};
 use std::time::Duration;
 
@@ -61,7 +63,7 @@ pub struct Clients {
 
 // Asks the client at a place, and lets it go if it is to be.
 fn ask_one<S: ClientStream>(place: &mut Option<Client<S>>, room: &mut [u8]) -> ClientPoll
-    ensures { Answers S.has_read result place.old place.new room.new }
+    ensures { Answers result place.old place.new room.new }
 {
     let Some(client) = place else {
         return ClientPoll::Nothing;
@@ -80,7 +82,7 @@ fn ask_at<S: ClientStream>(
     room: &mut [u8],
 ) -> ClientPoll
     requires { place < 8 }
-    ensures answers { Answers S.has_read result (at places.old place) (at places.new place) room.new }
+    ensures answers { Answers result (at places.old place) (at places.new place) room.new }
     ensures others { OnlyAt place places.old places.new }
     ensures count { length places.new ≡ length places.old }
 {
@@ -119,8 +121,7 @@ fn answer_at<S: ClientStream>(
 
 // Wakes the client at a place, who may have left.
 fn wake_one<S: ClientStream>(place: &mut Option<Client<S>>, has_left: bool)
-    ensures stays { StaysAt place.old place.new }
-    ensures awake { IsAwake has_left place.old place.new }
+    ensures { IsWokenAt true has_left place.old place.new }
 {
     if let Some(client) = place {
         client.wake(has_left);
@@ -137,8 +138,8 @@ fn note<S: ClientStream>(
 )
     ensures octets { octets.new ≡ (token == 0 || octets.old) }
     ensures knocks { knocks.new ≡ (token == 1 || knocks.old) }
-    ensures stay { AllStay places.old places.new }
-    ensures awake { 2 ≤ token → IsAwake has_left (at places.old (token - 2)) (at places.new (token - 2)) }
+    ensures woken { (k : ℕ) → k < 8
+        → IsWokenAt (token == k + 2) (token == k + 2 && has_left) (at places.old k) (at places.new k) }
 {
     if token == TRUNK {
         *octets = true;
@@ -158,8 +159,9 @@ fn note_all<S: ClientStream>(
     knocks: &mut bool,
     places: &mut [Option<Client<S>>; 8],
 )
-    ensures knocks { knocks.new ≡ false → knocks.old ≡ false }
-    ensures stay { AllStay places.old places.new }
+    ensures octets { octets.new ≡ (comes 0 (items events.now) || octets.old) }
+    ensures knocks { knocks.new ≡ (comes 1 (items events.now) || knocks.old) }
+    ensures woken { AreWoken (items events.now) places.old places.new }
 {
     for event in events.iter() {
         note(
@@ -203,9 +205,10 @@ fn place_for_one<S: ClientStream>(places: &[Option<Client<S>>; 8]) -> Option<usi
 }
 
 // Accepts a connection that waits at a door, if one does.
-#[tactic(auto, unfolding(crate::specs::System::SystemHasNobody))]
+#[tactic(auto, unfolding(crate::specs::System::SystemHasNobody, crate::specs::System::SystemAccepted))]
 fn accept(door: &UnixListener) -> Option<UnixStream>
-    ensures { IfNone result (SystemHasNobody door.now) }
+    ensures some { IfSome result (SystemAccepted door.now) }
+    ensures none { IfNone result (SystemHasNobody door.now) }
 {
     match door.accept() {
         Ok((stream, _)) => Some(stream),
@@ -221,18 +224,18 @@ impl Clients {
         descriptor: i32,
         mut door: UnixListener,
         answers: UnixStream,
-    ) -> io::Result<Clients> {
-        let poll = Poll::new(rt)?;
-        let events = Events::with_capacity(rt.alloc(), 16)?;
-        let registry = poll.registry();
-        let trunk = &mut SourceFd(&descriptor);
-        let registered = registry.register(trunk, Token(TRUNK), Interest::READABLE);
-        registry.register(&mut door, Token(DOOR), Interest::READABLE)?;
+    ) -> io::Result<Clients>
+        ensures ok { IfOk result (AreOpened descriptor door answers) }
+        ensures err { IfErr result SystemRefusesStream }
+    {
+        let (poll, events) = open_poll(rt, 16)?;
+        let is_waited_for = watch_descriptor(&poll, descriptor, TRUNK, Interest::READABLE);
+        watch(&poll, &mut door, DOOR)?;
         Ok(Clients {
             poll,
             events,
             descriptor,
-            is_waited_for: registered.is_ok(),
+            is_waited_for,
             octets: false,
             is_drained: false,
             door,
@@ -245,16 +248,11 @@ impl Clients {
         })
     }
 
-    // Notes the events of trunk, door and clients; waits if asked to.
-    fn look(&mut self, timeout: Option<Duration>)
-        ensures asker { self.new.asker ≡ self.old.asker }
-        ensures stay { AllStay self.old.places self.new.places }
-        ensures door { self.new.door ≡ self.old.door }
-        ensures knocks { self.new.knocks ≡ false → self.old.knocks ≡ false }
+    // Notes the events of trunk, door and clients; waits for them as long as it is asked to.
+    fn look(&mut self, limit: Option<Duration>)
+        ensures { Looks (option_map as_nanos limit) self.old self.new }
     {
-        if self.poll.poll(&mut self.events, timeout).is_err() {
-            return;
-        }
+        wait_for_events(&mut self.poll, &mut self.events, limit);
         note_all(
             &self.events,
             &mut self.octets,
@@ -263,29 +261,30 @@ impl Clients {
         );
     }
 
-    // Has the system report octets of the trunk that came before.
-    fn report_octets(&self) {
-        let trunk = &mut SourceFd(&self.descriptor);
-        let registry = self.poll.registry();
-        let _ = registry.reregister(trunk, Token(TRUNK), Interest::READABLE);
+    // The same, once the system was asked to report octets of the trunk that came before.
+    fn look_anew(&mut self, limit: Option<Duration>)
+        ensures { LooksAnew (option_map as_nanos limit) self.old self.new }
+    {
+        let _ = renew(&self.poll, self.descriptor, Interest::READABLE);
+        self.look(limit);
     }
 
     // Waits until an event of the trunk, the door or a client. Each end answered that it has nothing, and no
-    // event has come since. (The trunk is registered again, so that octets that came before are reported
-    // too.)
+    // event has come since.
     fn sleep(&mut self)
         requires octets { self.old.octets ≡ false }
         requires knocks { self.old.knocks ≡ false }
         requires clients { list_all is_quiet self.old.places ≡ true }
+        ensures { LooksAnew None self.old self.new }
     {
-        self.report_octets();
-        self.look(None);
+        self.look_anew(None);
     }
 
     /// Waits until something may have come, for the trunk or from a client. It does not wait if an event has
     /// come since the trunk was read and a client was looked for.
     pub fn wait(&mut self)
         requires { list_all is_quiet self.old.places ≡ true }
+        ensures { Waits self.old self.new }
     {
         if !self.octets && !self.knocks {
             self.sleep();
@@ -294,23 +293,30 @@ impl Clients {
 
     /// Notes that a read of the trunk took all octets that had come, so that the system is not asked for more
     /// before the next wait.
-    pub fn note_drained(&mut self) {
+    pub fn note_drained(&mut self)
+        ensures { self.new ≡ record self.old { is_drained = true } }
+    {
         self.is_drained = true;
+    }
+
+    // Has the system report octets of the trunk, unless some are noted or a read took all.
+    fn look_for_octets(&mut self)
+        ensures { LooksForOctets self.old self.new }
+    {
+        if !self.octets && !self.is_drained {
+            self.look_anew(Some(Duration::ZERO));
+        }
     }
 
     /// Whether the trunk can be read without waiting: octets have come, or its end, as far as the system
     /// reports it. It never waits.
     pub fn can_read(&mut self) -> bool
-        ensures asker { self.new.asker ≡ self.old.asker }
-        ensures stay { AllStay self.old.places self.new.places }
+        ensures { CanRead self.old self.new result }
     {
         if !self.is_waited_for {
             return true;
         }
-        if !self.octets && !self.is_drained {
-            self.report_octets();
-            self.look(Some(Duration::ZERO));
-        }
+        self.look_for_octets();
         self.is_drained = false;
         let octets = self.octets;
         self.octets = false;
@@ -319,11 +325,7 @@ impl Clients {
 
     /// Gives the answer to the last record of a client to this client, and to no other.
     pub fn give_answer(&mut self)
-        ensures given { IfSome self.old.asker (HasAnswered ⟦<UnixStream as ClientStream>⟧.has_written
-            (GaveBehind (⟦<UnixStream as DeviceReader>⟧.has_read self.new.answers.reader)
-            self.old.answers.log.octets self.new.answers.log.octets) self.old.places self.new.places) }
-        ensures none { IfNone self.old.asker (self.new ≡ self.old) }
-        ensures asker { self.new.asker ≡ None }
+        ensures { GivesAnswer self.old self.new }
     {
         let Some(place) = self.asker else {
             return;
@@ -334,53 +336,62 @@ impl Clients {
         answer_at(&mut self.places, place, read, &room);
     }
 
-    // Accepts one connection, if one waits and there is a place.
-    fn let_one_in(&mut self)
-        ensures asker { self.new.asker ≡ self.old.asker }
-        ensures door { self.new.door ≡ self.old.door }
-        ensures nobody { self.new.knocks ≡ self.old.knocks ⊎ SystemHasNobody self.new.door }
-        ensures place { LetsIn self.old.places self.new.places }
+    // Gives a connection that was accepted a place, if there is one and the system agrees to report it.
+    fn place_one(&mut self, mut stream: UnixStream)
+        requires { SystemAccepted self.old.door stream }
+        ensures { LetsIn stream self.old self.new }
     {
-        let Some(mut stream) = accept(&self.door) else {
-            self.knocks = false;
-            return;
-        };
         let Some(place) = place_for_one(&self.places) else {
             return;
         };
-        let token = Token(FIRST_CLIENT + place);
-        let registry = self.poll.registry();
-        if registry
-            .register(&mut stream, token, Interest::READABLE)
-            .is_ok()
-        {
+        if watch(&self.poll, &mut stream, FIRST_CLIENT + place).is_ok() {
             self.places[place] = Some(Client::new(stream, self.came));
             self.came = self.came.saturating_add(1);
+        }
+    }
+
+    // Accepts a connection, if one waits, and returns it.
+    fn accept_one(&mut self) -> Option<UnixStream>
+        ensures some { IfSome result (λ stream. SystemAccepted self.new.door stream × (self.new ≡ self.old)) }
+        ensures none { IfNone result (FindsNobody self.old self.new) }
+    {
+        let accepted = accept(&self.door);
+        if accepted.is_none() {
+            self.knocks = false;
+        }
+        accepted
+    }
+
+    // Accepts the connections that wait at the door, eight at most, if somebody knocks.
+    fn answer_door(&mut self)
+        ensures { AnswersKnock self.old self.new }
+    {
+        for _turn in 0..MOST_KNOCKS {
+            if !self.knocks {
+                return;
+            }
+            match self.accept_one() {
+                Some(stream) => self.place_one(stream),
+                None => return,
+            }
         }
     }
 
     /// Accepts the clients that wait at the door, without waiting. What has come was noted before the trunk
     /// was read; if that is a regular file, it is noted here.
     pub fn let_in(&mut self)
-        ensures asker { self.new.asker ≡ self.old.asker }
-        ensures door { self.new.door ≡ self.old.door }
-        ensures nobody { self.new.knocks ≡ false → (self.old.knocks ≡ false) ⊎ SystemHasNobody self.new.door }
+        ensures { ServesDoor self.old self.new }
     {
         if !self.is_waited_for {
             self.look(Some(Duration::ZERO));
         }
-        for _turn in 0..MOST_KNOCKS {
-            if !self.knocks {
-                return;
-            }
-            self.let_one_in();
-        }
+        self.answer_door();
     }
 
     /// The next record of a client. They are asked in turn, from behind the one whose record was the last.
     pub fn ask(&mut self, room: &mut [u8]) -> ClientPoll
-        ensures { Asks ⟦<UnixStream as ClientStream>⟧.has_read result self.old.places self.new.places
-            self.new.asker room.new }
+        ensures asks { Asks result self.old self.new room.new }
+        ensures quiet { result ≡ ClientPoll.Nothing → list_all is_quiet self.new.places ≡ true }
     {
         for turn in 0..MOST_CLIENTS {
             let place = (self.next % MOST_CLIENTS + turn) % MOST_CLIENTS;

@@ -2,11 +2,13 @@
 
 ghost use Rattle.std.specs.Prelude.{◌≡◌, ◌<◌, ◌≤◌, ◌++◌, ℕ, List, [], length, take, IfOk, IfErr, IfSome, ⊤};
 ghost use Rattle.std.specs.Prelude.{IfNone, Some, None, Ok, Err, ◌+◌};
-ghost use Rattle.std.specs.Prelude.{Bool, true, false, if◌then◌else◌};
+ghost use Rattle.std.specs.Prelude.{Bool, true, false, if◌then◌else◌, Option};
 ghost use Rattle.std.specs.Io.KnownBytes.{IsAtEnd};
-ghost use Rattle.gw_trunk.specs.Device.{IsTaken, WasRead, octets_taken, written_of, IsForLater, HasFailed};
+ghost use Rattle.gw_trunk.specs.Device.{IsTaken, WasRead, ReadResult, octets_taken, written_of, IsForLater};
+ghost use Rattle.gw_trunk.specs.Device.{HasFailed};
 ghost use Rattle.gw_trunk.specs.Pieces.{AsksRecord};
-ghost use Rattle.gw_trunk.specs.System.{SystemIsReady, SystemReportedNone};
+ghost use Rattle.gw_trunk.specs.System.{SystemIsReady, SystemRefusesStream, SystemReportedNone};
+ghost use Rattle.gw_trunk.specs.Waiting.{Waits, WaitsFor};
 
 use crate::device_calls::{DeviceReader, DeviceWriter, is_for_later};
 use crate::logged_reader::LoggedReader;
@@ -56,6 +58,15 @@ pub trait TrunkInput {
     /// Holds of a device if a read of it has failed.
     ghost has_failed: { Self → Type 0 } = { λ _. ⊤ };
 
+    /// Relates a device before and after a read to the length of the room and to what the read returned.
+    ghost reads: { Self → Self → ℕ → ReadResult → Type 0 } = { λ _ _ _ _. ⊤ };
+
+    /// Relates a device before and after a command was taken to what was returned and to the room.
+    ghost commands: { Self → Self → Option ℕ → List ℕ → Type 0 } = { λ _ _ _ _. ⊤ };
+
+    /// Relates a device before and after a wait.
+    ghost sleeps: { Self → Self → Type 0 } = { λ _ _. ⊤ };
+
     /// Whether the trunk was read since the last record of a client.
     ghost is_turn: { Self → Bool } = { λ _. true };
 
@@ -78,7 +89,8 @@ pub trait TrunkInput {
         ensures empty { IfOk result (λ t. t ≡ DeviceRead.NoneNow → is_empty self.new ≡ true) }
         ensures ended { IfOk result (λ t. t ≡ DeviceRead.Ended → has_ended self.new) }
         ensures none { IfOk result (λ t. t ≡ DeviceRead.NoneNow → has_none self.new) }
-        ensures err { IfErr result (λ _. has_failed self.new) };
+        ensures err { IfErr result (λ _. has_failed self.new) }
+        ensures reads { reads self.old self.new (length room.new) result };
 
     /// Takes the next record of a client to the front of `room`, and returns its length; None if no client
     /// has a whole one. Each record of a client comes behind a read of the trunk. It never waits.
@@ -90,14 +102,16 @@ pub trait TrunkInput {
         ensures none { IfNone result (asked self.new ≡ asked self.old) }
         ensures quiet { IfNone result (clients_are_quiet self.new ≡ true) }
         ensures found { has_none self.old → has_none self.new }
-        ensures idle { IfNone result (is_empty self.old ≡ true → is_idle self.new ≡ true) };
+        ensures idle { IfNone result (is_empty self.old ≡ true → is_idle self.new ≡ true) }
+        ensures commands { commands self.old self.new result room.new };
 
     /// Waits until octets or a client may have come, when there is nothing.
     fn wait(&mut self)
         requires idle { is_idle self.old ≡ true }
         ensures came { came self.new ≡ came self.old }
         ensures asked { asked self.new ≡ asked self.old }
-        ensures found { has_none self.old → has_none self.new };
+        ensures found { has_none self.old → has_none self.new }
+        ensures sleeps { sleeps self.old self.new };
 }
 
 /// What the octets of a trunk go to.
@@ -116,6 +130,9 @@ pub trait TrunkOutput {
 
     /// How many times it was waited for without a limit.
     ghost waits: { Self → ℕ };
+
+    /// Relates a device before and after a wait without a limit.
+    ghost sleeps: { Self → Self → Type 0 } = { λ _ _. ⊤ };
 
     /// How many waits for a while ended without room.
     ghost slow_waits: { Self → ℕ } = { λ _. 0 };
@@ -144,7 +161,8 @@ pub trait TrunkOutput {
     fn wait(&mut self)
         ensures went { went self.new ≡ went self.old }
         ensures waits { waits self.new ≡ waits self.old + 1 }
-        ensures slow { slow_waits self.new ≡ slow_waits self.old };
+        ensures slow { slow_waits self.new ≡ slow_waits self.old }
+        ensures sleeps { sleeps self.old self.new };
 
     /// Waits until it may take octets, until it has taken none for 20 ms at most. Returns whether it may.
     fn wait_a_while(&mut self) -> bool
@@ -205,6 +223,8 @@ impl<R: DeviceReader + Drop> FromDevice<R> {
         ensures reader { IfOk result (λ d. d.reader.reader ≡ reader) }
         ensures start { IfOk result (λ d. d.reader.start.value ≡ reader) }
         ensures log { IfOk result (λ d. d.reader.log.octets ≡ []) }
+        ensures waiting { IfOk result (λ d. WaitsFor descriptor Interest.READABLE d.waiting) }
+        ensures err { IfErr result SystemRefusesStream }
     {
         Ok(FromDevice {
             waiting: Waiting::open(rt, descriptor, Interest::READABLE)?,
@@ -219,6 +239,8 @@ impl<W: DeviceWriter + Drop> ToDevice<W> {
         ensures writer { IfOk result (λ d. d.writer ≡ writer) }
         ensures start { IfOk result (λ d. d.start.value ≡ writer) }
         ensures log { IfOk result (λ d. d.log.octets ≡ []) }
+        ensures waiting { IfOk result (λ d. WaitsFor descriptor Interest.WRITABLE d.waiting) }
+        ensures err { IfErr result SystemRefusesStream }
     {
         let waiting = Waiting::open(rt, descriptor, Interest::WRITABLE)?;
         let start = AtStart::of(&writer);
@@ -244,6 +266,8 @@ impl<R: DeviceReader> TrunkInput for FromDevice<R> {
     ghost has_none = { λ d. IsForLater (λ kind. R.has_read d.reader.reader (Err kind)) };
 
     ghost has_failed = { λ d. HasFailed (λ kind. R.has_read d.reader.reader (Err kind)) };
+
+    ghost sleeps = { λ d d'. Waits d.waiting d'.waiting };
 
     fn read(&mut self, room: &mut [u8]) -> Result<DeviceRead, DeviceFault> {
         match self.reader.read(room) {
@@ -273,6 +297,8 @@ impl<W: DeviceWriter> TrunkOutput for ToDevice<W> {
     ghost has_taken = { λ d n. W.has_written d.writer (Ok n) };
 
     ghost waits = { λ d. length d.waits.octets };
+
+    ghost sleeps = { λ d d'. Waits d.waiting d'.waiting };
 
     ghost slow_waits = { λ d. length d.slow_waits.octets };
 

@@ -1,8 +1,9 @@
 //! Whether the clients' Unix socket can be opened, and an old one at its path replaced.
 
-ghost use Rattle.std.specs.Prelude.{◌≡◌, true, Option, OnOk};
-ghost use Rattle.gw_trunk.specs.System.{SystemShowsSocket, SystemConnects, SystemSetsMode};
-ghost use Rattle.gw_trunk.specs.Door.{IsLeftOver};
+ghost use Rattle.std.specs.Prelude.{◌≡◌, true, Option, IfOk, IfErr, OnOk};
+ghost use Rattle.gw_trunk.specs.System.{SystemShowsSocket, SystemConnects, SystemListens, SystemRefusesDoor};
+ghost use Rattle.gw_trunk.specs.System.{SystemRemoves, SystemSetsMode};
+ghost use Rattle.gw_trunk.specs.Door.{ClearsDoor, IsLeftOver, LooksAt};
 
 use mio::net::{UnixListener, UnixStream};
 use std::fs::{self, Permissions};
@@ -35,16 +36,18 @@ fn error_of_connection(rt: &HostRuntime, path: &str) -> Option<ErrorKind>
 }
 
 // Gives the path these permissions. The error is the system's.
-#[tactic(auto, unfolding(crate::specs::System::SystemSetsMode))]
+#[tactic(auto, unfolding(crate::specs::System::SystemSetsMode, crate::specs::System::SystemRefusesDoor))]
 fn set_mode(rt: &HostRuntime, path: &str, mode: u32) -> io::Result<()>
-    ensures { OnOk result (SystemSetsMode path.now mode) }
+    ensures ok { OnOk result (SystemSetsMode path.now mode) }
+    ensures err { IfErr result (SystemRefusesDoor path.now) }
 {
     fs::set_permissions(rt, path, Permissions::from_mode(mode))
 }
 
 // Whether a socket stands at the path at which nobody listens.
 fn is_left_over(rt: &HostRuntime, path: &str) -> bool
-    ensures { result ≡ true → IsLeftOver path.now }
+    ensures is { result ≡ true → IsLeftOver path.now }
+    ensures looks { LooksAt path.now result }
 {
     if !is_socket(rt, path) {
         return false;
@@ -56,21 +59,36 @@ fn is_left_over(rt: &HostRuntime, path: &str) -> bool
 }
 
 // Removes a socket at which nobody listens. The error is the system's.
+#[tactic(auto, unfolding(crate::specs::System::SystemRemoves, crate::specs::System::SystemRefusesDoor))]
 fn remove_left_over(rt: &HostRuntime, path: &str) -> io::Result<()>
     requires { IsLeftOver path.now }
+    ensures removes { SystemRemoves path.now }
+    ensures err { IfErr result (SystemRefusesDoor path.now) }
 {
     fs::remove_file(rt, path)
+}
+
+// Listens at a path. The error is the system's.
+#[tactic(auto, unfolding(crate::specs::System::SystemListens, crate::specs::System::SystemRefusesDoor))]
+fn listen(rt: &HostRuntime, path: &str) -> io::Result<UnixListener>
+    ensures ok { IfOk result (SystemListens path.now) }
+    ensures err { IfErr result (SystemRefusesDoor path.now) }
+{
+    UnixListener::bind(rt, path)
 }
 
 /// Listens at a path. An old socket there at which nobody listens is replaced; anything else is left, and the
 /// call fails. Owner and group may connect. The error is the system's.
 pub fn open_door(rt: &HostRuntime, path: &str) -> io::Result<UnixListener>
-    ensures { OnOk result (SystemSetsMode path.now 432) }
+    ensures listens { IfOk result (SystemListens path.now) }
+    ensures mode { OnOk result (SystemSetsMode path.now 432) }
+    ensures clears { ClearsDoor path.now }
+    ensures err { IfErr result (SystemRefusesDoor path.now) }
 {
     if is_left_over(rt, path) {
         remove_left_over(rt, path)?;
     }
-    let door = UnixListener::bind(rt, path)?;
+    let door = listen(rt, path)?;
     set_mode(rt, path, MODE)?;
     Ok(door)
 }

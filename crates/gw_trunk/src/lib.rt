@@ -10,6 +10,7 @@ mod door;
 mod held;
 mod logged_reader;
 mod multiframe_dropper;
+mod readiness;
 mod sink;
 mod source;
 mod waiting;

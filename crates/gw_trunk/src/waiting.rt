@@ -1,9 +1,11 @@
 //! How a descriptor is waited for, with or without a time limit (`Waiting`).
 
-ghost use Rattle.std.specs.Prelude.{◌≡◌, true, false};
+ghost use Rattle.std.specs.Prelude.{◌≡◌, true, false, IfOk, IfErr};
 ghost use Rattle.std.specs.Duration.{as_nanos};
-ghost use Rattle.gw_trunk.specs.System.{SystemIsReady, SystemReportedNone};
+ghost use Rattle.gw_trunk.specs.System.{SystemIsReady, SystemRefusesStream, SystemReportedNone};
+ghost use Rattle.gw_trunk.specs.Waiting.{Waits, WaitsFor};
 
+use crate::readiness::{open_poll, renew, wait_for_events, watch_descriptor};
 use mio::unix::SourceFd;
 use mio::{Events, Interest, Poll, Token};
 use std::io;
@@ -20,13 +22,13 @@ pub struct Waiting {
 
 impl Waiting {
     /// Waits for a descriptor in the way of `interest`. The error is the system's.
-    pub fn open(rt: &HostRuntime, descriptor: i32, interest: Interest) -> io::Result<Waiting> {
-        let poll = Poll::new(rt)?;
-        let events = Events::with_capacity(rt.alloc(), 1)?;
+    pub fn open(rt: &HostRuntime, descriptor: i32, interest: Interest) -> io::Result<Waiting>
+        ensures ok { IfOk result (WaitsFor descriptor interest) }
+        ensures err { IfErr result SystemRefusesStream }
+    {
+        let (poll, events) = open_poll(rt, 1)?;
         // (A regular file can't be waited for, and never has to be.)
-        let _ = poll
-            .registry()
-            .register(&mut SourceFd(&descriptor), Token(0), interest);
+        let _ = watch_descriptor(&poll, descriptor, 0, interest);
         Ok(Waiting {
             poll,
             events,
@@ -37,16 +39,16 @@ impl Waiting {
 
     /// Waits until the descriptor is ready, or a signal comes. (It is registered again each time, so that the
     /// system reports what came before.)
-    pub fn wait(&mut self) {
-        let registry = self.poll.registry();
-        let source = &mut SourceFd(&self.descriptor);
-        if registry.reregister(source, Token(0), self.interest).is_ok() {
-            let _ = self.poll.poll(&mut self.events, None);
+    pub fn wait(&mut self)
+        ensures { Waits self.old self.new }
+    {
+        if renew(&self.poll, self.descriptor, self.interest) {
+            wait_for_events(&mut self.poll, &mut self.events, None);
         }
     }
 
-    /// Waits until the descriptor is ready, for this time at most, or a signal comes. Returns whether it may be
-    /// ready: the system reported it, or refused to wait.
+    /// Waits until the descriptor is ready, for this time at most, or a signal comes. Returns whether it may
+    /// be ready: the system reported it, or refused to wait.
     #[tactic(auto, unfolding(crate::specs::System::SystemReportedNone, crate::specs::System::SystemIsReady))]
     pub fn wait_for(&mut self, limit: Duration) -> bool
         ensures none { result ≡ false → SystemReportedNone self.new (as_nanos limit) }

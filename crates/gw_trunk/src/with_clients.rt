@@ -1,10 +1,12 @@
 //! A trunk with clients: when it is read, when a client is asked, and what ends it (`WithClients`).
 
-ghost use Rattle.std.specs.Prelude.{◌≡◌, ◌||◌, ◌&&◌, ℕ, List, [], true, false, IfOk, Some, Err};
+ghost use Rattle.std.specs.Prelude.{◌≡◌, ◌||◌, ◌&&◌, ℕ, List, [], true, false, IfOk, IfErr, Some, Err, ◌⊎◌};
 ghost use Rattle.std.specs.Io.KnownBytes.{IsAtEnd};
 ghost use Rattle.std.specs.List.{list_all};
 ghost use Rattle.gw_trunk.specs.Clients.{is_quiet};
+ghost use Rattle.gw_trunk.specs.Clients.{AreOpened};
 ghost use Rattle.gw_trunk.specs.Device.{HasFailed};
+ghost use Rattle.gw_trunk.specs.System.{SystemListens, SystemPairs, SystemRefusesDoor, SystemRefusesStream};
 
 use crate::client::ClientPoll;
 use crate::clients::Clients;
@@ -52,6 +54,9 @@ impl<R: DeviceReader + Drop> WithClients<R> {
     ) -> io::Result<WithClients<R>>
         ensures reader { IfOk result (λ d. (d.reader.reader ≡ reader) × (d.reader.start.value ≡ reader)) }
         ensures logs { IfOk result (λ d. (d.reader.log.octets ≡ []) × (d.asked.octets ≡ [])) }
+        ensures clients { IfOk result (λ d. AreOpened descriptor door answers d.clients) }
+        ensures goes { IfOk result (λ d. d.ended ≡ false) }
+        ensures err { IfErr result SystemRefusesStream }
     {
         let clients = Clients::open(rt, descriptor, door, answers)?;
         Ok(WithClients {
@@ -66,6 +71,15 @@ impl<R: DeviceReader + Drop> WithClients<R> {
     }
 }
 
+// Two connections, each the other's end. The error is the system's.
+#[tactic(auto, unfolding(crate::specs::System::SystemPairs, crate::specs::System::SystemRefusesStream))]
+fn open_pair(rt: &HostRuntime) -> io::Result<(UnixStream, UnixStream)>
+    ensures ok { IfOk result (λ both. SystemPairs both.0 both.1) }
+    ensures err { IfErr result SystemRefusesStream }
+{
+    UnixStream::pair(rt)
+}
+
 /// What comes from the reader, whose descriptor this is, and from the clients of the Unix socket at a path;
 /// and what takes the answers to them. An old socket there at which nobody listens is replaced. The error is
 /// the system's.
@@ -77,9 +91,16 @@ pub fn open_clients<R: DeviceReader + Drop>(
 ) -> io::Result<(WithClients<R>, ToDevice<UnixStream>)>
     ensures incoming { IfOk result (λ both. (both.0.reader.log.octets ≡ []) × (both.0.asked.octets ≡ [])) }
     ensures answers { IfOk result (λ both. both.1.log.octets ≡ []) }
+    ensures reader { IfOk result (λ both. both.0.reader.start.value ≡ reader) }
+    ensures door { IfOk result (λ both. SystemListens path.now both.0.clients.door) }
+    ensures joined { IfOk result (λ both. SystemPairs both.0.clients.answers.reader both.1.writer) }
+    ensures goes { IfOk result (λ both. both.0.ended ≡ false) }
+    ensures clients { IfOk result (λ both. AreOpened descriptor both.0.clients.door
+        both.0.clients.answers.reader both.0.clients) }
+    ensures err { IfErr result (λ e. SystemRefusesDoor path.now e ⊎ SystemRefusesStream e) }
 {
     let door = open_door(rt, path)?;
-    let (near, far) = UnixStream::pair(rt)?;
+    let (near, far) = open_pair(rt)?;
     let incoming = WithClients::open(rt, reader, descriptor, door, near)?;
     let end = far.as_raw_fd();
     let answers = ToDevice::open(rt, far, end)?;
@@ -87,6 +108,8 @@ pub fn open_clients<R: DeviceReader + Drop>(
 }
 
 impl<R: DeviceReader> TrunkInput for WithClients<R> {
+    ghost use Rattle.gw_trunk.specs.Turns.{CommandsInTurn, ReadsInTurn, Sleeps};
+
     ghost came = { λ d. d.reader.log.octets };
 
     ghost asked = { λ d. d.asked.octets };
@@ -95,6 +118,12 @@ impl<R: DeviceReader> TrunkInput for WithClients<R> {
         × (d.end_asked ≡ false → IsAtEnd (R.remaining d.reader.reader)) };
 
     ghost has_failed = { λ d. HasFailed (λ kind. R.has_read d.reader.reader (Err kind)) };
+
+    ghost reads = { ReadsInTurn R.has_read };
+
+    ghost commands = { CommandsInTurn };
+
+    ghost sleeps = { Sleeps };
 
     ghost is_turn = { λ d. d.turn };
 

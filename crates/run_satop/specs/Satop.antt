@@ -1,5 +1,5 @@
 -- A trunk over SAToP, as the command line asks for it (module `carrying`).
-use Rattle.std.specs.Prelude.{◌≡◌, ◌⊎◌, ◌*◌, ◌/◌, ⊤, ℕ, true, List, [], ◌++◌, Some, None}
+use Rattle.std.specs.Prelude.{◌≡◌, ◌⊎◌, ◌*◌, ◌/◌, ⊤, ℕ, Bool, true, List, [], ◌++◌, Some, None}
 use Rattle.std.specs.Prelude.{is_some}
 use Rattle.std.specs.Prelude.{min, max, Result, IsErrAnd, MatchResult, MatchOption, codes}
 use Rattle.std.specs.declared.io.Error.{Error}
@@ -10,6 +10,7 @@ use Rattle.gw_satop.specs.declared.counts.Counts.{Counts}
 use Rattle.gw_satop.specs.declared.line.Receiver.{Receiver}
 use Rattle.gw_satop.specs.declared.pace.PlayClock.{PlayClock}
 use Rattle.gw_satop.specs.declared.sender.Sender.{Sender}
+use Rattle.gw_satop.specs.Counts.{CountsSends}
 use Rattle.gw_satop.specs.Opening.{FailsToJoin, SystemRefusesTrunk}
 use Rattle.gw_satop.specs.Session.{PlaysAll, SendsAll}
 use Rattle.satop_playout.specs.Calls.{IsSize}
@@ -25,7 +26,8 @@ IsDeviceFault left (program_faults.Session faults.Write) = ⊤
 IsDeviceFault left _ = ⊥
 
 -- A circuit after all that happened to it: both halves, the pace and the counts; the datagrams that came and
--- were sent; the octets that came from the trunk, went to it, and are left for it.
+-- were sent, and which of these the system took; the octets that came from the trunk, went to it, and are
+-- left for it.
 pub record CircuitTraffic : Type 0 where
   pub receiver : Receiver
   pub sender : Sender
@@ -33,16 +35,19 @@ pub record CircuitTraffic : Type 0 where
   pub counts : Counts
   pub received : List (List ℕ)
   pub sent : List (List ℕ)
+  pub taken : List Bool
   pub came : List ℕ
   pub went : List ℕ
   pub left : List ℕ
 
 -- A circuit was carried: what went to the trunk is what is played for the datagrams that came, but for what
 -- is left, and what was sent to the far end are the packets of the octets that came, with bit R in silence.
--- The counts are those of what happened. Nothing is left at the end of the trunk.
+-- The counts are those of what happened, and of the packets that the system took. Nothing is left at the end
+-- of the trunk.
 pub record CarriesSatop (c : CircuitTraffic) (told : Result Totals ProgramFault) : Type 0 where
   pub plays : ∥ PlaysAll c.receiver c.pace c.counts c.sender.log.flags c.received (c.went ++ c.left) ∥₁
   pub sends : SendsAll c.sender c.sent c.came
+  pub counted : ∥ CountsSends c.counts c.sender.log.flags c.taken ∥₁
   pub told_is : MatchResult told (λ _. c.left ≡ []) (IsDeviceFault c.left)
 
 -- The packets that may be waited for: twice as many as the jitter needs, and those of 125 ms (32,000 octets)

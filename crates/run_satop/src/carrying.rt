@@ -1,10 +1,11 @@
 //! How the emulated circuit that the command line asks for is opened and carried (`emulate`).
 
-ghost use Rattle.std.specs.Prelude.{◌≡◌, []};
+ghost use Rattle.std.specs.Prelude.{◌≡◌, ◌⊎◌, ◌≤◌, ◌^◌, [], IfOk, IfErr};
 ghost use Rattle.clap.specs.Words.{subcommand_rows_of};
 ghost use Rattle.run_satop.specs.Asked.{IsAsked};
 ghost use Rattle.run_satop.specs.Satop.{CarriesSatop, DoesSatop};
 ghost use Rattle.gw_program.specs.Requests.{CommandLine};
+ghost use Rattle.gw_satop.specs.Doing.{RefusesOctets};
 ghost use Rattle.gw_satop.specs.Session.{HasSettings};
 
 use crate::asked::{CircuitAsked, circuit_asked};
@@ -29,12 +30,18 @@ fn perform_satop<I: TrunkInput, O: TrunkOutput, P: Peer, M: Clock>(
       counts = circuit.new.counts;
       received = P.received circuit.new.peer;
       sent = P.sent circuit.new.peer;
+      taken = P.taken circuit.new.peer;
       came = I.came circuit.new.incoming;
       went = O.went circuit.new.outgoing;
       left = circuit.new.left.items;
     }) result }
     ensures same { HasSettings circuit.old.receiver circuit.new.receiver
         circuit.old.sender circuit.new.sender circuit.old.pace circuit.new.pace }
+    ensures ended { IfOk result (λ _. I.has_ended circuit.new.incoming) }
+    ensures told { IfOk result (λ _. M.has_told moments.new circuit.new.counts) }
+    ensures fault { IfErr result (λ _. (I.has_failed circuit.new.incoming
+        ⊎ RefusesOctets O.has_failed O.has_taken O.waits circuit.new.outgoing)
+        ⊎ (2 ^ 63 ≤ M.waits moments.new)) }
 {
     if carry_satop(circuit, moments).is_ok() {
         return Ok(NO_TOTALS);

@@ -1,3 +1,3 @@
 mod Written
 mod Carried
-mod Served
+pub mod Served

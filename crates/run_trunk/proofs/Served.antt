@@ -1,5 +1,6 @@
 -- A trunk that was served with what the command line names.
-use Rattle.std.proofs.Common.{◌≡◌, ◌⊎◌, inl, inr, ℕ, List, [], Some, Result, Err}
+use Rattle.std.proofs.Common.{◌≡◌, ◌⊎◌, inl, inr, ℕ, List, [], Some, None, Result, Ok, Err, refl}
+use Rattle.std.specs.Prelude.{IsErrAnd, codes}
 use Rattle.gw_config.specs.declared.config.Config.{Config}
 use Rattle.gw_records.specs.declared.outcome.Totals.{Totals}
 use Rattle.gw_records.specs.Ports.{PortsState}
@@ -9,16 +10,48 @@ use Rattle.gw_session.specs.Tape.{TapeState}
 use Rattle.gw_switch.specs.declared.gateway.Gateway.{Gateway}
 use Rattle.gw_trunk.specs.Multiframes.{GoesInTime}
 use Rattle.run_trunk.specs.Serving.{Traffic}
-use Rattle.gw_program.proofs.Streams.{on_new, saved_told, told_untouched, untouched, with_gateway}
+use Rattle.gw_command.specs.Command.{text_in}
+use Rattle.gw_program.proofs.Streams.{on_new, saved_told, with_gateway}
 use Rattle.gw_program.specs.declared.program_fault.ProgramFault.{ProgramFault}
 use Rattle.gw_program.specs.Performing.{EndedSaved, NotBegun, HasServed, HasConfig}
 use Rattle.gw_program.specs.Requests.{CommandLine, TakesAsked}
 use Rattle.gw_program.specs.Sessions.{HasGateway}
-use Rattle.run_trunk.specs.Trunks.{CarriesTrunk, ServesTrunk}
+use Rattle.run_trunk.specs.Trunks.{CarriesTrunk, LacksControl, LacksEnds, LacksSession, LacksStream, ServesTrunk}
 
--- a fault is told of a trunk that nothing was done with
-pub nothing_served : (command : CommandLine) (program_fault : ProgramFault) → ServesTrunk command (Err program_fault)
-nothing_served command program_fault = untouched command _ program_fault
+-- a fault is told of streams that nothing was done with, for a reason
+pub nothing_served : (command : CommandLine) (lacks : ProgramFault → Type 0) (fault : ProgramFault)
+    → LacksEnds command fault ⊎ lacks fault → ServesTrunk command lacks (Err fault)
+nothing_served command lacks fault why =
+    let source : SourceState = record { failures = 0; reads = 0; given = Some []; to_come = None } in
+    let sink : SinkState = record { failures = 0; taken = None } in on_new source source sink sink
+    (inl (record { program_fault = fault; why = why; told_is = refl; unread = refl; unwritten = refl })) refl refl refl
+    refl
+
+-- A trunk for which the system refuses a stream is told so.
+pub no_stream : (command : CommandLine) (lacks : ProgramFault → Type 0) (told : Result Totals ProgramFault)
+    → IsErrAnd told LacksStream → ServesTrunk command lacks told
+no_stream command lacks (Ok totals) why = absurd why
+no_stream command lacks (Err fault) why = nothing_served command lacks fault (inl (inl why))
+
+-- So is one for which it refuses what clients connect to.
+pub no_control : (command : CommandLine) (lacks : ProgramFault → Type 0) (path : List ℕ)
+    (told : Result Totals ProgramFault) → text_in (codes "control") command ≡ Some path
+    → IsErrAnd told (LacksControl path) → ServesTrunk command lacks told
+no_control command lacks path (Ok totals) named why = absurd why
+no_control command lacks path (Err fault) named why =
+    nothing_served command lacks fault (inl (inr (path, named, why)))
+
+-- another reason why nothing was begun is told as one of these
+told_why : {S K : Type 0} {x x' : S} {y y' : K} {why lacks : ProgramFault → Type 0} {told : Result Totals ProgramFault}
+    {s s' : SourceState} {k k' : SinkState} → ((fault : ProgramFault) → why fault → lacks fault) → (x' ≡ x → s' ≡ s)
+    → (y' ≡ y → k' ≡ k) → NotBegun x x' y y' why told → NotBegun s s' k k' lacks told
+told_why is f g n = record {
+  program_fault = n.program_fault;
+  why = is n.program_fault n.why;
+  told_is = n.told_is;
+  unread = f n.unread;
+  unwritten = g n.unwritten;
+}
 
 module _ (s s' : SourceState) (k k' : SinkState) {P T S K : Type 0} {x x' : S} {y y' : K} (reads : Config → Type 0)
     (lacks : ProgramFault → Type 0) (lacks_gateway lacks_more : Config → ProgramFault → Type 0) (command : CommandLine)
@@ -36,13 +69,16 @@ module _ (s s' : SourceState) (k k' : SinkState) {P T S K : Type 0} {x x' : S} {
         (around s k (ports_tell ports) (tape_tells tape)) (around s' k' (ports_tell ports') (tape_tells tape'))
         passed end gateway gateway') (saves config gateway') told)))
         → (x' ≡ x → s' ≡ s) → (y' ≡ y → k' ≡ k)
-        → s.reads ≡ 0 → s.given ≡ Some [] → s.failures ≡ 0 → k.failures ≡ 0 → ServesTrunk command told
+        → s.reads ≡ 0 → s.given ≡ Some [] → s.failures ≡ 0 → k.failures ≡ 0
+        → ServesTrunk command (LacksSession lacks reads lacks_gateway lacks_more) told
     trunk_served passed went discarded slow_waits goes (inl n) f g a b c d =
-        on_new s s' k k' (inl (told_untouched f g n)) a b c d
+        on_new s s' k k' (inl (told_why (λ fault why. inr (inl why)) f g n)) a b c d
     trunk_served passed went discarded slow_waits goes (inr h) f g a b c d = elim h.done [
-      | inl n ↦ on_new s s' k k' (inl (told_untouched f g n)) a b c d
+      | inl n ↦
+          on_new s s' k k' (inl (told_why (λ fault why. inr (inr (h.config, h.read, inl why))) f g n)) a b c d
       | inr w ↦ elim w.done [
-        | inl n ↦ on_new s s' k k' (inl (told_untouched f g n)) a b c d
+        | inl n ↦
+            on_new s s' k k' (inl (told_why (λ fault why. inr (inr (h.config, h.read, inr why))) f g n)) a b c d
         | inr v ↦ record {
           before = around s k (ports_tell v.ports) (tape_tells v.tape);
           after = around s' k' (ports_tell v.ports') (tape_tells v.tape');
@@ -59,3 +95,18 @@ module _ (s s' : SourceState) (k k' : SinkState) {P T S K : Type 0} {x x' : S} {
         }
       ]
     ]
+
+-- A trunk that was served so was, or was not for one of more reasons.
+pub served_so : (command : CommandLine) (lacks lacks' : ProgramFault → Type 0) (told : Result Totals ProgramFault)
+    → ((fault : ProgramFault) → lacks fault → lacks' fault) → ServesTrunk command lacks told
+    → ServesTrunk command lacks' told
+served_so command lacks lacks' told is s = record {
+  before = s.before;
+  after = s.after;
+  new = s.new;
+  done = elim s.done [
+    | inl n ↦ inl (told_why (λ fault why. elim why [ inl ends ↦ inl ends | inr more ↦ inr (is fault more) ]) (λ e. e)
+        (λ e. e) n)
+    | inr h ↦ inr h
+  ];
+}

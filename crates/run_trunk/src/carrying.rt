@@ -1,9 +1,10 @@
 //! How the trunk that the command line asks for is opened and served (`serve`).
 
-ghost use Rattle.std.specs.Prelude.{◌≡◌, []};
+ghost use Rattle.std.specs.Prelude.{◌≡◌, [], IfOk, IfErr};
 ghost use Rattle.clap.specs.Words.{subcommand_rows_of};
+ghost use Rattle.gw_program.specs.Performing.{LacksTapeOrPorts};
 ghost use Rattle.gw_program.specs.Requests.{TakesAsked};
-ghost use Rattle.run_trunk.specs.Trunks.{ServesTrunk};
+ghost use Rattle.run_trunk.specs.Trunks.{LacksControl, LacksSession, LacksStream, ServesTrunk};
 
 use crate::performing::perform_trunk;
 use clap::ArgMatches;
@@ -12,13 +13,54 @@ use gw_program::{ProgramFault, System, print_discarded};
 use gw_session::Totals;
 use gw_trunk::{
     FromDevice, MultiframeDropper, NoClients, ToDevice, TrunkInput, TrunkOutput, TrunkRecordSink,
-    TrunkRecordSource, open_clients,
+    TrunkRecordSource, WithClients, open_clients,
 };
+use mio::net::UnixStream;
+use std::rt::{Stdin, Stdout};
 
 // The descriptors of standard input and output.
 const STDIN: i32 = 0;
 
 const STDOUT: i32 = 1;
+
+// Opens the trunk at standard input, without clients.
+fn open_stdin(rt: &HostRuntime) -> Result<FromDevice<Stdin>, ProgramFault>
+    ensures came { IfOk result (λ incoming. incoming.reader.log.octets ≡ []) }
+    ensures err { IfErr result LacksStream }
+{
+    match FromDevice::open(rt, rt.stdin(), STDIN) {
+        Ok(incoming) => Ok(incoming),
+        Err(error) => Err(ProgramFault::of(&error, ProgramFault::Trunk)),
+    }
+}
+
+// Opens the trunk at standard output.
+fn open_stdout(rt: &HostRuntime) -> Result<ToDevice<Stdout>, ProgramFault>
+    ensures went { IfOk result (λ outgoing. outgoing.log.octets ≡ []) }
+    ensures err { IfErr result LacksStream }
+{
+    match ToDevice::open(rt, rt.stdout(), STDOUT) {
+        Ok(outgoing) => Ok(outgoing),
+        Err(error) => Err(ProgramFault::of(&error, ProgramFault::Trunk)),
+    }
+}
+
+// Opens the trunk at standard input with the clients of the Unix socket at a path, and what the answers to
+// them go to.
+fn open_control(
+    rt: &HostRuntime,
+    path: &str,
+) -> Result<(WithClients<Stdin>, ToDevice<UnixStream>), ProgramFault>
+    ensures came { IfOk result (λ both. both.0.reader.log.octets ≡ []) }
+    ensures asked { IfOk result (λ both. both.0.asked.octets ≡ []) }
+    ensures told { IfOk result (λ both. both.1.log.octets ≡ []) }
+    ensures err { IfErr result (LacksControl path.now) }
+{
+    match open_clients(rt, rt.stdin(), STDIN, path) {
+        Ok(both) => Ok(both),
+        Err(error) => Err(ProgramFault::of(&error, ProgramFault::Control)),
+    }
+}
 
 // The ends of a trunk in service.
 #[derive(Drop)]
@@ -30,7 +72,7 @@ struct TrunkEnds<I: TrunkInput, O: TrunkOutput, A: TrunkOutput> {
 
 // Serves a trunk between its ends, whose octets go out in time.
 #[inline(never)]
-fn carry_between<Y: System, I: TrunkInput + Drop, O: TrunkOutput + Drop, A: TrunkOutput + Drop>(
+fn carry<Y: System, I: TrunkInput + Drop, O: TrunkOutput + Drop, A: TrunkOutput + Drop>(
     rt: &HostRuntime,
     matches: &ArgMatches<'_>,
     system: &Y,
@@ -42,7 +84,9 @@ fn carry_between<Y: System, I: TrunkInput + Drop, O: TrunkOutput + Drop, A: Trun
     requires asked { I.asked ends.incoming ≡ [] }
     requires went { O.went ends.outgoing ≡ [] }
     requires told { A.went ends.answers ≡ [] }
-    ensures { ServesTrunk (subcommand_rows_of matches.now) result }
+    ensures { ServesTrunk (subcommand_rows_of matches.now) (LacksSession (Y.lacks_config system.now)
+        (Y.reads system.now) (Y.lacks_gateway system.now)
+        (λ config. LacksTapeOrPorts (Y.lacks_tape system.now) (Y.lacks_ports system.now config))) result }
 {
     let mut source = TrunkRecordSource::new(ends.incoming);
     let outgoing = MultiframeDropper::new(ends.outgoing, rt.stderr());
@@ -54,67 +98,6 @@ fn carry_between<Y: System, I: TrunkInput + Drop, O: TrunkOutput + Drop, A: Trun
         print_discarded(rt, device.discarded());
     }
     told
-}
-
-// Serves a trunk whose octets go to standard output.
-fn carry<Y: System, I: TrunkInput + Drop, A: TrunkOutput + Drop>(
-    rt: &HostRuntime,
-    matches: &ArgMatches<'_>,
-    system: &Y,
-    incoming: I,
-    answers: A,
-) -> Result<Totals, ProgramFault>
-    requires takes { TakesAsked (subcommand_rows_of matches.now) (Y.reads system.now) (Y.starts system.now)
-        (Y.saves system.now) }
-    requires came { I.came incoming ≡ [] }
-    requires asked { I.asked incoming ≡ [] }
-    requires told { A.went answers ≡ [] }
-    ensures { ServesTrunk (subcommand_rows_of matches.now) result }
-{
-    match ToDevice::open(rt, rt.stdout(), STDOUT) {
-        Ok(outgoing) => {
-            let ends = TrunkEnds {
-                incoming,
-                outgoing,
-                answers,
-            };
-            carry_between(rt, matches, system, ends)
-        }
-        Err(error) => Err(ProgramFault::of(&error, ProgramFault::Trunk)),
-    }
-}
-
-// Serves the trunk whose octets come from standard input, without clients.
-fn carry_alone<Y: System>(
-    rt: &HostRuntime,
-    matches: &ArgMatches<'_>,
-    system: &Y,
-) -> Result<Totals, ProgramFault>
-    requires { TakesAsked (subcommand_rows_of matches.now) (Y.reads system.now) (Y.starts system.now)
-        (Y.saves system.now) }
-    ensures { ServesTrunk (subcommand_rows_of matches.now) result }
-{
-    match FromDevice::open(rt, rt.stdin(), STDIN) {
-        Ok(incoming) => carry(rt, matches, system, incoming, NoClients::new()),
-        Err(error) => Err(ProgramFault::of(&error, ProgramFault::Trunk)),
-    }
-}
-
-// Serves the same trunk and the clients of a Unix socket.
-fn carry_with_clients<Y: System>(
-    rt: &HostRuntime,
-    matches: &ArgMatches<'_>,
-    system: &Y,
-    path: &str,
-) -> Result<Totals, ProgramFault>
-    requires { TakesAsked (subcommand_rows_of matches.now) (Y.reads system.now) (Y.starts system.now)
-        (Y.saves system.now) }
-    ensures { ServesTrunk (subcommand_rows_of matches.now) result }
-{
-    match open_clients(rt, rt.stdin(), STDIN, path) {
-        Ok((incoming, answers)) => carry(rt, matches, system, incoming, answers),
-        Err(error) => Err(ProgramFault::of(&error, ProgramFault::Control)),
-    }
 }
 
 /// Serves the trunk whose octets come from standard input and go to standard output, with what the system
@@ -131,10 +114,24 @@ pub fn serve<Y: System>(
 ) -> Result<Totals, ProgramFault>
     requires { TakesAsked (subcommand_rows_of matches.now) (Y.reads system.now) (Y.starts system.now)
         (Y.saves system.now) }
-    ensures { ServesTrunk (subcommand_rows_of matches.now) result }
+    ensures { ServesTrunk (subcommand_rows_of matches.now) (LacksSession (Y.lacks_config system.now)
+        (Y.reads system.now) (Y.lacks_gateway system.now)
+        (λ config. LacksTapeOrPorts (Y.lacks_tape system.now) (Y.lacks_ports system.now config))) result }
 {
-    match control_of(matches) {
-        Some(path) => carry_with_clients(rt, matches, system, path),
-        None => carry_alone(rt, matches, system),
-    }
+    let Some(path) = control_of(matches) else {
+        let ends = TrunkEnds {
+            incoming: open_stdin(rt)?,
+            outgoing: open_stdout(rt)?,
+            answers: NoClients::new(),
+        };
+        return carry(rt, matches, system, ends);
+    };
+    let (incoming, answers) = open_control(rt, path)?;
+    let outgoing = open_stdout(rt)?;
+    let ends = TrunkEnds {
+        incoming,
+        outgoing,
+        answers,
+    };
+    carry(rt, matches, system, ends)
 }

@@ -1,8 +1,16 @@
-use Rattle.gw_trunk.proofs.Placing.{keeps-trans, kept-knock}
+use Rattle.std.proofs.Common.{map}
+use Rattle.gw_trunk.proofs.Noting.{comes-more, values-more, woken-more}
 use Rattle.gw_trunk.proofs.clients.note_all.Goals as goal
 
 pub loop-event-preserved : goal.loop-event-preserved
-loop-event-preserved g c = record {
-  knocks = λ e. c.loop-event.invariant.knocks (kept-knock _ _ _ c.note.ensures.knocks e);
-  stay = λ k. keeps-trans _ _ _ _ (c.loop-event.invariant.stay k) (c.note.ensures.stay k);
-}
+loop-event-preserved g c =
+    let event = c.in-Some.event.now in
+    let before = map (λ e. e.now) c.loop-event.yielded in
+    rw (values-more _ c.loop-event.yielded c.in-Some.event) (record {
+      octets = comes-more 0 before event _ _ _ (rw (c.token.ensures) at c.note.ensures.octets)
+          c.loop-event.invariant.octets;
+      knocks = comes-more 1 before event _ _ _ (rw (c.token.ensures) at c.note.ensures.knocks)
+          c.loop-event.invariant.knocks;
+      woken = woken-more before event _ _ _ c.loop-event.invariant.woken
+          (rw (c.token.ensures, c.is_read_closed.ensures) at c.note.ensures.woken);
+    })

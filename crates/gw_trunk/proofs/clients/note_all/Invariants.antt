@@ -1,10 +1,12 @@
-use Rattle.std.proofs.Common.{◌≡◌, false}
-use Rattle.gw_trunk.specs.Clients.{AllStay}
+use Rattle.std.proofs.Common.{◌≡◌, ◌||◌, map}
+use Rattle.gw_trunk.specs.Clients.{AreWoken, comes}
 use Rattle.gw_trunk.proofs.clients.note_all.Given as goal
 
--- All clients are there, and no knock is forgotten.
+-- The events so far are noted.
 abbrev pub invariant-loop-event : goal.invariant-loop-event
-invariant-loop-event g l = record {
-  knocks : l.knocks ≡ false → l.initial.knocks ≡ false;
-  stay : AllStay l.initial.places l.places;
-}
+invariant-loop-event g l =
+    let events = map (λ e. e.now) l.yielded in record {
+      octets : l.octets ≡ (comes 0 events || l.initial.octets);
+      knocks : l.knocks ≡ (comes 1 events || l.initial.knocks);
+      woken : AreWoken events l.initial.places l.places;
+    }

@@ -1,13 +1,10 @@
-use Rattle.std.proofs.Common.{refl, inl}
+use Rattle.std.proofs.Common.{inl, inr}
 use Rattle.gw_trunk.proofs.clients.Clients.let_in.Goals as goal
 use Rattle.gw_trunk.proofs.clients.Clients.let_in.Goals.{then-not-self, else-not-self}
 
-pub loop-turn-init : goal.loop-turn-init
-loop-turn-init c = elim c.if-not-self.branch [
-  | then-not-self w ↦ rw (w.self-is) (record {
-    asker = w.look.ensures.asker;
-    door = w.look.ensures.door;
-    nobody = λ e. inl (w.look.ensures.knocks e);
-  })
-  | else-not-self w ↦ rw (w.self-is) (record { asker = refl; door = refl; nobody = λ e. inl e })
+pub returns : goal.returns
+returns c = elim c.if-not-self.branch [
+  | then-not-self w ↦
+      inr (w.if-not-self.true, (w.look.new.self, w.look.ensures, rw (w.self-is) at c.answer_door.ensures))
+  | else-not-self w ↦ inl (w.if-not-self.false, rw (w.self-is) at c.answer_door.ensures)
 ]

@@ -1,0 +1,73 @@
+-- What a trunk with clients does in a read, for a command and in a wait (module `with_clients`).
+use Rattle.std.specs.Prelude.{◌≡◌, ◌⊎◌, ◌||◌, ◌&&◌, ◌++◌, ℕ, Bool, true, false, List, length, take, nat_lt, ⊤}
+use Rattle.std.specs.Prelude.{if◌then◌else◌, zero, suc, Option, Some, None, Result, Ok, Err}
+use Rattle.std.specs.declared.io.ErrorKind.{ErrorKind}
+use Rattle.gw_trunk.specs.declared.client.ClientPoll.{ClientPoll}
+use Rattle.gw_trunk.specs.declared.client.ClientPoll.TheVariants as polls
+use Rattle.gw_trunk.specs.declared.clients.Clients.{Clients}
+use Rattle.gw_trunk.specs.declared.device.DeviceFault.{DeviceFault}
+use Rattle.gw_trunk.specs.declared.device.DeviceRead.{DeviceRead}
+use Rattle.gw_trunk.specs.declared.device.DeviceRead.TheVariants.{Octets, NoneNow, Ended}
+use Rattle.gw_trunk.specs.declared.with_clients.WithClients.{WithClients}
+use Rattle.gw_trunk.specs.Clients.{ServesDoor, Asks, CanRead, GivesAnswer, Waits}
+use Rattle.gw_trunk.specs.Device.{is_for_later}
+
+-- what is told of a read of the trunk that returned this
+abbrev pub read_told : Result ℕ ErrorKind → Result DeviceRead DeviceFault
+read_told (Ok zero) = Ok Ended
+read_told (Ok (suc n)) = Ok (Octets (suc n))
+read_told (Err kind) = if is_for_later kind then Ok NoneNow else Err (record {})
+
+-- a read took all octets that had come: some, and fewer than there was room for
+abbrev pub has_drained : ℕ → Result ℕ ErrorKind → Bool
+has_drained room (Ok n) = nat_lt 0 n && nat_lt n room
+has_drained room (Err kind) = false
+
+-- Nothing comes any more. Or the clients were asked whether the trunk can be read; it was read if so, and
+-- this is told of it.
+abbrev pub ReadsTrunk : {R : Type 0} {m : _} → (R → Result ℕ ErrorKind → Type 0)
+    → WithClients R m → WithClients R m → Clients → ℕ → Result DeviceRead DeviceFault → Type 0
+ReadsTrunk has_read d d' answered room told =
+    ((d.ended ≡ true) × (d'.ended ≡ true) × (told ≡ Ok Ended) × (d'.clients ≡ answered))
+    ⊎ ((d.ended ≡ false) × ((looked : Clients) × (is_ready : Bool) × CanRead answered looked is_ready
+    × (((is_ready ≡ false) × (told ≡ Ok NoneNow) × (d'.reader.reader ≡ d.reader.reader)
+    × (d'.ended ≡ false) × (d'.clients ≡ looked))
+    ⊎ ((is_ready ≡ true) × ((read : Result ℕ ErrorKind) × has_read d'.reader.reader read
+    × (told ≡ read_told read)
+    × (d'.clients ≡ record looked { is_drained = has_drained room read || looked.is_drained }))))))
+
+-- In a read the answer to the last record of a client is given before the trunk is read.
+pub record ReadsInTurn {R : Type 0} {m : _} (has_read : R → Result ℕ ErrorKind → Type 0)
+    (d d' : WithClients R m) (room : ℕ) (told : Result DeviceRead DeviceFault) : Type 0 where
+  pub answered : Clients
+  pub gives : GivesAnswer d.clients answered
+  pub reads : ReadsTrunk has_read d d' answered room told
+  pub asked_end : d'.end_asked ≡ d.end_asked
+
+-- what is told of clients that were asked: a record, or none; nothing comes any more if one asks for the end
+abbrev pub Tells : {R : Type 0} {m : _} → ClientPoll → WithClients R m → WithClients R m → Option ℕ → List ℕ
+    → Type 0
+Tells (polls.Command n) d d' told room = (told ≡ Some n) × (d'.ended ≡ false)
+    × (d'.asked.octets ≡ d.asked.octets ++ take n room)
+Tells polls.Nothing d d' told room = (told ≡ None) × (d'.ended ≡ false)
+Tells polls.End d d' told room = (told ≡ None) × (d'.ended ≡ true) × (d'.end_asked ≡ true)
+Tells polls.Gone d d' told room = ⊥
+
+-- Nothing comes any more. Or the door was answered, and the clients were asked in turn.
+abbrev pub AsksClients : {R : Type 0} {m : _} → WithClients R m → WithClients R m → Clients
+    → Option ℕ → List ℕ → Type 0
+AsksClients d d' answered told room =
+    ((d.ended ≡ true) × (d'.ended ≡ true) × (told ≡ None) × (d'.clients ≡ answered))
+    ⊎ ((d.ended ≡ false) × ((opened : Clients) × (asked : ClientPoll) × ServesDoor answered opened
+    × Asks asked opened d'.clients room × Tells asked d d' told room))
+
+-- For a command the answer to the last record of a client is given before the clients are asked.
+pub record CommandsInTurn {R : Type 0} {m : _} (d d' : WithClients R m) (told : Option ℕ)
+    (room : List ℕ) : Type 0 where
+  pub answered : Clients
+  pub gives : GivesAnswer d.clients answered
+  pub asks : AsksClients d d' answered told room
+
+-- It is waited for the clients, unless nothing comes any more.
+abbrev pub Sleeps : {R : Type 0} {m : _} → WithClients R m → WithClients R m → Type 0
+Sleeps d d' = ((d.ended ≡ true) × (d'.clients ≡ d.clients)) ⊎ ((d.ended ≡ false) × Waits d.clients d'.clients)
