@@ -18,7 +18,7 @@ _e1gw_options() {
     align) echo '--totals --help' ;;
     crc4) echo '--check --live --reports --totals --help' ;;
     encode | decode) echo '--law --codec --payload --ptime --ssrc --sequence --timestamp --totals --help' ;;
-    replay) echo '--config --load --save --follow --from --seizure-wait --tell --totals --help' ;;
+    replay) echo '--config --load --save --checkpoint --follow --from --seizure-wait --tell --totals --help' ;;
     check) echo '--config --load --seizure-wait --totals --help' ;;
     serve)
       echo '--config --load --save --record --record-over --repeat --seizure-wait --senders --totals --help' ;;
@@ -47,7 +47,7 @@ _e1gw() {
       return ;;
     --payload | --ssrc | --sequence | --timestamp | --repeat | --seizure-wait | --size | --jitter | --rtp | --from)
       return ;;
-    --config | --load | --save | --follow | --control | --record | --reports | --tell)
+    --config | --load | --save | --checkpoint | --follow | --control | --record | --reports | --tell)
       compopt -o filenames 2> /dev/null
       mapfile -t COMPREPLY < <(compgen -f -- "$cur")
       return ;;

@@ -9,6 +9,7 @@ import unittest
 
 from . import support
 from .test_state import config_of, records_of
+from e1gw.session import trunk_record
 
 CUTS = 20
 
@@ -126,6 +127,37 @@ class FollowTests(support.FolderCase):
     def test_no_place_is_told_after_a_fault(self) -> None:
         log = self.write('log', self.records[0] + bytes(4))
         self.assertEqual(self.followed(log, '--totals')[::2], (1, 'fault 1 BadKind\n'))
+
+    def test_a_checkpoint_each_five_seconds_of_the_trunk(self) -> None:
+        """It is the state behind the records before its place, and a follower goes on from there."""
+        trunk = [trunk_record(self.rng.randbytes(50_000)) for _ in range(60)]
+        octets, path = b''.join(self.records + trunk), self.path('checkpoint')
+        _, state = self.replayed(octets)
+        log = self.write('log', octets)
+        status, _, said = self.followed(log, '--checkpoint', path)
+        with open(path, 'rb') as file:
+            mark, place, there = file.read(4), int.from_bytes(file.read(8), 'big'), file.read()
+        self.assertEqual((status, said, mark, place), (0, '', b'E1GC', self.checkpoints(self.records + trunk)[-1]))
+        self.assertEqual(there, self.replayed(octets[:place])[1])
+        self.followed(log, '--from', str(place), '--load', path)
+        self.assertEqual(self.saved(), state)
+
+    def checkpoints(self, records: list[bytes]) -> list[int]:
+        """The places of the checkpoints of these records."""
+        places, place, trunk = [], 0, 0
+        for record in records:
+            place += len(record)
+            trunk += len(record) - 4 if record[:1] == b'T' else 0
+            if trunk >= 1_280_000:
+                places.append(place)
+                trunk = 0
+        return places
+
+    def test_no_checkpoint_can_be_written(self) -> None:
+        """It is told once, and the session goes on."""
+        octets = b''.join(trunk_record(bytes(64_000)) for _ in range(60))
+        told = 0, self.replayed(octets)[0], 'cannot save the state\n'
+        self.assertEqual(self.followed(self.write('log', octets), '--checkpoint', self.folder), told)
 
     def test_a_log_in_memory(self) -> None:
         octets = b''.join(self.records)

@@ -341,6 +341,14 @@ pub fn tell_of<'m>(matches: &'m ArgMatches<'_>) -> Option<&'m str>
     text_of(matches, "tell")
 }
 
+/// The path of the file of checkpoints, the first one, if the matches name one.
+pub fn checkpoint_of<'m>(matches: &'m ArgMatches<'_>) -> Option<&'m str>
+    ensures { option_map (λ path. path.now) result
+        ≡ text_in (codes "checkpoint") (subcommand_rows_of matches.now) }
+{
+    text_of(matches, "checkpoint")
+}
+
 /// The path of the log that the matches name to be followed, the first one, if they name one.
 pub fn follow_of<'m>(matches: &'m ArgMatches<'_>) -> Option<&'m str>
     ensures { option_map (λ path. path.now) result

@@ -131,6 +131,9 @@ const FOLLOW_TEXT: &str = "Read records from this log as it grows, until standar
 
 const FROM_TEXT: &str = "With --follow: the octet of the log at which its first record\nbegins";
 
+const CHECKPOINT_TEXT: &str =
+    "File to which the state is written after each 5 s of the trunk,\nwith its place in the input";
+
 const SIZE_TEXT: &str = "Octets in a packet, 32 to 1280, a multiple of 32";
 
 const JITTER_TEXT: &str = "Packets waited for after one that is due, 0 to 500";
@@ -164,6 +167,7 @@ enum OptionName {
     SeizureWait,
     Control,
     Tell,
+    Checkpoint,
     Follow,
     From,
     Crc4Check,
@@ -206,6 +210,7 @@ const OF_REPLAY: &[OptionName] = &[
     OptionName::Totals,
     OptionName::SeizureWait,
     OptionName::Tell,
+    OptionName::Checkpoint,
     OptionName::Follow,
     OptionName::From,
 ];
@@ -459,6 +464,11 @@ fn tell_option<'a>(alloc: Global) -> Arg<'a> {
     option(alloc, "tell", TELL_TEXT).value_name("SOCKET")
 }
 
+// The file of checkpoints.
+fn checkpoint_option<'a>(alloc: Global) -> Arg<'a> {
+    option(alloc, "checkpoint", CHECKPOINT_TEXT).value_name("FILE")
+}
+
 // The log that is followed.
 fn follow_option<'a>(alloc: Global) -> Arg<'a> {
     option(alloc, "follow", FOLLOW_TEXT).value_name("LOG")
@@ -545,6 +555,7 @@ fn declared<'a>(alloc: Global, option: OptionName) -> Arg<'a> {
         OptionName::SeizureWait => seizure_wait_option(alloc),
         OptionName::Control => control_option(alloc),
         OptionName::Tell => tell_option(alloc),
+        OptionName::Checkpoint => checkpoint_option(alloc),
         OptionName::Follow => follow_option(alloc),
         OptionName::From => from_option(alloc),
         OptionName::Crc4Check => flag(alloc, "check", CRC4_CHECK_TEXT),

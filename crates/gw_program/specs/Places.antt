@@ -13,6 +13,10 @@ use Rattle.gw_switch.specs.declared.gateway.Gateway.{Gateway}
 use Rattle.gw_switch.specs.Events.{Event}
 use Rattle.gw_switch.specs.Standing.{HasHistory}
 
+-- the octets of a trunk in 5 s
+abbrev pub seconds_5 : ℕ
+seconds_5 = 1280000
+
 -- The octets that a source gave are whole records, and perhaps others behind them. The gateway has acted on
 -- these records. If the first octet has the place `from`, the octet behind them has the place `place`.
 pub record StandsBehind (source source' : SourceState) (gateway gateway' : Gateway) (from place : ℕ) : Type 0

@@ -1,7 +1,8 @@
 -- The state of a gateway, from a source and to a sink (module `state`).
-use Rattle.std.specs.Prelude.{◌≡◌, ◌⊎◌, ◌<◌, ◌≤◌, ◌^◌, ℕ, List, [], ◌∷◌, ◌++◌, length}
+use Rattle.std.specs.Prelude.{◌≡◌, ◌⊎◌, ◌<◌, ◌≤◌, ◌^◌, ℕ, List, [], ◌∷◌, ◌++◌, take, drop, length}
 use Rattle.std.specs.Prelude.{Option, Some, None, Result, Ok, ⊤}
 use Rattle.std.specs.Io.KnownBytes.{IsAtEnd}
+use Rattle.byteorder.specs.Endian.{big_bytes}
 use Rattle.gw_switch.specs.declared.GatewayConfig.{GatewayConfig}
 use Rattle.gw_switch.specs.declared.gateway.Gateway.{Gateway}
 use Rattle.gw_switch.specs.Events.{CircuitEvent, Event}
@@ -33,18 +34,40 @@ FailsToRead source source' program_faults.NoState = (source.failures < source'.f
 FailsToRead source source' program_faults.OutOfMemory = ⊤
 FailsToRead source source' _ = ⊥
 
+-- the letters E1GC
+abbrev pub checkpoint_mark : List ℕ
+checkpoint_mark = 0x45 ∷ 0x31 ∷ 0x47 ∷ 0x43 ∷ []
+
+-- a checkpoint: a mark, the octet of the input behind which the state is, and the state
+abbrev pub checkpoint : ℕ → List ℕ → List ℕ
+checkpoint place state = checkpoint_mark ++ (big_bytes 8 place ++ state)
+
+-- octets begin with the mark and the place of a checkpoint
+pub record IsCheckpoint (octets : List ℕ) : Type 0 where
+  pub long : 12 ≤ length octets
+  pub begins : take 4 octets ≡ checkpoint_mark
+
+-- the state in the octets of a file: behind the place of a checkpoint, or all
+abbrev pub IsStateIn : List ℕ → List ℕ → Type 0
+IsStateIn octets state = (IsCheckpoint octets × (state ≡ drop 12 octets))
+    ⊎ ((¬ IsCheckpoint octets) × (state ≡ octets))
+
 -- a gateway was loaded from what a source gave
 pub record WasLoaded (config : GatewayConfig) (source source' : SourceState) (loaded : Loaded) : Type 0 where
   pub octets : List ℕ
   pub read : WasRead source source' octets
-  pub is : IsLoaded config octets loaded
+  pub state : List ℕ
+  pub inside : IsStateIn octets state
+  pub is : IsLoaded config state loaded
 
 -- what a source gave was refused
 pub record WasRefused (config : GatewayConfig) (source source' : SourceState)
     (fault : LoadFault) : Type 0 where
   pub octets : List ℕ
   pub read : WasRead source source' octets
-  pub refuses : Refuses config octets fault
+  pub state : List ℕ
+  pub inside : IsStateIn octets state
+  pub refuses : Refuses config state fault
 
 -- why no gateway was loaded from a source
 abbrev pub FailsToLoad : GatewayConfig → SourceState → SourceState → ProgramFault → Type 0
@@ -110,3 +133,8 @@ LacksGateway config _ _ = ⊥
 abbrev pub IsSaved : {X : Type 0} → Option X → Result (Unit {0}) ProgramFault → Type 0
 IsSaved None saved = saved ≡ Ok tt
 IsSaved (Some path) saved = ⊤
+
+-- A checkpoint of this gateway at this place was to be written to the file at this path. Std says nothing of
+-- files, so this holds of all; but it is unfolded only where the file is written.
+unfoldable pub IsKept : List ℕ → GatewayConfig → Gateway → ℕ → Type 0
+IsKept path config gateway place = ⊤

@@ -30,4 +30,4 @@ pub use running::{run_crc4_check, run_filter, run_job, run_session};
 pub use sessions::{check, replay, replay_watched, serve_through};
 pub use setup::read_config;
 pub use standard::{ReservedDescriptors, reserve_descriptors};
-pub use state::{begin_gateway, keep_gateway, load_from, save_to};
+pub use state::{begin_gateway, checkpoint_to, keep_checkpoint, keep_gateway, load_from, save_to};

@@ -24,7 +24,7 @@ use std::alloc::Global;
 /// What a session takes from the system beside its streams. The relations belong to the type. A generic
 /// caller has them only for results that these calls returned.
 pub trait System {
-    ghost use Rattle.std.specs.Prelude.{Result};
+    ghost use Rattle.std.specs.Prelude.{ℕ, Result};
     ghost use Rattle.gw_config.specs.declared.config.Config.{Config};
     ghost use Rattle.gw_switch.specs.declared.gateway.Gateway.{Gateway};
     ghost use Rattle.gw_program.specs.declared.program_fault.ProgramFault.{ProgramFault};
@@ -52,6 +52,9 @@ pub trait System {
 
     /// Holds of a configuration, its gateway, and the result of saving the state.
     ghost saves: { Self → Config → Gateway → Result (Unit {0}) ProgramFault → Type 0 };
+
+    /// Holds of a configuration, a gateway and a place in the input of which a checkpoint was to be written.
+    ghost keeps: { Self → Config → Gateway → ℕ → Type 0 };
 
     /// Holds of a tape that was begun.
     ghost begins: { Self → Self.Tape → Type 0 };
@@ -81,6 +84,10 @@ pub trait System {
     /// Saves the state of a gateway, if requested.
     fn save_gateway(&self, config: &Config, gateway: &Gateway) -> Result<(), ProgramFault>
         ensures { saves self.now config.now gateway.now result };
+
+    /// Writes a checkpoint of a gateway at this place, if requested.
+    fn keep(&self, config: &Config, gateway: &Gateway, place: u64) -> Result<(), ProgramFault>
+        ensures { keeps self.now config.now gateway.now place };
 
     /// Begins the recording, if requested.
     fn begin_tape(&self) -> Result<Self::Tape, ProgramFault>
@@ -182,7 +189,8 @@ fn perform_replay<Y: System, S: Source, K: Sink>(
         × EndsAt (S.tells source.old) (S.tells source.new) gateway.old gateway.new place.old place.new end)
         (Y.saves system.now config.now gateway.new) result }
 {
-    let mut watch = PlaceWatch::new(system.open_watch(config, gateway)?, *place);
+    let watch = system.open_watch(config, gateway)?;
+    let mut watch = PlaceWatch::new(system, config, watch, *place);
     let ended = replay_watched(alloc, gateway, source, sink, &mut watch);
     system.end_watch(&mut watch.watch);
     *place = watch.place;

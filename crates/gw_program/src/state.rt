@@ -1,19 +1,21 @@
 //! How a state's file is read for `--load`, and written, synced and renamed for `--save`.
 
-ghost use Rattle.std.specs.Prelude.{◌≡◌, ◌≤◌, ◌<◌, ◌^◌, [], length, IfOk, IfErr, OnOk};
+ghost use Rattle.std.specs.Prelude.{◌≡◌, ◌≤◌, ◌<◌, ◌^◌, ◌++◌, [], length, IfOk, IfErr, OnOk};
 ghost use Rattle.std.specs.Io.KnownBytes.{Appends};
 ghost use Rattle.gw_records.specs.Streams.{CanCount};
 ghost use Rattle.gw_state.specs.Layout.{state_file};
 ghost use Rattle.gw_program.specs.State.{WasRead, FailsToRead, WasLoaded, FailsToLoad, FailsToSave};
 ghost use Rattle.gw_program.specs.State.{IsFromState, HasBegun, Waits, BeginsWaiting, LacksGateway, IsSaved};
-ghost use Rattle.gw_program.specs.State.{load_trouble};
+ghost use Rattle.gw_program.specs.State.{load_trouble, checkpoint_mark, checkpoint, IsStateIn, IsKept};
+ghost use Rattle.byteorder.specs.Endian.{big_bytes};
 
 use crate::program_fault::ProgramFault;
+use byteorder::{BigEndian, ByteOrder};
 use gw_records::read_behind;
 use gw_session::{FromRead, Sink, Source, ToWrite, write_all};
 use gw_state::{LoadFault, Loaded, load_gateway, state_file};
 use gw_switch::{Gateway, GatewayConfig};
-use std::alloc::Global;
+use std::alloc::{AllocError, Global};
 use std::fs::{self, File, OpenOptions};
 use std::io;
 use std::os::unix::fs::OpenOptionsExt;
@@ -28,6 +30,9 @@ const MODE: u32 = 0o640;
 
 // The suffix of a state's file name while it is written.
 const UNFINISHED: &str = ".new";
+
+// The octets of a checkpoint before its state: the mark and the place.
+const HEAD_LEN: usize = 12;
 
 // Reads a source to its end, or until it is longer than any state.
 fn read_whole<S: Source>(source: &mut S, octets: &mut Vec<u8>) -> Result<(), ProgramFault>
@@ -50,6 +55,16 @@ fn read_whole<S: Source>(source: &mut S, octets: &mut Vec<u8>) -> Result<(), Pro
         }
     }
     Err(ProgramFault::NoState)
+}
+
+// The state in the octets of a file: behind the letters E1GC and the place of a checkpoint, or all.
+fn state_in(octets: &[u8]) -> &[u8]
+    ensures { IsStateIn octets.now result.now }
+{
+    if octets.len() < HEAD_LEN || octets[..4] != [0x45, 0x31, 0x47, 0x43] {
+        return octets;
+    }
+    &octets[HEAD_LEN..]
 }
 
 // The fault if octets are not loaded.
@@ -81,7 +96,7 @@ pub fn load_from<S: Source>(
 {
     let mut octets = Vec::new(alloc);
     read_whole(source, &mut octets)?;
-    match load_gateway(alloc, config, octets.as_slice()) {
+    match load_gateway(alloc, config, state_in(octets.as_slice())) {
         Ok(loaded) => Ok(loaded),
         Err(fault) => Err(load_trouble(fault)),
     }
@@ -109,6 +124,57 @@ pub fn save_to<K: Sink>(
         return Err(ProgramFault::OutOfMemory);
     };
     match write_all(sink, file.as_slice()) {
+        Ok(()) => Ok(()),
+        Err(_) => Err(ProgramFault::NotSaved),
+    }
+}
+
+// The octets of a checkpoint before its state.
+fn checkpoint_head(place: u64) -> [u8; HEAD_LEN]
+    ensures { result ≡ checkpoint_mark ++ big_bytes 8 place }
+{
+    let mut head = [0x45, 0x31, 0x47, 0x43, 0, 0, 0, 0, 0, 0, 0, 0];
+    BigEndian::write_u64(&mut head[4..], place);
+    head
+}
+
+// The octets of a checkpoint.
+fn checkpoint_of(
+    alloc: Global,
+    config: &GatewayConfig,
+    gateway: &Gateway,
+    place: u64,
+) -> Result<Vec<u8>, AllocError>
+    ensures { IfOk result (λ octets. octets.items ≡ checkpoint place (state_file config.now gateway.now)) }
+{
+    let mut octets = Vec::new(alloc);
+    octets.extend_from_slice(&checkpoint_head(place))?;
+    octets.extend_from_slice(state_file(alloc, config, gateway)?.as_slice())?;
+    Ok(octets)
+}
+
+/// Writes a checkpoint of a gateway of this configuration to a sink.
+///
+/// # Errors
+///
+/// Those of [`save_to`].
+pub fn checkpoint_to<K: Sink>(
+    alloc: Global,
+    config: &GatewayConfig,
+    gateway: &Gateway,
+    place: u64,
+    sink: &mut K,
+) -> Result<(), ProgramFault>
+    requires { CanCount (K.tells sink.old).failures }
+    ensures ok { OnOk result (Appends (K.tells sink.old).taken (K.tells sink.new).taken
+        (checkpoint place (state_file config.now gateway.now))) }
+    ensures err { IfErr result (FailsToSave (K.tells sink.old) (K.tells sink.new)
+        (checkpoint place (state_file config.now gateway.now))) }
+{
+    let Ok(octets) = checkpoint_of(alloc, config, gateway, place) else {
+        return Err(ProgramFault::OutOfMemory);
+    };
+    match write_all(sink, octets.as_slice()) {
         Ok(()) => Ok(()),
         Err(_) => Err(ProgramFault::NotSaved),
     }
@@ -204,15 +270,20 @@ fn create(rt: &HostRuntime, path: &str) -> io::Result<File> {
         .open(rt, path)
 }
 
-// Writes the state to a new file, and syncs it.
+// Writes the state to a new file, as a checkpoint if it has a place, and syncs it.
 fn write_new(
     rt: &HostRuntime,
     config: &GatewayConfig,
     gateway: &Gateway,
+    place: Option<u64>,
     path: &str,
 ) -> Result<(), ProgramFault> {
     let file = create(rt, path).map_err(|error| ProgramFault::of(&error, ProgramFault::NotSaved))?;
-    save_to(rt.alloc(), config, gateway, &mut ToWrite::new(file))?;
+    let mut sink = ToWrite::new(file);
+    match place {
+        Some(place) => checkpoint_to(rt.alloc(), config, gateway, place, &mut sink)?,
+        None => save_to(rt.alloc(), config, gateway, &mut sink)?,
+    }
     let file = OpenOptions::new().write(true).open(rt, path);
     file.and_then(|file| file.sync_all())
         .map_err(|error| ProgramFault::of(&error, ProgramFault::NotSaved))
@@ -239,11 +310,36 @@ pub fn keep_gateway(
     let Some(path) = path else {
         return Ok(());
     };
+    keep_at(rt, config, gateway, None, path)
+}
+
+/// Writes a checkpoint of a gateway to a file, as a state is saved.
+#[tactic(auto, unfolding(crate::specs::State::IsKept))]
+pub fn keep_checkpoint(
+    rt: &HostRuntime,
+    config: &GatewayConfig,
+    gateway: &Gateway,
+    place: u64,
+    path: &str,
+) -> Result<(), ProgramFault>
+    ensures { IsKept path.now config.now gateway.now place }
+{
+    keep_at(rt, config, gateway, Some(place), path)
+}
+
+// Writes a state, as a checkpoint if it has a place: beside the file, synced and renamed.
+fn keep_at(
+    rt: &HostRuntime,
+    config: &GatewayConfig,
+    gateway: &Gateway,
+    place: Option<u64>,
+    path: &str,
+) -> Result<(), ProgramFault> {
     if !is_replaced(rt, path) {
         return Err(ProgramFault::NotSaved);
     }
     let new = unfinished(rt.alloc(), path)?;
-    match write_new(rt, config, gateway, new.as_str()) {
+    match write_new(rt, config, gateway, place, new.as_str()) {
         Ok(()) => fs::rename(rt, new.as_str(), path).map_err(|error| ProgramFault::of(
             &error,
             ProgramFault::NotSaved,

@@ -9,11 +9,11 @@ ghost use Rattle.gw_system.specs.Opening.{trouble_of_opening};
 
 use crate::asked::{recording_asked, repeat_asked, senders_asked};
 use clap::ArgMatches;
-use gw_command::{load_of, save_of, seizure_wait_of, tell_of};
+use gw_command::{checkpoint_of, load_of, save_of, seizure_wait_of, tell_of};
 use gw_config::Config;
 use gw_program::{
-    ProgramFault, Recording, RecordingFile, System, Tape, begin, begin_gateway, keep_gateway,
-    read_config,
+    ProgramFault, Recording, RecordingFile, System, Tape, begin, begin_gateway, keep_checkpoint,
+    keep_gateway, read_config,
 };
 use gw_repeat::{Repeating, packet_words};
 use gw_session::Recorder;
@@ -52,6 +52,8 @@ pub struct Local<'m> {
     pub wait: Option<u16>,
     /// The recording that is asked for.
     pub recording: Option<Recording<'m>>,
+    /// The file of `--checkpoint`, if it is asked for.
+    pub checkpoint: Option<&'m str>,
     /// The socket of `--tell`, if it is asked for.
     pub tell: Option<&'m str>,
 }
@@ -60,7 +62,7 @@ impl System for Local<'_> {
     ghost use Rattle.std.specs.Prelude.{⊤, string_bytes, []};
     ghost use Rattle.gw_program.specs.Performing.{IsBegun};
     ghost use Rattle.gw_program.specs.Setup.{IsMeant, SystemGives};
-    ghost use Rattle.gw_program.specs.State.{BeginsWaiting, LacksGateway, IsSaved};
+    ghost use Rattle.gw_program.specs.State.{BeginsWaiting, LacksGateway, IsSaved, IsKept};
     ghost use Rattle.gw_udp.specs.Names.{SystemLooksUp};
     ghost use Rattle.gw_udp.specs.Udp.{HasEndpoints};
     ghost use Rattle.gw_udp.specs.Opening.{FailsToOpen as FailsToOpenPorts};
@@ -84,6 +86,9 @@ impl System for Local<'_> {
     ghost lacks_gateway = { λ s config program_fault. LacksGateway config.gateway s.load program_fault };
 
     ghost saves = { λ s config gateway saved. IsSaved s.save saved };
+
+    ghost keeps = { λ s config gateway place. IfSome s.checkpoint (λ path.
+        IsKept path.now config.gateway gateway place) };
 
     ghost lacks_tape = { λ _ _. ⊤ };
 
@@ -112,6 +117,13 @@ impl System for Local<'_> {
 
     fn save_gateway(&self, config: &Config, gateway: &Gateway) -> Result<(), ProgramFault> {
         keep_gateway(self.rt, &config.gateway, gateway, self.save)
+    }
+
+    fn keep(&self, config: &Config, gateway: &Gateway, place: u64) -> Result<(), ProgramFault> {
+        match self.checkpoint {
+            Some(path) => keep_checkpoint(self.rt, &config.gateway, gateway, place, path),
+            None => Ok(()),
+        }
     }
 
     fn begin_tape(&self) -> Result<Tape, ProgramFault> {
@@ -169,6 +181,8 @@ pub fn local_of<'m>(
     ensures recording { option_map (λ recording. recording.path.now) result.recording
         ≡ text_in (codes "record") (subcommand_rows_of matches.now) }
     ensures waits { IfSome result.recording (λ recording. recording.waits ≡ waits) }
+    ensures checkpoint { option_map (λ path. path.now) result.checkpoint
+        ≡ text_in (codes "checkpoint") (subcommand_rows_of matches.now) }
     ensures tell { option_map (λ path. path.now) result.tell
         ≡ text_in (codes "tell") (subcommand_rows_of matches.now) }
     ensures load { option_map (λ path. path.now) result.load ≡ load_in (subcommand_rows_of matches.now) }
@@ -184,6 +198,7 @@ pub fn local_of<'m>(
         save: save_of(matches),
         wait: seizure_wait_of(matches),
         recording: recording_asked(matches, waits),
+        checkpoint: checkpoint_of(matches),
         tell: tell_of(matches),
     }
 }
