@@ -1,10 +1,11 @@
 //! The trunk of `satop` on standard input, read only if the system reports octets (`WhenReady`).
 
-ghost use Rattle.std.specs.Prelude.{◌≡◌, ◌⊎◌, [], false, IfOk, IfErr, ⊤};
+ghost use Rattle.std.specs.Prelude.{◌≡◌, ◌⊎◌, [], length, false, IfOk, IfErr, ⊤};
 ghost use Rattle.gw_trunk.specs.System.{SystemReportedNone};
 ghost use Rattle.gw_trunk.specs.Waiting.{Waits};
 ghost use Rattle.gw_satop.specs.Opening.{SystemRefusesTrunk};
 
+use gw_records::Log;
 use gw_trunk::{
     DeviceFault, DeviceRead, DeviceReader, DeviceWriter, FromDevice, ToDevice, TrunkInput, Waiting,
 };
@@ -53,6 +54,8 @@ impl Readiness for Waiting {
 pub struct WhenReady<I: TrunkInput, W: Readiness> {
     incoming: I,
     waiting: W,
+    // An octet for each wait.
+    waits: Log,
 }
 
 impl<I: TrunkInput + Drop> WhenReady<I, Waiting> {
@@ -65,6 +68,7 @@ impl<I: TrunkInput + Drop> WhenReady<I, Waiting> {
         Ok(WhenReady {
             incoming,
             waiting: Waiting::open(rt, descriptor, Interest::READABLE)?,
+            waits: Log::new(),
         })
     }
 }
@@ -124,6 +128,8 @@ impl<I: TrunkInput, W: Readiness> TrunkInput for WhenReady<I, W> {
 
     ghost sleeps = { λ r r'. W.sleeps r.waiting r'.waiting × (r'.incoming ≡ r.incoming) };
 
+    ghost waits = { λ r. length r.waits.octets };
+
     fn read(&mut self, room: &mut [u8]) -> Result<DeviceRead, DeviceFault> {
         if !self.waiting.is_ready() {
             return Ok(DeviceRead::NoneNow);
@@ -136,6 +142,7 @@ impl<I: TrunkInput, W: Readiness> TrunkInput for WhenReady<I, W> {
     }
 
     fn wait(&mut self) {
+        self.waits.append(&[0], 1);
         self.waiting.sleep();
     }
 }

@@ -1,5 +1,5 @@
 -- What reads and writes of a device do (module `device`).
-use Rattle.std.specs.Prelude.{◌≡◌, ◌≤◌, ◌<◌, ◌==◌, ◌++◌, ⊤, ℕ, Bool, true, false, List, [], take}
+use Rattle.std.specs.Prelude.{◌≡◌, ◌⊎◌, ◌≤◌, ◌<◌, ◌==◌, ◌^◌, ◌++◌, ⊤, ℕ, Bool, true, false, List, [], take}
 use Rattle.std.specs.Prelude.{Option, Some, None, Result, Ok, Err, nat_lt}
 use Rattle.std.specs.declared.io.ErrorKind.{ErrorKind}
 use Rattle.std.specs.declared.io.ErrorKind.TheVariants.{WouldBlock, Interrupted, BrokenPipe}
@@ -54,6 +54,10 @@ IsForLater fails = (kind : ErrorKind) × fails kind × (is_for_later kind ≡ tr
 -- a call ended with any other error
 abbrev pub HasFailed : (ErrorKind → Type 0) → Type 0
 HasFailed fails = (kind : ErrorKind) × fails kind × (is_for_later kind ≡ false)
+
+-- a device has failed, or was waited for 2^63 times
+abbrev pub FailsOrStands : {O : Type 0} → (O → Type 0) → (O → ℕ) → O → Type 0
+FailsOrStands has_failed waits device = has_failed device ⊎ (2 ^ 63 ≤ waits device)
 
 -- a read returned this, and what it gave, the first octets of a room, is behind what others gave
 abbrev pub GaveBehind : (Result ℕ ErrorKind → Type 0) → List ℕ → List ℕ → Result ℕ ErrorKind → List ℕ → Type 0

@@ -72,6 +72,6 @@ pub record AsksRecord (asked asked' octets : List ℕ) : Type 0 where
   pub spells : octets ≡ spelled one
   pub asked_is : asked' ≡ asked ++ octets
 
--- why there is no record: the device has failed, its last read found none, or there is no room for one
+-- why there is no record: the device has failed, there was none for so long, or there is no room for one
 abbrev pub LacksRecord : Type 0 → Type 0 → List ℕ → Type 0
 LacksRecord has_failed has_none room = (has_failed ⊎ has_none) ⊎ (length room ≤ 4)

@@ -67,6 +67,9 @@ pub trait TrunkInput {
     /// Relates a device before and after a wait.
     ghost sleeps: { Self → Self → Type 0 } = { λ _ _. ⊤ };
 
+    /// How many times it was waited for.
+    ghost waits: { Self → ℕ };
+
     /// Whether the trunk was read since the last record of a client.
     ghost is_turn: { Self → Bool } = { λ _. true };
 
@@ -90,7 +93,8 @@ pub trait TrunkInput {
         ensures ended { IfOk result (λ t. t ≡ DeviceRead.Ended → has_ended self.new) }
         ensures none { IfOk result (λ t. t ≡ DeviceRead.NoneNow → has_none self.new) }
         ensures err { IfErr result (λ _. has_failed self.new) }
-        ensures reads { reads self.old self.new (length room.new) result };
+        ensures reads { reads self.old self.new (length room.new) result }
+        ensures waits { waits self.new ≡ waits self.old };
 
     /// Takes the next record of a client to the front of `room`, and returns its length; None if no client
     /// has a whole one. Each record of a client comes behind a read of the trunk. It never waits.
@@ -103,7 +107,8 @@ pub trait TrunkInput {
         ensures quiet { IfNone result (clients_are_quiet self.new ≡ true) }
         ensures found { has_none self.old → has_none self.new }
         ensures idle { IfNone result (is_empty self.old ≡ true → is_idle self.new ≡ true) }
-        ensures commands { commands self.old self.new result room.new };
+        ensures commands { commands self.old self.new result room.new }
+        ensures waits { waits self.new ≡ waits self.old };
 
     /// Waits until octets or a client may have come, when there is nothing.
     fn wait(&mut self)
@@ -111,7 +116,8 @@ pub trait TrunkInput {
         ensures came { came self.new ≡ came self.old }
         ensures asked { asked self.new ≡ asked self.old }
         ensures found { has_none self.old → has_none self.new }
-        ensures sleeps { sleeps self.old self.new };
+        ensures sleeps { sleeps self.old self.new }
+        ensures waits { waits self.new ≡ waits self.old + 1 };
 }
 
 /// What the octets of a trunk go to.
@@ -177,6 +183,8 @@ pub trait TrunkOutput {
 pub struct FromDevice<R: DeviceReader> {
     reader: LoggedReader<R>,
     waiting: Waiting,
+    // An octet for each wait.
+    waits: Log,
 }
 
 /// A writer over a descriptor. What went is what the calls of the writer took: if it is known what it holds,
@@ -229,6 +237,7 @@ impl<R: DeviceReader + Drop> FromDevice<R> {
         Ok(FromDevice {
             waiting: Waiting::open(rt, descriptor, Interest::READABLE)?,
             reader: LoggedReader::new(reader),
+            waits: Log::new(),
         })
     }
 }
@@ -269,6 +278,8 @@ impl<R: DeviceReader> TrunkInput for FromDevice<R> {
 
     ghost sleeps = { λ d d'. Waits d.waiting d'.waiting };
 
+    ghost waits = { λ d. length d.waits.octets };
+
     fn read(&mut self, room: &mut [u8]) -> Result<DeviceRead, DeviceFault> {
         match self.reader.read(room) {
             Ok(0) => Ok(DeviceRead::Ended),
@@ -283,6 +294,7 @@ impl<R: DeviceReader> TrunkInput for FromDevice<R> {
     }
 
     fn wait(&mut self) {
+        self.waits.append(&[0], 1);
         self.waiting.wait();
     }
 }

@@ -1,7 +1,10 @@
 //! Which octets of a session's answers go to the trunk, and which to clients (`TrunkRecordSink`).
 
 ghost use Rattle.std.specs.Prelude.{◌≡◌, ◌≤◌, ◌<◌, ◌++◌, [], length, take, IfOk, OnErr, Some, if◌then◌else◌};
-ghost use Rattle.std.specs.Prelude.{slice_index};
+ghost use Rattle.std.specs.Prelude.{◌⊎◌, slice_index};
+ghost use Rattle.std.specs.Io.KnownBytes.{WriteAppends};
+ghost use Rattle.gw_records.specs.Streams.{CountsWrite};
+ghost use Rattle.gw_trunk.specs.Device.{FailsOrStands};
 ghost use Rattle.gw_trunk.specs.Bodies.{HasPassed, StepsOver, is_answer, place_next, body_place, body_after};
 
 use crate::device::TrunkOutput;
@@ -87,6 +90,7 @@ fn put_out<O: TrunkOutput>(outgoing: &mut O, octets: &[u8]) -> Result<usize, Sin
     ensures bound { IfOk result (λ n. n ≤ length octets.now) }
     ensures went { IfOk result (λ n. O.went outgoing.new ≡ O.went outgoing.old ++ take n octets.now) }
     ensures err { OnErr result (O.went outgoing.new ≡ O.went outgoing.old) }
+    ensures fails { OnErr result (FailsOrStands O.has_failed O.waits outgoing.new) }
 {
     for _turn in 0..u64::MAX {
         match outgoing.write(octets) {
@@ -109,6 +113,7 @@ fn put_front<A: TrunkOutput>(
     ensures told { IfOk result (λ n. A.went answers.new ≡ A.went answers.old
         ++ (if is_answer place (slice_index octets.now 0) then take n octets.now else [])) }
     ensures err { OnErr result (A.went answers.new ≡ A.went answers.old) }
+    ensures fails { OnErr result (FailsOrStands A.has_failed A.waits answers.new) }
 {
     if !is_answer(place, octets[0]) {
         return Ok(1);
@@ -130,6 +135,8 @@ fn put_body<O: TrunkOutput, A: TrunkOutput>(
         ≡ A.went answers.old ++ (if to_trunk then [] else take n octets.now)) }
     ensures err { OnErr result (O.went outgoing.new ≡ O.went outgoing.old) }
     ensures untold { OnErr result (A.went answers.new ≡ A.went answers.old) }
+    ensures fails { OnErr result (FailsOrStands O.has_failed O.waits outgoing.new
+        ⊎ FailsOrStands A.has_failed A.waits answers.new) }
 {
     if to_trunk {
         return put_out(outgoing, octets);
@@ -151,6 +158,8 @@ fn pass<O: TrunkOutput, A: TrunkOutput>(
     ensures err { OnErr result (O.went outgoing.new ≡ O.went outgoing.old) }
     ensures untold { OnErr result (A.went answers.new ≡ A.went answers.old) }
     ensures stays { OnErr result (place.new ≡ place.old) }
+    ensures fails { OnErr result (FailsOrStands O.has_failed O.waits outgoing.new
+        ⊎ FailsOrStands A.has_failed A.waits answers.new) }
 {
     let Some(octet) = octets.first() else {
         return Ok(0);
@@ -201,7 +210,13 @@ impl<O: TrunkOutput, A: TrunkOutput + Drop> TrunkRecordSink<O, A> {
 impl<O: TrunkOutput, A: TrunkOutput> Sink for TrunkRecordSink<O, A> {
     ghost tells = { λ s. record { failures = s.failed; taken = Some s.log.octets } };
 
-    fn write(&mut self, octets: &[u8]) -> Result<usize, SinkFault> {
+    fn write(&mut self, octets: &[u8]) -> Result<usize, SinkFault>
+        ensures bound { IfOk result (λ n. n ≤ length octets.now) }
+        ensures takes { WriteAppends (Some self.old.log.octets) (Some self.new.log.octets) result octets.now }
+        ensures counts { CountsWrite self.old.failed self.new.failed result octets.now }
+        ensures fails { OnErr result (FailsOrStands O.has_failed O.waits self.new.outgoing
+            ⊎ FailsOrStands A.has_failed A.waits self.new.answers) }
+    {
         match pass(
             &mut self.outgoing,
             &mut self.answers,

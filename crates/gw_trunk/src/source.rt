@@ -73,8 +73,8 @@ fn next_record<I: TrunkInput>(
         (I.asked incoming.old) (I.asked incoming.new) result room.new }
     ensures turn { turn.new ≡ true → I.is_turn incoming.new ≡ true }
     ensures ended { IfOk result (λ n. n ≡ 0 → I.has_ended incoming.new) }
-    ensures fails { OnErr result
-        (LacksRecord (I.has_failed incoming.new) (I.has_none incoming.new) room.new) }
+    ensures fails { OnErr result (LacksRecord (I.has_failed incoming.new)
+        (I.has_none incoming.new × (2 ^ 63 ≤ I.waits incoming.new)) room.new) }
 {
     let most = room.len().min(FRONT_LEN + MOST_OCTETS);
     if most <= FRONT_LEN {
@@ -135,8 +135,8 @@ impl<I: TrunkInput> Source for TrunkRecordSource<I> {
         ensures consumes { ReadConsumes None None result buf.new }
         ensures counts { CountsRead self.old.failed self.new.failed result }
         ensures turns { CountsTurn self.old.reads self.new.reads result }
-        ensures fails { OnErr result
-            (LacksRecord (I.has_failed self.new.incoming) (I.has_none self.new.incoming) buf.new) }
+        ensures fails { OnErr result (LacksRecord (I.has_failed self.new.incoming)
+            (I.has_none self.new.incoming × (2 ^ 63 ≤ I.waits self.new.incoming)) buf.new) }
     {
         match next_record(&mut self.incoming, &mut self.turn, buf) {
             Ok(n) => {

@@ -1,6 +1,7 @@
 //! A trunk with clients: when it is read, when a client is asked, and what ends it (`WithClients`).
 
-ghost use Rattle.std.specs.Prelude.{◌≡◌, ◌||◌, ◌&&◌, ℕ, List, [], true, false, IfOk, IfErr, Some, Err, ◌⊎◌};
+ghost use Rattle.std.specs.Prelude.{◌≡◌, ◌⊎◌, ◌||◌, ◌&&◌, ℕ, List, [], length, true, false, IfOk, IfErr};
+ghost use Rattle.std.specs.Prelude.{Some, Err};
 ghost use Rattle.std.specs.Io.KnownBytes.{IsAtEnd};
 ghost use Rattle.std.specs.List.{list_all};
 ghost use Rattle.gw_trunk.specs.Clients.{is_quiet};
@@ -38,6 +39,8 @@ pub struct WithClients<R: DeviceReader> {
     ended: bool,
     end_asked: bool,
     asked: Log,
+    // An octet for each wait.
+    waits: Log,
     ghost ends: { (rest : List ℕ) → ended ≡ true → end_asked ≡ false
         → R.remaining reader.reader ≡ Some rest → rest ≡ [] },
 }
@@ -67,6 +70,7 @@ impl<R: DeviceReader + Drop> WithClients<R> {
             ended: false,
             end_asked: false,
             asked: Log::new(),
+            waits: Log::new(),
         })
     }
 }
@@ -124,6 +128,8 @@ impl<R: DeviceReader> TrunkInput for WithClients<R> {
     ghost commands = { CommandsInTurn };
 
     ghost sleeps = { Sleeps };
+
+    ghost waits = { λ d. length d.waits.octets };
 
     ghost is_turn = { λ d. d.turn };
 
@@ -185,6 +191,7 @@ impl<R: DeviceReader> TrunkInput for WithClients<R> {
     }
 
     fn wait(&mut self) {
+        self.waits.append(&[0], 1);
         if !self.ended {
             self.clients.wait();
         }

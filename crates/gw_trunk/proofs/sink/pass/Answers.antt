@@ -19,6 +19,7 @@ returns-then-n-gt0 g c =
       err = tt;
       untold = tt;
       stays = tt;
+      fails = tt;
     }
 
 pub returns-else-n-gt0 : goal.returns-else-n-gt0
@@ -28,6 +29,7 @@ returns-else-n-gt0 g c = record {
   err = tt;
   untold = tt;
   stays = tt;
+  fails = tt;
 }
 
 pub returns-clause-passes : goal.returns-clause-passes

@@ -11,4 +11,5 @@ invariant-loop-turn g l = record {
   few : l.most ≤ 2052;
   asked_first : l.turn ≡ false;
   none : 0 < l._turn → g.I.TrunkInput.has_none l.incoming;
+  waited : l._turn ≤ g.I.TrunkInput.waits l.incoming;
 }
