@@ -94,7 +94,7 @@ class WebTests(unittest.TestCase):
                 ('e1gw_circuit_state{trunk="west",circuit="1",role="outgoing",state="answered"}', 1),
                 ('e1gw_circuit_state{trunk="west",circuit="1",role="outgoing",state="idle"}', 0),
                 ('e1gw_circuit_seizures_total{trunk="west",circuit="1"}', 1),
-                ('e1gw_datagrams_total{trunk="west",circuit="1",what="sent"}', counts['sent']),
+                ('e1gw_rtp_packets_total{trunk="west",circuit="1",direction="sent"}', counts['sent']),
                 ('e1gw_commands_total{trunk="west",command="seize",answer="not idle"}', 1),
                 ('e1gw_ended{trunk="west",what="json"}', 0), ('e1gw_counts_stale{trunk="west"}', 0)):
             self.assertEqual(found.get(name), value, name)

@@ -78,8 +78,6 @@ def wants_of(asked: argparse.Namespace) -> TrunkWants:
     """What is wanted, of a command line. ValueError if it is not one trunk, or a path is too long."""
     opens = device_of(asked)
     assert opens
-    if asked.top:
-        raise ValueError('--top: e1gw-ctl shows the table')
     folder = folder_of(asked)
     control = asked.program_control or os.path.join(folder, 'program')
     for path in filter(None, (control, asked.tell)):
@@ -111,7 +109,6 @@ async def opened_watch(asked: argparse.Namespace, keeper: TrunkKeeper, goes_on: 
         return 'quit: done'
     version = await asyncio.to_thread(version_of, wants.program)
     fields |= {'config': lambda: keeper.versions.now.config_path(), 'tell': wants.tell, 'program': wants.control}
-    del fields['top']
     watch = TrunkWatch(WatchWants(**fields), ends, keeper.hurry,
                        lambda: keeper.trunk.facts() | {'version': version})
     try:
