@@ -29,6 +29,8 @@ class DeathCountTests(unittest.TestCase):
             now += pause + 0.01
         self.assertEqual(pauses, [0.0, 0.5, 1.0, 2.0, 4.0, 8.0, *[MOST_PAUSE] * 4])
         self.assertIsNone(deaths.died(now + 100))
+        slow = DeathCount()
+        self.assertEqual([slow.died(place * 0.6) for place in range(20)], [None] * 20)
 
 
 class VersionHistoryTests(unittest.TestCase):

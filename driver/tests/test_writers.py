@@ -13,7 +13,8 @@ from . import support
 from .test_trunk import FOUR, aligned, call
 from .world import World, config_of
 from e1gw import writers
-from e1gw.writers import Journal, Writer, to_file
+from e1gw.service.journal import MINUTE
+from e1gw.writers import Writer, to_file
 
 
 class WriterOpeningTests(support.FolderCase):
@@ -77,25 +78,7 @@ class WriterOpeningTests(support.FolderCase):
                              [0o640, 0o640])
 
 
-class JournalTests(unittest.TestCase):
-    def test_lines_of_a_kind(self) -> None:
-        now = [100.0]
-        reads, writes = os.pipe()
-        journal = Journal(writes, lambda: now[0])
-        for second in range(120):
-            now[0] = 100.0 + second
-            for _ in range(10):
-                journal.line(Journal.WARNING, 'gap', 'gap')
-            journal.look()
-        journal.line(Journal.NOTICE, 'rate', 'rate')
-        journal.line(Journal.ERROR, 'end')
-        journal.close()
-        os.close(writes)
-        with open(reads, encoding='utf-8') as file:
-            said = [line.removeprefix('e1gw-trunk: ') for line in file.read().splitlines()]
-        self.assertEqual(said, [*['gap'] * 20, 'gap: .. and 580 more in the last minute', *['gap'] * 20, 'rate', 'end',
-                                'gap: .. and 580 more in the last minute'])
-
+class JournalStormTests(unittest.TestCase):
     def test_a_storm_on_a_trunk(self) -> None:
         support.program()
         began = time.monotonic()
@@ -110,7 +93,7 @@ class JournalTests(unittest.TestCase):
         self.assertEqual((status, len(lost)), (0, 15))
         # one line for a loss, and not one for the alarm and one for the alignment
         self.assertNotIn('alignment lost', said)
-        self.assertLessEqual(said.count('alarm: loss of '), 20 * (1 + (time.monotonic() - began) // Journal.MINUTE))
+        self.assertLessEqual(said.count('alarm: loss of '), 20 * (1 + (time.monotonic() - began) // MINUTE))
 
 
 if __name__ == '__main__':
