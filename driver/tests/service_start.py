@@ -72,11 +72,11 @@ def without(words: list[str], *names: str) -> list[str]:
 
 def keep() -> NoReturn:
     words = ['--program-control' if word == '--control' else word for word in sys.argv[1:]]
-    service.main(words)
+    service.main(without(words, '--flow'))
 
 
 def trunk() -> NoReturn:
-    service.main(without(sys.argv[1:], '--gap', '--pace', '--most'))
+    service.main(without(sys.argv[1:], '--pace', '--most'))
 
 
 STARTS: dict[str, Callable[[], NoReturn]] = {'keep': keep, 'watch': watch, 'trunk': trunk}
