@@ -20,6 +20,7 @@ from e1gw.watching import options_of
 SAME = {'watcher.PATIENCE': 'connection.PATIENCE', 'watcher.FIRST': 'status.FIRST', 'standby.WITHIN': 'keeper.WITHIN'}
 LIMITS = {'keeper.START': limits.LONG, 'keeper.GRACE': limits.LONG, 'follower.PATIENCE': limits.LONG,
           'version.CHECK': limits.LONG, 'version.LOOK_UP': limits.LONG, 'status.FIRST': limits.LONG,
+          'reload.PATIENCE': limits.LONG, 'recordings.FLUSH': limits.LONG,
           'checkpoints.PAUSE': 0.0, 'checkpoints.QUICK': 0.0}
 
 

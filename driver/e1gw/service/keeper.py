@@ -141,7 +141,8 @@ class TrunkKeeper:
         logger.log(logging.WARNING if self.lost else NOTICE, '%s%s; shadow %d', self.why, its, shadow)
         pass_on(program)
         self.was_up, self.lost = True, ''
-        self.versions.is_up(now)
+        if program.version is self.versions.now:
+            self.versions.is_up(now)
         self.note()
         self._notifier.tell('READY=1', f'STATUS=program {pid}, shadow {shadow}')
 
@@ -211,7 +212,7 @@ class TrunkKeeper:
             logger.error('%s: no room for a state, the program goes on', why)
             self.wanted = ''
             if why == 'reload':
-                self.versions.go_back().close()
+                self.versions.go_back('no room for a state').close()
             return False
         program.ask_end()
         if not await program.process.ends_within(GRACE):
@@ -284,8 +285,7 @@ class TrunkKeeper:
 
     def _go_back(self, words: str) -> None:
         """To the version before."""
-        self.versions.go_back().close()
-        refused(words, self.wants.config)
+        self.versions.go_back(refused(words, self.wants.config)).close()
         self._notifier.tell('READY=1')
 
     def hurry(self) -> None:
@@ -319,10 +319,12 @@ class TrunkKeeper:
         self.number, self.was_up, self.why = number, True, why
 
 
-def refused(words: str, config: str) -> None:
-    """Tells why a reload is refused."""
+def refused(words: str, config: str) -> str:
+    """Tells why a reload is refused, and returns that."""
     why = config_words(config) if words.startswith('config ') else None
-    logger.error('reload: refused, the trunk goes on as it was: %s', f'{words}: {why}' if why else words)
+    words = f'{words}: {why}' if why else words
+    logger.error('reload: refused, the trunk goes on as it was: %s', words)
+    return words
 
 
 def pass_on(program: TrunkProgram) -> None:

@@ -3,6 +3,8 @@
 The program carries the octets by itself, and logs all that it takes in memory. If it dies another one goes on from the
 state of that log. This process may be killed: the program goes on, and the next start takes it up.
 
+`e1gw-trunk reload TRUNK` takes the program and the configuration of now, and ends with 1 where they will not do.
+
 Signals: SIGHUP reload; SIGUSR2 another process in place of this one; SIGTERM, SIGINT end.
 Statuses: 0 ended as asked, or with the trunk's input; 1 the trunk or the program failed; 2 the command line or the
 configuration.
@@ -15,8 +17,9 @@ import logging
 import os
 import shutil
 import signal
+import sys
 import zlib
-from typing import NoReturn
+from typing import Any, NoReturn
 
 from ..explain import config_words
 from ..faults import Parser, number, options_words, words_of_fault
@@ -32,7 +35,7 @@ from .program import MOST_PATH, TrunkProgram
 from .reader import LogReader
 from .recordings import RecordingWants
 from .recovery import Handover, Notifier, given_files, note_of
-from .reload import ReloadRequests
+from .reload import ReloadRequests, ask_reload
 from .takeover import CannotBegin, first_keeper, next_keeper, open_first
 from .version import VersionRefused
 from .watch import TrunkWatch, WatchWants
@@ -127,7 +130,8 @@ async def sign_of_life(notifier: Notifier) -> None:
         await asyncio.sleep(SIGN)
 
 
-async def opened_watch(asked: argparse.Namespace, keeper: TrunkKeeper, goes_on: bool) -> TrunkWatch | None:
+async def opened_watch(asked: argparse.Namespace, keeper: TrunkKeeper, requests: ReloadRequests,
+                       goes_on: bool) -> TrunkWatch | None:
     """Watches the trunk, if an operator wants something of it. One that cannot listen ends no trunk that `goes_on`."""
     fields, wants = fields_of(asked), keeper.wants
     if not wants.tell or not any(fields[name] for name in WATCHED):
@@ -142,6 +146,7 @@ async def opened_watch(asked: argparse.Namespace, keeper: TrunkKeeper, goes_on: 
     del fields['top']
     watch = TrunkWatch(WatchWants(**fields), ends, keeper.hurry,
                        lambda: keeper.trunk.facts() | {'version': version})
+    watch.reloads = requests.reload
     if keeper.reader:
         keeper.reader.found, watch.flow = watch.flowed, keeper.reader.clock.status
     try:
@@ -168,9 +173,9 @@ def reader_of(asked: argparse.Namespace, keeper: TrunkKeeper) -> LogReader:
 
 def catch_signals(keeper: TrunkKeeper, requests: ReloadRequests) -> None:
     loop = asyncio.get_running_loop()
-    tasks = set[asyncio.Task[None]]()
+    tasks = set[asyncio.Task[Any]]()
 
-    def runs(task: asyncio.Task[None]) -> None:
+    def runs(task: asyncio.Task[Any]) -> None:
         tasks.add(task)
         task.add_done_callback(tasks.discard)
     loop.add_signal_handler(signal.SIGHUP, lambda: runs(loop.create_task(requests.reload())))
@@ -192,11 +197,12 @@ async def serve(asked: argparse.Namespace, wants: TrunkWants) -> int:
             os.close(file)
             notifier.tell('FDSTOREREMOVE=1', f'FDNAME={name}')
         keeper = await first_keeper(wants, handover, notifier)
-    catch_signals(keeper, ReloadRequests(keeper, handover, notifier))
+    requests = ReloadRequests(keeper, handover, notifier)
+    catch_signals(keeper, requests)
     keeper.reader = reader_of(asked, keeper)
     keeper.reader.take_up(note and note.get('read'), files)
     beside = [asyncio.create_task(sign_of_life(notifier)), asyncio.create_task(keeper.reader.run())]
-    if watch := await opened_watch(asked, keeper, note is not None):
+    if watch := await opened_watch(asked, keeper, requests, note is not None):
         beside.append(asyncio.create_task(watch.run()))
     await open_first(keeper)
     status = await keeper.serve()
@@ -211,8 +217,10 @@ async def serve(asked: argparse.Namespace, wants: TrunkWants) -> int:
     return status
 
 
-def status_of(words: list[str] | None, journal: ServiceJournal) -> int:
+def status_of(words: list[str], journal: ServiceJournal) -> int:
     """Serves by a command line; what is wrong is told in one line."""
+    if words[:1] == ['reload']:
+        return ask_reload(NAME, words[1:])
     asked = parser().parse_args(words)
     try:
         wants = wants_of(asked)
@@ -239,8 +247,9 @@ def main(words: list[str] | None = None) -> NoReturn:
         pass
     os.close(file)
     journal = ServiceJournal(NAME)
-    status = status_of(words, journal)
+    status = status_of(sys.argv[1:] if words is None else words, journal)
     journal.close()
+    sys.stdout.flush()
     os._exit(status)
 
 

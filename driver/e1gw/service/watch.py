@@ -55,6 +55,10 @@ class WatchWants:
     picture: list[str] = field(default_factory=list)
 
 
+async def cannot_reload(_: bool) -> str:
+    return 'reload: there is nobody to do it'
+
+
 class TrunkWatch:
     """One trunk that is watched. `ends` is called when a client asks for its end; `hurry` so that the follower has all
     that the program has; `facts` says when the trunk was opened, and why it is not open."""
@@ -63,6 +67,7 @@ class TrunkWatch:
                  facts: Callable[[], dict[str, Any]] = dict) -> None:
         self.wants, self._ends, self._facts = wants, ends, facts
         self.flow: Callable[[], dict[str, Any]] = dict      # gaps and the rate of the trunk, if they are measured
+        self.reloads: Callable[[bool], Awaitable[str]] = cannot_reload
         self._loop = asyncio.get_running_loop()
         self.ended: dict[str, str | None] = dict.fromkeys(BESIDE)
         self._restarts = Restarts(self.restart, self.tell)
@@ -162,6 +167,9 @@ class TrunkWatch:
     def left(self, client: object) -> bool:
         self._disconnects.left(client, time.monotonic())
         return True
+
+    async def reload(self, force: bool) -> str:
+        return await self.reloads(force)
 
     def quit(self) -> str:
         return self._ends()
