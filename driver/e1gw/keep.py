@@ -79,6 +79,35 @@ class Ring:
             self.behind.config = hold(config)
         self._each = max(5, self.keep // FILES)
 
+    def standing(self) -> dict[str, Any]:
+        """What a ring has to know that goes on with the file that is written."""
+        return {'front': self._front, 'began': self._began, 'due': self._due, 'own': [*self._own]}
+
+    def go_on(self, front: str, began: float, due: float, own: list[str]) -> None:
+        """Goes on with the file that another ring has written. States that are still missing are made."""
+        with open(f'{front}.json', encoding='utf-8') as file:
+            self._about = json.load(file)
+        self._file = os.open(f'{front}{RECORDS}', os.O_WRONLY | os.O_APPEND | os.O_CLOEXEC)
+        self._front, self._began, self._due, self._own = front, began, due, deque(own)
+        known = [place for place, each in enumerate(own) if os.path.exists(f'{each}{STATE}')]
+        first = known[-1] if known else 0
+        self.behind.begin(f'{own[first]}{STATE}' if known else '')
+        for piece, following in itertools.pairwise(own[first:]):
+            self.behind.put(piece, following)
+
+    @property
+    def front(self) -> str:
+        """The path of the file that is written, without its ending; empty before the first one."""
+        return self._front
+
+    def size(self) -> int:
+        """The octets of the file that is written."""
+        return os.fstat(self._file).st_size if self._file >= 0 else 0
+
+    def complete(self, octets: bytes) -> None:
+        """Writes the rest of a record that the file has in part."""
+        write_all(self._file, octets)
+
     def write(self, octets: bytes) -> None:
         """Writes whole records."""
         place = self.places.popleft()
@@ -145,6 +174,7 @@ class Ring:
     def close(self) -> None:
         """The last file stays as it is, since nobody waits for what would compress it."""
         self._finish()
+        self.behind.finish()
 
 
 def _fronts_in(folder: str, name: str) -> list[str]:

@@ -61,7 +61,7 @@ class VersionHistoryTests(unittest.TestCase):
         history.renew(second)
         history.is_up(100.0)
         self.assertEqual([history.has_died(), history.has_died()], [False, True])
-        self.assertIs(history.go_back(), second)
+        self.assertIs(history.go_back('it dies'), second)
         self.assertEqual((history.now, history.before), (first, None))
         for version in (first, second):
             version.close()

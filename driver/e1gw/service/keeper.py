@@ -18,6 +18,7 @@ from .checkpoints import Checkpoints, NoRoom, point
 from .journal import NOTICE
 from .log import Checkpoint, in_memory
 from .program import TrunkProgram
+from .reader import LogReader
 from .recovery import Handover, Notifier
 from .trunk import TrunkFiles, either
 from .version import ProgramVersion, VersionHistory
@@ -77,6 +78,7 @@ class TrunkKeeper:
         self.state, self.why, self.lost = Checkpoint(), 'begins', ''      # of the next program
         self.number, self.status = 0, None      # type: int, int | None
         self.was_up = False
+        self.reader: LogReader | None = None
         self.ending, self.wanted = '', ''       # why no other program is to follow, or why one is
         self._ends, self._wake = asyncio.Event(), asyncio.Event()
         self._handover, self._notifier = handover, notifier
@@ -107,6 +109,8 @@ class TrunkKeeper:
             self._finish(self.ending, 0)
             return None
         program = self.program or self._start()
+        if self.reader:
+            self.reader.began(program, self.lost == LOST)
         if not program.is_up and not await program.comes_up(START) and not program.ended_well():
             await self._never_up(program)
             return None
@@ -137,7 +141,8 @@ class TrunkKeeper:
         logger.log(logging.WARNING if self.lost else NOTICE, '%s%s; shadow %d', self.why, its, shadow)
         pass_on(program)
         self.was_up, self.lost = True, ''
-        self.versions.is_up(now)
+        if program.version is self.versions.now:
+            self.versions.is_up(now)
         self.note()
         self._notifier.tell('READY=1', f'STATUS=program {pid}, shadow {shadow}')
 
@@ -207,7 +212,7 @@ class TrunkKeeper:
             logger.error('%s: no room for a state, the program goes on', why)
             self.wanted = ''
             if why == 'reload':
-                self.versions.go_back().close()
+                self.versions.go_back('no room for a state').close()
             return False
         program.ask_end()
         if not await program.process.ends_within(GRACE):
@@ -231,9 +236,7 @@ class TrunkKeeper:
         await program.process.kill()
         words = f'does not begin within {START:g} s' if hangs else program.last_words()
         if self.ending or not (self.was_up or self.state.state >= 0):
-            for line in words.removeprefix('says: ').split('; '):
-                if told := gateway_words(line, self.wants.config):
-                    logger.error('%s', told)
+            explain(words, self.wants.config)
             return self._finish(self.ending or f'the program {words}', 0 if self.ending else 1)
         self._retire(program)
         if self.versions.before:
@@ -264,12 +267,8 @@ class TrunkKeeper:
         logger.log(logging.ERROR if status else logging.INFO, 'ends: %s, behind octet %d', why, counted['octets'])
         if self.wants.totals:
             logger.info('totals: %s', ', '.join(f'{word} {count}' for word, count in counted.items()))
-        if self.wants.state and self.state.state >= 0:
-            try:
-                store(self.state.state, self.wants.state)
-            except OSError as fault:
-                logger.error('the state is not saved: %s', fault)
-                status = 1
+        if not is_stored(self.state.state, self.wants.state):
+            status = 1
         if self.program:
             self._retire(self.program)
         self._notifier.tell('STOPPING=1')
@@ -286,8 +285,7 @@ class TrunkKeeper:
 
     def _go_back(self, words: str) -> None:
         """To the version before."""
-        self.versions.go_back().close()
-        refused(words, self.wants.config)
+        self.versions.go_back(refused(words, self.wants.config)).close()
         self._notifier.tell('READY=1')
 
     def hurry(self) -> None:
@@ -303,25 +301,30 @@ class TrunkKeeper:
 
     def files(self) -> dict[str, int]:
         """The descriptors that the next service has to have."""
-        return self.trunk.named() | (self.program.files() if self.program else {})
+        its = (self.reader.files() if self.reader else {}), (self.program.files() if self.program else {})
+        return self.trunk.named() | its[0] | its[1]
 
     def note(self) -> None:
         """Notes what the next service has to know if this one ends. What lies behind the checkpoint that is noted is
         given back."""
         program = self.program
-        note = {'number': self.number, 'up': self.was_up, 'program': program and program.note()}
+        note = {'number': self.number, 'up': self.was_up, 'program': program and program.note(),
+                'read': self.reader and self.reader.note()}
         if self._handover.put(note, self.files()) and program:
-            program.log.free(program.checkpoint.place)
+            place = program.checkpoint.place
+            program.log.free(min(place, self.reader.needed(program)) if self.reader else place)
 
     def take_up(self, number: int, why: str) -> None:
         """Goes on where the service before this one has left."""
         self.number, self.was_up, self.why = number, True, why
 
 
-def refused(words: str, config: str) -> None:
-    """Tells why a reload is refused."""
+def refused(words: str, config: str) -> str:
+    """Tells why a reload is refused, and returns that."""
     why = config_words(config) if words.startswith('config ') else None
-    logger.error('reload: refused, the trunk goes on as it was: %s', f'{words}: {why}' if why else words)
+    words = f'{words}: {why}' if why else words
+    logger.error('reload: refused, the trunk goes on as it was: %s', words)
+    return words
 
 
 def pass_on(program: TrunkProgram) -> None:
@@ -340,14 +343,28 @@ def trunk_words(program: TrunkProgram, words: str) -> str:
     return 'the trunk has ended' if program.ended_well() else f'the trunk has ended: the program {words}'
 
 
-def store(state: int, path: str) -> None:
-    """Puts a state into the place of a file, whole and up to the disk."""
+def explain(words: str, config: str) -> None:
+    """Tells why a program did not begin, where that is known."""
+    for line in words.removeprefix('says: ').split('; '):
+        if told := gateway_words(line, config):
+            logger.error('%s', told)
+
+
+def is_stored(state: int, path: str | None) -> bool:
+    """Puts a state into the place of a file, whole and up to the disk, if there is one and a path is asked for."""
+    if not path or state < 0:
+        return True
     octets = os.pread(state, os.fstat(state).st_size, 0)
-    with open(os.open(f'{path}.new', os.O_WRONLY | os.O_CREAT | os.O_TRUNC, 0o640), 'wb') as file:
-        file.write(octets)
-        file.flush()
-        os.fsync(file.fileno())
-    os.replace(f'{path}.new', path)
+    try:
+        with open(os.open(f'{path}.new', os.O_WRONLY | os.O_CREAT | os.O_TRUNC, 0o640), 'wb') as file:
+            file.write(octets)
+            file.flush()
+            os.fsync(file.fileno())
+        os.replace(f'{path}.new', path)
+        return True
+    except OSError as fault:
+        logger.error('the state is not saved: %s', fault)
+        return False
 
 
 def loaded(path: str | None) -> Checkpoint:

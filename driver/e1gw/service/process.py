@@ -102,19 +102,20 @@ def start(program: str, executable: str, words: Sequence[str], files: tuple[int,
 
 
 async def output_of(program: str, executable: str, words: Sequence[str], passed: Iterable[int],
-                    seconds: float) -> tuple[int | None, str]:
-    """Runs a process to its end: its status, None if it takes too long, and what it says on standard error."""
-    said = os.memfd_create('e1gw-words')
+                    seconds: float) -> tuple[int | None, str, str]:
+    """Runs a process to its end: its status, None if it takes too long, and what it says on standard error and on
+    standard output."""
+    said, listed = os.memfd_create('e1gw-words'), os.memfd_create('e1gw-list')
     nowhere = os.open(os.devnull, os.O_RDWR)
     try:
-        process = start(program, executable, words, (nowhere, nowhere, said), passed)
+        process = start(program, executable, words, (nowhere, listed, said), passed)
         if not await process.ends_within(seconds):
             await process.kill()
-            return None, ''
-        return process.status, text_of(said).strip()
+            return None, '', ''
+        return process.status, text_of(said).strip(), text_of(listed)
     finally:
-        os.close(nowhere)
-        os.close(said)
+        for file in (nowhere, said, listed):
+            os.close(file)
 
 
 def text_of(file: int) -> str:

@@ -3,6 +3,8 @@
 The program carries the octets by itself, and logs all that it takes in memory. If it dies another one goes on from the
 state of that log. This process may be killed: the program goes on, and the next start takes it up.
 
+`e1gw-trunk reload TRUNK` takes the program and the configuration of now, and ends with 1 where they will not do.
+
 Signals: SIGHUP reload; SIGUSR2 another process in place of this one; SIGTERM, SIGINT end.
 Statuses: 0 ended as asked, or with the trunk's input; 1 the trunk or the program failed; 2 the command line or the
 configuration.
@@ -15,21 +17,25 @@ import logging
 import os
 import shutil
 import signal
+import sys
 import zlib
-from typing import NoReturn
+from typing import Any, NoReturn
 
 from ..explain import config_words
-from ..faults import Parser, options_words, words_of_fault
+from ..faults import Parser, number, options_words, words_of_fault
+from ..keep import seconds_of
 from ..lines import wait_words
 from ..options import add_calls, add_control, add_options, fields_of
-from ..programs import add_program, program_of, version_of
+from ..programs import add_program, add_session, program_of, version_of
 from ..trunks import add_device, device_of
 from .commands import CannotListen
 from .journal import ServiceJournal
 from .keeper import GRACE, TrunkKeeper, TrunkWants
-from .program import MOST_PATH
+from .program import MOST_PATH, TrunkProgram
+from .reader import LogReader
+from .recordings import RecordingWants
 from .recovery import Handover, Notifier, given_files, note_of
-from .reload import ReloadRequests
+from .reload import ReloadRequests, ask_reload
 from .takeover import CannotBegin, first_keeper, next_keeper, open_first
 from .version import VersionRefused
 from .watch import TrunkWatch, WatchWants
@@ -50,7 +56,13 @@ def parser() -> argparse.ArgumentParser:
     add_device(words.add_argument_group('the trunk'))
     told = words.add_argument_group('control and what is told')
     add_control(told)
-    add_calls(told)
+    told.add_argument('--picture', type=number(10, 3600, float), metavar='SECONDS',
+                      help='/ is a picture of the last seconds, 10 to 3600, of what --keep has; wants both')
+    kept = words.add_argument_group('sessions and calls')
+    add_session(kept)
+    kept.add_argument('--gap', type=number(20, 10_000), default=100, metavar='MS',
+                      help='lost octets of so many milliseconds restart the playout of open calls [default: 100]')
+    add_calls(kept)
     words.add_argument('--folder', metavar='DIR', help='where its sockets are, in memory [default: '
                        'RUNTIME_DIRECTORY, or /dev/shm]')
     words.add_argument('--program-control', metavar='SOCKET', help='where the program takes records, e1gw(1)')
@@ -74,10 +86,28 @@ def folder_of(asked: argparse.Namespace) -> str:
     return os.path.join(within, f'{name_of(asked)}-{os.getuid()}-{zlib.crc32(repr(opens_of(asked)).encode()):08x}')
 
 
+def recording_of(asked: argparse.Namespace) -> RecordingWants | None:
+    """What is kept of the trunk. ValueError if that cannot be."""
+    keep = seconds_of(asked.keep) if asked.keep else None
+    if asked.keep and not asked.session:
+        raise ValueError('--keep wants --session')
+    if asked.picture and not (asked.http and asked.keep):
+        raise ValueError('--picture wants --http, and --session with --keep')
+    return RecordingWants(os.path.abspath(asked.session), keep, name_of(asked), os.path.abspath(asked.config),
+                          asked.seizure_wait) if asked.session else None
+
+
+def picture_words(asked: argparse.Namespace, program: str) -> list[str]:
+    """The command that draws the last seconds; nothing if that is not asked."""
+    return ['--last', f'{asked.picture}s', '--title', name_of(asked), '--refresh', '10', '--program', program,
+            os.path.abspath(asked.session)] if asked.picture else []
+
+
 def wants_of(asked: argparse.Namespace) -> TrunkWants:
     """What is wanted, of a command line. ValueError if it is not one trunk, or a path is too long."""
     opens = device_of(asked)
     assert opens
+    recording_of(asked)
     folder = folder_of(asked)
     control = asked.program_control or os.path.join(folder, 'program')
     for path in filter(None, (control, asked.tell)):
@@ -98,7 +128,8 @@ async def sign_of_life(notifier: Notifier) -> None:
         await asyncio.sleep(SIGN)
 
 
-async def opened_watch(asked: argparse.Namespace, keeper: TrunkKeeper, goes_on: bool) -> TrunkWatch | None:
+async def opened_watch(asked: argparse.Namespace, keeper: TrunkKeeper, requests: ReloadRequests,
+                       goes_on: bool) -> TrunkWatch | None:
     """Watches the trunk, if an operator wants something of it. One that cannot listen ends no trunk that `goes_on`."""
     fields, wants = fields_of(asked), keeper.wants
     if not wants.tell or not any(fields[name] for name in WATCHED):
@@ -108,9 +139,13 @@ async def opened_watch(asked: argparse.Namespace, keeper: TrunkKeeper, goes_on: 
         asyncio.get_running_loop().call_later(0.01, keeper.end, 'quit')
         return 'quit: done'
     version = await asyncio.to_thread(version_of, wants.program)
-    fields |= {'config': lambda: keeper.versions.now.config_path(), 'tell': wants.tell, 'program': wants.control}
+    fields |= {'config': lambda: keeper.versions.now.config_path(), 'tell': wants.tell, 'program': wants.control,
+               'picture': picture_words(asked, wants.program)}
     watch = TrunkWatch(WatchWants(**fields), ends, keeper.hurry,
                        lambda: keeper.trunk.facts() | {'version': version})
+    watch.reloads = requests.reload
+    if keeper.reader:
+        keeper.reader.found, watch.flow = watch.flowed, keeper.reader.clock.status
     try:
         await watch.open()
     except (OSError, CannotListen, KeyError) as fault:
@@ -121,11 +156,23 @@ async def opened_watch(asked: argparse.Namespace, keeper: TrunkKeeper, goes_on: 
     return watch
 
 
+def reader_of(asked: argparse.Namespace, keeper: TrunkKeeper) -> LogReader:
+    """Reads what the programs of a keeper log."""
+    async def checkpoint() -> TrunkProgram | None:
+        program = keeper.program
+        if not program or not program.is_up or program.process.over.is_set():
+            return None
+        before = program.checkpoint
+        await keeper.checkpoints.take(program)
+        return program if program is keeper.program and program.checkpoint is not before else None
+    return LogReader(recording_of(asked), asked.gap / 1000, keeper.note, checkpoint)
+
+
 def catch_signals(keeper: TrunkKeeper, requests: ReloadRequests) -> None:
     loop = asyncio.get_running_loop()
-    tasks = set[asyncio.Task[None]]()
+    tasks = set[asyncio.Task[Any]]()
 
-    def runs(task: asyncio.Task[None]) -> None:
+    def runs(task: asyncio.Task[Any]) -> None:
         tasks.add(task)
         task.add_done_callback(tasks.discard)
     loop.add_signal_handler(signal.SIGHUP, lambda: runs(loop.create_task(requests.reload())))
@@ -147,15 +194,19 @@ async def serve(asked: argparse.Namespace, wants: TrunkWants) -> int:
             os.close(file)
             notifier.tell('FDSTOREREMOVE=1', f'FDNAME={name}')
         keeper = await first_keeper(wants, handover, notifier)
-    catch_signals(keeper, ReloadRequests(keeper, handover, notifier))
-    beside = [asyncio.create_task(sign_of_life(notifier))]
-    if watch := await opened_watch(asked, keeper, note is not None):
+    requests = ReloadRequests(keeper, handover, notifier)
+    catch_signals(keeper, requests)
+    keeper.reader = reader_of(asked, keeper)
+    keeper.reader.take_up(note and note.get('read'), files)
+    beside = [asyncio.create_task(sign_of_life(notifier)), asyncio.create_task(keeper.reader.run())]
+    if watch := await opened_watch(asked, keeper, requests, note is not None):
         beside.append(asyncio.create_task(watch.run()))
     await open_first(keeper)
     status = await keeper.serve()
     for task in beside:
         task.cancel()
     await asyncio.wait(beside, timeout=GRACE)
+    await keeper.reader.finish()
     for path in filter(None, (wants.control, wants.tell)):
         if os.path.islink(path):
             os.unlink(path)
@@ -163,8 +214,10 @@ async def serve(asked: argparse.Namespace, wants: TrunkWants) -> int:
     return status
 
 
-def status_of(words: list[str] | None, journal: ServiceJournal) -> int:
+def status_of(words: list[str], journal: ServiceJournal) -> int:
     """Serves by a command line; what is wrong is told in one line."""
+    if words[:1] == ['reload']:
+        return ask_reload(NAME, words[1:])
     asked = parser().parse_args(words)
     try:
         wants = wants_of(asked)
@@ -191,8 +244,9 @@ def main(words: list[str] | None = None) -> NoReturn:
         pass
     os.close(file)
     journal = ServiceJournal(NAME)
-    status = status_of(words, journal)
+    status = status_of(sys.argv[1:] if words is None else words, journal)
     journal.close()
+    sys.stdout.flush()
     os._exit(status)
 
 
