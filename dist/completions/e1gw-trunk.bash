@@ -7,6 +7,10 @@ _e1gw_trunk() {
     --control --control-mode --control-group --on-loss --http --picture --metrics --json --watch --session --calls
     --keep --gap --dark --folder --program-control --tell --help'
   COMPREPLY=()
+  if [ "$COMP_CWORD" -gt 1 ] && [ "${COMP_WORDS[1]}" = reload ]; then
+    mapfile -t COMPREPLY < <(compgen -W "--force $(ls /run/e1gw 2> /dev/null)" -- "$cur")
+    return
+  fi
   case $prev in
     --config | --program | --in | --out | --unix | --control | --metrics | --json | --session | --calls | --state | \
       --folder | --program-control | --tell)
@@ -19,7 +23,7 @@ _e1gw_trunk() {
     --control-group) mapfile -t COMPREPLY < <(compgen -g -- "$cur") ;;
     --name | --repeat | --seizure-wait | --tcp | --satop | --satop-size | --satop-jitter | --satop-rtp | \
       --control-mode | --http | --picture | --keep | --gap | --dark) ;;
-    *) mapfile -t COMPREPLY < <(compgen -W "$options" -- "$cur") ;;
+    *) mapfile -t COMPREPLY < <(compgen -W "$options reload" -- "$cur") ;;
   esac
 }
 

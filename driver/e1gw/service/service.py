@@ -177,8 +177,8 @@ def catch_signals(keeper: TrunkKeeper, requests: ReloadRequests) -> None:
         task.add_done_callback(tasks.discard)
     loop.add_signal_handler(signal.SIGHUP, lambda: runs(loop.create_task(requests.reload())))
     loop.add_signal_handler(signal.SIGUSR2, lambda: runs(loop.create_task(requests.replace())))
-    for number in (signal.SIGTERM, signal.SIGINT):
-        loop.add_signal_handler(number, keeper.end, f'signal {number}')
+    for each in (signal.SIGTERM, signal.SIGINT):
+        loop.add_signal_handler(each, keeper.end, f'signal {each}')
 
 
 async def serve(asked: argparse.Namespace, wants: TrunkWants) -> int:
