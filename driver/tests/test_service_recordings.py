@@ -96,6 +96,24 @@ class ServiceKilledRecordingTests(ServiceKilledCase, test_recorder.RecorderCase)
         self.assertEqual(self.trunk_of(self.path('kept')), self.given_trunk())
         self.assertEqual(self.answers(self.kept_of(self.path('kept'))), self.heard_all())
 
+    def test_file_without_systemd(self) -> None:
+        """The log is that of the program, which is there until it has ended in order."""
+        self.begins('--session', self.path('kept'))
+        for _ in range(2):
+            self.kill_keeper()
+            self.step(20)
+            self.manager.files.clear()
+            self.again()
+            line = self.device.line
+            self.device.accept()
+            line.close()
+            self.goes_on()
+            self.step(40)
+            self.settles()
+        self.as_uncut()
+        self.ends()
+        self.assertEqual(self.trunk_of(self.path('kept')), self.given_trunk())
+
     def test_ring(self) -> None:
         """The same file is written on for each program, and each replays from its state."""
         self.begins('--session', self.path('ring'), '--keep', '1h')
