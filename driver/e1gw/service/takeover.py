@@ -1,6 +1,7 @@
 """How a service begins: with a trunk of its own, or where the service before this one has left."""
 from __future__ import annotations
 
+import glob
 import logging
 import os
 import stat
@@ -14,7 +15,7 @@ from .follower import totals_in
 from .journal import NOTICE
 from .keeper import ANEW, GRACE, TrunkKeeper, TrunkWants, loaded
 from .log import Checkpoint, take_file
-from .process import Child, text_of
+from .process import Child, start_of, text_of
 from .program import END, TrunkProgram, connected
 from .recovery import REPLACED, Handover, Notifier
 from .trunk import TrunkFiles
@@ -76,6 +77,9 @@ async def next_keeper(wants: TrunkWants, handover: Handover, notifier: Notifier,
     except (KeyError, TypeError, ValueError):
         program = None
     number = int(note['number'])
+    if left and not program:
+        names = [name for log in (note.get('read') or {}).get('logs', ()) for name in log['files'].values()]
+        files |= memory_of(int(left['pid']), int(left['started']), [name for name in names if name not in files])
     if program:
         keeper = TrunkKeeper(wants, program.version, trunk, handover, notifier)
         if program.process.over.is_set():
@@ -89,6 +93,17 @@ async def next_keeper(wants: TrunkWants, handover: Handover, notifier: Notifier,
     keeper.take_up(number, f'the keeper was {how}')
     keeper.state, keeper.lost = state or keeper.state, '' if state else ANEW
     return keeper
+
+
+def memory_of(pid: int, started: int, names: list[str]) -> dict[str, int]:
+    """The files in memory that have these names, as a process has them: of what it logs all can be kept still."""
+    found: dict[str, int] = {}
+    for path in glob.glob(f'/proc/{pid}/fd/*') if start_of(pid) == started else ():
+        with suppress(OSError):
+            ends = f'-{os.stat(path).st_ino}'
+            if os.readlink(path).startswith('/memfd:'):
+                found |= {name: os.open(path, os.O_RDONLY) for name in names if name.endswith(ends)}
+    return found
 
 
 async def state_left(note: dict[str, Any]) -> Checkpoint | None:
