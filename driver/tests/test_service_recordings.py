@@ -13,8 +13,9 @@ from collections import Counter
 from typing import Any
 from unittest import mock
 
-from . import support, test_recorder
-from .test_service_keeper import ServiceCase, ServiceKilledCase
+from . import support
+from .test_keeper_killed import RestartedKeeperCase
+from .test_recorder import RecorderCase
 from e1gw.clock import TICK, ClockFinding
 from e1gw.kept import beside
 from e1gw.service import reader, recordings
@@ -24,49 +25,7 @@ from e1gw.session import MULTIFRAME, Kind, encode_record, trunk_record
 RECORD = MULTIFRAME / 256_000       # seconds
 
 
-class ServiceFileTests(ServiceCase, test_recorder.RecordedFileTests):
-    """A session in one file, as test_recorder has it."""
-
-    def test_reader_that_stands_still(self) -> None:
-        """What waits for it stays in memory up to a bound. Then the recording ends, and no call does."""
-        os.mkfifo(self.path('kept'))
-        stands = os.open(self.path('kept'), os.O_RDWR)
-        self.addCleanup(os.close, stands)
-        self.starts('--session', self.path('kept'),
-                    **self.within(reader_MOST_BEHIND=100_000, recordings_FLUSH=0.1))
-        self.calls()
-        while 'session ended, the calls go on: it takes too little' not in self.told():
-            self.step(20)
-        self.dies()
-        self.step(20)
-        self.as_uncut()
-        self.ends()
-
-
-class ServiceRingTests(ServiceCase, test_recorder.RecordedRingTests):
-    """A ring, as test_recorder has it."""
-
-    def test_a_ring_that_begins_again(self) -> None:
-        """With no other program: the file that is begun has the state of a checkpoint, and replays from that."""
-        self.write('ring', '')
-        self.starts('--session', self.path('ring'), '--keep', '1m', '--name', 'west', **self.within(reader_AGAIN=0.1))
-        self.calls()
-        self.awaits('session ended, the calls go on: File exists')
-        program = self.program
-        os.unlink(self.path('ring'))
-        self.awaits('the recording begins again: program')
-        self.step(60)
-        os.kill(program, 0)
-        self.as_uncut()
-        self.ends()
-        (front,) = self.files()
-        place = beside(f'{front}.e1gw')['place']
-        self.assertGreater(place, 0)
-        with open(f'{front}.e1gw', 'rb') as file:
-            self.assertEqual(self.answers(file.read(), '--load', f'{front}.state'), self.heard_all()[place:])
-
-
-class ServiceKilledRecordingTests(ServiceKilledCase, test_recorder.RecorderCase):
+class KilledRecordingTests(RestartedKeeperCase, RecorderCase):
     """The service is killed, and goes on with what it kept."""
 
     def killed(self) -> None:
@@ -188,7 +147,7 @@ class ServiceFlowTests(unittest.IsolatedAsyncioTestCase):
         self.octets += MULTIFRAME
 
     async def go(self, seconds: float, rate: float = 1.0, comes: bool = True, looks: bool = True) -> None:
-        until, due, comes_at = self.now + seconds, self.now + TICK, self.now
+        until, due = self.now + seconds, self.now + TICK
         while self.now < until:
             self.now += RECORD / rate
             if comes:
