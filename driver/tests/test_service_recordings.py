@@ -18,7 +18,7 @@ from .test_keeper_killed import RestartedKeeperCase
 from .test_recorder import RecorderCase
 from e1gw.clock import TICK, ClockFinding
 from e1gw.kept import beside
-from e1gw.service import reader, recordings
+from e1gw.service import reader, recordings, watch
 from e1gw.service.log import Checkpoint, TrunkLog
 from e1gw.session import MULTIFRAME, Kind, encode_record, trunk_record
 
@@ -169,6 +169,23 @@ class ServiceFlowTests(unittest.IsolatedAsyncioTestCase):
         self.assertEqual(self.told, [('gap', 0.25)])
         status = self.reader.clock.status()
         self.assertEqual((status['gaps'], status['gap_seconds']), (1, 0.25))
+
+    async def test_status_and_events(self) -> None:
+        """A gap is told, counted and shown."""
+        with tempfile.NamedTemporaryFile('w') as config:
+            path = config.name
+            found = watch.TrunkWatch(watch.WatchWants(config=lambda: path, name='west', tell=path, program=path), str)
+            self.reader.found, found.flow = found.flowed, self.reader.clock.status
+            with mock.patch.object(found, 'tell') as tells:
+                await self.go(2)
+                await self.go(0.25, comes=False)
+                await self.go(2)
+            shown = await found.pages.fresh()
+        ((event,), _) = tells.call_args
+        self.assertEqual(event['event'], 'gap')
+        self.assertAlmostEqual(event['seconds'], 0.25, delta=0.01)
+        self.assertEqual((shown.status['clock']['gaps'], shown.status['clock']['stalls']), (1, 0))
+        self.assertRegex(shown.table, r'stalls 0, slips 1 \(0\.[23] s\)')
 
     async def test_rate(self) -> None:
         await self.go(70, 1.0005)
