@@ -217,6 +217,7 @@ class TrunkWatch:
             'stale': self._counts.stale(), 'ended': dict(self.ended), 'renewed': self._resyncs,
             'commands': [{'command': name, 'answer': answer, 'count': n}
                          for (name, answer), n in sorted(self._done.items())]}
+        status |= facts.get('carried', {})
         for row in status['circuits']:
             row.update(self._counts.status(row['circuit']))
         return status
