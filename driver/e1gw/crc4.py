@@ -100,6 +100,14 @@ class Crc4:
         self.aligned = None
         self._last, self._last_octets = dict.fromkeys(COUNTS, 0), 0
 
+    def note(self) -> list[Any]:
+        """All of it but for errors that are told, as plain values."""
+        return [self.checked, self.counts, self.aligned, self._last, self._last_octets]
+
+    def take_up(self, note: list[Any]) -> None:
+        """Goes on where another one has left."""
+        self.checked, self.counts, self.aligned, self._last, self._last_octets = note
+
     def status(self) -> dict[str, Any]:
         """As plain values."""
         return {**self.counts, 'aligned': self.aligned, 'checked': self.checked}

@@ -27,8 +27,8 @@ from ..keep import seconds_of
 from ..lines import wait_words
 from ..options import add_calls, add_control, add_options, fields_of
 from ..programs import add_program, add_session, program_of, version_of
-from ..trunks import add_device, device_of
 from .commands import CannotListen
+from .devices import add_line, line_of, line_words, opening_of
 from .journal import ServiceJournal
 from .keeper import GRACE, TrunkKeeper, TrunkWants
 from .program import MOST_PATH, TrunkProgram
@@ -53,7 +53,7 @@ def parser() -> argparse.ArgumentParser:
     words = Parser(NAME, description=__doc__, formatter_class=argparse.RawDescriptionHelpFormatter)
     add_options(words)
     add_program(words)
-    add_device(words.add_argument_group('the trunk'))
+    add_line(words)
     told = words.add_argument_group('control and what is told')
     add_control(told)
     told.add_argument('--picture', type=number(10, 3600, float), metavar='SECONDS',
@@ -77,7 +77,7 @@ def name_of(asked: argparse.Namespace) -> str:
 def opens_of(asked: argparse.Namespace) -> list[str | None]:
     """Which trunk it is: the same for a service that is started again."""
     paths = asked.input, asked.out, asked.unix, asked.program_control
-    return [*(path and os.path.abspath(path) for path in paths), asked.tcp]
+    return [*(path and os.path.abspath(path) for path in paths), asked.tcp, *line_words(asked)]
 
 
 def folder_of(asked: argparse.Namespace) -> str:
@@ -105,8 +105,7 @@ def picture_words(asked: argparse.Namespace, program: str) -> list[str]:
 
 def wants_of(asked: argparse.Namespace) -> TrunkWants:
     """What is wanted, of a command line. ValueError if it is not one trunk, or a path is too long."""
-    opens = device_of(asked)
-    assert opens
+    opens = opening_of(asked)
     recording_of(asked)
     folder = folder_of(asked)
     control = asked.program_control or os.path.join(folder, 'program')
@@ -116,9 +115,10 @@ def wants_of(asked: argparse.Namespace) -> TrunkWants:
     program = shutil.which(program_of(asked.program)) or program_of(asked.program)
     both = wait_words(asked.seizure_wait)
     tell = asked.tell or (os.path.join(folder, 'tell') if any(fields_of(asked)[name] for name in WATCHED) else None)
-    return TrunkWants(os.path.abspath(program), asked.config, asked.senders, opens, folder, control, tell,
-                      asked.state, ['--repeat', str(asked.repeat)] * (asked.repeat > 0), both, asked.reopen,
-                      asked.totals)
+    program = os.path.abspath(program)
+    return TrunkWants(program, asked.config, asked.senders, opens, folder, control, tell, asked.state,
+                      ['--repeat', str(asked.repeat)] * (asked.repeat > 0), both, asked.reopen, asked.totals,
+                      line_of(asked, program))
 
 
 async def sign_of_life(notifier: Notifier) -> None:
@@ -143,7 +143,7 @@ async def opened_watch(asked: argparse.Namespace, keeper: TrunkKeeper, requests:
                'picture': picture_words(asked, wants.program)}
     watch = TrunkWatch(WatchWants(**fields), ends, keeper.hurry,
                        lambda: keeper.trunk.facts() | {'version': version})
-    watch.reloads = requests.reload
+    watch.reloads, keeper.trunk.tell = requests.reload, watch.tell
     if keeper.reader:
         keeper.reader.found, watch.flow = watch.flowed, keeper.reader.clock.status
     try:

@@ -236,6 +236,7 @@ class TrunkWatch:
             'commands': [{'command': name, 'answer': answer, 'count': n}
                          for (name, answer), n in sorted(self._done.items())]}
         status['clock'] = self.flow() | status['clock']
+        status |= facts.get('carried', {})
         for row in status['circuits']:
             row.update(self._counts.status(row['circuit']))
         return status
