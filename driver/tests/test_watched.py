@@ -136,12 +136,15 @@ class WatchedTrunkTests(unittest.TestCase):
         self.assertEqual(trunk.process.wait(SECONDS), 0)
 
     def test_names_of_calls(self) -> None:
-        """The next e1gw-trunk counts seizures as the one before it, and one that happened in between."""
+        """The next follower and the next e1gw-trunk count seizures as those before them, and one in between."""
         trunk = self.begun()
         trunk.is_in(1, 'idle')
         trunk.type('seize 2')
         trunk.is_in(2, 'acked')
         life = trunk.told()['life']
+        trunk.kill('shadow')
+        trunk.is_in(2, 'acked')
+        self.assertEqual((trunk.told()['life'], trunk.told()['circuits'][1]['seizures']), (life, 1))
         for lines, seizures in ((), 1), ((('clear 2', '2: 10'), ('seize 2', '2: 11')), 2):
             trunk.process.kill()
             trunk.process.wait(SECONDS)

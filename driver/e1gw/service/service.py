@@ -27,10 +27,12 @@ from ..keep import seconds_of
 from ..lines import wait_words
 from ..options import add_calls, add_control, add_options, fields_of
 from ..programs import add_program, add_session, program_of, version_of
+from ..writers import hold_descriptors
 from .commands import CannotListen
 from .devices import add_line, line_of, line_words, opening_of
 from .journal import ServiceJournal
 from .keeper import GRACE, TrunkKeeper, TrunkWants
+from .log import Checkpoint
 from .program import MOST_PATH, TrunkProgram
 from .reader import LogReader
 from .recordings import RecordingWants
@@ -144,6 +146,7 @@ async def opened_watch(asked: argparse.Namespace, keeper: TrunkKeeper, requests:
     watch = TrunkWatch(WatchWants(**fields), ends, keeper.hurry,
                        lambda: keeper.trunk.facts() | {'version': version})
     watch.reloads, keeper.trunk.tell = requests.reload, watch.tell
+    watch.status.session = lambda path: session_of(keeper.program, path)
     if keeper.reader:
         keeper.reader.found, watch.flow = watch.flowed, keeper.reader.clock.status
     try:
@@ -154,6 +157,19 @@ async def opened_watch(asked: argparse.Namespace, keeper: TrunkKeeper, requests:
             raise CannotBegin(words, 2) from None
         logger.error('%s', words)
     return watch
+
+
+def state_name(checkpoint: Checkpoint) -> str:
+    """What no other state has; nothing for a gateway that is new."""
+    its = checkpoint.state
+    return f'{zlib.crc32(os.pread(its, os.fstat(its).st_size, 0)):08x}' if its >= 0 else ''
+
+
+def session_of(program: TrunkProgram | None, path: str) -> str:
+    """The state with which the follower that tells at this path has begun; nothing if it is another one."""
+    if not program or not program.follower or program.follower.tell != path:
+        return ''
+    return state_name(program.checkpoint) or f'{program.process.pid}.{program.process.started}'
 
 
 def reader_of(asked: argparse.Namespace, keeper: TrunkKeeper) -> LogReader:
@@ -177,6 +193,7 @@ def catch_signals(keeper: TrunkKeeper, requests: ReloadRequests) -> None:
         task.add_done_callback(tasks.discard)
     loop.add_signal_handler(signal.SIGHUP, lambda: runs(loop.create_task(requests.reload())))
     loop.add_signal_handler(signal.SIGUSR2, lambda: runs(loop.create_task(requests.replace())))
+    loop.add_signal_handler(signal.SIGUSR1, lambda: None)
     for each in (signal.SIGTERM, signal.SIGINT):
         loop.add_signal_handler(each, keeper.end, f'signal {each}')
 
@@ -203,6 +220,8 @@ async def serve(asked: argparse.Namespace, wants: TrunkWants) -> int:
         beside.append(asyncio.create_task(watch.run()))
     await open_first(keeper)
     status = await keeper.serve()
+    if watch and keeper.state.state >= 0:
+        watch.status.saved(state_name(keeper.state))
     for task in beside:
         task.cancel()
     await asyncio.wait(beside, timeout=GRACE)
@@ -240,9 +259,7 @@ def status_of(words: list[str], journal: ServiceJournal) -> int:
 
 
 def main(words: list[str] | None = None) -> NoReturn:
-    while (file := os.open(os.devnull, os.O_RDWR)) <= 2:
-        pass
-    os.close(file)
+    hold_descriptors()
     journal = ServiceJournal(NAME)
     status = status_of(sys.argv[1:] if words is None else words, journal)
     journal.close()

@@ -38,6 +38,7 @@ class TrunkStatus:
         self.lost: Callable[[], None] = lambda: None
         self.fault: Callable[[], str] = str             # why the trunk is not open, if that is known
         self.is_followed: Callable[[], bool] = lambda: False
+        self.session: Callable[[str], str] = lambda _: ''      # the state with which the follower at a path has begun
         self.start = time.monotonic()
         self.naming = Naming(note_of(path))
         self.changed: frozenset[int] = frozenset()      # circuits that were configured otherwise before
@@ -121,7 +122,8 @@ class TrunkStatus:
     def _came(self, line: socket.socket) -> None:
         peer = struct.unpack('iii', line.getsockopt(socket.SOL_SOCKET, socket.SO_PEERCRED, 12))[0]
         with suppress(OSError):
-            self._session = f'{peer}.{os.stat(self._path).st_mtime_ns}'
+            path = os.path.realpath(self._path)
+            self._session = self.session(path) or f'{peer}.{os.stat(path).st_mtime_ns}'
         with suppress(OSError, ValueError, KeyError, TypeError):
             before, self._tables = self._tables, tables_of(read_config(self._config()))
             self.changed = frozenset(n for n in CIRCUITS if before.get(n) != self._tables.get(n))
@@ -135,6 +137,11 @@ class TrunkStatus:
         self.naming.begin(self._session, self._before, self.lines.seizures, self.lines.lines)
         self.stands('shadow', True)
         self.began()
+
+    def saved(self, session: str) -> None:
+        """The trunk has ended with this state: the next one that begins with it goes on counting."""
+        self.take_now()
+        self.naming.saved(session, self.lines.lines)
 
     # ---- octets ----
 
