@@ -52,7 +52,7 @@ class EventFile:
 
 
 class CallFile(logging.handlers.RotatingFileHandler):
-    """The lines of calls, below a head; ten files of 10 MiB are kept."""
+    """The lines of calls, below a head; ten files of 10 MiB are kept. An empty line opens the file."""
 
     def __init__(self, path: str) -> None:
         super().__init__(path, maxBytes=MOST_OCTETS, backupCount=KEPT, delay=True)
@@ -61,7 +61,16 @@ class CallFile(logging.handlers.RotatingFileHandler):
         stream = super()._open()
         if stream.seekable() and stream.tell() == 0:
             stream.write(','.join(FIELDS) + '\n')
+            stream.flush()
         return stream
+
+    def emit(self, record: logging.LogRecord) -> None:
+        if record.getMessage():
+            return super().emit(record)
+        try:
+            self.stream = self.stream or self._open()
+        except OSError:
+            self.handleError(record)
 
 
 def lines_to(file: TextIO | str) -> logging.Handler:

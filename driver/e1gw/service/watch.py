@@ -88,6 +88,7 @@ class TrunkWatch:
                                wants.json) if wants.json else None
         self._out = EventFile('standard output', lines_to(sys.stdout), lambda *_: None) if wants.watch else None
         self._calls_out = EventFile('calls', CallFile(wants.calls), self._note, wants.calls) if wants.calls else None
+        self._put_call(b'')
         self._calls = CallLog(wants.name, self._lines.lines, self._counts, self._put_call) if wants.calls else None
         self.status.came, self.status.began, self.status.lost = self._came, self._told_all, self._told_no_more
         if self._calls:
