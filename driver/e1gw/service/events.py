@@ -84,6 +84,7 @@ class CallFile(LineFile):
         stream = super()._open()
         if os.fstat(stream.fileno()).st_size == 0:
             stream.write(','.join(FIELDS) + '\n')
+            stream.flush()
         return stream
 
 

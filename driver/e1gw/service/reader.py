@@ -165,13 +165,16 @@ class LogReader:
                     await self._retry.wait()
             self._retry.clear()
             try:
-                if self._recording and self._recording.has_ended and self._recording.is_over():
-                    await self._try_again(self._wants)
+                if self._recording and self._recording.has_ended:
+                    await self._try_again(self._recording, self._wants)
             except Exception as fault:      # pylint: disable=broad-exception-caught
                 logger.warning('the recording does not begin again: %s', words_of_fault(fault))
 
-    async def _try_again(self, wants: RecordingWants) -> None:
-        if not await asyncio.to_thread(has_room, wants.session) or not (program := await self._checkpoint()):
+    async def _try_again(self, ended: TrunkRecording, wants: RecordingWants) -> None:
+        await asyncio.to_thread(ended.close)
+        if not ended.is_over() or not await asyncio.to_thread(has_room, wants.session):
+            return
+        if not (program := await self._checkpoint()):
             return
         for log in (log for log in self._logs if log.number == program.number):
             log.begin(program, program.checkpoint)

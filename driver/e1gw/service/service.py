@@ -181,7 +181,11 @@ def reader_of(asked: argparse.Namespace, keeper: TrunkKeeper) -> LogReader:
         before = program.checkpoint
         await keeper.checkpoints.take(program)
         return program if program is keeper.program and program.checkpoint is not before else None
-    return LogReader(recording_of(asked), asked.gap / 1000, keeper.note, checkpoint)
+
+    def note() -> None:
+        if keeper.status is None:       # (of a trunk that has ended nothing is noted any more)
+            keeper.note()
+    return LogReader(recording_of(asked), asked.gap / 1000, note, checkpoint)
 
 
 def catch_signals(keeper: TrunkKeeper, requests: ReloadRequests) -> None:
