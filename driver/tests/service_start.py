@@ -19,6 +19,7 @@ from e1gw.watching import options_of
 # The limits of the service in place of those of the old programs.
 SAME = {'watcher.PATIENCE': 'connection.PATIENCE', 'watcher.FIRST': 'status.FIRST', 'standby.WITHIN': 'keeper.WITHIN'}
 LIMITS = {'keeper.START': limits.LONG, 'keeper.GRACE': limits.LONG, 'follower.PATIENCE': limits.LONG,
+          'chain.GRACE': limits.LONG, 'line_process.QUICK': 0.0,
           'version.CHECK': limits.LONG, 'version.LOOK_UP': limits.LONG, 'status.FIRST': limits.LONG,
           'checkpoints.PAUSE': 0.0, 'checkpoints.QUICK': 0.0}
 

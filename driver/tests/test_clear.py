@@ -298,6 +298,8 @@ class ClearGatewayTests(support.FolderCase):
             serve.process.stdout.close()
             self.assertEqual(wrong_slots(device.taken), [], first)
 
+
+class ClearServiceTests(unittest.TestCase):
     def test_the_driver_opens_another_device(self) -> None:
         with World(config_of(range(1, 2)), '--clear', '--reopen') as world:
             self.assertEqual(len(self.through(world, 496)), 496)       # a multiframe of 31 slots

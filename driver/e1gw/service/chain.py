@@ -48,8 +48,8 @@ class CarriedTrunk(TrunkFiles):
         self.files = LineFiles()
         self._processes, self._tasks = dict[str, LineProcess](), dict[str, asyncio.Task[None]]()
         self._left = list[LineProcess]()            # of a service before this one whose descriptors nobody has kept
-        self._why, self._is_lost = '', False        # why the line has ended; whether the process that counts has
-        self.origin, self._began = 0, -1            # (the latter is that with which the line has)
+        self._why = ''                              # why the line has ended
+        self.origin = 0
         if note:
             self._take_up(files, note)
 
@@ -60,7 +60,7 @@ class CarriedTrunk(TrunkFiles):
             await process.end(0.0)
         self._left = []
         stream = await asyncio.to_thread(self._opens)
-        self.name, self._why, self._began = stream.name, '', -1
+        self.name, self._why = stream.name, ''
         if isinstance(stream, EmulatedStream):
             self.files, self._satop = LineFiles({'near': stream.reads, 'far': stream.far}), stream.words
         else:
@@ -74,8 +74,7 @@ class CarriedTrunk(TrunkFiles):
             await self.finish(None)
             raise
         self._does('look', self._look)
-        self.since, self.fault = time.time(), ''
-        self.tell({'event': 'trunk', **self.status()})
+        self._tell_open()
 
     def _inward(self) -> list[str]:
         """The processes through which goes what comes, in their order."""
@@ -132,7 +131,7 @@ class CarriedTrunk(TrunkFiles):
 
     async def join(self, octets: int, is_new: bool, is_well: bool) -> None:
         self.origin = octets if is_new else self.origin
-        self._began = octets if self._began < 0 else self._began
+        self.counts.line_begins(octets)
         if self.line.crc4 and not (is_well and self._is_there('send')):
             await self._end_sending()
             self.files.joints['send'] = Joint(room=ROOM)
@@ -141,31 +140,33 @@ class CarriedTrunk(TrunkFiles):
             self._begin_counting()
 
     def _begin_counting(self) -> None:
-        """Begins the process that counts."""
         self._begin(self.counting)
-        if self._is_lost:
-            self._is_lost = False
-            self.tell({'event': 'trunk', **self.status()})
+        if self.fault:
+            self._tell_open()
 
     # ---- while it is there ----
 
     async def _keep(self, name: str, process: LineProcess) -> None:
         """Begins a process again each time that it dies, until the line ends."""
-        while process.child:
-            await process.child.over.wait()
+        while True:
+            if process.child:
+                await process.child.over.wait()
             self.counts.hear(process)
             its_end, words = process.ended_itself(), f'{BROKEN}: {process.end_words()}'
             if self._why or its_end == 0 or its_end and not (name == 'satop' and self.line.reopens):
                 return self._end_with(name, ENDED if its_end == 0 and name != 'satop' else words)
+            self.fault = words
             self.tell({'event': 'trunk lost', 'why': words})
             if name == self.counting:
-                self._is_lost = True
                 return self.ask(process.end_words())
             if name == 'check':
                 self.counts.check_ends()
-                self._began = -1
             await process.begin_again()
-            self.tell({'event': 'trunk', **self.status()})
+            self._tell_open()
+
+    def _tell_open(self) -> None:
+        self.since, self.fault = time.time(), ''
+        self.tell({'event': 'trunk', **self.status()})
 
     def _end_line(self, why: str) -> None:
         """The line has ended. The program is given what has come, and ends behind that."""
@@ -215,8 +216,7 @@ class CarriedTrunk(TrunkFiles):
             shut(self.files.ends['near'])
         for name in list(self._processes):
             await self._end_process(name, GRACE if 'near' in self.files.ends else 0.0)
-        known = self._why and octets is not None and self._began >= 0
-        self.counts.line_ends(octets - self._began if known and octets else None)
+        self.counts.line_ends(octets if self._why else None)
         self.files.close()
         self._satop = []
 
@@ -251,12 +251,12 @@ class CarriedTrunk(TrunkFiles):
     def note(self) -> dict[str, Any]:
         return {'files': {what: name for what, (name, _) in self._named().items()},
                 'processes': {name: process.note() for name, process in self._processes.items()}, 'name': self.name,
-                'satop': self._satop, 'origin': self.origin, 'began': self._began, 'counts': self.counts.note()}
+                'satop': self._satop, 'origin': self.origin, 'why': self._why, 'counts': self.counts.note()}
 
     def _take_up(self, files: dict[str, int], note: dict[str, Any]) -> None:
         """Goes on where the service before this one has left, if it has its descriptors."""
-        self.name, self._satop, self.origin = str(note['name']), list(note['satop']), int(note['origin'])
-        self._began = int(note['began'])
+        self.name, self._satop = str(note['name']), list(note['satop'])
+        self.origin, self._why = int(note['origin']), str(note['why'])
         self.counts.take_up(note['counts'])
         its = {what: files[name] for what, name in note['files'].items() if name in files}
         self.files = LineFiles(its)

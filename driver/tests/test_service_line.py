@@ -1,0 +1,305 @@
+"""One process a trunk, whose trunk is no plain device: SAToP, any bit offset, CRC-4, a card that keeps slot 0. The
+tests of e1gw-carry ask the same of it; and here is what becomes of the processes on the line."""
+from __future__ import annotations
+
+import asyncio
+import json
+import os
+import signal
+import stat
+import subprocess
+import sys
+import tempfile
+import unittest
+from typing import Any, Callable
+
+from . import support, test_clear, test_crc4, test_filtered, test_satop_call
+from .support import SECONDS
+from .test_crc4 import MULTIFRAME, Crc4World, checked, frame_alignment, multiframe_in, of_children
+from .test_filtered import LateWorld, carried
+from .test_satop_process import ENDS, SCRIPT
+from .test_service_keeper import ServiceKilledCase
+from .test_service_watch import OneProcessCase
+from .test_trunk import FOUR, aligned, call, is_there
+from .world import LAUNCHER, World, config_of, descendant
+from e1gw import session
+from e1gw.lines import Event
+from e1gw.service.chain import BROKEN, CarriedTrunk
+from e1gw.service.devices import EmulatedStream, LineOptions
+from e1gw.service.line_process import waiting
+
+
+class ServiceAlignTests(OneProcessCase, test_filtered.FilterServiceTests):
+    """Octets at any bit."""
+
+    def test_it_ends_with_the_process(self) -> None:
+        """(It goes on: another one is begun.) The call is up, on the same device."""
+        with LateWorld(config_of(FOUR), '--align') as world:
+            aligned(world)
+            call(world, 1)
+            for number in (signal.SIGKILL, signal.SIGSTOP):
+                before = descendant(world.process.pid, 'align')
+                os.kill(before, number)
+                support.until(lambda: before not in of_words(world.process.pid, 'align'))
+                world.step(60)
+                self.assertEqual(world.state(1), 'answered')
+            status, said = world.quit()
+        self.assertEqual((status, said.count(f'trunk lost: {test_filtered.ENDED}')), (0, 2))
+
+    def test_a_file_from_end_to_end(self) -> None:
+        """What is written is what a gateway sends that is given the aligned octets, up to the last one."""
+        with tempfile.TemporaryDirectory() as folder:
+            toml, reads, writes = (os.path.join(folder, name) for name in ('trunk.toml', 'in', 'out'))
+            octets = carried(6, 0, 20_001)
+            with open(toml, 'w', encoding='utf-8') as config, open(reads, 'wb') as file:
+                config.write(config_of(FOUR))
+                file.write(octets)
+            subprocess.run([sys.executable, '-B', LAUNCHER, '--program', support.program(), '--config', toml, '--align',
+                            '--in', reads, '--out', writes], stdin=subprocess.DEVNULL, check=True,
+                           stderr=subprocess.DEVNULL, timeout=SECONDS)
+            given = session.trunk_record(support.run('align', given=octets))
+            sent = session.records_in(support.run('replay', '--config', toml, given=given))
+            with open(writes, 'rb') as file:
+                self.assertEqual(file.read(), b''.join(each.body for each in sent if each.kind is session.Kind.TRUNK))
+
+
+class ServiceCrc4Tests(OneProcessCase, test_crc4.Crc4ServiceTests):
+    """CRC-4 both ways."""
+
+    def test_it_ends_with_each_filter(self) -> None:
+        """(It goes on: another one is begun.) The call is up, on the same device, and every submultiframe is right."""
+        for words in ('crc4',), ('crc4', '--check'):
+            with self.subTest(words), Crc4World(config_of(FOUR)) as world:
+                aligned(world)
+                call(world, 1)
+                before = of_children(world.process.pid, *words)
+                os.kill(before[0], signal.SIGKILL)
+                support.until(lambda: of_children(world.process.pid, *words) not in (before, []))
+                self.goes_on(world)
+
+    def goes_on(self, world: Crc4World) -> None:
+        """A call is up, and all that the exchange hears from now on is right."""
+        begun = len(world.heard)
+        world.step(100)
+        heard = bytes(world.heard[begun:])
+        at = multiframe_in(heard, frame_alignment(heard, 7))
+        assert at is not None
+        self.assertEqual(set(checked(heard, at)), {True})
+        self.assertEqual(world.state(1), 'answered')
+
+    def test_a_program_that_dies(self) -> None:
+        """Also inside a frame: `e1gw crc4` is begun anew with the frames of the next program."""
+        for count in 0, 77, 500:
+            with self.subTest(count), Crc4World(config_of(FOUR)) as world:
+                aligned(world)
+                call(world, 1)
+                octets = world.exchange.multiframe()
+                octets = world.sender.multiframe(octets)
+                world.line.sendall(octets[:count])
+                back = b''
+                while len(back) < count:
+                    back += world.line.recv(count - len(back))
+                os.kill(of_words(world.process.pid, 'trunk')[0], signal.SIGKILL)
+                world.line.sendall(octets[count:])
+                while len(back) < MULTIFRAME:
+                    back += world.line.recv(MULTIFRAME - len(back))
+                world.exchange = support.Exchange()
+                world.exchange.pairs[1] = 1
+                self.goes_on(world)
+
+    def test_a_state_that_ends_inside_a_frame(self) -> None:
+        """The next start sends CRC-4 in the frames of the gateway with that state."""
+        with tempfile.TemporaryDirectory() as folder:
+            state = os.path.join(folder, 'state')
+            with Crc4World(config_of(FOUR), '--state', state) as world:
+                world.line.sendall(b'\xD5' * 77)
+                back = b''
+                while len(back) < 77:
+                    back += world.line.recv(77 - len(back))
+                self.assertEqual(world.quit()[0], 0)
+            with Crc4World(config_of(FOUR), '--state', state) as world:
+                world.exchange = support.Exchange()
+                world.step(100)
+                heard = bytes(world.heard[MULTIFRAME:])
+                at = multiframe_in(heard, frame_alignment(heard, 7))
+                assert at is not None
+                self.assertEqual(set(checked(heard, at)), {True})
+
+
+class ServiceClearTests(OneProcessCase, test_clear.ClearServiceTests):
+    """A card that keeps slot 0."""
+
+    def test_the_pump_and_the_program_die(self) -> None:
+        """Each slot goes on in its place, both ways."""
+        with World(config_of(range(1, 2)), '--clear') as world:
+            for word in 'trunk', 'slot_pump', 'trunk':
+                before = of_words(world.process.pid, word)
+                os.kill(before[0], signal.SIGKILL)
+                support.until(lambda: of_words(world.process.pid, word) not in (before, []))
+                self.assertEqual(test_clear.wrong_slots(self.through(world, 31 * 64)), [])
+
+
+class ServiceSatopCallTests(OneProcessCase, test_satop_call.SatopCallTests):
+    """Two services at one another over SAToP."""
+
+
+def of_words(parent: int, word: str) -> list[int]:
+    """The processes that a process has started whose first words have this one."""
+    found = []
+    for name in filter(str.isdecimal, os.listdir('/proc')):
+        try:
+            with open(f'/proc/{name}/stat', encoding='ascii') as about, open(f'/proc/{name}/cmdline', 'rb') as line:
+                is_child = int(about.read().rpartition(')')[2].split()[1]) == parent
+                if is_child and any(word.encode() in each for each in line.read().split(b'\0')[1:4]):
+                    found.append(int(name))
+        except (OSError, ValueError):
+            pass
+    return found
+
+
+class LineKilledTests(ServiceKilledCase):
+    """A service that is killed: the processes on its line go on, and the next one sees to them."""
+
+    def settles(self) -> None:
+        """Until systemd has the descriptors of the program and the line of now, and no others."""
+        def settled() -> bool:
+            note, line = self.note(), self.line()
+            return note is not None and {'kept', *note['files'].values(), *line['files'].values()} == {
+                *self.manager.files}
+        support.until(settled)
+
+    def line(self) -> dict[str, Any]:
+        """What the service has noted of its line."""
+        octets = os.pread(self.manager.files['kept'], 65_536, 0).partition(b'\n')[0]
+        found: dict[str, Any] = json.loads(octets)['trunk']
+        return found
+
+    def process(self, name: str) -> int:
+        return int(self.line()['processes'][name][0])
+
+    def dies_meanwhile(self, name: str) -> None:
+        """A process of the line is killed while no service is there."""
+        process = self.process(name)
+        self.kill_keeper()
+        os.kill(process, signal.SIGKILL)
+        self.told_from = len(self.told())
+        self.comes_back()
+        support.until(lambda: self.process(name) != process)
+        self.step(20)
+
+    def test_align(self) -> None:
+        """Not an octet is lost that no process had."""
+        self.begins('--align')
+        process = self.process('align')
+        self.kill_keeper()
+        self.step(20)
+        self.comes_back()
+        self.keeper.send_signal(signal.SIGHUP)
+        self.goes_on()
+        self.keeper.send_signal(signal.SIGUSR2)
+        self.awaits('the keeper was replaced')
+        self.step(20)
+        self.settles()
+        self.assertEqual(self.process('align'), process)
+        self.dies_meanwhile('align')
+        self.dies()
+        self.step(20)
+        self.as_uncut()
+        self.ends()
+        self.assertEqual(os.listdir(self.memory), [])
+        support.until(lambda: not self.manager.files)
+
+    def test_crc4(self) -> None:
+        """`e1gw crc4` goes on with the next program, as if there were one."""
+        self.begins('--crc4')
+        process = self.process('send')
+        self.kill_keeper()
+        self.step(20)
+        self.comes_back()
+        self.keeper.send_signal(signal.SIGHUP)
+        self.goes_on()
+        self.step(20)
+        self.assertEqual(self.process('send'), process)
+        octets, _ = self.uncut()
+        self.assertEqual(b''.join(each or b'' for each in self.heard), support.run('crc4', given=b''.join(octets)))
+        self.dies_meanwhile('check')
+        self.assertEqual(self.device.exchange.signals, self.up())
+        self.ends()
+
+    def test_without_systemd(self) -> None:
+        """What is on the line ends, and another one is begun with the device opened again."""
+        self.begins('--crc4')
+        processes = [self.process(name) for name in ('check', 'send')]
+        self.kill_keeper()
+        self.step(20)
+        self.manager.files.clear()
+        self.again()
+        line = self.device.line
+        self.device.accept()
+        line.close()
+        self.assertIn(f'behind octet {len(self.heard) * MULTIFRAME}', self.goes_on())
+        self.step(40)
+        self.assertEqual(self.device.exchange.signals, self.up())
+        self.assertEqual([is_there(process) for process in processes], [False, False])
+        self.ends()
+
+
+class LineProcessTests(support.FolderCase, unittest.IsolatedAsyncioTestCase):
+    """An emulated circuit, whose `e1gw satop` is a script."""
+
+    async def opened(self, script: str, reopens: bool = False) -> CarriedTrunk:
+        path = self.write('e1gw', f'#!{sys.executable}{script}')
+        os.chmod(path, stat.S_IRWXU)
+        self.told: list[Event] = []
+        trunk = CarriedTrunk(LineOptions(path, lambda: EmulatedStream(['x']), reopens=reopens), {}, None)
+        trunk.tell = self.told.append
+        await trunk.open()
+        await trunk.join(0, True, True)
+        self.addAsyncCleanup(trunk.finish, None)
+        return trunk
+
+    async def until(self, holds: Callable[[], object]) -> None:
+        while not holds():
+            await asyncio.sleep(0.01)
+
+    async def goes_round(self, trunk: CarriedTrunk) -> None:
+        """Octets go both ways."""
+        os.write(trunk.both[1], bytes(range(256)))
+        await self.until(lambda: waiting(trunk.both[0]) >= 256)
+        self.assertEqual(os.read(trunk.both[0], 1000), bytes(range(255, -1, -1)))
+
+    def process(self, trunk: CarriedTrunk) -> int:
+        return int(trunk.note()['processes']['satop'][0])
+
+    async def test_it_dies_and_is_stopped(self) -> None:
+        """Another one has the same socket pair; what it counts goes on in the status."""
+        trunk = await self.opened(SCRIPT)
+        for number in signal.SIGKILL, signal.SIGSTOP:
+            await self.goes_round(trunk)
+            await self.until(lambda: trunk.status().get('received') == 3)
+            before = self.process(trunk)
+            os.kill(before, number)
+            await self.until(lambda: self.process(trunk) != before)
+        await self.goes_round(trunk)
+        self.assertEqual([event['event'] for event in self.told],
+                         ['trunk', 'trunk lost', 'trunk', 'trunk lost', 'trunk'])
+
+    async def test_it_ends_by_itself(self) -> None:
+        """The program sees the end of the trunk; with --reopen another one is tried."""
+        why = f'{BROKEN}: e1gw satop ended with status 3: e1gw: 127.0.0.1:5000: Address already in use'
+        trunk = await self.opened(ENDS)
+        await self.until(lambda: trunk.has_ended(0))
+        self.assertEqual((os.read(trunk.both[0], 10), trunk.failure()), (b'', why))
+        trunk = await self.opened(ENDS, reopens=True)
+        await self.until(lambda: self.told.count({'event': 'trunk lost', 'why': why}) > 1)
+        self.assertFalse(trunk.has_ended(0))
+
+    async def test_what_it_was_given_last_goes_out(self) -> None:
+        trunk = await self.opened(f"""{SCRIPT}open('{self.path('over')}', 'w')\n""")
+        os.write(trunk.both[1], bytes(100_000))
+        await trunk.finish(None)
+        self.assertTrue(os.path.exists(self.path('over')))
+
+
+if __name__ == '__main__':
+    unittest.main()
