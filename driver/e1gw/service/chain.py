@@ -98,10 +98,9 @@ class CarriedTrunk(TrunkFiles):
 
     def _added(self, name: str, said: int = -1) -> LineProcess:
         """One of the processes, which is not begun yet."""
-        words, reports = [self.line.program, *PROCESSES[name]], self.files.joints.get('reports')
-        if name == 'satop':
-            words += self._satop
-        elif reports:
+        reports = self.files.joints.get('reports') if name in ('check', 'send') else None
+        words = [self.line.program, *PROCESSES[name], *(self._satop if name == 'satop' else [])]
+        if reports:
             words += ['--reports', f'/dev/fd/{reports.file}', *(['--live'] if name == 'check' else [])]
         self._processes[name] = LineProcess(' '.join(['e1gw', *PROCESSES[name]]), words, lambda: self._ends(name),
                                             [reports.file] if reports else [], said)
@@ -133,10 +132,11 @@ class CarriedTrunk(TrunkFiles):
         self.origin = octets if is_new else self.origin
         self.counts.line_begins(octets)
         if self.line.crc4 and not (is_well and self._is_there('send')):
+            rest = self.files.joints['send'].rest(ROOM - SIGNALS) if is_well and 'send' in self.files.joints else b''
             await self._end_sending()
             self.files.joints['send'] = Joint(room=ROOM)
             self.both = self.both[0], self.files.to_send()
-            os.write(self.both[1], ONES * ((octets - self.origin) % SIGNALS))
+            os.write(self.both[1], ONES * ((octets - self.origin - len(rest)) % SIGNALS) + rest)
             self._begin_counting()
 
     def _begin_counting(self) -> None:
