@@ -6,6 +6,7 @@ import asyncio
 import json
 import os
 import signal
+import socket
 import stat
 import subprocess
 import sys
@@ -27,6 +28,8 @@ from e1gw.lines import Event
 from e1gw.service.chain import BROKEN, CarriedTrunk
 from e1gw.service.devices import EmulatedStream, LineOptions
 from e1gw.service.line_process import waiting
+from e1gw.service.slot_trunk import SlotTrunk
+from e1gw.trunks import Stream
 
 
 class ServiceAlignTests(OneProcessCase, test_filtered.FilterServiceTests):
@@ -299,6 +302,37 @@ class LineProcessTests(support.FolderCase, unittest.IsolatedAsyncioTestCase):
         os.write(trunk.both[1], bytes(100_000))
         await trunk.finish(None)
         self.assertTrue(os.path.exists(self.path('over')))
+
+
+class SlotTrunkTests(unittest.IsolatedAsyncioTestCase):
+    """A card that keeps slot 0, and what programs have read and answered."""
+
+    async def test_octets_that_a_program_did_not_answer(self) -> None:
+        """As many octets go to the card as have come, and each slot stays in its place."""
+        ours, card = socket.socketpair()
+        self.addCleanup(card.close)
+        card.setblocking(False)
+        file = ours.detach()
+        trunk = SlotTrunk(LineOptions('', lambda: Stream(file, file, 'card'), law=lambda: 'A'), {}, None)
+        await trunk.open()
+        self.addAsyncCleanup(trunk.finish, None)
+        sent = bytes(range(1, 32)) * 16
+        for octets, count in (0, 100), (512, 0), (1024, 511), (1536, 512):
+            await trunk.join(octets, False, False)
+            card.send(sent)
+            answers = await self.read(trunk.both[0], 512)
+            os.write(trunk.both[1], answers[:count])
+        self.assertEqual(await self.read(card.fileno(), 100 - 4), sent[:100 - 4])
+        back = await self.read(card.fileno(), 4 * len(sent) - (100 - 4))
+        self.assertEqual(back[-len(sent):], sent)
+        self.assertEqual(set(trunk.note()['processes']), {'pump'})
+
+    async def read(self, file: int, count: int) -> bytes:
+        octets = b''
+        while len(octets) < count:
+            await asyncio.sleep(0.001)
+            octets += os.read(file, min(waiting(file), count - len(octets))) if waiting(file) else b''
+        return octets
 
 
 if __name__ == '__main__':

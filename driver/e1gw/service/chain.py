@@ -24,6 +24,7 @@ from .line_process import Joint, LineFiles, LineProcess, unsent, waiting
 from .program import name_of
 from .trunk import TrunkFiles
 
+AGAIN = 1.0                 # seconds after which another program is asked for again
 LOOK = 0.1                  # seconds between two looks at what the processes say
 GRACE = 1.0                 # seconds for what was sent last to go out
 ROOM = 8192                 # octets that wait for `e1gw crc4`: 32 ms of the trunk
@@ -50,8 +51,8 @@ class CarriedTrunk(TrunkFiles):
         self._left = list[LineProcess]()            # of a service before this one whose descriptors nobody has kept
         self._why = ''                              # why the line has ended
         self.origin = 0
-        if note:
-            self._take_up(files, note)
+        with contextlib.suppress(KeyError, TypeError, ValueError):      # (then it is opened anew)
+            self._take_up(files, note or {})
 
     # ---- opening ----
 
@@ -157,8 +158,9 @@ class CarriedTrunk(TrunkFiles):
                 return self._end_with(name, ENDED if its_end == 0 and name != 'satop' else words)
             self.fault = words
             self.tell({'event': 'trunk lost', 'why': words})
-            if name == self.counting:
-                return self.ask(process.end_words())
+            while name == self.counting:        # (until it is begun with another program)
+                self.ask(process.end_words())
+                await asyncio.sleep(AGAIN)
             if name == 'check':
                 self.counts.check_ends()
             await process.begin_again()
@@ -195,8 +197,7 @@ class CarriedTrunk(TrunkFiles):
             await asyncio.sleep(LOOK)
 
     def _hear(self) -> None:
-        for process in list(self._processes.values()):
-            self.counts.hear(process)
+        self.counts.hear(*self._processes.values())
 
     # ---- its end ----
 

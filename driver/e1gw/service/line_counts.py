@@ -2,6 +2,7 @@
 from __future__ import annotations
 
 import json
+from contextlib import suppress
 from typing import Any, Callable
 
 from ..crc4 import Crc4, counts_of as counts_at_end, live_counts
@@ -28,18 +29,23 @@ class LineCounts:
         self.slots: dict[str, Any] = {}
         self.has_ended = False                          # whether a device that keeps slot 0 has
 
-    def hear(self, process: LineProcess) -> None:
-        """Takes what a process has said."""
-        for line in process.lines():
-            if counts := satop_counts(line):
-                self._take_satop(counts)
-            elif self._crc4 and (counts := live_counts(line)):
-                self._seconds += 1
-                self._take_crc4(counts, self._seconds * OCTETS_A_SECOND)
-            elif line.startswith('{'):
+    def hear(self, *processes: LineProcess) -> None:
+        """Takes what processes have said."""
+        for process in processes:
+            for line in process.lines():
+                self._hear_line(process, line)
+
+    def _hear_line(self, process: LineProcess, line: str) -> None:
+        if counts := satop_counts(line):
+            self._take_satop(counts)
+        elif self._crc4 and (counts := live_counts(line)):
+            self._seconds += 1
+            self._take_crc4(counts, self._seconds * OCTETS_A_SECOND)
+        elif line.startswith('{'):
+            with suppress(ValueError):      # (it was killed while it said so)
                 self._take_slots(json.loads(line))
-            else:
-                process.last, self._last = line, [*self._last[1 - MOST_LINES:], line]
+        else:
+            process.last, self._last = line, [*self._last[1 - MOST_LINES:], line]
 
     def _take_satop(self, counts: dict[str, int]) -> None:
         self._satop = counts
