@@ -18,7 +18,7 @@ LIMITS: dict[str, Any] = {
     'service.keeper.START': LONG, 'service.keeper.GRACE': LONG, 'service.follower.PATIENCE': LONG,
     'service.version.CHECK': LONG, 'service.version.LOOK_UP': LONG, 'service.status.FIRST': LONG,
     'service.status.QUIET': LONG, 'service.pages.DRAWN': LONG, 'service.reload.PATIENCE': LONG,
-    'service.recordings.FLUSH': LONG,
+    'service.recordings.FLUSH': LONG, 'service.chain.GRACE': LONG, 'service.line_process.QUICK': 0.0,
     'service.checkpoints.PAUSE': 0.0, 'service.checkpoints.QUICK': 0.0,
     'ctl_all.PATIENCE': LONG, 'programs.PATIENCE': LONG, 'tie.client.PATIENCE': LONG,
     # (A process that gets what others leave gets next to nothing on a loaded machine.)

@@ -24,6 +24,7 @@ from .line_process import Joint, LineFiles, LineProcess, unsent, waiting
 from .program import name_of
 from .trunk import TrunkFiles
 
+AGAIN = 1.0                 # seconds after which another program is asked for again
 LOOK = 0.1                  # seconds between two looks at what the processes say
 GRACE = 1.0                 # seconds for what was sent last to go out
 ROOM = 8192                 # octets that wait for `e1gw crc4`: 32 ms of the trunk
@@ -48,10 +49,10 @@ class CarriedTrunk(TrunkFiles):
         self.files = LineFiles()
         self._processes, self._tasks = dict[str, LineProcess](), dict[str, asyncio.Task[None]]()
         self._left = list[LineProcess]()            # of a service before this one whose descriptors nobody has kept
-        self._why, self._is_lost = '', False        # why the line has ended; whether the process that counts has
-        self.origin, self._began = 0, -1            # (the latter is that with which the line has)
-        if note:
-            self._take_up(files, note)
+        self._why = ''                              # why the line has ended
+        self.origin = 0
+        with contextlib.suppress(KeyError, TypeError, ValueError):      # (then it is opened anew)
+            self._take_up(files, note or {})
 
     # ---- opening ----
 
@@ -60,7 +61,7 @@ class CarriedTrunk(TrunkFiles):
             await process.end(0.0)
         self._left = []
         stream = await asyncio.to_thread(self._opens)
-        self.name, self._why, self._began = stream.name, '', -1
+        self.name, self._why = stream.name, ''
         if isinstance(stream, EmulatedStream):
             self.files, self._satop = LineFiles({'near': stream.reads, 'far': stream.far}), stream.words
         else:
@@ -74,8 +75,7 @@ class CarriedTrunk(TrunkFiles):
             await self.finish(None)
             raise
         self._does('look', self._look)
-        self.since, self.fault = time.time(), ''
-        self.tell({'event': 'trunk', **self.status()})
+        self._tell_open()
 
     def _inward(self) -> list[str]:
         """The processes through which goes what comes, in their order."""
@@ -99,10 +99,9 @@ class CarriedTrunk(TrunkFiles):
 
     def _added(self, name: str, said: int = -1) -> LineProcess:
         """One of the processes, which is not begun yet."""
-        words, reports = [self.line.program, *PROCESSES[name]], self.files.joints.get('reports')
-        if name == 'satop':
-            words += self._satop
-        elif reports:
+        reports = self.files.joints.get('reports') if name in ('check', 'send') else None
+        words = [self.line.program, *PROCESSES[name], *(self._satop if name == 'satop' else [])]
+        if reports:
             words += ['--reports', f'/dev/fd/{reports.file}', *(['--live'] if name == 'check' else [])]
         self._processes[name] = LineProcess(' '.join(['e1gw', *PROCESSES[name]]), words, lambda: self._ends(name),
                                             [reports.file] if reports else [], said)
@@ -132,40 +131,44 @@ class CarriedTrunk(TrunkFiles):
 
     async def join(self, octets: int, is_new: bool, is_well: bool) -> None:
         self.origin = octets if is_new else self.origin
-        self._began = octets if self._began < 0 else self._began
+        self.counts.line_begins(octets)
         if self.line.crc4 and not (is_well and self._is_there('send')):
+            rest = self.files.joints['send'].rest(ROOM - SIGNALS) if is_well and 'send' in self.files.joints else b''
             await self._end_sending()
             self.files.joints['send'] = Joint(room=ROOM)
             self.both = self.both[0], self.files.to_send()
-            os.write(self.both[1], ONES * ((octets - self.origin) % SIGNALS))
+            os.write(self.both[1], ONES * ((octets - self.origin - len(rest)) % SIGNALS) + rest)
             self._begin_counting()
 
     def _begin_counting(self) -> None:
-        """Begins the process that counts."""
         self._begin(self.counting)
-        if self._is_lost:
-            self._is_lost = False
-            self.tell({'event': 'trunk', **self.status()})
+        if self.fault:
+            self._tell_open()
 
     # ---- while it is there ----
 
     async def _keep(self, name: str, process: LineProcess) -> None:
         """Begins a process again each time that it dies, until the line ends."""
-        while process.child:
-            await process.child.over.wait()
+        while True:
+            if process.child:
+                await process.child.over.wait()
             self.counts.hear(process)
             its_end, words = process.ended_itself(), f'{BROKEN}: {process.end_words()}'
             if self._why or its_end == 0 or its_end and not (name == 'satop' and self.line.reopens):
                 return self._end_with(name, ENDED if its_end == 0 and name != 'satop' else words)
+            self.fault = words
             self.tell({'event': 'trunk lost', 'why': words})
-            if name == self.counting:
-                self._is_lost = True
-                return self.ask(process.end_words())
+            while name == self.counting:        # (until it is begun with another program)
+                self.ask(process.end_words())
+                await asyncio.sleep(AGAIN)
             if name == 'check':
                 self.counts.check_ends()
-                self._began = -1
             await process.begin_again()
-            self.tell({'event': 'trunk', **self.status()})
+            self._tell_open()
+
+    def _tell_open(self) -> None:
+        self.since, self.fault = time.time(), ''
+        self.tell({'event': 'trunk', **self.status()})
 
     def _end_line(self, why: str) -> None:
         """The line has ended. The program is given what has come, and ends behind that."""
@@ -194,8 +197,7 @@ class CarriedTrunk(TrunkFiles):
             await asyncio.sleep(LOOK)
 
     def _hear(self) -> None:
-        for process in list(self._processes.values()):
-            self.counts.hear(process)
+        self.counts.hear(*self._processes.values())
 
     # ---- its end ----
 
@@ -215,8 +217,7 @@ class CarriedTrunk(TrunkFiles):
             shut(self.files.ends['near'])
         for name in list(self._processes):
             await self._end_process(name, GRACE if 'near' in self.files.ends else 0.0)
-        known = self._why and octets is not None and self._began >= 0
-        self.counts.line_ends(octets - self._began if known and octets else None)
+        self.counts.line_ends(octets if self._why else None)
         self.files.close()
         self._satop = []
 
@@ -251,12 +252,12 @@ class CarriedTrunk(TrunkFiles):
     def note(self) -> dict[str, Any]:
         return {'files': {what: name for what, (name, _) in self._named().items()},
                 'processes': {name: process.note() for name, process in self._processes.items()}, 'name': self.name,
-                'satop': self._satop, 'origin': self.origin, 'began': self._began, 'counts': self.counts.note()}
+                'satop': self._satop, 'origin': self.origin, 'why': self._why, 'counts': self.counts.note()}
 
     def _take_up(self, files: dict[str, int], note: dict[str, Any]) -> None:
         """Goes on where the service before this one has left, if it has its descriptors."""
-        self.name, self._satop, self.origin = str(note['name']), list(note['satop']), int(note['origin'])
-        self._began = int(note['began'])
+        self.name, self._satop = str(note['name']), list(note['satop'])
+        self.origin, self._why = int(note['origin']), str(note['why'])
         self.counts.take_up(note['counts'])
         its = {what: files[name] for what, name in note['files'].items() if name in files}
         self.files = LineFiles(its)

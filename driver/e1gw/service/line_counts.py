@@ -2,6 +2,7 @@
 from __future__ import annotations
 
 import json
+from contextlib import suppress
 from typing import Any, Callable
 
 from ..crc4 import Crc4, counts_of as counts_at_end, live_counts
@@ -23,21 +24,28 @@ class LineCounts:
         self._conditions = [(name, SatopCondition(count), words) for name, count, words in CONDITIONS]
         self._tell = tell
         self._seconds, self._last = 0, list[str]()      # the counts that a check has told, and its last words
+        self._began: int | None = None                  # the octet of the trunk with which it has begun, if known
+        self._is_open = False
         self.slots: dict[str, Any] = {}
         self.has_ended = False                          # whether a device that keeps slot 0 has
 
-    def hear(self, process: LineProcess) -> None:
-        """Takes what a process has said."""
-        for line in process.lines():
-            if counts := satop_counts(line):
-                self._take_satop(counts)
-            elif self._crc4 and (counts := live_counts(line)):
-                self._seconds += 1
-                self._take_crc4(counts, self._seconds * OCTETS_A_SECOND)
-            elif line.startswith('{'):
+    def hear(self, *processes: LineProcess) -> None:
+        """Takes what processes have said."""
+        for process in processes:
+            for line in process.lines():
+                self._hear_line(process, line)
+
+    def _hear_line(self, process: LineProcess, line: str) -> None:
+        if counts := satop_counts(line):
+            self._take_satop(counts)
+        elif self._crc4 and (counts := live_counts(line)):
+            self._seconds += 1
+            self._take_crc4(counts, self._seconds * OCTETS_A_SECOND)
+        elif line.startswith('{'):
+            with suppress(ValueError):      # (it was killed while it said so)
                 self._take_slots(json.loads(line))
-            else:
-                process.last, self._last = line, [*self._last[1 - MOST_LINES:], line]
+        else:
+            process.last, self._last = line, [*self._last[1 - MOST_LINES:], line]
 
     def _take_satop(self, counts: dict[str, int]) -> None:
         self._satop = counts
@@ -56,18 +64,22 @@ class LineCounts:
         self.slots = told.get('slots', self.slots)
         self.has_ended |= told.get('ended', False)
 
+    def line_begins(self, octets: int) -> None:
+        """A program begins behind so many octets of the trunk: the first one, or another one, on this line."""
+        self._began, self._is_open = (self._began if self._is_open else octets), True
+
     def check_ends(self, octets: int | None = None) -> None:
-        """A check has ended. It has read so many octets, if that is known."""
+        """A check has ended, and another one may follow. It has read so many octets, if that is known."""
         if self._crc4:
             if counts := counts_at_end(self._last):
                 self._take_crc4(counts, self._seconds * OCTETS_A_SECOND if octets is None else octets)
             self._crc4.ended()
-        self._seconds, self._last = 0, []
+        self._seconds, self._last, self._began = 0, [], None
 
     def line_ends(self, octets: int | None) -> None:
-        """The line has, and with it the check."""
-        self.check_ends(octets)
-        self.has_ended = False
+        """The line has ended, behind so many octets of the trunk, if all of them were read."""
+        self.check_ends(None if octets is None or self._began is None else octets - self._began)
+        self.has_ended = self._is_open = False
 
     def satop_status(self) -> dict[str, int]:
         return self._satop | {name: int(each.on) for name, each, _ in self._conditions}
@@ -77,9 +89,10 @@ class LineCounts:
 
     def note(self) -> list[Any]:
         """What the next service has to know."""
-        return [self._seconds, self.slots, self._crc4.note() if self._crc4 else None]
+        crc4 = self._crc4.note() if self._crc4 else None
+        return [self._seconds, self._began, self._is_open, self.slots, self.has_ended, crc4]
 
     def take_up(self, note: list[Any]) -> None:
-        self._seconds, self.slots, its = note
+        self._seconds, self._began, self._is_open, self.slots, self.has_ended, its = note
         if self._crc4 and its:
             self._crc4.take_up(its)

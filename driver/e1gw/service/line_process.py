@@ -41,6 +41,10 @@ class Joint:
         """A descriptor of its own for an end of it."""
         return os.open(f'/proc/self/fd/{self.file}', flags | os.O_CLOEXEC)
 
+    def rest(self, most: int) -> bytes:
+        """What nobody has read of it; nothing if that is too much."""
+        return os.read(self.file, most) if 0 < waiting(self.file) <= most else b''
+
     def close(self) -> None:
         if self.file >= 0:
             os.close(self.file)

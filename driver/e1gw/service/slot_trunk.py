@@ -42,7 +42,7 @@ class SlotTrunk(CarriedTrunk):
         self._set_ends()
 
     def _added(self, name: str, said: int = -1, octets: int = 0) -> LineProcess:
-        files, law = [self.files.ends.get('far', -1), self.files.joints['places'].file], self.line.law
+        files, law = [self.files.every().get(what, -1) for what in ('far', 'joint-places')], self.line.law
         place = [str(self.counts.slots.get('found', False)), str(octets - self.origin), *map(str, files), str(octets)]
         words = [sys.executable, '-BP', '-c', PUMP, TOP, law() if law and said < 0 else '', *place]
         self._processes[name] = LineProcess('the pump of slots', words, lambda: self._ends(name), files, said)

@@ -73,7 +73,7 @@ async def next_keeper(wants: TrunkWants, handover: Handover, notifier: Notifier,
                       files: dict[str, int]) -> TrunkKeeper:
     """The keeper that goes on where the one before it left: with the program that is there, if it has all its
     descriptors, else with the state of that program, which ends, on the trunk opened again."""
-    trunk, left = trunk_of(wants.opens, wants.line, files, note['trunk']), note['program']
+    trunk, left = trunk_of(wants.opens, wants.line, files, note.get('trunk')), note['program']
     how = 'replaced' if os.environ.pop(REPLACED, '') else 'killed'
     try:
         program = TrunkProgram.of_note(left, files) if left and trunk.is_open() else None
