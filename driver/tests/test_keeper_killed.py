@@ -16,7 +16,7 @@ from .manager import Manager
 from .support import SECONDS
 from .test_keeper import KeeperCase
 from .world import LAUNCHER
-from e1gw.service.process import Child, start_of
+from e1gw.service.process import UNKNOWN, Child, start_of
 from e1gw.session import MULTIFRAME
 
 
@@ -212,16 +212,18 @@ class KilledKeeperTests(RestartedKeeperCase):
 class ChildTests(unittest.IsolatedAsyncioTestCase):
     async def test_a_number_that_another_process_has(self) -> None:
         """A process is known by its number and when it was started."""
-        with subprocess.Popen(['sleep', str(SECONDS)]) as process:
-            when = start_of(process.pid)
-            its, other = Child(process.pid, when), Child(process.pid, when + 1)
-            self.assertEqual((its.over.is_set(), other.over.is_set()), (False, True))
-            await other.kill()
-            self.assertIsNone(process.poll())
-            os.kill(process.pid, signal.SIGSTOP)
-            support.until(its.is_stopped)
-            await its.kill()
-            self.assertEqual(its.status, -signal.SIGKILL)
+        said = subprocess.run(['sh', '-c', f'sleep {SECONDS} > /dev/null & echo $!'], check=True,
+                              stdout=subprocess.PIPE).stdout
+        pid = int(said)
+        when = start_of(pid)
+        its, other = Child(pid, when), Child(pid, when + 1)
+        self.assertEqual((its.over.is_set(), other.over.is_set()), (False, True))
+        await other.kill()
+        self.assertEqual(start_of(pid), when)
+        os.kill(pid, signal.SIGSTOP)
+        support.until(its.is_stopped)
+        await its.kill()
+        self.assertEqual((its.status, its.words()), (UNKNOWN, 'ended while no keeper was there'))
 
 
 if __name__ == '__main__':

@@ -152,7 +152,8 @@ class WatchedTrunkTests(unittest.TestCase):
                 trunk.type_and_see(line, seen)
             trunk.begin()
             trunk.is_in(2, 'acked')
-            self.assertEqual((trunk.told()['life'], trunk.told()['circuits'][1]['seizures']), (life, seizures))
+            trunk.until(lambda: trunk.told()['circuits'][1]['seizures'] == seizures)
+            self.assertEqual(trunk.told()['life'], life)
 
     def test_a_trunk_that_stops(self) -> None:
         trunk = self.begun(QUIET=1.0)

@@ -99,8 +99,10 @@ class TrunkStatus:
             await asyncio.sleep(AGAIN)
 
     def _take(self, octets: bytes) -> None:
+        place = self.lines.place
         self.lines.take(octets)
-        self._moved = time.monotonic()
+        if self.lines.place != place:       # (commands are told of a trunk that stands, too)
+            self._moved = time.monotonic()
         self.read()
 
     def take_now(self) -> None:
@@ -152,6 +154,8 @@ class TrunkStatus:
             if not self._line:
                 continue
             comes = self.lines.live and time.monotonic() < self._moved + PULSE or await self._place_comes()
+            if comes is None:
+                continue
             if comes and self._stood:
                 self.tell({'event': 'flows', 'seconds': round(time.monotonic() - self._stood, 3)})
                 self._stood = 0.0
@@ -161,8 +165,9 @@ class TrunkStatus:
                 self._stalls += 1
                 self.tell({'event': 'stalled', 'seconds': QUIET})
 
-    async def _place_comes(self) -> bool:
-        """Waits for a new place of the trunk: who connects to the follower is told it at the next octets."""
+    async def _place_comes(self) -> bool | None:
+        """Waits for a new place of the trunk: who connects to the follower is told it at the next octets. None if the
+        follower has gone meanwhile."""
         until = time.monotonic() + QUIET
         while not self.lines.live and time.monotonic() < until:
             await asyncio.sleep(AGAIN)
@@ -174,7 +179,7 @@ class TrunkStatus:
             return False                # (it waits on: one connection, however long nothing comes)
         pulse, self._pulse = self._pulse, None
         if pulse.exception():
-            return False
+            return None
         self.lines.reach(pulse.result())
         self._moved = time.monotonic()
         return True
