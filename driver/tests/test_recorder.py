@@ -230,6 +230,8 @@ class RecordedRingTests(RecorderCase):
         begun replays from its state."""
         self.write('ring', '')
         self.starts_ring()
+        if not self.recorder():
+            self.skipTest('one process: it begins again by itself, as test_service_recordings has it')
         self.awaits('session ended, the calls go on: File exists')
         os.unlink(self.path('ring'))
         self.step(20)

@@ -13,7 +13,7 @@ from collections import Counter
 from typing import Any
 from unittest import mock
 
-from . import support, test_recorder
+from . import support, test_recorder, test_service_keeper
 from .test_service_keeper import ServiceCase, ServiceKilledCase
 from e1gw.clock import TICK, ClockFinding
 from e1gw.kept import beside
@@ -126,6 +126,17 @@ class ServiceKilledRecordingTests(ServiceKilledCase, test_recorder.RecorderCase)
             load = ('--load', f'{front}.state') if begin else ()
             with open(f'{front}.e1gw', 'rb') as file:
                 self.assertEqual(self.answers(file.read(), *load), self.heard_all()[begin:end], begin)
+
+
+class ServiceSequenceRecordingTests(test_service_keeper.ServiceSequenceTests, test_recorder.RecorderCase):
+    """Any sequence of what may happen to a trunk: a ring has all of it, once."""
+
+    def begins(self, *options: str, **around: str) -> None:
+        super().begins('--session', self.path('ring'), '--keep', '1h', *options, **around)
+
+    def ends(self) -> None:
+        super().ends()
+        self.assertEqual(self.trunk_of(self.path('ring')), self.given_trunk())
 
 
 class WholeRecordTests(unittest.TestCase):
