@@ -36,7 +36,8 @@ class ServiceSequenceTests(RestartedKeeperCase):
     def both_die(self) -> None:
         before = self.program
         for pid in self.chance.sample((self.program, self.shadow), 2):
-            os.kill(pid, signal.SIGKILL)
+            with contextlib.suppress(ProcessLookupError):       # (a shadow ends behind its program)
+                os.kill(pid, signal.SIGKILL)
         while self.goes_on() and self.program == before:
             pass
 

@@ -13,7 +13,7 @@ from collections import Counter
 from typing import Any
 from unittest import mock
 
-from . import support
+from . import support, test_service_keeper
 from .test_keeper_killed import RestartedKeeperCase
 from .test_recorder import RecorderCase
 from e1gw.clock import TICK, ClockFinding
@@ -85,6 +85,17 @@ class KilledRecordingTests(RestartedKeeperCase, RecorderCase):
             load = ('--load', f'{front}.state') if begin else ()
             with open(f'{front}.e1gw', 'rb') as file:
                 self.assertEqual(self.answers(file.read(), *load), self.heard_all()[begin:end], begin)
+
+
+class ServiceSequenceRecordingTests(test_service_keeper.ServiceSequenceTests, RecorderCase):
+    """Any sequence of what may happen to a trunk: a ring has all of it, once."""
+
+    def begins(self, *options: str, **around: str) -> None:
+        super().begins('--session', self.path('ring'), '--keep', '1h', *options, **around)
+
+    def ends(self) -> None:
+        super().ends()
+        self.assertEqual(self.trunk_of(self.path('ring')), self.given_trunk())
 
 
 class WholeRecordTests(unittest.TestCase):

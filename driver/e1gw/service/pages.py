@@ -23,7 +23,10 @@ FRESH, DRAWN = 5.0, 60.0            # seconds in which nobody gets another pictu
 NICE = 15                           # of the process that draws
 METRICS_EVERY = 5.0
 PACKAGE = os.path.dirname(os.path.dirname(os.path.dirname(os.path.abspath(__file__))))
+WAITED = 5.0                        # and for which somebody waits for it
 WHOLE = b'</html>\n'
+SOON = (b'<!DOCTYPE html><html><head><title>e1gw</title><meta http-equiv="refresh" content="10"></head><body>The '
+        b'picture is being drawn; this page loads again by itself. <a href="/table">The table</a></body></html>\n')
 HEAD = ('HTTP/1.0 {status}\r\nContent-Type: {kind}; charset=utf-8\r\nContent-Length: {length}\r\n'
         'Cache-Control: no-store\r\nConnection: close\r\n\r\n')
 
@@ -127,12 +130,15 @@ class DrawnPage:
         self._drawing: asyncio.Task[None] | None = None
 
     async def fresh(self) -> bytes:
-        """The page; nothing if it cannot be drawn. Who asks may go, and it is drawn for the next one."""
+        """The page; nothing if it cannot be drawn. Who has waited for some seconds gets the last one, or is told that
+        it is being drawn."""
         if not self._drawing and time.monotonic() >= self._until:
             self._drawing = asyncio.create_task(self._draw())
         if self._drawing:
-            await asyncio.shield(self._drawing)
-        return self._drawn if self._drawn.endswith(WHOLE) else b''
+            await asyncio.wait([self._drawing], timeout=WAITED)
+        if self._drawn.endswith(WHOLE):
+            return self._drawn
+        return SOON if self._drawing else b''
 
     async def _draw(self) -> None:
         try:

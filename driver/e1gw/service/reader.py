@@ -154,7 +154,7 @@ class LogReader:
                 self._retired.remove(log)
         standing = recording.standing if recording else {}
         for log in self._logs:
-            if standing.get('number') == log.number and standing.get('front'):
+            if standing.get('number') == log.number and log.kept[0] > standing['begun'][0]:
                 log.close('state')              # (the ring has it)
 
     async def _begin_again(self) -> None:

@@ -130,10 +130,11 @@ class ReadLog:
 
 
 class RecordingPlace(Protocol):
-    """Where logs are copied to. `begun` is the place of the log with which the file begins, less than 0 if the file
-    had something before the log."""
+    """Where logs are copied to. `begun` are the places with which the file begins; that of the log is less than 0 if
+    the file had something before it. `announce` is called before a file is begun."""
 
-    begun: int
+    begun: tuple[int, int]
+    announce: Callable[[], None]
 
     def start(self, log: ReadLog) -> None:
         """Another log is copied from now on."""
@@ -161,16 +162,18 @@ class RecordedFile:
     """One file for all logs."""
 
     def __init__(self, wants: RecordingWants) -> None:
-        self._path, self._file, self.begun = wants.session, -1, 0
+        self._path, self._file, self.begun = wants.session, -1, (0, 0)
+        self.announce: Callable[[], None] = lambda: None
 
     def start(self, log: ReadLog) -> None:
         if self._file < 0:
             self._file = open_to_append(self._path)
-        self.begun = log.kept[0] - self.size()
+        self.begun = log.kept[0] - self.size(), log.kept[1]
+        self.announce()
 
     def go_on(self, log: ReadLog, standing: Mapping[str, Any]) -> None:
-        self.start(log)
-        self.begun = int(standing['begun'])
+        self._file = open_to_append(self._path)
+        self.begun = standing['begun'][0], standing['begun'][1]
 
     def standing(self) -> dict[str, Any]:
         return {}
@@ -195,7 +198,8 @@ class RecordedRing:
     """A ring of files. Each log begins another one, with the state of its program."""
 
     def __init__(self, wants: RecordingWants) -> None:
-        self._wants, self.begun = wants, 0
+        self._wants, self.begun, self._place = wants, (0, 0), (0, 0)
+        self.announce: Callable[[], None] = lambda: None
         self._ring: Ring | None = None
 
     def start(self, log: ReadLog) -> None:
@@ -206,17 +210,20 @@ class RecordedRing:
         behind = FinishedPieces(log.program, wait=wants.wait, failed=functools.partial(tell_end, 'states'))
         assert wants.keep
         self._ring = Ring(wants.session, wants.name, f'/dev/fd/{log.files["config"]}', wants.keep, behind, wants.wait,
-                          state, wants.config)
+                          state, wants.config, announce=self._announce)
         self._ring.open()
-        self.begun = log.kept[0]
         log.slips.extendleft([(log.kept[1], log.lost)] * bool(log.lost))
 
     def go_on(self, log: ReadLog, standing: Mapping[str, Any]) -> None:
         self.start(log)
         log.slips.clear()
-        if self._ring and standing['front']:
-            self._ring.go_on(*(standing[what] for what in ('front', 'began', 'due', 'own')))
-            self.begun = int(standing['begun'])
+        self.begun = standing['begun'][0], standing['begun'][1]
+        if self._ring:
+            self._ring.go_on(self.begun[1], *(standing[what] for what in ('front', 'began', 'due', 'own')))
+
+    def _announce(self) -> None:
+        self.begun = self._place
+        self.announce()
 
     def standing(self) -> dict[str, Any]:
         return self._ring.standing() if self._ring else {}
@@ -232,11 +239,9 @@ class RecordedRing:
         assert self._ring
         while slips:
             self._ring.slips.append(slips.popleft())
-        before = self._ring.front
+        self._place = place
         self._ring.places.append(place[1])
         self._ring.write(octets)
-        if self._ring.front != before:
-            self.begun = place[0]
 
     def close(self) -> None:
         if self._ring:
@@ -256,6 +261,7 @@ class TrunkRecording:
         self._place: RecordingPlace = RecordedFile(wants)
         if wants.keep:
             self._place = RecordedRing(wants)
+        self._place.announce = self._announce
         self._log: ReadLog | None = None
         self._closes = threading.Event()
         self._thread = threading.Thread(target=self._run, name='recording', daemon=True)
@@ -308,26 +314,29 @@ class TrunkRecording:
 
     def _begin(self, log: ReadLog) -> None:
         """Another log."""
-        if self.standing.get('number') == log.number and not self._log:
+        is_same = not self._log and self.standing.get('number') == log.number
+        self._log = log
+        if is_same:
             self._place.go_on(log, self.standing)
             self._see_rest(log)
         else:
             self._place.start(log)
-        self._log = log
-        self._stand(log)
 
     def _see_rest(self, log: ReadLog) -> None:
         """What the file has of the log behind what was noted."""
-        if not (size := self._place.size()):
+        size, log.kept = self._place.size(), max(log.kept, self._place.begun)
+        if not size:
             return
-        end = self._place.begun + size
+        end = self._place.begun[0] + size
+        if end < log.kept[0]:               # (somebody has cut the file)
+            self._place.begun = log.kept[0] - size, log.kept[1]
+            return self._announce()
         while log.kept[0] < end:
             length, trunk = whole_records(log.read(log.kept[0]), end - log.kept[0])
             if not length:
                 break
             log.kept = log.kept[0] + length, log.kept[1] + trunk
-        self._place.complete(log.read(end, max(0, log.kept[0] - end)))
-        self._place.begun = log.kept[0] - self._place.size()
+        self._place.complete(log.read(end, log.kept[0] - end))
 
     def _copy(self, log: ReadLog, place: int, trunk: int) -> None:
         """The log up to this place of it, and of the trunk."""
@@ -339,13 +348,19 @@ class TrunkRecording:
                 length, its = len(octets), trunk - log.kept[1]
             self._place.write(octets[:length], log.kept, log.slips)
             log.kept = log.kept[0] + length, log.kept[1] + its
-            self._stand(log)
 
-    def _stand(self, log: ReadLog) -> None:
-        standing = {'number': log.number, 'begun': self._place.begun, **self._place.standing()}
-        if standing != self.standing:
-            self.standing = standing
-            self._loop.call_soon_threadsafe(self._stands)
+    def _announce(self) -> None:
+        """A file is to be begun, or another log in it: waits until that is noted. So the next service knows of each
+        file that is there."""
+        noted = threading.Event()
+
+        def note() -> None:
+            self._stands()
+            noted.set()
+        assert self._log
+        self.standing = {'number': self._log.number, 'begun': self._place.begun, **self._place.standing()}
+        self._loop.call_soon_threadsafe(note)
+        noted.wait(FLUSH)
 
 
 def tell_end(what: str, why: str) -> None:

@@ -267,7 +267,6 @@ def main(words: list[str] | None = None) -> NoReturn:
     journal = ServiceJournal(NAME)
     status = status_of(sys.argv[1:] if words is None else words, journal)
     journal.close()
-    sys.stdout.flush()
     os._exit(status)
 
 
