@@ -229,6 +229,22 @@ class LineKilledTests(ServiceKilledCase):
         self.assertEqual(self.device.exchange.signals, self.up())
         self.ends()
 
+    def test_the_line_ends(self) -> None:
+        """The program ends behind what has come, and another one goes on with the device opened again. After one that
+        is killed `e1gw crc4` is begun anew."""
+        self.begins('--crc4', '--align', '--reopen')
+        self.device.line.close()
+        self.device.accept()
+        self.assertIn(f'behind octet {len(self.heard) * MULTIFRAME}', self.goes_on())
+        self.step(40)
+        before = self.process('send')
+        self.dies()
+        self.step(20)
+        self.assertNotEqual(self.process('send'), before)
+        self.assertEqual(self.device.exchange.signals, self.up())
+        self.settles()
+        self.ends()
+
     def test_without_systemd(self) -> None:
         """What is on the line ends, and another one is begun with the device opened again."""
         self.begins('--crc4')

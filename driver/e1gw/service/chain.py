@@ -61,7 +61,7 @@ class CarriedTrunk(TrunkFiles):
             await process.end(0.0)
         self._left = []
         stream = await asyncio.to_thread(self._opens)
-        self.name, self._why = stream.name, ''
+        self.name, self._why, self.fault = stream.name, '', ''
         if isinstance(stream, EmulatedStream):
             self.files, self._satop = LineFiles({'near': stream.reads, 'far': stream.far}), stream.words
         else:
@@ -122,6 +122,8 @@ class CarriedTrunk(TrunkFiles):
         process = self._processes.get(name) or self._added(name)
         process.start()
         self._does(name, functools.partial(self._keep, name, process))
+        if self.fault:
+            self._tell_open()
 
     def _does(self, name: str, work: Callable[[], Awaitable[None]]) -> None:
         self._tasks[name] = asyncio.create_task(again(work))
@@ -138,12 +140,7 @@ class CarriedTrunk(TrunkFiles):
             self.files.joints['send'] = Joint(room=ROOM)
             self.both = self.both[0], self.files.to_send()
             os.write(self.both[1], ONES * ((octets - self.origin - len(rest)) % SIGNALS) + rest)
-            self._begin_counting()
-
-    def _begin_counting(self) -> None:
-        self._begin(self.counting)
-        if self.fault:
-            self._tell_open()
+            self._begin('send')
 
     # ---- while it is there ----
 
@@ -222,13 +219,15 @@ class CarriedTrunk(TrunkFiles):
         self._satop = []
 
     async def _end_sending(self) -> None:
-        """`e1gw crc4` sends what it was given, and ends."""
-        if joint := self.files.joints.pop('send', None):
+        """`e1gw crc4` sends what it was given, and is ended."""
+        joint, process = self.files.joints.pop('send', None), self._processes.get('send')
+        if joint:
+            if process:
+                await process.passes_on(joint.file, self.files.writes(), GRACE)
             joint.close()
-            if self.both[1] >= 0:
-                os.close(self.both[1])
+            os.close(self.both[1])
             self.both = self.both[0], -1
-        await self._end_process('send', GRACE)
+        await self._end_process('send', 0.0)
 
     async def _end_process(self, name: str, seconds: float) -> None:
         """Waits for the end of a process so long at most, and kills it."""

@@ -5,6 +5,7 @@ import asyncio
 import fcntl
 import logging
 import os
+import select
 import signal
 import stat
 import sys
@@ -16,6 +17,7 @@ from typing import Callable, Mapping, Sequence
 from .log import TrunkLog
 from .process import UNKNOWN, Child, start
 
+SOON = 0.001                # seconds between two looks
 QUICK, PAUSE, MOST_PAUSE = 5.0, 0.25, 30.0      # seconds: who dies within QUICK of its start is begun again later
 
 logger = logging.getLogger(__name__)
@@ -161,6 +163,15 @@ class LineProcess:
             logger.warning('%s was stopped by a signal, and is killed', self.name)
             self.child.signal(signal.SIGKILL)
 
+    async def passes_on(self, given: int, writes: int, seconds: float) -> None:
+        """Waits until it has passed on all that is in this pipe, so long at most. (It sees no end of the pipe, which
+        systemd holds, too: it waits for more.)"""
+        until = time.monotonic() + seconds
+        while self.is_there() and time.monotonic() < until:
+            if not waiting(given) and is_writable(writes) and self.child and self.child.rests():
+                return
+            await asyncio.sleep(SOON)
+
     async def end(self, seconds: float) -> None:
         """Waits for its end, so long at most, and kills it."""
         if self.child:
@@ -173,6 +184,12 @@ def waiting(file: int, request: int = termios.FIONREAD) -> int:
     with suppress(OSError, ValueError):
         return int.from_bytes(fcntl.ioctl(file, request, bytes(4)), sys.byteorder)
     return 0
+
+
+def is_writable(file: int) -> bool:
+    poll = select.poll()
+    poll.register(file, select.POLLOUT)
+    return bool(poll.poll(0))
 
 
 def unsent(file: int) -> int:

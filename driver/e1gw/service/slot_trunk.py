@@ -59,7 +59,7 @@ class SlotTrunk(CarriedTrunk):
             await self._end_process('pump', 0.0)
             self._pair()
             self._added('pump', octets=octets)
-            self._begin_counting()
+            self._begin('pump')
 
     def _hear(self) -> None:
         super()._hear()
