@@ -245,8 +245,9 @@ class Crc4ServiceTests(unittest.TestCase):
         world.step(100)
         heard = bytes(world.heard[begun - 77:])
         at = world.alignment_of(heard)
+        self.assertEqual((begun + at) % MULTIFRAME, 0)
         self.assertEqual(checked(heard, at).count(False), 0)
-        self.assertEqual(set(heard[at + 5::FRAME]), {0xD5})
+        self.assertEqual(set(heard[(5 - begun) % FRAME::FRAME]), {0xD5})
 
     def test_an_exchange_without_it(self) -> None:
         with World(config_of(FOUR), '--crc4') as world:

@@ -26,6 +26,7 @@ from .world import LAUNCHER, World, config_of, descendant
 from e1gw import session
 from e1gw.lines import Event
 from e1gw.service.chain import BROKEN, CarriedTrunk
+from e1gw.service.crc4_trunk import Crc4Trunk
 from e1gw.service.devices import EmulatedStream, LineOptions
 from e1gw.service.line_process import waiting
 from e1gw.service.slot_trunk import SlotTrunk
@@ -90,25 +91,30 @@ class ServiceCrc4Tests(OneProcessCase, test_crc4.Crc4ServiceTests):
         self.assertEqual(set(checked(heard, at)), {True})
         self.assertEqual(world.state(1), 'answered')
 
-    def test_a_program_that_dies(self) -> None:
-        """Also inside a frame: `e1gw crc4` is begun anew with the frames of the next program."""
-        for count in 0, 77, 500:
-            with self.subTest(count), Crc4World(config_of(FOUR)) as world:
-                aligned(world)
-                call(world, 1)
-                octets = world.exchange.multiframe()
-                octets = world.sender.multiframe(octets)
-                world.line.sendall(octets[:count])
-                back = b''
-                while len(back) < count:
-                    back += world.line.recv(count - len(back))
-                os.kill(of_words(world.process.pid, 'trunk')[0], signal.SIGKILL)
-                world.line.sendall(octets[count:])
-                while len(back) < MULTIFRAME:
-                    back += world.line.recv(MULTIFRAME - len(back))
-                world.exchange = support.Exchange()
-                world.exchange.pairs[1] = 1
-                self.goes_on(world)
+    def test_who_dies_inside_a_multiframe(self) -> None:
+        """The exchange keeps the alignment of frames and multiframes, whether the program or `e1gw crc4` dies."""
+        for words in ('trunk',), ('crc4',), ('crc4', 'trunk'):
+            for count in 0, 77, 500:
+                with self.subTest(words=words, count=count), Crc4World(config_of(FOUR)) as world:
+                    aligned(world)
+                    call(world, 1)
+                    octets = world.sender.multiframe(world.exchange.multiframe())
+                    world.line.sendall(octets[:count])
+                    back = self.read(world, count)
+                    processes = [pid for word in words for pid in of_words(world.process.pid, word)]
+                    processes = [pid for pid in processes if '--check' not in words_of(pid)]
+                    for pid in processes:
+                        os.kill(pid, signal.SIGKILL)
+                    support.until(lambda: not any(map(is_there, processes)))
+                    world.line.sendall(octets[count:])
+                    world.exchange.hear(back + self.read(world, MULTIFRAME - count))
+                    self.goes_on(world)
+
+    def read(self, world: Crc4World, count: int) -> bytes:
+        back = b''
+        while len(back) < count:
+            back += world.line.recv(count - len(back))
+        return back
 
     def test_a_state_that_ends_inside_a_frame(self) -> None:
         """The next start sends CRC-4 in the frames of the gateway with that state."""
@@ -116,9 +122,7 @@ class ServiceCrc4Tests(OneProcessCase, test_crc4.Crc4ServiceTests):
             state = os.path.join(folder, 'state')
             with Crc4World(config_of(FOUR), '--state', state) as world:
                 world.line.sendall(b'\xD5' * 77)
-                back = b''
-                while len(back) < 77:
-                    back += world.line.recv(77 - len(back))
+                self.read(world, 77)
                 self.assertEqual(world.quit()[0], 0)
             with Crc4World(config_of(FOUR), '--state', state) as world:
                 world.exchange = support.Exchange()
@@ -158,6 +162,11 @@ def of_words(parent: int, word: str) -> list[int]:
         except (OSError, ValueError):
             pass
     return found
+
+
+def words_of(pid: int) -> list[str]:
+    with open(f'/proc/{pid}/cmdline', encoding='utf-8') as file:
+        return file.read().split('\0')
 
 
 class LineKilledTests(ServiceKilledCase):
@@ -320,8 +329,28 @@ class LineProcessTests(support.FolderCase, unittest.IsolatedAsyncioTestCase):
         self.assertTrue(os.path.exists(self.path('over')))
 
 
-class SlotTrunkTests(unittest.IsolatedAsyncioTestCase):
-    """A card that keeps slot 0, and what programs have read and answered."""
+class CountedTrunkTests(unittest.IsolatedAsyncioTestCase):
+    """What programs have read, and not answered: CRC-4, and a card that keeps slot 0."""
+
+    async def test_what_a_program_had_in_hand(self) -> None:
+        """As much is sent for it, and each submultiframe is right."""
+        ours, line = socket.socketpair()
+        self.addCleanup(line.close)
+        file = ours.detach()
+        trunk = Crc4Trunk(LineOptions(support.program(), lambda: Stream(file, file, 'line'), crc4=True), {}, None)
+        await trunk.open()
+        self.addAsyncCleanup(trunk.finish, None)
+        exchange, place, sent = support.Exchange(), 0, b''
+        for lost in 0, 1, 300, 0, 2048:
+            await trunk.join(place, place == 0, False)
+            octets = b''.join(exchange.multiframe() for _ in range(8))
+            os.write(trunk.both[1], octets[:len(octets) - lost])
+            sent, place = sent + octets, place + len(octets)
+        await trunk.join(place, False, False)
+        heard = await self.read(line.fileno(), place)
+        self.assertEqual(set(checked(heard, 0)), {True})
+        frames = [at for at in range(0, place, 32) if heard[at + 1:at + 32] != sent[at + 1:at + 32]]
+        self.assertLessEqual(len(frames), (1 + 300 + 2048) // 32 + 3)
 
     async def test_octets_that_a_program_did_not_answer(self) -> None:
         """As many octets go to the card as have come, and each slot stays in its place."""
