@@ -120,6 +120,11 @@ def of_children(parent: int, *words: str) -> list[int]:
     return found
 
 
+def words_of(pid: int) -> list[str]:
+    with open(f'/proc/{pid}/cmdline', encoding='utf-8') as file:
+        return file.read().split('\0')
+
+
 class Crc4World(World):
     """A driver with --crc4, whose exchange sends CRC-4."""
 
@@ -234,8 +239,9 @@ class Crc4ServiceTests(unittest.TestCase):
         world.step(100)
         heard = bytes(world.heard[begun - 77:])
         at = world.alignment_of(heard)
+        self.assertEqual((begun + at) % MULTIFRAME, 0)
         self.assertEqual(checked(heard, at).count(False), 0)
-        self.assertEqual(set(heard[at + 5::FRAME]), {0xD5})
+        self.assertEqual(set(heard[(5 - begun) % FRAME::FRAME]), {0xD5})
 
     def test_an_exchange_without_it(self) -> None:
         with World(config_of(FOUR), '--crc4') as world:
@@ -277,25 +283,30 @@ class Crc4ServiceTests(unittest.TestCase):
         self.assertEqual(set(checked(heard, at)), {True})
         self.assertEqual(world.state(1), 'answered')
 
-    def test_a_program_that_dies(self) -> None:
-        """Also inside a frame: `e1gw crc4` is begun anew with the frames of the next program."""
-        for count in 0, 77, 500:
-            with self.subTest(count), Crc4World(config_of(FOUR)) as world:
-                aligned(world)
-                call(world, 1)
-                octets = world.exchange.multiframe()
-                octets = world.sender.multiframe(octets)
-                world.line.sendall(octets[:count])
-                back = b''
-                while len(back) < count:
-                    back += world.line.recv(count - len(back))
-                os.kill(of_words(world.process.pid, 'trunk')[0], signal.SIGKILL)
-                world.line.sendall(octets[count:])
-                while len(back) < MULTIFRAME:
-                    back += world.line.recv(MULTIFRAME - len(back))
-                world.exchange = support.Exchange()
-                world.exchange.pairs[1] = 1
-                self.goes_on(world)
+    def test_who_dies_inside_a_multiframe(self) -> None:
+        """The exchange keeps the alignment of frames and multiframes, whether the program or `e1gw crc4` dies."""
+        for words in ('trunk',), ('crc4',), ('crc4', 'trunk'):
+            for count in 0, 77, 500:
+                with self.subTest(words=words, count=count), Crc4World(config_of(FOUR)) as world:
+                    aligned(world)
+                    call(world, 1)
+                    octets = world.sender.multiframe(world.exchange.multiframe())
+                    world.line.sendall(octets[:count])
+                    back = self.read(world, count)
+                    processes = [pid for word in words for pid in of_words(world.process.pid, word)]
+                    processes = [pid for pid in processes if '--check' not in words_of(pid)]
+                    for pid in processes:
+                        os.kill(pid, signal.SIGKILL)
+                    support.until(lambda: not any(map(is_there, processes)))
+                    world.line.sendall(octets[count:])
+                    world.exchange.hear(back + self.read(world, MULTIFRAME - count))
+                    self.goes_on(world)
+
+    def read(self, world: Crc4World, count: int) -> bytes:
+        back = b''
+        while len(back) < count:
+            back += world.line.recv(count - len(back))
+        return back
 
     def test_a_state_that_ends_inside_a_frame(self) -> None:
         """The next start sends CRC-4 in the frames of the gateway with that state."""
@@ -303,9 +314,7 @@ class Crc4ServiceTests(unittest.TestCase):
             state = os.path.join(folder, 'state')
             with Crc4World(config_of(FOUR), '--state', state) as world:
                 world.line.sendall(b'\xD5' * 77)
-                back = b''
-                while len(back) < 77:
-                    back += world.line.recv(77 - len(back))
+                self.read(world, 77)
                 self.assertEqual(world.quit()[0], 0)
             with Crc4World(config_of(FOUR), '--state', state) as world:
                 world.exchange = support.Exchange()

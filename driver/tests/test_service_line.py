@@ -13,12 +13,13 @@ import unittest
 from typing import Any, Callable
 
 from . import support
-from .test_crc4 import MULTIFRAME
+from .test_crc4 import MULTIFRAME, checked
 from .test_satop_process import ENDS, SCRIPT
 from .test_keeper_killed import RestartedKeeperCase
 from .test_trunk import is_there
 from e1gw.lines import Event
 from e1gw.service.chain import BROKEN, CarriedTrunk
+from e1gw.service.crc4_trunk import Crc4Trunk
 from e1gw.service.devices import EmulatedStream, LineOptions
 from e1gw.service.line_process import waiting
 from e1gw.service.slot_trunk import SlotTrunk
@@ -92,6 +93,22 @@ class LineKilledTests(RestartedKeeperCase):
         self.assertEqual(b''.join(each or b'' for each in self.heard), support.run('crc4', given=b''.join(octets)))
         self.dies_meanwhile('check')
         self.assertEqual(self.device.exchange.signals, self.up())
+        self.ends()
+
+    def test_the_line_ends(self) -> None:
+        """The program ends behind what has come, and another one goes on with the device opened again. After one that
+        is killed `e1gw crc4` is begun anew."""
+        self.begins('--crc4', '--align', '--reopen')
+        self.device.line.close()
+        self.device.accept()
+        self.assertIn(f'behind octet {len(self.heard) * MULTIFRAME}', self.goes_on())
+        self.step(40)
+        before = self.process('send')
+        self.dies()
+        self.step(20)
+        self.assertNotEqual(self.process('send'), before)
+        self.assertEqual(self.device.exchange.signals, self.up())
+        self.settles()
         self.ends()
 
     def test_without_systemd(self) -> None:
@@ -169,8 +186,28 @@ class LineProcessTests(support.FolderCase, unittest.IsolatedAsyncioTestCase):
         self.assertTrue(os.path.exists(self.path('over')))
 
 
-class SlotTrunkTests(unittest.IsolatedAsyncioTestCase):
-    """A card that keeps slot 0, and what programs have read and answered."""
+class CountedTrunkTests(unittest.IsolatedAsyncioTestCase):
+    """What programs have read, and not answered: CRC-4, and a card that keeps slot 0."""
+
+    async def test_what_a_program_had_in_hand(self) -> None:
+        """As much is sent for it, and each submultiframe is right."""
+        ours, line = socket.socketpair()
+        self.addCleanup(line.close)
+        file = ours.detach()
+        trunk = Crc4Trunk(LineOptions(support.program(), lambda: Stream(file, file, 'line'), crc4=True), {}, None)
+        await trunk.open()
+        self.addAsyncCleanup(trunk.finish, None)
+        exchange, place, sent = support.Exchange(), 0, b''
+        for lost in 0, 1, 300, 0, 2048:
+            await trunk.join(place, place == 0, False)
+            octets = b''.join(exchange.multiframe() for _ in range(8))
+            os.write(trunk.both[1], octets[:len(octets) - lost])
+            sent, place = sent + octets, place + len(octets)
+        await trunk.join(place, False, False)
+        heard = await self.read(line.fileno(), place)
+        self.assertEqual(set(checked(heard, 0)), {True})
+        frames = [at for at in range(0, place, 32) if heard[at + 1:at + 32] != sent[at + 1:at + 32]]
+        self.assertLessEqual(len(frames), (1 + 300 + 2048) // 32 + 3)
 
     async def test_octets_that_a_program_did_not_answer(self) -> None:
         """As many octets go to the card as have come, and each slot stays in its place."""

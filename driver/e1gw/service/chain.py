@@ -1,10 +1,8 @@
 """A trunk that is no plain device: processes stand between the line and the program, one behind another. The line is a
-device, or what `e1gw satop` makes of packets. What comes goes through `e1gw align` and `e1gw crc4 --check`, what is
-sent through `e1gw crc4`, as far as they are asked for. No octet passes here. The service holds the ends of what joins
-the processes, so that none of them sees another one die, and begins each one that does again in its place.
-
-`e1gw crc4` counts the octets that it sends, from a frame with the frame alignment signal on. So it is begun anew,
-behind ones up to the next such frame, if octets may be missing: if it, or a program, has died."""
+device, or what `e1gw satop` makes of packets. What comes goes through `e1gw align` and `e1gw crc4 --check`, as far as
+they are asked for; what is sent, through `e1gw crc4` (crc4_trunk). No octet passes here. The service holds the ends of
+what joins the processes, so that none of them sees another one die, and begins each one that does again in its
+place."""
 from __future__ import annotations
 
 import asyncio
@@ -17,7 +15,6 @@ import socket
 import time
 from typing import Any, Awaitable, Callable
 
-from ..session import FRAME
 from .devices import EmulatedStream, LineOptions
 from .line_counts import LineCounts
 from .line_process import Joint, LineFiles, LineProcess, unsent, waiting
@@ -27,11 +24,9 @@ from .trunk import TrunkFiles
 AGAIN = 1.0                 # seconds after which another program is asked for again
 LOOK = 0.1                  # seconds between two looks at what the processes say
 GRACE = 1.0                 # seconds for what was sent last to go out
-ROOM = 8192                 # octets that wait for `e1gw crc4`: 32 ms of the trunk
-ONES, SIGNALS = b'\xff', 2 * FRAME      # octets from one frame alignment signal to the next
 ENDED, BROKEN = 'the trunk has ended', 'the trunk cannot be read or written'
 PROCESSES = {'satop': ['satop'], 'align': ['align'], 'check': ['crc4', '--check'], 'send': ['crc4']}
-WAITS = {'align': 'aligning', 'check': 'crc4_checking', 'send': 'crc4_sending'}     # the names in the status
+WAITS = {'align': 'aligning', 'check': 'crc4_checking'}      # the names in the status
 
 logger = logging.getLogger(__name__)
 
@@ -39,7 +34,7 @@ logger = logging.getLogger(__name__)
 class CarriedTrunk(TrunkFiles):
     """The trunk of such a line. `origin` is the octet of the trunk with which the gateway has begun."""
 
-    counting = 'send'       # the process that counts the octets of the gateway: it begins with a program
+    counting = ''           # the process that counts the octets of the gateway, if one does: it begins with a program
 
     def __init__(self, line: LineOptions, files: dict[str, int], note: dict[str, Any] | None) -> None:
         """`files` and `note` are those of the service before this one."""
@@ -61,7 +56,7 @@ class CarriedTrunk(TrunkFiles):
             await process.end(0.0)
         self._left = []
         stream = await asyncio.to_thread(self._opens)
-        self.name, self._why = stream.name, ''
+        self.name, self._why, self.fault = stream.name, '', ''
         if isinstance(stream, EmulatedStream):
             self.files, self._satop = LineFiles({'near': stream.reads, 'far': stream.far}), stream.words
         else:
@@ -95,7 +90,10 @@ class CarriedTrunk(TrunkFiles):
         self.close()
         inward = self._inward()
         reads = self.files.joints[inward[-1]].end(os.O_RDONLY | os.O_NONBLOCK) if inward else os.dup(self.files.reads())
-        self.both = reads, self.files.to_send() if self.line.crc4 else os.dup(self.files.writes())
+        self.both = reads, self._to_send()
+
+    def _to_send(self) -> int:
+        return os.dup(self.files.writes())
 
     def _added(self, name: str, said: int = -1) -> LineProcess:
         """One of the processes, which is not begun yet."""
@@ -111,8 +109,6 @@ class CarriedTrunk(TrunkFiles):
         """Descriptors of their own for the standard input and output of a process."""
         if name == 'satop':
             return os.dup(self.files.ends['far']), os.dup(self.files.ends['far'])
-        if name == 'send':
-            return self.files.joints[name].end(os.O_RDONLY), os.dup(self.files.writes())
         inward = self._inward()
         before = inward[inward.index(name) - 1] if name != inward[0] else ''
         reads = self.files.joints[before].end(os.O_RDONLY) if before else os.dup(self.files.reads())
@@ -122,6 +118,8 @@ class CarriedTrunk(TrunkFiles):
         process = self._processes.get(name) or self._added(name)
         process.start()
         self._does(name, functools.partial(self._keep, name, process))
+        if self.fault:
+            self._tell_open()
 
     def _does(self, name: str, work: Callable[[], Awaitable[None]]) -> None:
         self._tasks[name] = asyncio.create_task(again(work))
@@ -132,18 +130,6 @@ class CarriedTrunk(TrunkFiles):
     async def join(self, octets: int, is_new: bool, is_well: bool) -> None:
         self.origin = octets if is_new else self.origin
         self.counts.line_begins(octets)
-        if self.line.crc4 and not (is_well and self._is_there('send')):
-            rest = self.files.joints['send'].rest(ROOM - SIGNALS) if is_well and 'send' in self.files.joints else b''
-            await self._end_sending()
-            self.files.joints['send'] = Joint(room=ROOM)
-            self.both = self.both[0], self.files.to_send()
-            os.write(self.both[1], ONES * ((octets - self.origin - len(rest)) % SIGNALS) + rest)
-            self._begin_counting()
-
-    def _begin_counting(self) -> None:
-        self._begin(self.counting)
-        if self.fault:
-            self._tell_open()
 
     # ---- while it is there ----
 
@@ -211,7 +197,6 @@ class CarriedTrunk(TrunkFiles):
     async def finish(self, octets: int | None) -> None:
         if look := self._tasks.pop('look', None):
             look.cancel()
-        await self._end_sending()
         self.close()
         if 'near' in self.files.ends:
             shut(self.files.ends['near'])
@@ -220,15 +205,6 @@ class CarriedTrunk(TrunkFiles):
         self.counts.line_ends(octets if self._why else None)
         self.files.close()
         self._satop = []
-
-    async def _end_sending(self) -> None:
-        """`e1gw crc4` sends what it was given, and ends."""
-        if joint := self.files.joints.pop('send', None):
-            joint.close()
-            if self.both[1] >= 0:
-                os.close(self.both[1])
-            self.both = self.both[0], -1
-        await self._end_process('send', GRACE)
 
     async def _end_process(self, name: str, seconds: float) -> None:
         """Waits for the end of a process so long at most, and kills it."""
@@ -278,10 +254,9 @@ class CarriedTrunk(TrunkFiles):
         found: dict[str, Any] = {'trunk': self.name}
         found |= self.counts.satop_status() if self._satop else {'waiting': unsent(self.files.device_out())}
         before = self.files.reads()
-        for name in [*self._inward(), *(['send'] if self.line.crc4 else [])]:
-            joint = self.files.joints.get(name)
-            found[WAITS[name]] = waiting(joint.file if joint and name == 'send' else before)
-            before = joint.file if joint else -1
+        for name in self._inward():
+            found[WAITS[name]] = waiting(before)
+            before = self.files.joints[name].file if name in self.files.joints else -1
         return found
 
     def facts(self) -> dict[str, Any]:

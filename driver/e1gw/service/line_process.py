@@ -5,6 +5,7 @@ import asyncio
 import fcntl
 import logging
 import os
+import select
 import signal
 import stat
 import sys
@@ -16,6 +17,7 @@ from typing import Callable, Mapping, Sequence
 from .log import TrunkLog
 from .process import UNKNOWN, Child, start
 
+SOON = 0.001                # seconds between two looks
 QUICK, PAUSE, MOST_PAUSE = 5.0, 0.25, 30.0      # seconds: who dies within QUICK of its start is begun again later
 
 logger = logging.getLogger(__name__)
@@ -41,9 +43,9 @@ class Joint:
         """A descriptor of its own for an end of it."""
         return os.open(f'/proc/self/fd/{self.file}', flags | os.O_CLOEXEC)
 
-    def rest(self, most: int) -> bytes:
-        """What nobody has read of it; nothing if that is too much."""
-        return os.read(self.file, most) if 0 < waiting(self.file) <= most else b''
+    def read(self, most: int) -> bytes:
+        """What nobody has read of it yet, at most so many octets."""
+        return os.read(self.file, most) if waiting(self.file) else b''
 
     def close(self) -> None:
         if self.file >= 0:
@@ -71,9 +73,9 @@ class LineFiles:
         return self.ends.get('line-out', self.ends.get('line-in', -1))
 
     def to_send(self) -> int:
-        """The program's end of what `e1gw crc4` reads, once that is there. A file has time, and loses nothing."""
-        joint, is_file = self.joints.get('send'), stat.S_ISREG(os.fstat(self.reads()).st_mode)
-        return joint.end(os.O_WRONLY | (0 if is_file else os.O_NONBLOCK)) if joint else -1
+        """The program's end of what `e1gw crc4` reads. A file has time, and loses nothing."""
+        is_file = stat.S_ISREG(os.fstat(self.reads()).st_mode)
+        return self.joints['send'].end(os.O_WRONLY | (0 if is_file else os.O_NONBLOCK))
 
     def every(self) -> dict[str, int]:
         """All of them, by what they are."""
@@ -161,6 +163,22 @@ class LineProcess:
             logger.warning('%s was stopped by a signal, and is killed', self.name)
             self.child.signal(signal.SIGKILL)
 
+    async def passes_on(self, given: int, writes: int, seconds: float) -> bool:
+        """Waits until it has passed on all that is in this pipe, so long at most; whether it has. (It sees no end of
+        the pipe, which systemd holds, too: it waits for more.)"""
+        until = time.monotonic() + seconds
+        while self.is_there() and time.monotonic() < until:
+            if not waiting(given) and is_writable(writes) and self.child and self.child.rests():
+                return True
+            await asyncio.sleep(SOON)
+        return False
+
+    def wrote(self) -> int:
+        """The octets that it has written, if proc(5) tells; -1 if not."""
+        with suppress(OSError, ValueError), open(f'/proc/{self.child.pid if self.child else 0}/io', 'rb') as file:
+            return next((int(line.split()[1]) for line in file if line.startswith(b'wchar:')), -1)
+        return -1
+
     async def end(self, seconds: float) -> None:
         """Waits for its end, so long at most, and kills it."""
         if self.child:
@@ -173,6 +191,12 @@ def waiting(file: int, request: int = termios.FIONREAD) -> int:
     with suppress(OSError, ValueError):
         return int.from_bytes(fcntl.ioctl(file, request, bytes(4)), sys.byteorder)
     return 0
+
+
+def is_writable(file: int) -> bool:
+    poll = select.poll()
+    poll.register(file, select.POLLOUT)
+    return bool(poll.poll(0))
 
 
 def unsent(file: int) -> int:

@@ -68,6 +68,10 @@ class Child:
         """Whether a signal has stopped it."""
         return not self.over.is_set() and fields_of(self.pid)[:1] == ['T']
 
+    def rests(self) -> bool:
+        """Whether it waits for something."""
+        return fields_of(self.pid)[:1] == ['S']
+
     def ticks(self) -> int:
         """How much of a processor it has had."""
         fields = fields_of(self.pid)

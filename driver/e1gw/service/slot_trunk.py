@@ -6,9 +6,10 @@ import socket
 import sys
 from typing import Any, Callable
 
-from ..session import Kind, records_in, trunk_record
+from ..session import FRAME, Kind, records_in, trunk_record
 from ..trunks import Stream
-from .chain import ENDED, ONES, SIGNALS, CarriedTrunk, shut
+from .chain import ENDED, CarriedTrunk, shut
+from .crc4_trunk import Crc4Trunk
 from .devices import LineOptions
 from .line_process import Joint, LineProcess, unsent
 from .log import Checkpoint, in_memory
@@ -16,7 +17,8 @@ from .process import start
 from .trunk import TrunkFiles
 from .version import CHECK, ProgramVersion
 
-SIGNAL, MANY = 0x9B, 64 * SIGNALS       # the octet of a frame alignment signal, and so many that no other slot has it
+SIGNAL, SIGNALS = 0x9B, 2 * FRAME       # the octet with the frame alignment signal, and how many from one to the next
+MANY = 64 * SIGNALS                     # octets in which no other slot has it each time
 PUMP = 'import sys; sys.path[:0] = [sys.argv.pop(1)]; from e1gw.service.slot_pump import main; main()'
 TOP = os.path.dirname(os.path.dirname(os.path.dirname(os.path.abspath(__file__))))
 STATUS = 'silent', 'slots_lost', 'slots_moved'
@@ -59,7 +61,7 @@ class SlotTrunk(CarriedTrunk):
             await self._end_process('pump', 0.0)
             self._pair()
             self._added('pump', octets=octets)
-            self._begin_counting()
+            self._begin('pump')
 
     def _hear(self) -> None:
         super()._hear()
@@ -77,12 +79,12 @@ def trunk_of(opens: Callable[[], Stream], line: LineOptions | None, files: dict[
     """A trunk that is to be opened, or that of the service before this one, of which `files` and `note` are."""
     if line is None:
         return TrunkFiles(opens, files)
-    return (SlotTrunk if line.law else CarriedTrunk)(line, files, note)
+    return (SlotTrunk if line.law else Crc4Trunk if line.crc4 else CarriedTrunk)(line, files, note)
 
 
 async def before_signal(version: ProgramVersion, state: Checkpoint) -> int:
     """How many octets a gateway with this state sends before a frame alignment signal, 63 at most."""
-    given, got = in_memory(trunk_record(ONES * MANY)), os.memfd_create('e1gw-sent')
+    given, got = in_memory(trunk_record(b'\xff' * MANY)), os.memfd_create('e1gw-sent')
     try:
         os.lseek(given, 0, os.SEEK_SET)
         process = start(version.program, version.executable(),
