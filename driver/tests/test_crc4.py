@@ -15,7 +15,7 @@ from typing import Any
 
 from . import support
 from .support import SECONDS
-from .test_trunk import FOUR, aligned, call
+from .test_trunk import FOUR, aligned, call, is_there
 from .world import LAUNCHER, World, config_of, of_words
 from e1gw import crc4, metrics
 from e1gw.crc4 import Crc4, counts_of, live_counts
@@ -120,7 +120,7 @@ def of_children(parent: int, *words: str) -> list[int]:
     return found
 
 
-def words_of(pid: int) -> list[str]:
+def command_of(pid: int) -> list[str]:
     with open(f'/proc/{pid}/cmdline', encoding='utf-8') as file:
         return file.read().split('\0')
 
@@ -294,7 +294,7 @@ class Crc4ServiceTests(unittest.TestCase):
                     world.line.sendall(octets[:count])
                     back = self.read(world, count)
                     processes = [pid for word in words for pid in of_words(world.process.pid, word)]
-                    processes = [pid for pid in processes if '--check' not in words_of(pid)]
+                    processes = [pid for pid in processes if '--check' not in command_of(pid)]
                     for pid in processes:
                         os.kill(pid, signal.SIGKILL)
                     support.until(lambda: not any(map(is_there, processes)))
