@@ -13,8 +13,9 @@ from . import support
 from .test_trunk import FOUR, aligned, call
 from .world import World, config_of
 from e1gw import writers
+from e1gw.service.events import EventFile, lines_to
 from e1gw.service.journal import MINUTE
-from e1gw.writers import Writer, to_file
+from e1gw.writers import Writer
 
 
 class WriterOpeningTests(support.FolderCase):
@@ -30,18 +31,18 @@ class WriterOpeningTests(support.FolderCase):
 
     def test_a_fifo_that_nobody_reads(self) -> None:
         with mock.patch.object(writers, 'OPENS', 0.1):
-            writer = to_file('session', self.fifo, lambda what, why: self.ended.append(f'{what}: {why}'))
-            writer.put(b'abc')
-            self.assertEqual(self.until_ended(), f'session: nobody reads it: {self.fifo}')
+            file = EventFile('json', lines_to(self.fifo), lambda what, why: self.ended.append(f'{what}: {why}'), 'x')
+            file.put('abc')
+            self.assertEqual(self.until_ended(), 'json: nobody reads it: x')
+            file.close()
 
     def test_a_fifo_that_somebody_reads_in_time(self) -> None:
-        writer = to_file('session', self.fifo, lambda what, why: self.ended.append(why))
-        writer.put(b'abc')
-        time.sleep(0.1)
-        with open(self.fifo, 'rb') as file:
-            writer.put(b'def')
-            self.assertEqual(file.read(6), b'abcdef')
-            writer.close()
+        file = EventFile('json', lines_to(self.fifo), lambda what, why: self.ended.append(why))
+        file.put('abc')
+        with open(self.fifo, 'rb') as reads:
+            file.put('def')
+            self.assertEqual(reads.read(8), b'abc\ndef\n')
+            file.close()
         self.assertEqual(self.ended, [])
 
     def test_an_opening_that_never_ends(self) -> None:
