@@ -146,6 +146,17 @@ class ServiceClearTests(OneProcessCase, test_clear.ClearServiceTests):
                 self.assertEqual(test_clear.wrong_slots(self.through(world, 31 * 64)), [])
 
 
+    def test_a_state_that_ends_inside_a_frame(self) -> None:
+        """The next start goes on in the frames of the gateway with that state."""
+        with tempfile.TemporaryDirectory() as folder:
+            words = '--clear', '--state', os.path.join(folder, 'state')
+            for count in 40, 31 * 64:
+                with World(config_of(range(1, 2)), *words) as world:
+                    back = self.through(world, count)
+                    self.assertEqual(world.quit()[0], 0)
+            self.assertEqual(test_clear.wrong_slots(back), [])
+
+
 class ServiceSatopCallTests(OneProcessCase, test_satop_call.SatopCallTests):
     """Two services at one another over SAToP."""
 
@@ -234,8 +245,9 @@ class LineKilledTests(ServiceKilledCase):
         self.assertEqual(self.process('send'), process)
         octets, _ = self.uncut()
         self.assertEqual(b''.join(each or b'' for each in self.heard), support.run('crc4', given=b''.join(octets)))
-        self.dies_meanwhile('check')
-        self.assertEqual(self.device.exchange.signals, self.up())
+        for name in 'check', 'send':
+            self.dies_meanwhile(name)
+            self.assertEqual(self.device.exchange.signals, self.up())
         self.ends()
 
     def test_the_line_ends(self) -> None:

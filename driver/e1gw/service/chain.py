@@ -22,7 +22,7 @@ from .program import name_of
 from .trunk import TrunkFiles
 
 AGAIN = 1.0                 # seconds after which another program is asked for again
-LOOK = 0.1                  # seconds between two looks at what the processes say
+LOOK = 0.25                 # seconds between two looks at what the processes say
 GRACE = 1.0                 # seconds for what was sent last to go out
 ENDED, BROKEN = 'the trunk has ended', 'the trunk cannot be read or written'
 PROCESSES = {'satop': ['satop'], 'align': ['align'], 'check': ['crc4', '--check'], 'send': ['crc4']}
