@@ -252,8 +252,11 @@ class LineKilledTests(ServiceKilledCase):
 
     def test_the_line_ends(self) -> None:
         """The program ends behind what has come, and another one goes on with the device opened again. `e1gw crc4` goes
-        on over a program that is killed."""
+        on over a program that is killed; the check begins anew behind another `e1gw align`."""
         self.begins('--crc4', '--align', '--reopen')
+        check, align = self.process('check'), self.process('align')
+        os.kill(align, signal.SIGKILL)
+        support.until(lambda: self.process('align') != align and self.process('check') != check)
         self.device.line.close()
         self.device.accept()
         self.assertIn(f'behind octet {len(self.heard) * MULTIFRAME}', self.goes_on())
