@@ -3,6 +3,7 @@ from __future__ import annotations
 
 import os
 import signal
+import tempfile
 import random
 import unittest
 from typing import Any
@@ -317,6 +318,16 @@ class ClearServiceTests(unittest.TestCase):
                 os.kill(before[0], signal.SIGKILL)
                 support.until(lambda: of_words(world.process.pid, word) not in (before, []))
                 self.assertEqual(wrong_slots(self.through(world, 31 * 64)), [])
+
+    def test_a_state_that_ends_inside_a_frame(self) -> None:
+        """The next start goes on in the frames of the gateway with that state."""
+        with tempfile.TemporaryDirectory() as folder:
+            words = '--clear', '--state', os.path.join(folder, 'state')
+            for count in 40, 31 * 64:
+                with World(config_of(range(1, 2)), *words) as world:
+                    back = self.through(world, count)
+                    self.assertEqual(world.quit()[0], 0)
+            self.assertEqual(wrong_slots(back), [])
 
     def through(self, world: World, count: int) -> bytes:
         """Idle octets to the driver; as many that come back."""

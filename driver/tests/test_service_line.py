@@ -91,14 +91,18 @@ class LineKilledTests(RestartedKeeperCase):
         self.assertEqual(self.process('send'), process)
         octets, _ = self.uncut()
         self.assertEqual(b''.join(each or b'' for each in self.heard), support.run('crc4', given=b''.join(octets)))
-        self.dies_meanwhile('check')
-        self.assertEqual(self.device.exchange.signals, self.up())
+        for name in 'check', 'send':
+            self.dies_meanwhile(name)
+            self.assertEqual(self.device.exchange.signals, self.up())
         self.ends()
 
     def test_the_line_ends(self) -> None:
-        """The program ends behind what has come, and another one goes on with the device opened again. After one that
-        is killed `e1gw crc4` is begun anew."""
+        """The program ends behind what has come, and another one goes on with the device opened again. `e1gw crc4` goes
+        on over a program that is killed; the check begins anew behind another `e1gw align`."""
         self.begins('--crc4', '--align', '--reopen')
+        check, align = self.process('check'), self.process('align')
+        os.kill(align, signal.SIGKILL)
+        support.until(lambda: self.process('align') != align and self.process('check') != check)
         self.device.line.close()
         self.device.accept()
         self.assertIn(f'behind octet {len(self.heard) * MULTIFRAME}', self.goes_on())
@@ -106,7 +110,7 @@ class LineKilledTests(RestartedKeeperCase):
         before = self.process('send')
         self.dies()
         self.step(20)
-        self.assertNotEqual(self.process('send'), before)
+        self.assertEqual(self.process('send'), before)
         self.assertEqual(self.device.exchange.signals, self.up())
         self.settles()
         self.ends()

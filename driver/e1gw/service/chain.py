@@ -22,7 +22,7 @@ from .program import name_of
 from .trunk import TrunkFiles
 
 AGAIN = 1.0                 # seconds after which another program is asked for again
-LOOK = 0.1                  # seconds between two looks at what the processes say
+LOOK = 0.25                 # seconds between two looks at what the processes say
 GRACE = 1.0                 # seconds for what was sent last to go out
 ENDED, BROKEN = 'the trunk has ended', 'the trunk cannot be read or written'
 PROCESSES = {'satop': ['satop'], 'align': ['align'], 'check': ['crc4', '--check'], 'send': ['crc4']}
@@ -151,6 +151,15 @@ class CarriedTrunk(TrunkFiles):
                 self.counts.check_ends()
             await process.begin_again()
             self._tell_open()
+            if name != 'check' and self._is_there('check'):
+                await self._begin_check()
+
+    async def _begin_check(self) -> None:
+        """Begins it anew, behind octets that are missing: it would find submultiframes right that are moved by half a
+        multiframe, and E bits where there are none."""
+        await self._end_process('check', 0.0)
+        self.counts.check_ends()
+        self._begin('check')
 
     def _tell_open(self) -> None:
         self.since, self.fault = time.time(), ''
