@@ -12,7 +12,7 @@ Labels = Mapping[str, object]
 Samples = Iterable[tuple[Labels, float | int]]
 
 ALIGNED = 'aligned'
-OTHERS = ('program', 'shadow')      # with which a watcher is connected
+OTHERS = ('program', 'shadow')      # with which e1gw-trunk is connected
 CIRCUIT_COUNTS = (('seizures', 'Calls begun.'), ('answers', 'Calls answered.'),
                   ('unacknowledged', 'Seizures that were not acknowledged.'),
                   ('faults', 'Invalid line signals.'))
@@ -55,7 +55,7 @@ def _of_trunk(status: Status) -> list[Family]:
         ('e1gw_trunk_stalled', 'gauge', '1 while no octets come.', [({}, int(clock['stalled']))]),
         ('e1gw_trunk_stalls_total', 'counter', 'Times without octets.', [({}, clock['stalls'])])]
     if 'shadow' in status:
-        found.append(('e1gw_connected', 'gauge', '1 where the watcher has a connection.',
+        found.append(('e1gw_connected', 'gauge', '1 where there is a connection.',
                       [({'to': other}, int(status[other])) for other in OTHERS]))
     found.append(('e1gw_trunk_octets_total', 'counter', 'Octets of the trunk.', [({}, status['octets'])]))
     return found + _of_flow(status, clock)

@@ -140,8 +140,11 @@ async def opened_watch(asked: argparse.Namespace, keeper: TrunkKeeper, requests:
     def ends() -> str:
         asyncio.get_running_loop().call_later(0.01, keeper.end, 'quit')
         return 'quit: done'
+
+    def config_path() -> str:
+        return keeper.versions.now.config_path()
     version = await asyncio.to_thread(version_of, wants.program)
-    fields |= {'config': lambda: keeper.versions.now.config_path(), 'tell': wants.tell, 'program': wants.control,
+    fields |= {'config': config_path, 'tell': wants.tell, 'program': wants.control,
                'picture': picture_words(asked, wants.program)}
     watch = TrunkWatch(WatchWants(**fields), ends, keeper.hurry,
                        lambda: keeper.trunk.facts() | {'version': version})
