@@ -114,6 +114,21 @@ class ServiceKilledRecordingTests(ServiceKilledCase, test_recorder.RecorderCase)
         self.ends()
         self.assertEqual(self.trunk_of(self.path('kept')), self.given_trunk())
 
+    def test_at_any_moment_of_a_reload(self) -> None:
+        """The log of a program is noted with the program."""
+        self.begins('--session', self.path('ring'), '--keep', '1h')
+        for _ in range(6):
+            self.keeper.send_signal(signal.SIGHUP)
+            for _ in range(self.chance.randrange(40)):
+                self.step()
+            self.kill_keeper()
+            self.told_from = len(self.told())
+            self.comes_back()
+            self.step(20)
+        self.as_uncut()
+        self.ends()
+        self.assertEqual(self.trunk_of(self.path('ring')), self.given_trunk())
+
     def test_ring(self) -> None:
         """The same file is written on for each program, and each replays from its state."""
         self.begins('--session', self.path('ring'), '--keep', '1h')

@@ -109,8 +109,6 @@ class TrunkKeeper:
             self._finish(self.ending, 0)
             return None
         program = self.program or self._start()
-        if self.reader:
-            self.reader.began(program, self.lost == LOST)
         if not program.is_up and not await program.comes_up(START) and not program.ended_well():
             await self._never_up(program)
             return None
@@ -125,6 +123,8 @@ class TrunkKeeper:
             self.number, self.versions.now, self.state, f'{self.wants.control}.{self.number}',
             self.checkpoints.new_path(False), self.trunk.both,
             ['--senders', self.versions.now.senders, *self.wants.words, *self.wants.both])
+        if self.reader:
+            self.reader.began(program, self.lost == LOST)
         self.note()
         return program
 
