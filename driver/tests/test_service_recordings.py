@@ -127,13 +127,13 @@ class ServiceKilledRecordingTests(ServiceKilledCase, test_recorder.RecorderCase)
             self.step(20)
         self.as_uncut()
         self.ends()
-        self.assertEqual(self.trunk_of(self.path('ring')), self.given_trunk())
+        self.assertEqual(self.trunk_of(self.path('ring')), self.given_trunk(), self.told())
 
     def test_ring(self) -> None:
         """The same file is written on for each program, and each replays from its state."""
         self.begins('--session', self.path('ring'), '--keep', '1h')
         self.killed()
-        self.assertEqual(self.trunk_of(self.path('ring')), self.given_trunk())
+        self.assertEqual(self.trunk_of(self.path('ring')), self.given_trunk(), self.told())
         fronts = sorted(path.removesuffix('.json') for path in glob.glob(self.path('ring/*.json')))
         places = [beside(f'{front}.e1gw')['place'] for front in fronts]
         self.assertEqual(len(places), 3)
@@ -151,7 +151,7 @@ class ServiceSequenceRecordingTests(test_service_keeper.ServiceSequenceTests, te
 
     def ends(self) -> None:
         super().ends()
-        self.assertEqual(self.trunk_of(self.path('ring')), self.given_trunk())
+        self.assertEqual(self.trunk_of(self.path('ring')), self.given_trunk(), self.told())
 
 
 class WholeRecordTests(unittest.TestCase):

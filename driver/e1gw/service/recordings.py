@@ -355,8 +355,10 @@ class TrunkRecording:
         noted = threading.Event()
 
         def note() -> None:
-            self._stands()
-            noted.set()
+            try:
+                self._stands()
+            finally:
+                noted.set()
         assert self._log
         self.standing = {'number': self._log.number, 'begun': self._place.begun, **self._place.standing()}
         self._loop.call_soon_threadsafe(note)
