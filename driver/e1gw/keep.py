@@ -20,7 +20,6 @@ UNITS = {'s': 1, 'm': 60, 'h': 3600, 'd': 86400}
 FILES = 12                  # into so many files the time that is kept is cut
 MOST_EARLIER = 3 * FILES    # files of earlier runs
 MOST_SLIPS = 1000           # that are noted beside a file
-NEW = os.O_WRONLY | os.O_CREAT | os.O_EXCL | os.O_CLOEXEC
 FRESH = os.O_WRONLY | os.O_CREAT | os.O_TRUNC | os.O_CLOEXEC
 
 
@@ -125,6 +124,10 @@ class Ring:
             slip = self.slips.popleft()
             if len(noted) < MOST_SLIPS:
                 noted.append(slip)
+        self._put_about()
+
+    def _put_about(self) -> None:
+        """Tells beside the file what it is, at once."""
         part = f'{self._front}.json.part'
         with open(os.open(part, FRESH, 0o640), 'w', encoding='utf-8') as file:
             file.write(json.dumps(self._about) + '\n')
@@ -156,8 +159,7 @@ class Ring:
         """Opens the file, and tells beside it what it is."""
         self._file = os.open(f'{self._front}{RECORDS}', os.O_WRONLY | os.O_CLOEXEC | flags, 0o640)
         if not os.path.lexists(f'{self._front}.json'):
-            with open(os.open(f'{self._front}.json', NEW, 0o640), 'w', encoding='utf-8') as file:
-                file.write(json.dumps(self._about) + '\n')
+            self._put_about()
 
     def _put_state(self) -> None:
         """Puts the state of the first file beside it."""

@@ -73,11 +73,26 @@ class KilledRecordingTests(RestartedKeeperCase, RecorderCase):
         self.ends()
         self.assertEqual(self.trunk_of(self.path('kept')), self.given_trunk())
 
+    def test_at_any_moment_of_a_reload(self) -> None:
+        """The log of a program is noted with the program."""
+        self.begins('--session', self.path('ring'), '--keep', '1h')
+        for _ in range(6):
+            self.keeper.send_signal(signal.SIGHUP)
+            for _ in range(self.chance.randrange(40)):
+                self.step()
+            self.kill_keeper()
+            self.told_from = len(self.told())
+            self.comes_back()
+            self.step(20)
+        self.as_uncut()
+        self.ends()
+        self.assertEqual(self.trunk_of(self.path('ring')), self.given_trunk(), self.told())
+
     def test_ring(self) -> None:
         """The same file is written on for each program, and each replays from its state."""
         self.begins('--session', self.path('ring'), '--keep', '1h')
         self.killed()
-        self.assertEqual(self.trunk_of(self.path('ring')), self.given_trunk())
+        self.assertEqual(self.trunk_of(self.path('ring')), self.given_trunk(), self.told())
         fronts = sorted(path.removesuffix('.json') for path in glob.glob(self.path('ring/*.json')))
         places = [beside(f'{front}.e1gw')['place'] for front in fronts]
         self.assertEqual(len(places), 3)
@@ -95,7 +110,7 @@ class ServiceSequenceRecordingTests(test_service_keeper.ServiceSequenceTests, Re
 
     def ends(self) -> None:
         super().ends()
-        self.assertEqual(self.trunk_of(self.path('ring')), self.given_trunk())
+        self.assertEqual(self.trunk_of(self.path('ring')), self.given_trunk(), self.told())
 
 
 class WholeRecordTests(unittest.TestCase):

@@ -113,8 +113,6 @@ class TrunkKeeper:
             self._finish(self.ending, 0)
             return None
         program = self.program or await self._start()
-        if self.reader:
-            self.reader.began(program, self.lost == LOST)
         if not program.is_up and not await program.comes_up(START) and not program.ended_well():
             await self._never_up(program)
             return None
@@ -130,6 +128,8 @@ class TrunkKeeper:
             self.number, self.versions.now, self.state, f'{self.wants.control}.{self.number}',
             self.checkpoints.new_path(False), self.trunk.both,
             ['--senders', self.versions.now.senders, *self.wants.words, *self.wants.both])
+        if self.reader:
+            self.reader.began(program, self.lost == LOST)
         self.note()
         return program
 

@@ -17,6 +17,7 @@ from .recordings import MOST_BEHIND, ReadLog, RecordingWants, TrunkRecording, ha
 
 MEASURED = frozenset(('gap', 'ahead', 'rate'))
 AGAIN = 60.0                # seconds between two looks whether a ring that has ended can be written again
+SOON = 0.5                  # the same if it can, and there is no checkpoint yet
 MOST_LOST = 0.008           # seconds of the trunk that a program had in hand
 
 logger = logging.getLogger(__name__)
@@ -159,28 +160,34 @@ class LogReader:
 
     async def _begin_again(self) -> None:
         """A ring that has ended is tried once a minute. If it can be written it goes on from a checkpoint of now."""
+        wait = AGAIN
         while self._wants and self._wants.keep:
             with suppress(TimeoutError):
-                async with asyncio.timeout(AGAIN):
+                async with asyncio.timeout(wait):
                     await self._retry.wait()
             self._retry.clear()
+            wait = AGAIN
             try:
-                if self._recording and self._recording.has_ended:
-                    await self._try_again(self._recording, self._wants)
+                if self._recording and self._recording.has_ended and await self._can_begin(self._recording):
+                    wait = AGAIN if await self._begin(self._wants) else SOON
             except Exception as fault:      # pylint: disable=broad-exception-caught
                 logger.warning('the recording does not begin again: %s', words_of_fault(fault))
 
-    async def _try_again(self, ended: TrunkRecording, wants: RecordingWants) -> None:
+    async def _can_begin(self, ended: TrunkRecording) -> bool:
+        """Whether nothing is left of one that has ended, and there is room for another one."""
         await asyncio.to_thread(ended.close)
-        if not ended.is_over() or not await asyncio.to_thread(has_room, wants.session):
-            return
-        if not (program := await self._checkpoint()):
-            return
-        for log in (log for log in self._logs if log.number == program.number):
+        return ended.is_over() and await asyncio.to_thread(has_room, ended.wants.session)
+
+    async def _begin(self, wants: RecordingWants) -> bool:
+        """Begins another recording, if there is a checkpoint."""
+        program = await self._checkpoint()
+        for log in [log for log in self._logs if program and log.number == program.number]:
+            assert program
             log.begin(program, program.checkpoint)
             self._recording = TrunkRecording(wants, self._note)
             self._recording.put(log)
             logger.log(NOTICE, 'the recording begins again: program %d', program.process.pid)
+        return program is not None
 
     async def finish(self) -> None:
         """The trunk has ended: all is read and copied."""

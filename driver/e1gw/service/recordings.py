@@ -257,7 +257,7 @@ class TrunkRecording:
         self.logs = deque[ReadLog]()
         self.standing: Mapping[str, Any] = noted or {}
         self.has_ended = has_ended
-        self._wants, self._stands, self._loop = wants, stands, asyncio.get_running_loop()
+        self.wants, self._stands, self._loop = wants, stands, asyncio.get_running_loop()
         self._place: RecordingPlace = RecordedFile(wants)
         if wants.keep:
             self._place = RecordedRing(wants)
@@ -285,7 +285,7 @@ class TrunkRecording:
         """It goes on no more, and the calls do."""
         if not self.has_ended:
             self.has_ended = True
-            tell_end('session', f'{why}: {self._wants.session}')
+            tell_end('session', f'{why}: {self.wants.session}')
 
     # ---- in the thread ----
 
@@ -355,8 +355,10 @@ class TrunkRecording:
         noted = threading.Event()
 
         def note() -> None:
-            self._stands()
-            noted.set()
+            try:
+                self._stands()
+            finally:
+                noted.set()
         assert self._log
         self.standing = {'number': self._log.number, 'begun': self._place.begun, **self._place.standing()}
         self._loop.call_soon_threadsafe(note)

@@ -52,7 +52,7 @@ class ReloadRequests:
         """Has a program of the version of now follow; a line says which calls that ends."""
         keeper, wants = self._keeper, self._keeper.wants
         checkpoint = Checkpoint()
-        if keeper.program and keeper.program.is_up:
+        if keeper.program and keeper.program.follower:
             await keeper.checkpoints.take(keeper.program)
             its = keeper.program.checkpoint.state
             checkpoint = Checkpoint(os.dup(its)) if its >= 0 else checkpoint

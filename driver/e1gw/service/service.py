@@ -179,7 +179,7 @@ def reader_of(asked: argparse.Namespace, keeper: TrunkKeeper) -> LogReader:
     """Reads what the programs of a keeper log."""
     async def checkpoint() -> TrunkProgram | None:
         program = keeper.program
-        if not program or not program.is_up or program.process.over.is_set():
+        if not program or not program.follower or program.process.over.is_set():
             return None
         before = program.checkpoint
         await keeper.checkpoints.take(program)
@@ -222,6 +222,8 @@ async def serve(asked: argparse.Namespace, wants: TrunkWants) -> int:
     catch_signals(keeper, requests)
     keeper.reader = reader_of(asked, keeper)
     keeper.reader.take_up(note and note.get('read'), files)
+    if keeper.program:
+        keeper.reader.began(keeper.program, False)
     beside = [asyncio.create_task(sign_of_life(notifier)), asyncio.create_task(keeper.reader.run())]
     if watch := await opened_watch(asked, keeper, requests, note is not None):
         beside.append(asyncio.create_task(watch.run()))
