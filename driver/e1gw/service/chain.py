@@ -210,7 +210,7 @@ class CarriedTrunk(TrunkFiles):
         if 'near' in self.files.ends:
             shut(self.files.ends['near'])
         for name in list(self._processes):
-            await self._end_process(name, GRACE if 'near' in self.files.ends else 0.0)
+            await self._end_process(name, 0.0 if name in self._inward() else GRACE)
         self.counts.line_ends(octets if self._why else None)
         self.files.close()
         self._satop = []
