@@ -11,13 +11,15 @@ import stat
 import sys
 import unittest
 from typing import Any, Callable
+from unittest import mock
 
-from . import support
+from . import limits, support
 from .test_crc4 import MULTIFRAME, checked
 from .test_satop_process import ENDS, SCRIPT
 from .test_keeper_killed import RestartedKeeperCase
 from .test_trunk import is_there
 from e1gw.lines import Event
+from e1gw.service import chain
 from e1gw.service.chain import BROKEN, CarriedTrunk
 from e1gw.service.crc4_trunk import Crc4Trunk
 from e1gw.service.devices import EmulatedStream, LineOptions
@@ -136,11 +138,18 @@ class LineKilledTests(RestartedKeeperCase):
 class LineProcessTests(support.FolderCase, unittest.IsolatedAsyncioTestCase):
     """An emulated circuit, whose `e1gw satop` is a script."""
 
-    async def opened(self, script: str, reopens: bool = False) -> CarriedTrunk:
+    def setUp(self) -> None:
+        super().setUp()
+        grace = mock.patch.object(chain, 'GRACE', limits.LONG)
+        grace.start()
+        self.addCleanup(grace.stop)
+
+    async def opened(self, script: str, reopens: bool = False, crc4: bool = False) -> CarriedTrunk:
         path = self.write('e1gw', f'#!{sys.executable}{script}')
         os.chmod(path, stat.S_IRWXU)
         self.told: list[Event] = []
-        trunk = CarriedTrunk(LineOptions(path, lambda: EmulatedStream(['x']), reopens=reopens), {}, None)
+        line = LineOptions(path, lambda: EmulatedStream(['x']), crc4=crc4, reopens=reopens)
+        trunk = (Crc4Trunk if crc4 else CarriedTrunk)(line, {}, None)
         trunk.tell = self.told.append
         await trunk.open()
         await trunk.join(0, True, True)
@@ -172,6 +181,16 @@ class LineProcessTests(support.FolderCase, unittest.IsolatedAsyncioTestCase):
         await self.goes_round(trunk)
         self.assertEqual([event['event'] for event in self.told],
                          ['trunk', 'trunk lost', 'trunk', 'trunk lost', 'trunk'])
+
+    async def test_it_ends_with_the_line(self) -> None:
+        """Also with a check that was begun behind another one."""
+        trunk = await self.opened(SCRIPT, crc4=True)
+        for _ in range(2):
+            before = self.process(trunk)
+            os.kill(before, signal.SIGKILL)
+            await self.until(lambda: self.process(trunk) != before)
+        await trunk.finish(None)
+        self.assertEqual(trunk.note()['processes'], {})
 
     async def test_it_ends_by_itself(self) -> None:
         """The program sees the end of the trunk; with --reopen another one is tried."""

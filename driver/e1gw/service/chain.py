@@ -15,6 +15,7 @@ import socket
 import time
 from typing import Any, Awaitable, Callable
 
+from ..session import MULTIFRAME
 from .devices import EmulatedStream, LineOptions
 from .line_counts import LineCounts
 from .line_process import Joint, LineFiles, LineProcess, unsent, waiting
@@ -23,7 +24,9 @@ from .trunk import TrunkFiles
 
 AGAIN = 1.0                 # seconds after which another program is asked for again
 LOOK = 0.25                 # seconds between two looks at what the processes say
+ANEW = 0.2                  # seconds for the far end of `e1gw satop` to take its packets as a stream that begins anew
 GRACE = 1.0                 # seconds for what was sent last to go out
+ONES = b'\xff' * 2 * MULTIFRAME         # with which the far end loses frame alignment
 ENDED, BROKEN = 'the trunk has ended', 'the trunk cannot be read or written'
 PROCESSES = {'satop': ['satop'], 'align': ['align'], 'check': ['crc4', '--check'], 'send': ['crc4']}
 WAITS = {'align': 'aligning', 'check': 'crc4_checking'}      # the names in the status
@@ -152,14 +155,18 @@ class CarriedTrunk(TrunkFiles):
             await process.begin_again()
             self._tell_open()
             if name != 'check' and self._is_there('check'):
-                await self._begin_check()
+                await self._begin_check(name)
 
-    async def _begin_check(self) -> None:
-        """Begins it anew, behind octets that are missing: it would find submultiframes right that are moved by half a
-        multiframe, and E bits where there are none."""
+    async def _begin_check(self, name: str) -> None:
+        """Behind another process octets are missing, so CRC multiframes are to be looked for anew, by the check and,
+        if nothing else tells it so, by the far end. Moved by half a multiframe each submultiframe would be right, and
+        E bits read where there are none."""
         await self._end_process('check', 0.0)
         self.counts.check_ends()
         self._begin('check')
+        if name == 'satop':
+            await asyncio.sleep(ANEW)
+            os.write(self.files.writes(), ONES)
 
     def _tell_open(self) -> None:
         self.since, self.fault = time.time(), ''
@@ -210,7 +217,7 @@ class CarriedTrunk(TrunkFiles):
         if 'near' in self.files.ends:
             shut(self.files.ends['near'])
         for name in list(self._processes):
-            await self._end_process(name, GRACE if 'near' in self.files.ends else 0.0)
+            await self._end_process(name, 0.0 if name in self._inward() else GRACE)
         self.counts.line_ends(octets if self._why else None)
         self.files.close()
         self._satop = []

@@ -223,8 +223,7 @@ class TrunkKeeper:
                 self.versions.go_back('no room for a state').close()
             return False
         program.ask_end()
-        if not await program.process.ends_within(GRACE):
-            await program.process.kill()
+        await program.process.end_within(GRACE)
         return True
 
     async def _died(self) -> None:

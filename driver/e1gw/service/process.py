@@ -6,9 +6,11 @@ import os
 import select
 import signal
 import subprocess
+import time
 from contextlib import suppress
 from typing import Iterable, Sequence
 
+LOOK = 0.1                  # seconds between two looks whether a signal has stopped it
 UNKNOWN = 255               # the status of a process that ended while nobody waited for it
 
 
@@ -63,6 +65,14 @@ class Child:
             async with asyncio.timeout(seconds):
                 await self.over.wait()
         return self.over.is_set()
+
+    async def end_within(self, seconds: float) -> None:
+        """Waits for its end, so long at most, and kills it then, or if a signal has stopped it."""
+        until = time.monotonic() + seconds
+        while time.monotonic() < until and not self.is_stopped():
+            if await self.ends_within(LOOK):
+                return
+        await self.kill()
 
     def is_stopped(self) -> bool:
         """Whether a signal has stopped it."""
