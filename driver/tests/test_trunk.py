@@ -412,6 +412,12 @@ class RefusedOptionsTests(support.FolderCase):
         at = lines.index(f'port {port} is in use (ss -ulpn shows by whom)')
         self.assertEqual((status, lines[at + 1]), (1, 'ends: the program says: socket 3, behind octet 0'))
 
+    def test_a_name_server_that_is_away(self) -> None:
+        """The unit tries it again."""
+        text = 'law = "A"\n[[circuit]]\nnumber = 3\nlocal_port = 9\npeer_port = 9\npeer_host = "no.such.invalid"\n'
+        status, said = self.run_driver('--config', self.write('names.toml', text), '--unix', 'card')
+        self.assertEqual((status, 'no.such.invalid: ' in said), (1, True))
+
     def test_options_that_a_unit_lacks(self) -> None:
         none = os.path.join(self.folder, 'west.options')
         with unittest.mock.patch.dict(os.environ, {'E1GW_OPTIONS': none}):

@@ -39,7 +39,7 @@ from .recordings import RecordingWants
 from .recovery import Handover, Notifier, given_files, note_of
 from .reload import ReloadRequests, ask_reload
 from .takeover import CannotBegin, first_keeper, next_keeper, open_first
-from .version import VersionRefused
+from .version import NotYet, VersionRefused
 from .watch import TrunkWatch, WatchWants
 
 NAME = 'e1gw-trunk'
@@ -259,6 +259,7 @@ def status_of(words: list[str], journal: ServiceJournal) -> int:
         logger.error('%s', fault)
         if fault.is_config and (why := config_words(asked.config)):
             logger.error('%s', why)
+        return 1 if isinstance(fault, NotYet) else 2
     except CannotBegin as fault:
         logger.error('%s', fault)
         return fault.status

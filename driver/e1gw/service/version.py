@@ -40,6 +40,10 @@ class CheckedVersion:
     calls: frozenset[int]
 
 
+class NotYet(VersionRefused):
+    """Why a version will not do now, and may do later: a name server is away."""
+
+
 @dataclass(frozen=True)
 class ProgramVersion:
     """A version. `file` is a descriptor of the program, `config` one of the configuration in memory, in which names
@@ -132,11 +136,11 @@ async def look_up(tables: dict[str, Any]) -> dict[str, str]:
         async with asyncio.timeout(LOOK_UP):
             for name, answer in zip(names, await asyncio.gather(*asked, return_exceptions=True)):
                 if isinstance(answer, BaseException):
-                    raise VersionRefused(f'{name}: {getattr(answer, "strerror", None) or answer}')
+                    raise NotYet(f'{name}: {getattr(answer, "strerror", None) or answer}')
                 first = min(answer, key=lambda each: each[0] is not socket.AF_INET)
                 found[name] = str(first[4][0])
     except TimeoutError:
-        raise VersionRefused(f'names are not looked up within {LOOK_UP:g} s: {", ".join(names)}') from None
+        raise NotYet(f'names are not looked up within {LOOK_UP:g} s: {", ".join(names)}') from None
     return found
 
 
