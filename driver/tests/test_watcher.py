@@ -212,7 +212,7 @@ class WatcherConnectionTests(WatcherCase):
         self.assertEqual(world.ask('seize 1'), 'seize 1: done')
 
     def test_another_shadow(self) -> None:
-        """A shadow goes and another one comes; a link leads to each, as e1gw-keep makes it."""
+        """A shadow goes and another one comes; a link leads to each, as e1gw-trunk makes it."""
         world = self.watched('--calls', '@/calls')
         world.shadow.tell('command 1 1 0', row(1, 'seized', '00 10'))
         world.shadow.row(1, 'answered', '00 01', (50, 40, 0))
