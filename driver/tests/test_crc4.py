@@ -4,6 +4,7 @@ The exchange's CRC-4 is made here bit by bit from ITU-T G.704 (2.3.3) and G.706 
 the program. All goes in lock step."""
 from __future__ import annotations
 
+import contextlib
 import os
 import random
 import signal
@@ -296,7 +297,8 @@ class Crc4ServiceTests(unittest.TestCase):
                     processes = [pid for word in words for pid in of_words(world.process.pid, word)]
                     processes = [pid for pid in processes if '--check' not in command_of(pid)]
                     for pid in processes:
-                        os.kill(pid, signal.SIGKILL)
+                        with contextlib.suppress(ProcessLookupError):       # (a program ends behind its e1gw crc4)
+                            os.kill(pid, signal.SIGKILL)
                     support.until(lambda: not any(map(is_there, processes)))
                     world.line.sendall(octets[count:])
                     world.exchange.hear(back + self.read(world, MULTIFRAME - count))
