@@ -80,6 +80,17 @@ class Units(unittest.TestCase):
         self.assertEqual(run('postinst', ('configure', '0.0.9'), '')[1], '')
         self.assertEqual(run('postinst', ('configure', ''), running)[1], '')
 
+    def test_an_update_names_options_that_are_refused(self) -> None:
+        with tempfile.TemporaryDirectory() as folder:
+            for name, words in (('west', '--unix card --pace 2'), ('east', '--unix card --picture 60')):
+                with open(os.path.join(folder, f'{name}.options'), 'w', encoding='ascii') as file:
+                    file.write(f'TRUNK="{words}"\n')
+            with open(os.path.join(TOP, 'dist', 'package', 'postinst'), encoding='ascii') as script:
+                text = script.read().replace('/etc/e1gw', folder).replace(RUNS, f'{folder}/none')
+            said = subprocess.run(['sh', '-c', text, 'postinst', 'configure', '0.0.9'], check=True, timeout=20,
+                                  stdout=subprocess.PIPE, text=True).stdout
+        self.assertRegex(said, r'^e1gw: take --pace, .* do not begin: \S*/west.options \n$')
+
     def test_an_upgrade_leaves_units_their_files(self) -> None:
         """Those that run of a package before this one, until the next boot."""
         with tempfile.TemporaryDirectory() as folder:
