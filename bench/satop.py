@@ -24,9 +24,9 @@ from e1gw.exchange import ACKNOWLEDGED, ANSWERED, SEIZED, ServeProcess
 from e1gw.followed import FollowedTrunk
 from e1gw.lines import Alignment
 from e1gw.satop import SatopCircuit
-from e1gw.satop_process import SatopProcess
+from e1gw.satop_process import counts_of
 from e1gw.session import Command
-from e1gw.trunks import Trunk
+from e1gw.trunks import Stream, Trunk
 from satop_far import PATIENCE, SIZE, Multiplexer, Network, wait_for
 from satop_real import real_time
 
@@ -83,6 +83,28 @@ TRIALS = [
 ]
 
 
+class SatopEnd(Stream):
+    """`e1gw satop`, with one end of a socket pair as its standard input and output."""
+
+    def __init__(self, program: str, words: list[str]) -> None:
+        ours, its = socket.socketpair()
+        with its:
+            self._process = subprocess.Popen([program, 'satop', *words], stdin=its.fileno(), stdout=its.fileno(),
+                                             stderr=subprocess.PIPE)
+        file = ours.detach()
+        super().__init__(file, file, 'satop')
+
+    def counted(self) -> dict[str, Any]:
+        """What it has counted, once it has ended."""
+        assert self._process.stderr
+        lines = [counts_of(line.decode().rstrip('\n')) for line in self._process.stderr]
+        return next((counts for counts in reversed(lines) if counts), {})
+
+    def close(self) -> None:
+        super().close()
+        self._process.wait(PATIENCE)
+
+
 class Lock:
     """A gateway and `e1gw satop`, with the exchange's clock: the next multiframe is sent when all that is due of the
     one before has come back."""
@@ -95,7 +117,7 @@ class Lock:
         self.network = Network(random.Random(7))
         self.far = Multiplexer(FAR, NEAR, self.network, trial.bits, trial.rtp)
         circuit = SatopCircuit(jitter=trial.jitter, rtp=trial.rtp, fill=trial.fill)
-        self.near = SatopProcess(program, [*(f'{host}:{port}' for host, port in (NEAR, FAR)), *circuit.words()])
+        self.near = SatopEnd(program, [*(f'{host}:{port}' for host, port in (NEAR, FAR)), *circuit.words()])
         self.serve, self.lines = ServeProcess(program, config), FollowedTrunk(config)
         self.exchange = self.far.exchange
         self.alarms = 0             # multiframes in which the exchange was told of an alarm
@@ -215,10 +237,10 @@ class Lock:
         self.serve.end()
         with socket.socket(fileno=os.dup(self.near.fileno())) as line:
             line.shutdown(socket.SHUT_WR)
-        with contextlib.suppress(OSError):          # (it has ended)
+        with contextlib.suppress(OSError, EOFError):        # (it has ended)
             while select.select([self.near.fileno()], [], [], PATIENCE)[0]:
                 self.near.read(65536)
-        status = self.near.status()
+        status = self.near.counted()
         self.near.close()
         self.far.socket.close()
         return status

@@ -30,7 +30,7 @@ STEP = 0.002                        # seconds of a multiframe
 OUTGOING, INCOMING = range(1, 16), range(16, 31)    # circuit n speaks with n + 15
 PATIENCE = 20
 NOTED = 0.020                       # seconds that somebody stands still for before it is kept
-SILENCE = 0.1                       # seconds of the far end's that the carrier has to take for silence
+SILENCE = 0.1                       # seconds of the far end's that has to be taken for silence
 AFTER = 3.0                         # seconds after that in which nothing of speech and alarms is held against it
 SETTLED = 10.0                      # seconds after which memory does not grow
 BEFORE = 2.0                        # seconds before something is told in which its cause may lie
@@ -110,7 +110,7 @@ class Stood:
         self.far: list[tuple[float, float]] = []
         self.near: list[tuple[float, float]] = []
         self._back = self._until = time.monotonic()
-        self.silences, self._is_late = 0, False     # how often the carrier has to take it for silence, at least
+        self.silences, self._is_late = 0, False     # how often it has to be taken for silence, at least
 
     def step(self, late: float, heard: bool) -> None:
         """The far end was late by so much, and then heard something or nothing."""
@@ -375,7 +375,7 @@ class Near:
     """The processes of the near end."""
 
     def __init__(self, driver: int) -> None:
-        self.processes = {word: child_of(driver, word) for word in ('trunk', 'e1gw-carry', 'satop', 'replay')}
+        self.processes = {word: child_of(driver, word) for word in ('trunk', 'satop', 'replay')}
 
     def processor(self) -> dict[str, float]:
         """Seconds of processor time."""
@@ -431,8 +431,8 @@ def others(world: World, what: str) -> Row:
 def on_purpose(world: World, driver: int) -> list[Row]:
     """What stands still or is slow on purpose, beside which no octet of speech is to be another one."""
     rows = []
-    carrier = child_of(driver, 'e1gw-carry')        # (a program that is stopped is killed, and another one goes on)
-    for what, process in (('carrier', carrier), ('e1gw satop', child_of(driver, 'satop'))):
+    # (a program that is stopped is killed, and another one goes on)
+    for what, process in (('e1gw-trunk', driver), ('e1gw satop', child_of(driver, 'satop'))):
         rows += [stands_still(world, what, process, seconds) for seconds in (.15, .3)]
         rows += [is_slow(world, what, process, share) for share in (.2, .3, .4, .5)]
     return rows
@@ -440,7 +440,7 @@ def on_purpose(world: World, driver: int) -> list[Row]:
 
 def real_time(program: str, folder: str, seconds: float, nice: int, look: Look) -> bool:
     """Starts the trunk, sets up the calls, and measures. False where the far end itself stood still for so long that
-    the carrier has to take it for silence."""
+    it has to be taken for silence."""
     path, address, events = (os.path.join(folder, f'real.{name}') for name in ('toml', 'control', 'json'))
     with open(path, 'w', encoding='utf-8') as file:
         file.write(config())

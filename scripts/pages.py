@@ -261,7 +261,7 @@ def main() -> None:
     lines = page('e1gw.1')
     compare_options(lines)
     for option, about in described(lines).items():
-        if option not in {'check', 'checkpoint', 'config', 'control', 'follow', 'live', 'load', 'record', 'record-over',
+        if option not in {'check', 'checkpoint', 'config', 'control', 'follow', 'from', 'live', 'load', 'record', 'record-over',
                           'reports', 'save', 'seizure-wait', 'senders', 'tell', 'totals', 'help', 'version'}:
             compare_values(option, about)
     compare_payloads()

@@ -9,11 +9,9 @@ from typing import NoReturn
 
 # The module that has main(), by the command's name without e1gw-.
 COMMANDS = {
-    'carry': 'carrying', 'config': 'making', 'ctl': 'ctl', 'exchange': 'tools.exchange', 'explain': 'explain',
-    'keep': 'keeping', 'pcap': 'tools.pcap', 'picture': 'picture.main', 'records': 'tools.records', 'tie': 'tie.main',
-    'trunk': 'trunk', 'watch': 'watching'}
-# The commands that a signal ends with status 0, also before their modules are loaded.
-SERVICES = ('carry', 'keep', 'trunk', 'watch')
+    'config': 'making', 'ctl': 'ctl', 'exchange': 'tools.exchange', 'explain': 'explain', 'pcap': 'tools.pcap',
+    'picture': 'picture.main', 'records': 'tools.records', 'tie': 'tie.main', 'trunk': 'service.service'}
+SERVICE = 'trunk'           # which a signal ends with status 0, also before its modules are loaded
 
 
 def refuse(what: str) -> NoReturn:
@@ -24,7 +22,7 @@ def refuse(what: str) -> NoReturn:
 
 def load(name: str) -> ModuleType:
     """The module of a command."""
-    if name in SERVICES:
+    if name == SERVICE:
         import signal
         for number in (signal.SIGINT, signal.SIGTERM):
             signal.signal(number, lambda *_: os._exit(0))

@@ -39,6 +39,7 @@ class FinishedPieces:
     _waiting: deque[tuple[str, str]] = field(default_factory=deque)
     _lock: threading.Lock = field(default_factory=threading.Lock)
     _works: bool = False
+    _is_last: bool = False
 
     def begin(self, state: str) -> None:
         """The first piece begins with the state of this file."""
@@ -52,6 +53,18 @@ class FinishedPieces:
         if begins:
             threading.Thread(target=self._run, args=(), daemon=True).start()
 
+    def finish(self) -> None:
+        """No other piece comes: the configuration is let go behind the last one."""
+        with self._lock:
+            self._is_last = True
+            if not self._works:
+                self._let_go()
+
+    def _let_go(self) -> None:
+        if self.config >= 0:
+            os.close(self.config)
+            self.config = -1
+
     def _run(self) -> None:
         while pair := self._take():
             piece, following = pair
@@ -63,6 +76,8 @@ class FinishedPieces:
     def _take(self) -> tuple[str, str] | None:
         with self._lock:
             self._works = bool(self._waiting)
+            if self._is_last and not self._works:
+                self._let_go()
             return self._waiting.popleft() if self._waiting else None
 
     def _save(self, piece: str, following: str) -> None:

@@ -3,15 +3,12 @@ from __future__ import annotations
 
 import csv
 import io
-import os
-import stat
 import time
 from dataclasses import dataclass
 from typing import Callable, Iterable, Mapping
 
 from .counts import DatagramCounts
 from .lines import IN_CALL, Event, Line, Role, State
-from .writers import Writer, open_to_append, write_all
 
 FIELDS = ('trunk', 'circuit', 'direction', 'seized', 'answered', 'ended', 'by', 'codec', 'sent', 'received', 'lost',
           'late', 'call')
@@ -143,40 +140,3 @@ class CallLog:
         self._put(csv_line([self._trunk, call.circuit, self._lines[call.circuit].role, moment(call.seized),
                             moment(call.answered), moment(call.ended), call.by, call.codec, *told,
                             f'{self.life}-{call.circuit}-{call.number}']))
-
-
-class RotatedFile:
-    """A file of lines with a head, written behind what it has. A file that is full is moved away, and the oldest of
-    those is forgotten. All of it is in the thread of a writer."""
-
-    def __init__(self, path: str, head: bytes, most: int = MOST_OCTETS) -> None:
-        self._path, self._head, self._most, self._file = path, head, most, -1
-
-    def open(self) -> None:
-        self._file = open_to_append(self._path)
-        if os.fstat(self._file).st_size == 0:
-            write_all(self._file, self._head)
-
-    def write(self, octets: bytes) -> None:
-        about = os.fstat(self._file)
-        if stat.S_ISREG(about.st_mode) and about.st_size + len(octets) > self._most:
-            self._rotate()
-        write_all(self._file, octets)
-
-    def _rotate(self) -> None:
-        os.close(self._file)
-        for number in range(KEPT, 0, -1):
-            older = f'{self._path}.{number}'
-            newer = f'{self._path}.{number - 1}' if number > 1 else self._path
-            if os.path.exists(newer):
-                os.replace(newer, older)
-        self.open()
-
-    def close(self) -> None:
-        os.close(self._file)
-
-
-def to_calls(path: str, ended: Callable[[str, str], None]) -> Writer:
-    """A writer for the lines of calls."""
-    file = RotatedFile(path, csv_line(FIELDS))
-    return Writer('calls', file.write, ended, file.close, file.open, path)

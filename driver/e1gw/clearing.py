@@ -46,9 +46,6 @@ class DisconnectWatch:
         self._due = None
         return 'on-loss: done'
 
-    def has_asked(self, client: object) -> bool:
-        return client in self._asked
-
     def left(self, client: object, now: float) -> None:
         """A client is gone."""
         wish = self._asked.pop(client, None)

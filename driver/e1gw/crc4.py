@@ -1,22 +1,13 @@
-"""CRC-4 of a trunk (ITU-T G.704, 2.3.3) by filters of the program: what is received goes through `e1gw crc4 --check`,
-what is sent through `e1gw crc4`. A pipe joins the two: what is received errored is reported to the far end by E bits.
-A check tells its counts after each second of the trunk, and at its end.
-"""
+"""What is known of the CRC-4 of a trunk (ITU-T G.704, 2.3.3), by what `e1gw crc4 --check` tells: counts after each
+second of the trunk, and at its end."""
 from __future__ import annotations
 
-import os
-import time
-from typing import Any, Callable
+from typing import Any
 
-from .filtered import Received, Sent
-from .filters import GRACE, Filter
 from .lines import Event
-from .session import MULTIFRAME, OCTETS_A_SECOND
-from .trunks import Trunk
 
 # What `e1gw crc4 --check` counts, by the names that it prints.
 COUNTS = ('submultiframes', 'errored', 'far_end_errored', 'multiframes_found', 'multiframes_lost', 'given_up')
-LOOK = OCTETS_A_SECOND // 20    # octets after which the words of a check are read
 QUIET = 10                      # counts without an error after which errors are over
 
 
@@ -100,80 +91,14 @@ class Crc4:
         self.aligned = None
         self._last, self._last_octets = dict.fromkeys(COUNTS, 0), 0
 
+    def note(self) -> list[Any]:
+        """All of it but for errors that are told, as plain values."""
+        return [self.checked, self.counts, self.aligned, self._last, self._last_octets]
+
+    def take_up(self, note: list[Any]) -> None:
+        """Goes on where another one has left."""
+        self.checked, self.counts, self.aligned, self._last, self._last_octets = note
+
     def status(self) -> dict[str, Any]:
         """As plain values."""
         return {**self.counts, 'aligned': self.aligned, 'checked': self.checked}
-
-
-class Checked(Received):
-    """A trunk what is received of which is checked."""
-
-    def __init__(self, device: Trunk, program: str, crc4: Crc4, reports: int) -> None:
-        super().__init__(device, Filter(program, 'crc4', '--check', tells=True, reports=reports), 'crc4_checking')
-        self._crc4 = crc4
-        self._seconds = 0           # of the trunk, whose counts were told
-        self._look_at = LOOK        # octets after which the check's words are read
-
-    def read(self, most: int) -> bytes:
-        octets = super().read(most)
-        if self._filter.given >= self._look_at:
-            self._look_at = self._filter.given + LOOK
-            self._hear()
-        return octets
-
-    def _hear(self) -> list[str]:
-        """Takes the counts of each second that were told; returns the lines."""
-        lines = self._filter.said()
-        for line in lines:
-            if (counts := live_counts(line)):
-                self._seconds += 1
-                self._take(counts, self._seconds * OCTETS_A_SECOND)
-        return lines
-
-    def _take(self, counts: dict[str, int], octets: int) -> None:
-        for event in self._crc4.take(counts, octets):
-            if self.tell:
-                self.tell(event)
-
-    def close(self) -> None:
-        """The counts up to now are taken before the device is closed."""
-        self._ready.watch({})
-        until = time.monotonic() + GRACE
-        self._filter.take_rest(until)
-        ended = self._filter.ended(max(0.0, until - time.monotonic()))
-        counts = counts_of(self._hear())
-        if counts and ended == 0:
-            self._take(counts, self._filter.given)
-        self._crc4.ended()
-        super().close()
-
-
-class Multiframes(Sent):
-    """A trunk what is sent on which has CRC-4 multiframes. A gateway's frames begin at its first octet and go on over
-    its trunks; so the filter of a later trunk is first given the octets that its multiframe lacks."""
-
-    def __init__(self, device: Trunk, program: str, crc4: Crc4, reports: int) -> None:
-        super().__init__(device, Filter(program, 'crc4', reports=reports), 'crc4_sending')
-        self._crc4 = crc4
-
-    def write(self, octets: bytes) -> None:
-        if not self._filter.given:
-            self.skip(self._crc4.sent % MULTIFRAME)
-        self._crc4.sent += len(octets)
-        super().write(octets)
-
-
-def with_crc4(opens: Callable[[], Trunk], program: str, crc4: Crc4) -> Trunk:
-    """The trunk that `opens` opens, with CRC-4 both ways. OSError if it can't be opened, or the program not be
-    started. The pipe of reports stays open in the two processes alone."""
-    trunk, reports = opens(), list[int]()
-    try:
-        reports += os.pipe()
-        trunk = Checked(trunk, program, crc4, reports[0])
-        return Multiframes(trunk, program, crc4, reports[0])
-    except OSError:
-        trunk.close()
-        raise
-    finally:
-        for end in reports:
-            os.close(end)

@@ -1,10 +1,10 @@
 """Gives commands to trunks in service: e1gw-ctl PATH COMMAND.., e1gw-ctl --all COMMAND.., e1gw-ctl
 
-PATH is the socket of --control of e1gw-trunk or e1gw-watch, or the name of a trunk, whose socket is
-/run/e1gw/NAME/control. COMMAND is one of e1gw-trunk(1): seize N, clear N, answer N, clear-back N, block N, unblock N,
-codec N CODEC TYPE, status, status N, status json, events, on-loss, quit, help. N may be several circuits: seize 1-4,7.
-With a PATH and no command, commands are read from standard input, a line each. --all gives the command to each trunk
-of this machine. Without any word there is a line for each trunk of this machine.
+PATH is the socket of --control of e1gw-trunk, or the name of a trunk, whose socket is /run/e1gw/NAME/control.
+COMMAND is one of e1gw-trunk(1): seize N, clear N, answer N, clear-back N, block N, unblock N, codec N CODEC TYPE,
+status, status N, status json, events, on-loss, reload, quit, help. N may be several circuits: seize 1-4,7. With a PATH
+and no command, commands are read from standard input, a line each. --all gives the command to each trunk of this
+machine. Without any word there is a line for each trunk of this machine.
 
 Statuses: 0 all was done; 1 a trunk refused something, or does not answer; 2 the command line, or nobody listens at
 PATH.

@@ -8,8 +8,9 @@ import os
 import re
 import time
 from collections import deque
+from contextlib import suppress
 from dataclasses import dataclass, field
-from typing import Any
+from typing import Any, Callable, Sized
 
 from .archive import RECORDS, STATE, UNFINISHED, FinishedPieces, forget
 from .lines import SEIZURE_WAIT, WAIT
@@ -19,7 +20,6 @@ UNITS = {'s': 1, 'm': 60, 'h': 3600, 'd': 86400}
 FILES = 12                  # into so many files the time that is kept is cut
 MOST_EARLIER = 3 * FILES    # files of earlier runs
 MOST_SLIPS = 1000           # that are noted beside a file
-NEW = os.O_WRONLY | os.O_CREAT | os.O_EXCL | os.O_CLOEXEC
 FRESH = os.O_WRONLY | os.O_CREAT | os.O_TRUNC | os.O_CLOEXEC
 
 
@@ -67,6 +67,7 @@ class Ring:
     _earlier: deque[str] = field(default_factory=deque)     # those of rings before it
     places: deque[int] = field(default_factory=deque)   # of each piece that is to be written, where it begins
     slips: deque[tuple[int, float]] = field(default_factory=deque)      # that are to be noted: place, seconds
+    announce: Callable[[], None] = field(default=lambda: None)      # is called before a file is begun
     _about: dict[str, Any] = field(default_factory=dict)
 
     def open(self) -> None:
@@ -78,6 +79,34 @@ class Ring:
         if self.behind.program:
             self.behind.config = hold(config)
         self._each = max(5, self.keep // FILES)
+
+    def standing(self) -> dict[str, Any]:
+        """What a ring has to know that goes on with the file that is written."""
+        return {'front': self._front, 'began': self._began, 'due': self._due, 'own': [*self._own]}
+
+    def go_on(self, place: int, front: str, began: float, due: float, own: list[str]) -> None:
+        """Goes on with the file that another ring has written, or had announced; it begins at this place. States that
+        are still missing are made."""
+        self._front, self._began, self._due, self._own = front, began, due, deque(own)
+        self._about = self._told(place, own[1:])
+        with suppress(FileNotFoundError), open(f'{front}.json', encoding='utf-8') as file:
+            self._about = json.load(file)
+        self._create(os.O_APPEND | os.O_CREAT)
+        known = [each for each in own if os.path.exists(f'{each}{STATE}')]
+        if known:
+            self.behind.begin(f'{known[-1]}{STATE}')
+        elif self.state and not own[1:]:
+            self._put_state()
+        for piece, following in itertools.pairwise(own[own.index(known[-1]) if known else 0:]):
+            self.behind.put(piece, following)
+
+    def size(self) -> int:
+        """The octets of the file that is written."""
+        return os.fstat(self._file).st_size if self._file >= 0 else 0
+
+    def complete(self, octets: bytes) -> None:
+        """Writes the rest of a record that the file has in part."""
+        write_all(self._file, octets)
 
     def write(self, octets: bytes) -> None:
         """Writes whole records."""
@@ -95,6 +124,10 @@ class Ring:
             slip = self.slips.popleft()
             if len(noted) < MOST_SLIPS:
                 noted.append(slip)
+        self._put_about()
+
+    def _put_about(self) -> None:
+        """Tells beside the file what it is, at once."""
         part = f'{self._front}.json.part'
         with open(os.open(part, FRESH, 0o640), 'w', encoding='utf-8') as file:
             file.write(json.dumps(self._about) + '\n')
@@ -102,24 +135,31 @@ class Ring:
 
     def _next(self, place: int) -> None:
         self._finish()
-        whole = self._front
-        begins = 'middle' if self.state or self._began is not None else 'start'
-        self._about = {'config': os.path.abspath(self.named or self.config), 'config_sha256': self._sum,
-                       'time': round(time.time(), 3), 'monotonic': round(time.monotonic(), 3), 'place': place,
-                       WAIT: self.wait, 'begins': begins}
+        now, whole, self._about = time.monotonic(), self._front, self._told(place, self._own)
         stamp = time.strftime('%Y%m%dT%H%M%SZ', time.gmtime())
-        self._file, self._front = _open_fresh(os.path.join(self.folder, f'{self.name}-{stamp}'))
+        self._front = _fresh(os.path.join(self.folder, f'{self.name}-{stamp}'))
         self._own.append(self._front)
-        with open(os.open(f'{self._front}.json', NEW, 0o640), 'w', encoding='utf-8') as file:
-            file.write(json.dumps(self._about) + '\n')
+        self._began = now if self._began is None else self._began
+        self._due = now + self._each
+        self.announce()
+        self._create(os.O_EXCL | os.O_CREAT)
         if whole:
             self.behind.put(whole, self._front)
         elif self.state:
             self._put_state()
-        now = time.monotonic()
-        self._began = now if self._began is None else self._began
-        self._due = now + self._each
         self._drop_old(now - self._began)
+
+    def _told(self, place: int, before: Sized) -> dict[str, Any]:
+        """What is told of a file that begins at a place, and of the ring behind those before it."""
+        return {'config': os.path.abspath(self.named or self.config), 'config_sha256': self._sum,
+                'time': round(time.time(), 3), 'monotonic': round(time.monotonic(), 3), 'place': place, WAIT: self.wait,
+                'begins': 'middle' if self.state or len(before) else 'start'}
+
+    def _create(self, flags: int) -> None:
+        """Opens the file, and tells beside it what it is."""
+        self._file = os.open(f'{self._front}{RECORDS}', os.O_WRONLY | os.O_CLOEXEC | flags, 0o640)
+        if not os.path.lexists(f'{self._front}.json'):
+            self._put_about()
 
     def _put_state(self) -> None:
         """Puts the state of the first file beside it."""
@@ -145,6 +185,7 @@ class Ring:
     def close(self) -> None:
         """The last file stays as it is, since nobody waits for what would compress it."""
         self._finish()
+        self.behind.finish()
 
 
 def _fronts_in(folder: str, name: str) -> list[str]:
@@ -154,18 +195,11 @@ def _fronts_in(folder: str, name: str) -> list[str]:
     return [os.path.join(folder, front) for front in sorted(fronts)]
 
 
-def _open_fresh(front: str) -> tuple[int, str]:
-    """Opens a file that was not there before; its name gets a number if it has to. Returns its path, too, without the
-    ending."""
-    for number in itertools.count(1):
-        path = front if number == 1 else f'{front}_{number}'
-        if os.path.lexists(f'{path}.json') or os.path.lexists(f'{path}{RECORDS}.zst'):
-            continue
-        try:
-            return os.open(f'{path}{RECORDS}', NEW, 0o640), path
-        except FileExistsError:
-            pass
-    raise AssertionError
+def _fresh(front: str) -> str:
+    """The path of a file that was not there before, without its ending; it gets a number if it has to."""
+    fronts = (front if number == 1 else f'{front}_{number}' for number in itertools.count(1))
+    return next(each for each in fronts
+                if not any(os.path.lexists(f'{each}{ending}') for ending in ('.json', RECORDS, f'{RECORDS}.zst')))
 
 
 def _drop(front: str) -> None:

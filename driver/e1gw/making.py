@@ -16,7 +16,6 @@ import sys
 from dataclasses import dataclass, replace
 from typing import Any
 
-from .command import Usage
 from .explain import CODECS, ConfigFault, check, config_words, read_octets
 from .faults import number, words_of_fault
 from .session import CIRCUITS
@@ -25,6 +24,10 @@ FIRST, APART, TRUNKS = 24_002, 100, 64      # ports of a trunk: for each circuit
 SAME_HOST = 10_000                          # ports between the two ends of a tie on one machine
 METRICS = 9100
 ROLES = ('outgoing', 'incoming', 'odd', 'even')
+
+
+class CannotWrite(Exception):
+    """Why no configuration is written."""
 
 
 @dataclass(frozen=True)
@@ -68,7 +71,7 @@ def table_of(plan: Plan, circuit: int) -> str:
 
 
 def text_of(plan: Plan) -> str:
-    """The whole configuration, or Usage if e1gw would refuse it."""
+    """The whole configuration, or CannotWrite if e1gw would refuse it."""
     head = (f'# Thirty circuits of one trunk, made by e1gw-config(1); e1gw.toml(5) has each key.\n'
             f'# The jitter buffer (prefill) is {plan.prefill / 8:g} ms deep.\n'
             f'law = "{plan.law}"\nhost = "{plan.host}"\n')
@@ -76,7 +79,7 @@ def text_of(plan: Plan) -> str:
     try:
         check(text.encode())
     except ConfigFault as fault:
-        raise Usage(fault.text) from None
+        raise CannotWrite(fault.text) from None
     return text
 
 
@@ -116,7 +119,7 @@ def write_all(asked: argparse.Namespace, plan: Plan) -> None:
     there = [path for name, _ in ends for ending in ('toml', 'options')
              if os.path.exists(path := os.path.join(asked.folder, f'{name}.{ending}'))]
     if there and not asked.over:
-        raise Usage(f'{", ".join(there)}: already there; nothing was written (--over overwrites)')
+        raise CannotWrite(f'{", ".join(there)}: already there; nothing was written (--over overwrites)')
     for name, text, options in texts:
         path = os.path.join(asked.folder, name)
         write_new(f'{path}.toml', text, asked.over)
@@ -204,7 +207,7 @@ def run(asked: argparse.Namespace) -> int:
     if asked.check:
         return 0 if check_files(asked.check) else 2
     if asked.tie and (not asked.write or asked.tie == asked.write):
-        raise Usage('--tie needs --write and another name')
+        raise CannotWrite('--tie needs --write and another name')
     plan = plan_of(asked)
     if asked.write:
         write_all(asked, plan)
@@ -218,7 +221,7 @@ def main() -> None:
     status = 2
     try:
         status = run(asked)
-    except Usage as fault:
+    except CannotWrite as fault:
         print(f'e1gw-config: {fault}', file=sys.stderr)
     except BrokenPipeError:
         os.dup2(os.open(os.devnull, os.O_WRONLY), 1)

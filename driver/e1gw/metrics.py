@@ -12,7 +12,7 @@ Labels = Mapping[str, object]
 Samples = Iterable[tuple[Labels, float | int]]
 
 ALIGNED = 'aligned'
-OTHERS = ('program', 'shadow')      # with which a watcher is connected
+OTHERS = ('program', 'shadow')      # with which e1gw-trunk is connected
 CIRCUIT_COUNTS = (('seizures', 'Calls begun.'), ('answers', 'Calls answered.'),
                   ('unacknowledged', 'Seizures that were not acknowledged.'),
                   ('faults', 'Invalid line signals.'))
@@ -37,7 +37,7 @@ def exposition(status: Status, trunk: str = '') -> str:
     """All metrics of a trunk, which `trunk` names."""
     common = f'trunk="{_escaped(trunk)}"' if trunk else ''
     families = [*_of_trunk(status), *crc4_families(status), *_of_lines(status), *_of_packets(status),
-                *_of_datagrams(status), *_of_watcher(status)]
+                *_of_datagrams(status), *_of_service(status)]
     return ''.join(family(*each, common) for each in families)
 
 
@@ -55,7 +55,7 @@ def _of_trunk(status: Status) -> list[Family]:
         ('e1gw_trunk_stalled', 'gauge', '1 while no octets come.', [({}, int(clock['stalled']))]),
         ('e1gw_trunk_stalls_total', 'counter', 'Times without octets.', [({}, clock['stalls'])])]
     if 'shadow' in status:
-        found.append(('e1gw_connected', 'gauge', '1 where the watcher has a connection.',
+        found.append(('e1gw_connected', 'gauge', '1 where there is a connection.',
                       [({'to': other}, int(status[other])) for other in OTHERS]))
     found.append(('e1gw_trunk_octets_total', 'counter', 'Octets of the trunk.', [({}, status['octets'])]))
     return found + _of_flow(status, clock)
@@ -136,12 +136,6 @@ def _of_datagrams(status: Status) -> list[Family]:
     rows = status['circuits']
     sockets = [row for row in rows if row['socket']]
     return [
-        ('e1gw_datagrams_total', 'counter', 'Old names: e1gw_rtp_packets_total, e1gw_rtp_discarded_total.',
-         [({'circuit': row['circuit'], 'what': what}, n) for row in rows for what, n in row['datagrams'].items()]),
-        ('e1gw_datagrams_lost', 'gauge', 'Old name: e1gw_rtp_lost.',
-         [({'circuit': row['circuit']}, row['lost']) for row in rows]),
-        ('e1gw_datagrams_jitter_seconds', 'gauge', 'Old name: e1gw_rtp_jitter_seconds.',
-         [({'circuit': row['circuit']}, round(row['jitter_ms'] / 1000, 6)) for row in rows]),
         ('e1gw_counts_stale', 'gauge', '1 where the counts of packets are not those of now.',
          [({}, int(status['stale']))]),
         ('e1gw_socket_dropped_total', 'counter', 'Packets for which the kernel had no room.',
@@ -150,11 +144,10 @@ def _of_datagrams(status: Status) -> list[Family]:
          [({'circuit': row['circuit']}, row['socket']['waiting']) for row in sockets])]
 
 
-def _of_watcher(status: Status) -> list[Family]:
+def _of_service(status: Status) -> list[Family]:
     return [
         ('e1gw_commands_total', 'counter', 'Commands by answer.',
          [({'command': row['command'], 'answer': row['answer']}, row['count']) for row in status['commands']]),
-        ('e1gw_renewed_total', 'counter', 'Old name: e1gw_jitter_buffer_resyncs_total.', [({}, status['renewed'])]),
         ('e1gw_jitter_buffer_resyncs_total', 'counter', 'Jitter buffers that were resynchronised.',
          [({}, status['renewed'])]),
         ('e1gw_ended', 'gauge', '1 where something beside the calls has ended.',

@@ -1,7 +1,7 @@
-"""How often each line was seized, by which calls are named: another watcher, and the next shadow, go on counting.
+"""How often each line was seized, by which calls are named: the next follower, and the next service, go on counting.
 
-The shadow counts seizures since its session began. A note in memory says what has to be added to them, so that a
-watcher that is started anew counts as the one before it did."""
+A follower counts seizures since the state with which it has begun, its session. A note in memory says what has to be
+added to them, so that a service that is started anew counts as the one before it did."""
 from __future__ import annotations
 
 import json
@@ -23,7 +23,7 @@ def note_of(tell: str) -> str:
 
 class Naming:
     """Counts seizures across sessions. `life` names the count: as long as it is the same, the count goes on. It is
-    empty until a shadow has told how the lines stand."""
+    empty until a follower has told how the lines stand."""
 
     def __init__(self, path: str) -> None:
         self.life, self._path = '', path
@@ -33,7 +33,7 @@ class Naming:
         self._read()
 
     def _read(self) -> None:
-        """What another watcher has noted; nothing if that is not understood."""
+        """What another service has noted; nothing if that is not understood."""
         try:
             with open(self._path, encoding='utf-8') as file:
                 self._noted = file.read()
@@ -44,7 +44,7 @@ class Naming:
             pass
 
     def begin(self, session: str, before: Seizures | None, told: Seizures, lines: Mapping[int, Line]) -> None:
-        """A shadow has told how all lines stand, and how often each was seized in its session, unless it is of an
+        """A follower has told how all lines stand, and how often each was seized in its session, unless it is of an
         earlier version. `before` are the seizures that were known when it began to tell; None if nothing was."""
         if told and session == self._session:
             self.life = self._noted_life
@@ -60,6 +60,12 @@ class Naming:
             lines[n].seizures = self._base.get(n, 0) + count
         self._note()
 
+    def saved(self, session: str, lines: Mapping[int, Line]) -> None:
+        """A session of this name is to begin where this one has ended."""
+        if self.life:
+            self._session, self._base = session, {n: line.seizures for n, line in lines.items()}
+            self._note()
+
     def _note(self) -> None:
         text = json.dumps({'life': self.life, 'session': self._session, 'base': self._base})
         self._noted_life = self.life
@@ -68,4 +74,4 @@ class Naming:
             try:
                 put_file(self._path, text.encode())
             except OSError:
-                pass        # another watcher then names calls anew
+                pass        # another service then names calls anew

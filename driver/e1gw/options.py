@@ -1,38 +1,17 @@
-"""What an operator asks of a trunk: the options that e1gw-trunk and e1gw-watch have."""
+"""What an operator wants of a trunk: options, and what they mean."""
 from __future__ import annotations
 
 import argparse
 import os
-from dataclasses import dataclass, field
 from typing import Any
 
-from .clearing import DisconnectPolicy, on_loss_of
+from .clearing import on_loss_of
 from .faults import number
 from .trunks import host_and_port
 
 
-@dataclass(kw_only=True)
-class Options:
-    """What an operator wants to have of a trunk. `drawn` has the picture that is wanted, as words of the pages."""
-
-    config: str
-    name: str
-    watch: bool = False
-    top: bool = False
-    control: str | None = None
-    control_mode: int = 0o660
-    control_group: str | None = None
-    http: tuple[str, int] | None = None
-    metrics: str | None = None
-    json: str | None = None
-    calls: str | None = None
-    dark: float | None = None
-    on_loss: DisconnectPolicy = DisconnectPolicy()
-    drawn: dict[str, Any] = field(default_factory=dict)
-
-
 def add_options(words: argparse.ArgumentParser) -> None:
-    """The options of Options that come first."""
+    """Those that come first."""
     words.add_argument('--config', metavar='FILE', required=True, help='the configuration, e1gw.toml(5)')
     words.add_argument('--name', help='the name of the trunk in metrics and files [default: that of FILE]')
 
@@ -51,7 +30,6 @@ def add_control(words: argparse._ArgumentGroup) -> None:
     words.add_argument('--metrics', metavar='FILE', help='a file of metrics for node_exporter, every 5 s')
     words.add_argument('--json', metavar='FILE', help='a line of JSON for each change; - is standard output')
     words.add_argument('--watch', action='store_true', help='tells each change on standard output')
-    words.add_argument('--top', action='store_true', help='the table in the terminal, twice a second')
 
 
 def add_calls(words: argparse._ArgumentGroup) -> None:
@@ -62,12 +40,10 @@ def add_calls(words: argparse._ArgumentGroup) -> None:
 
 
 def fields_of(asked: argparse.Namespace) -> dict[str, Any]:
-    """The fields of Options, of a command line. ValueError if one is none."""
+    """What is wanted, by its name, of a command line. ValueError if an option is none."""
+    name = asked.name or os.path.splitext(os.path.basename(asked.config))[0]
     return {
-        'config': asked.config,
-        'name': asked.name or os.path.splitext(os.path.basename(asked.config))[0], 'watch': asked.watch,
-        'top': asked.top, 'control': asked.control, 'control_mode': asked.control_mode,
-        'control_group': asked.control_group, 'http': host_and_port(asked.http) if asked.http else None,
-        'metrics': asked.metrics, 'json': asked.json, 'calls': asked.calls, 'dark': asked.dark,
-        'on_loss': on_loss_of(asked.on_loss)}
-
+        'config': asked.config, 'name': name, 'watch': asked.watch, 'control': asked.control,
+        'control_mode': asked.control_mode, 'control_group': asked.control_group,
+        'http': host_and_port(asked.http) if asked.http else None, 'metrics': asked.metrics, 'json': asked.json,
+        'calls': asked.calls, 'dark': asked.dark, 'on_loss': on_loss_of(asked.on_loss)}

@@ -1,14 +1,13 @@
-"""Which program carries a trunk, what it says of a configuration, and whose datagrams it receives."""
+"""Which program carries a trunk, its version, and whose datagrams it receives."""
 from __future__ import annotations
 
 import argparse
-import ipaddress
 import os
 import shutil
 import subprocess
 
 from .faults import number
-from .lines import SEIZURE_WAIT, read_config
+from .lines import SEIZURE_WAIT
 
 PATIENCE = 5.0              # seconds for a program to say its version
 
@@ -31,32 +30,6 @@ def program_of(asked: str | None) -> str:
             raise SystemExit(done.returncode)       # it has said why
         return done.stdout.strip()
     return shutil.which('e1gw') or 'e1gw'
-
-
-def senders_of(config: str) -> str:
-    """Whose datagrams are received if nothing is asked for: `host` if each peer_host is an address, else `any`."""
-    try:
-        for circuit in read_config(config).get('circuit', []):
-            ipaddress.ip_address(circuit.get('peer_host', '127.0.0.1'))
-    except (OSError, ValueError, TypeError, AttributeError):    # a name; what is no configuration is told later
-        return 'any'
-    return 'host'
-
-
-class ConfigRefused(Exception):
-    """The program refuses a configuration, in these words."""
-
-    def __init__(self, words: str, config: str) -> None:
-        super().__init__(words)
-        self.config = config
-
-
-def check_config(program: str, config: str) -> None:
-    """Asks the program whether the configuration is one."""
-    done = subprocess.run([program, 'check', '--config', config], stdin=subprocess.DEVNULL,
-                          stdout=subprocess.DEVNULL, stderr=subprocess.PIPE, check=False)
-    if done.returncode:
-        raise ConfigRefused(done.stderr.decode(errors='replace').strip() or f'status {done.returncode}', config)
 
 
 def version_of(program: str) -> str:

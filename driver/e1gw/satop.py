@@ -6,8 +6,6 @@ import argparse
 import socket
 from dataclasses import dataclass
 
-from .faults import named
-from .satop_process import SatopProcess
 from .session import FRAME
 from .trunks import host_and_port
 
@@ -58,15 +56,6 @@ def ends_of(text: str) -> tuple[tuple[str, int], tuple[str, int]]:
     if not comma:
         raise ValueError(f'{text} is not LOCAL:PORT,PEER:PORT')
     return host_and_port(local), host_and_port(peer)
-
-
-def open_satop(local_and_peer: str, circuit: SatopCircuit, program: str) -> SatopProcess:
-    """The trunk at LOCAL:PORT,PEER:PORT, by this program. ValueError for other text, OSError for a host without address
-    or a program that cannot be started."""
-    try:
-        return SatopProcess(program, [*addresses_of(*ends_of(local_and_peer)), *circuit.words()])
-    except OSError as fault:
-        raise named(fault, local_and_peer) from None
 
 
 def add_arguments(parser: argparse.ArgumentParser) -> None:

@@ -19,9 +19,7 @@ class Trunk(ABC):
     """A trunk. Nothing here waits: `read` gives what there is, `write` keeps what the other end does not take yet."""
 
     name = ''                       # where it is: a path, or an address
-    deadline: float | None = None   # of time.monotonic: `read` is called then although nothing has come
     paced = True                    # octets come by a clock, and not as fast as they are read
-    must_be_read = False            # it takes octets only while those that it gives are read
     tell: Callable[[dict[str, Any]], None] | None = None    # is called with each change that is to be told
 
     @abstractmethod
@@ -50,7 +48,7 @@ class Trunk(ABC):
         return self.fileno()
 
     def waiting(self) -> int:
-        """How many octets wait to be sent. Nothing more is read from the trunk before they are, unless it must be."""
+        """How many octets wait to be sent. Nothing more is read from the trunk before they are."""
         return 0
 
     def flush(self) -> None:

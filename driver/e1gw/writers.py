@@ -8,7 +8,6 @@ import queue
 import sys
 import threading
 import time
-from dataclasses import dataclass
 from typing import Callable
 
 MOST_WAITING = 16 << 20     # octets for one place; more are not kept
@@ -101,96 +100,6 @@ def open_to_append(path: str) -> int:
         else:
             os.set_blocking(file, True)
             return file
-
-
-class AppendedFile:
-    """A file that is written behind what it has. It is opened by `open`, in the thread of its writer."""
-
-    def __init__(self, path: str) -> None:
-        self._path, self._file = path, -1
-
-    def open(self) -> None:
-        self._file = open_to_append(self._path)
-
-    def write(self, octets: bytes) -> None:
-        write_all(self._file, octets)
-
-    def close(self) -> None:
-        os.close(self._file)
-
-
-def to_file(name: str, path: str, ended: Callable[[str, str], None]) -> Writer:
-    """A writer to a file of this path, which may not be there, and may never open."""
-    file = AppendedFile(path)
-    return Writer(name, file.write, ended, file.close, file.open, path)
-
-
-def to_json(path: str | None, ended: Callable[[str, str], None]) -> Writer | None:
-    """A writer of lines of JSON; - is standard output. None without a path."""
-    if not path:
-        return None
-    return to_descriptor('json', 1, ended) if path == '-' else to_file('json', path, ended)
-
-
-@dataclass
-class _Kind:
-    """What the journal was told of one kind in this minute."""
-
-    began: float
-    level: int
-    told: int = 0
-    left: int = 0
-
-
-class Journal:
-    """Lines for the operator on standard error, with the levels of syslog where systemd's journal reads them. Of one
-    kind there are MOST lines a minute, and then how many more there were."""
-
-    ERROR, WARNING, NOTICE, INFO = 3, 4, 5, 6
-    MOST, MINUTE = 20, 60.0
-
-    def __init__(self, file: int = 2, clock: Callable[[], float] = time.monotonic, name: str = 'e1gw-trunk') -> None:
-        self._writer, self._clock, self._name = to_descriptor('standard error', file), clock, name
-        self._levels = _is_journal(file)
-        self._kinds: dict[str, _Kind] = {}
-
-    def line(self, level: int, text: str, kind: str | None = None) -> None:
-        """A line; those of a kind are bounded, those without one are not."""
-        if kind is None:
-            return self._put(level, text)
-        self.look()
-        found = self._kinds.setdefault(kind, _Kind(self._clock(), level))
-        if found.told < self.MOST:
-            found.told += 1
-            self._put(level, text)
-        else:
-            found.left += 1
-
-    def look(self, end: bool = False) -> None:
-        """To be called now and then: says of a minute that is over, or at the end, how many lines were left out."""
-        now = self._clock()
-        for kind, found in list(self._kinds.items()):
-            if end or now - found.began >= self.MINUTE:
-                del self._kinds[kind]
-                if found.left:
-                    self._put(found.level, f'{kind}: .. and {found.left} more in the last minute')
-
-    def _put(self, level: int, text: str) -> None:
-        front = f'<{level}>' if self._levels else f'{self._name}: '
-        self._writer.put(f'{front}{text}\n'.encode(errors='replace'))
-
-    def close(self) -> None:
-        self.look(True)
-        self._writer.close()
-
-
-def _is_journal(file: int) -> bool:
-    """Whether a descriptor is the journal's, as JOURNAL_STREAM says (systemd.exec(5))."""
-    try:
-        about = os.fstat(file)
-    except OSError:
-        return False
-    return os.environ.get('JOURNAL_STREAM') == f'{about.st_dev}:{about.st_ino}'
 
 
 def hold_descriptors() -> None:

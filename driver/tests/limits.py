@@ -1,7 +1,7 @@
 """Limits of time of the programs in Python, so long that a machine which stands still reaches none of them.
 
-They hold in the process of the tests, and in the commands that `start` starts. E1GW_LIMITS gives it those that one test
-wants otherwise."""
+They hold in the process of the tests, and in the commands that `start` and `watch` start. E1GW_LIMITS gives those that
+one test wants otherwise."""
 from __future__ import annotations
 
 import importlib
@@ -12,18 +12,17 @@ from typing import Any, Mapping
 
 GIVEN = 'E1GW_LIMITS'
 LONG = 900.0                # seconds
-# Where the shadow tells of each command an answer waits for that. (A shadow that comes meanwhile may not.)
-TELLS = {'watcher.PATIENCE': LONG}
-ENDS = ('carrying', 'crc4', 'filtered', 'filters', 'keeper', 'recovery', 'satop_process', 'standby', 'succession',
-        'supervisor')
+# Where the follower tells of each command an answer waits for that. (A follower that comes meanwhile may not.)
+TELLS = {'service.connection.PATIENCE': LONG}
 LIMITS: dict[str, Any] = {
-    **{f'{name}.GRACE': LONG for name in ENDS}, **{f'{name}.FLUSH': LONG for name in ('keeper', 'recorder', 'standby')},
-    'control.IDLE': LONG, 'ctl_all.PATIENCE': LONG, 'pages.PATIENCE': LONG, 'pages.PATIENCE_DRAWN': LONG,
-    'programs.PATIENCE': LONG, 'watcher.FIRST': LONG, 'watcher.STALLED': 100_000,
-    'writers.OPENS': LONG,
-    'standby.APART': 0.0, 'tie.client.PATIENCE': LONG,
+    'service.keeper.START': LONG, 'service.keeper.GRACE': LONG, 'service.follower.PATIENCE': LONG,
+    'service.version.CHECK': LONG, 'service.version.LOOK_UP': LONG, 'service.status.FIRST': LONG,
+    'service.status.QUIET': LONG, 'service.pages.DRAWN': LONG, 'service.reload.PATIENCE': LONG,
+    'service.recordings.FLUSH': LONG, 'service.chain.GRACE': LONG, 'service.line_process.QUICK': 0.0,
+    'service.checkpoints.PAUSE': 0.0, 'service.checkpoints.QUICK': 0.0,
+    'ctl_all.PATIENCE': LONG, 'programs.PATIENCE': LONG, 'tie.client.PATIENCE': LONG,
     # (A process that gets what others leave gets next to nothing on a loaded machine.)
-    'archive.put_last': lambda process: None, 'pages.put_behind': lambda process, nice: None}
+    'archive.put_last': lambda process: None}
 
 
 def around(limits: Mapping[str, Any]) -> dict[str, str]:

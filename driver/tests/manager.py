@@ -35,6 +35,7 @@ class Manager:
             self.told += text.decode().split('\n')
             if 'FDSTORE' in words:
                 (file,) = array.array('i', rights[0][2])
+                os.set_inheritable(file, False)
                 self._keep(words['FDNAME'], file)
             elif 'FDSTOREREMOVE' in words:
                 if words['FDNAME'] in self.files:

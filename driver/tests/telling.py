@@ -14,7 +14,7 @@ from .support import SECONDS
 from .world import ServedProgram
 from e1gw.session import Kind, Reader, Record, encode_record
 
-LAUNCHER = support.launcher('watch')
+LAUNCHER = os.path.join(support.TOP, 'driver', 'tests', 'watch')
 IDLE = ['{0:2} outgoing idle        10 10          0          0          0 pcma      8'.format(n) for n in range(1, 31)]
 
 

@@ -138,7 +138,7 @@ class RingStateTests(RingCase):
             ring.places.append(0)
             ring.write(b''.join(records))
             self.passed += EACH
-        ring.close()
+        self.addCleanup(ring.close)
         (first, second), front = self.files('.e1gw'), os.path.join(self.ring, 'west-20990101T000000Z')
         worker.put(second.removesuffix('.e1gw'), front)     # what follows it was taken away meanwhile
         self.assertEqual((os.path.exists(f'{front}.state'), self.failed), (False, []))

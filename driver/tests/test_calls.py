@@ -3,16 +3,17 @@ from __future__ import annotations
 
 import csv
 import os
-import tempfile
 import unittest
 from typing import Any
+from unittest import mock
 
 from . import support
 from .test_trunk import FOUR, aligned, call
 from .world import World, config_of
-from e1gw.calls import FIELDS, KEPT, CallLog, RotatedFile
+from e1gw.calls import FIELDS, KEPT, CallLog
 from e1gw.counts import DatagramCounts
 from e1gw.lines import Line, Role
+from e1gw.service import events
 
 
 class CallEndTests(unittest.TestCase):
@@ -71,20 +72,19 @@ class CallEndTests(unittest.TestCase):
         self.assertEqual([(row[4] != '', row[6], row[8:12]) for row in self.rows], [(True, 'stop', [''] * 4)])
 
 
-class CallFileTests(unittest.TestCase):
+class CallFileTests(support.FolderCase):
     def test_a_full_file_is_moved_away(self) -> None:
-        with tempfile.TemporaryDirectory() as folder:
-            path = os.path.join(folder, 'calls.csv')
-            file = RotatedFile(path, b'head\n', 30)
-            file.open()
+        head = ','.join(FIELDS) + '\n'
+        with mock.patch.object(events, 'MOST_OCTETS', len(head) + 25):
+            file = events.EventFile('calls', events.CallFile(self.path('calls.csv')), lambda _, why: self.fail(why))
             for number in range(10, 40):
-                file.write(b'line of %d\n' % number)
+                file.put(f'line of {number}')
             file.close()
-            names = sorted(os.listdir(folder))
-            self.assertEqual(names, ['calls.csv', *(f'calls.csv.{n}' for n in range(1, KEPT + 1))])
-            for name, line in (('calls.csv', b'39'), ('calls.csv.1', b'37'), (f'calls.csv.{KEPT}', b'21')):
-                with open(os.path.join(folder, name), 'rb') as held:
-                    self.assertEqual((held.readline(), line in held.read()), (b'head\n', True), name)
+        names = sorted(os.listdir(self.folder))
+        self.assertEqual(names, ['calls.csv', *(f'calls.csv.{n}' for n in range(1, KEPT + 1))])
+        for name, line in (('calls.csv', '39'), ('calls.csv.1', '37'), (f'calls.csv.{KEPT}', '21')):
+            with open(self.path(name), encoding='ascii') as held:
+                self.assertEqual((held.readline(), line in held.read()), (head, True), name)
 
 
 class CallServiceTests(unittest.TestCase):

@@ -2,12 +2,14 @@
 from __future__ import annotations
 
 import os
+import signal
+import tempfile
 import random
 import unittest
 from typing import Any
 
 from . import support
-from .world import World, config_of
+from .world import World, config_of, of_words
 from e1gw.clear import Clear, Place
 from e1gw.events import words_of
 from e1gw.exchange import ACKNOWLEDGED, ServeProcess
@@ -298,6 +300,8 @@ class ClearGatewayTests(support.FolderCase):
             serve.process.stdout.close()
             self.assertEqual(wrong_slots(device.taken), [], first)
 
+
+class ClearServiceTests(unittest.TestCase):
     def test_the_driver_opens_another_device(self) -> None:
         with World(config_of(range(1, 2)), '--clear', '--reopen') as world:
             self.assertEqual(len(self.through(world, 496)), 496)       # a multiframe of 31 slots
@@ -305,6 +309,25 @@ class ClearGatewayTests(support.FolderCase):
             with world.new_listener() as listener:
                 world.take(listener)
             self.assertEqual(wrong_slots(self.through(world, 31 * 64)), [])
+
+    def test_the_pump_and_the_program_die(self) -> None:
+        """Each slot goes on in its place, both ways."""
+        with World(config_of(range(1, 2)), '--clear') as world:
+            for word in 'trunk', 'slot_pump', 'trunk':
+                before = of_words(world.process.pid, word)
+                os.kill(before[0], signal.SIGKILL)
+                support.until(lambda: of_words(world.process.pid, word) not in (before, []))
+                self.assertEqual(wrong_slots(self.through(world, 31 * 64)), [])
+
+    def test_a_state_that_ends_inside_a_frame(self) -> None:
+        """The next start goes on in the frames of the gateway with that state."""
+        with tempfile.TemporaryDirectory() as folder:
+            words = '--clear', '--state', os.path.join(folder, 'state')
+            for count in 40, 31 * 64:
+                with World(config_of(range(1, 2)), *words) as world:
+                    back = self.through(world, count)
+                    self.assertEqual(world.quit()[0], 0)
+            self.assertEqual(wrong_slots(back), [])
 
     def through(self, world: World, count: int) -> bytes:
         """Idle octets to the driver; as many that come back."""

@@ -4,27 +4,23 @@ The exchange's CRC-4 is made here bit by bit from ITU-T G.704 (2.3.3) and G.706 
 the program. All goes in lock step."""
 from __future__ import annotations
 
+import contextlib
 import os
 import random
-import select
 import signal
-import socket
 import subprocess
 import sys
 import tempfile
 import unittest
 from typing import Any
-from unittest import mock
 
 from . import support
 from .support import SECONDS
-from .test_trunk import FOUR, aligned, call
-from .world import LAUNCHER, World, config_of, descendant
-from e1gw import crc4, filtered, metrics
-from e1gw.crc4 import Crc4, counts_of, live_counts, with_crc4
+from .test_trunk import FOUR, aligned, call, is_there
+from .world import LAUNCHER, World, config_of, of_words
+from e1gw import crc4, metrics
+from e1gw.crc4 import Crc4, counts_of, live_counts
 from e1gw.events import words_of
-from e1gw.trunk import options_of
-from e1gw.trunks import Stream
 
 FRAME, HALF, MULTIFRAME = 32, 256, 512      # octets; half a multiframe is a submultiframe
 SECOND = 500                                # multiframes
@@ -125,9 +121,9 @@ def of_children(parent: int, *words: str) -> list[int]:
     return found
 
 
-def of_carrier(world: World, *words: str) -> int:
-    """The process that the carrier has started with these words."""
-    return of_children(descendant(world.process.pid, 'e1gw-carry'), *words)[0]
+def command_of(pid: int) -> list[str]:
+    with open(f'/proc/{pid}/cmdline', encoding='utf-8') as file:
+        return file.read().split('\0')
 
 
 class Crc4World(World):
@@ -213,6 +209,7 @@ class Crc4ServiceTests(unittest.TestCase):
         # All but 8 ms and what is missing of two multiframes.
         self.assertTrue(12_000 - 16 < counts['submultiframes'] < submultiframes, counts)
         self.assertEqual(counts['checked'], submultiframes * HALF)
+        world.connected()
         status, said = world.quit()
         self.assertEqual(status, 0)
         for line in ('CRC multiframe alignment found', 'CRC-4 errors: 1 of ',
@@ -266,25 +263,74 @@ class Crc4ServiceTests(unittest.TestCase):
             self.assertEqual({status['transport'][name] for name in ('aligning', 'crc4_checking', 'crc4_sending')}, {0})
             self.assertEqual(checked(bytes(world.heard), world.alignment_of(bytes(world.heard))).count(False), 0)
 
-    def test_it_ends_with_each_filter(self) -> None:
-        for words, said in ((('crc4',), 'cannot be read or written: e1gw crc4 ended by signal 9'),
-                            (('crc4', '--check'), 'cannot be read or written: e1gw crc4 --check ended by signal 9')):
+    def test_a_process_dies(self) -> None:
+        """Another one is begun. The call is up, on the same device, and every submultiframe is right."""
+        for words in ('crc4',), ('crc4', '--check'):
             with self.subTest(words), Crc4World(config_of(FOUR)) as world:
                 aligned(world)
-                os.kill(of_carrier(world, *words), signal.SIGKILL)
-                try:
-                    world.step(2)
-                except (EOFError, ConnectionError, BrokenPipeError):
-                    pass
-                status, lines = world.wait()
-                self.assertEqual(status, 1)
-                self.assertRegex(lines, said)
+                call(world, 1)
+                before = of_children(world.process.pid, *words)
+                os.kill(before[0], signal.SIGKILL)
+                support.until(lambda: of_children(world.process.pid, *words) not in (before, []))
+                self.goes_on(world)
+
+    def goes_on(self, world: Crc4World) -> None:
+        """A call is up, and all that the exchange hears from now on is right."""
+        begun = len(world.heard)
+        world.step(100)
+        heard = bytes(world.heard[begun:])
+        at = multiframe_in(heard, frame_alignment(heard, 7))
+        assert at is not None
+        self.assertEqual(set(checked(heard, at)), {True})
+        self.assertEqual(world.state(1), 'answered')
+
+    def test_who_dies_inside_a_multiframe(self) -> None:
+        """The exchange keeps the alignment of frames and multiframes, whether the program or `e1gw crc4` dies."""
+        for words in ('trunk',), ('crc4',), ('crc4', 'trunk'):
+            for count in 0, 77, 500:
+                with self.subTest(words=words, count=count), Crc4World(config_of(FOUR)) as world:
+                    aligned(world)
+                    call(world, 1)
+                    octets = world.sender.multiframe(world.exchange.multiframe())
+                    world.line.sendall(octets[:count])
+                    back = self.read(world, count)
+                    processes = [pid for word in words for pid in of_words(world.process.pid, word)]
+                    processes = [pid for pid in processes if '--check' not in command_of(pid)]
+                    for pid in processes:
+                        with contextlib.suppress(ProcessLookupError):       # (a program ends behind its e1gw crc4)
+                            os.kill(pid, signal.SIGKILL)
+                    support.until(lambda: not any(map(is_there, processes)))
+                    world.line.sendall(octets[count:])
+                    world.exchange.hear(back + self.read(world, MULTIFRAME - count))
+                    self.goes_on(world)
+
+    def read(self, world: Crc4World, count: int) -> bytes:
+        back = b''
+        while len(back) < count:
+            back += world.line.recv(count - len(back))
+        return back
+
+    def test_a_state_that_ends_inside_a_frame(self) -> None:
+        """The next start sends CRC-4 in the frames of the gateway with that state."""
+        with tempfile.TemporaryDirectory() as folder:
+            state = os.path.join(folder, 'state')
+            with Crc4World(config_of(FOUR), '--state', state) as world:
+                world.line.sendall(b'\xD5' * 77)
+                self.read(world, 77)
+                self.assertEqual(world.quit()[0], 0)
+            with Crc4World(config_of(FOUR), '--state', state) as world:
+                world.exchange = support.Exchange()
+                world.step(100)
+                heard = bytes(world.heard[MULTIFRAME:])
+                at = multiframe_in(heard, frame_alignment(heard, 7))
+                assert at is not None
+                self.assertEqual(set(checked(heard, at)), {True})
 
     def test_it_comes_again(self) -> None:
         world = aligned(self.world('--reopen'))
         call(world, 1)
         with world.new_listener() as listener:
-            os.kill(of_carrier(world, 'crc4'), signal.SIGKILL)
+            os.kill(of_children(world.process.pid, 'crc4')[0], signal.SIGKILL)
             try:
                 world.step()
             except (EOFError, ConnectionError, BrokenPipeError):
@@ -330,76 +376,6 @@ class LateCrc4World(Crc4World):
         bits = int.from_bytes(bytes([self.last]) + octets, 'big') >> 3
         self.last = octets[-1]
         return World.give(self, (bits & (1 << 8 * len(octets)) - 1).to_bytes(len(octets), 'big'))
-
-
-class Crc4CheckTests(unittest.TestCase):
-    """What a check tells while it runs, and at its end."""
-
-    def setUp(self) -> None:
-        support.program()
-        ours, self.theirs = socket.socketpair()
-        self.addCleanup(self.theirs.close)
-        self.theirs.settimeout(SECONDS)
-        file = ours.detach()
-        self.crc4 = Crc4()
-        self.told: list[str] = []
-        self.trunk = with_crc4(lambda: Stream(file, file, 'pair'), support.program(), self.crc4)
-        self.trunk.tell = lambda event: self.told.append(words_of(event))
-
-    def through(self, octets: bytes, most: int = 700) -> bytes:
-        """What the driver reads if the far end sends these."""
-        poll = select.poll()
-        poll.register(self.trunk.fileno(), select.POLLIN)
-        out = b''
-        for at in range(0, len(octets), most):
-            self.theirs.sendall(octets[at:at + most])
-            while len(out) < min(at + most, len(octets)):
-                self.assertTrue(poll.poll(SECONDS * 1000))
-                out += self.trunk.read(256)
-        return out
-
-    def test_octets_are_as_they_came(self) -> None:
-        given = random.Random(5).randbytes(200_000)
-        self.assertEqual(self.through(given), given)
-        self.trunk.close()
-        self.assertEqual((self.crc4.checked, self.crc4.counts), (len(given), dict.fromkeys(crc4.COUNTS, 0)))
-        self.assertEqual(self.told, ['no CRC multiframe alignment'])
-
-    def test_errors_are_told_after_a_second(self) -> None:
-        sender, exchange = Crc4Sender(), support.Exchange()
-        sender.errored_at = {60, 70, 1200}
-        given = b''.join(sender.multiframe(exchange.multiframe()) for _ in range(550))
-        self.assertEqual(self.through(given), given)
-        self.assertEqual([line.partition(' of ')[0] for line in self.told],
-                         ['CRC multiframe alignment found', 'CRC-4 errors: 2'])
-        self.assertEqual(self.crc4.checked, 256_000)
-        self.trunk.close()
-        counts = self.crc4.counts
-        self.assertEqual((counts['errored'], counts['multiframes_found'], counts['multiframes_lost']), (2, 1, 0))
-        self.assertEqual(self.crc4.checked, len(given))
-
-    def test_lost_for_good(self) -> None:
-        sender, exchange = Crc4Sender(), support.Exchange()
-        self.through(b''.join(sender.multiframe(exchange.multiframe()) for _ in range(530)))
-        self.through(b'\xD5' * 60_000)
-        self.trunk.close()
-        self.assertEqual(self.told, ['CRC multiframe alignment found', 'CRC multiframe alignment lost'])
-        self.assertEqual((self.crc4.counts['multiframes_found'], self.crc4.counts['multiframes_lost']), (1, 1))
-
-    def test_one_that_stands_still_holds_nobody(self) -> None:
-        child = of_children(os.getpid(), 'crc4')[0]
-        os.kill(child, signal.SIGSTOP)
-        for _ in range(100):
-            self.trunk.write(bytes(256))
-        self.assertEqual(self.trunk.status()['crc4_sending'], 25_600)
-        with mock.patch.object(filtered, 'MOST_WAITING', 30_000), self.assertRaisesRegex(OSError, 'crc4 takes nothing'):
-            self.trunk.write(bytes(10_000))
-        os.kill(child, signal.SIGCONT)
-        self.trunk.close()
-        out = b''
-        while (piece := self.theirs.recv(65_536)):
-            out += piece
-        self.assertEqual(len(out), 35_600)
 
 
 class Crc4CountTests(unittest.TestCase):
@@ -458,17 +434,6 @@ class Crc4CountTests(unittest.TestCase):
             'e1gw_crc4_aligned 1', 'e1gw_crc4_submultiframes_total 9988', 'e1gw_crc4_errored_total{end="this"} 3',
             'e1gw_crc4_errored_total{end="other"} 2', 'e1gw_crc4_alignments_total 1',
             'e1gw_crc4_alignment_losses_total 0', 'e1gw_crc4_given_up_total 0'])
-
-    def test_what_it_is_not_for(self) -> None:
-        with self.assertRaisesRegex(ValueError, '--crc4'):
-            options_of(['--config', 'trunk.toml', '--crc4', '--unix', 'card', '--clear'])
-
-    def test_no_program(self) -> None:
-        reads, writes = os.pipe()
-        self.addCleanup(os.close, writes)
-        with self.assertRaises(FileNotFoundError):
-            with_crc4(lambda: Stream(reads, reads, 'pipe'), '/nowhere/e1gw', Crc4())
-        self.assertRaises(OSError, os.fstat, reads)
 
 
 if __name__ == '__main__':

@@ -7,7 +7,7 @@ import stat
 import time
 import types
 import unittest
-from typing import Callable
+from typing import Any, Callable
 from unittest import mock
 
 from . import support
@@ -130,6 +130,34 @@ class RingTests(support.FolderCase):
         self.assertEqual(self.files('.part'), [])
         self.assertEqual({stat.S_IMODE(os.stat(os.path.join(self.ring, name)).st_mode)
                           for name in self.files('.json')}, {0o640})
+
+    def test_another_ring_goes_on(self) -> None:
+        """With the file that was written last, and with one that was announced and is not there yet."""
+        def ring() -> keep.Ring:
+            found = keep.Ring(self.ring, 'we.st', self.config, KEPT, archive.FinishedPieces(zstd=None))
+            found.open()
+            return found
+
+        def write(its: keep.Ring, seconds: range) -> dict[str, Any]:
+            for second in seconds:
+                its.places.append(second)
+                its.write(b'%d\n' % second)
+                self.passed += 1
+                self.day += 1
+            return its.standing()
+        first, second, third = ring(), ring(), ring()
+        standing = write(first, range(EACH + 2))
+        second.go_on(EACH, **standing)
+        self.assertEqual(second.size(), first.size())
+        standing = write(second, range(EACH + 2, 2 * EACH + 1))
+        for ending in ('.json', '.e1gw'):
+            os.unlink(f'{standing["front"]}{ending}')
+        third.go_on(2 * EACH, **standing)
+        self.assertEqual(third.size(), 0)
+        write(third, range(2 * EACH, 4 * EACH))
+        for each in (first, second, third):
+            each.close()
+        self.assertEqual(self.kept(), [*range(4 * EACH)])
 
     def test_other_files_are_left_alone(self) -> None:
         os.mkdir(self.ring)

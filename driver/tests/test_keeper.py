@@ -1,10 +1,11 @@
-"""A trunk behind its keeper: its program and its shadow are killed, stopped and replaced with calls up.
+"""A trunk in service: its program and its follower are killed, stopped and replaced with calls up.
 
 It goes in lock step, in records of one multiframe: the exchange waits for what comes back, or for the keeper to say
 that another program goes on. What it hears is what one uncut replay of all records gives."""
 from __future__ import annotations
 
 import contextlib
+import glob
 import itertools
 import os
 import random
@@ -18,17 +19,16 @@ import tempfile
 import threading
 import time
 import unittest
+from typing import Any
 
 from . import limits, support
 from .support import SECONDS
+from .world import LAUNCHER
 from e1gw.exchange import ACKNOWLEDGED, ANSWERED, SEIZED
-from e1gw.keeper_files import TrunkAbout, about_trunk
 from e1gw.session import MULTIFRAME, Codec, Command, Kind, codec_record, command_record, packet_of, records_in
 from e1gw.session import trunk_record
-from e1gw.standby import DEATHS, MOST_PAUSE, Deaths
 from e1gw.testing.ports import free_ports
 
-LAUNCHER = support.launcher('keep')
 NO_EFFECT = codec_record(1, Codec.G726_16, 1)    # no payload type of the codec: it is refused
 LOOK = 4                    # multiframes from one look of the shadow at its clients to the next
 CIRCUITS = range(1, 31)
@@ -126,7 +126,7 @@ class KeeperCase(support.FolderCase):
         self.addCleanup(memory.cleanup)
         self.memory = memory.name
         words = [sys.executable, '-B', LAUNCHER, '--program', support.program(), '--config', self.config, '--unix',
-                 self.device.path, '--control', self.path('control'), '--folder', memory.name, *options]
+                 self.device.path, '--program-control', self.path('control'), '--folder', memory.name, *options]
         self.keeper = subprocess.Popen(words, stderr=told, stdin=subprocess.DEVNULL, env={**os.environ, **around})
         self.addCleanup(self._end)
         self.device.accept()
@@ -221,6 +221,37 @@ class KeeperCase(support.FolderCase):
         """The signals of thirty calls."""
         return {circuit: ANSWERED if circuit % 2 else SEIZED for circuit in CIRCUITS}
 
+    def within(self, **of_modules: Any) -> dict[str, str]:
+        """The environment in which these limits of the service hold: keeper_START=0.5 is keeper.START."""
+        return limits.around({f'service.{name.replace("_", ".", 1)}': value for name, value in of_modules.items()})
+
+    def dies(self, number: int = signal.SIGKILL) -> None:
+        """The program is sent a signal when it has answered all, and another one goes on behind that."""
+        os.kill(self.program, number)
+        self.assertIn(f'behind octet {len(self.heard) * MULTIFRAME}', self.goes_on())
+
+    def followers(self) -> list[str]:
+        """The processes that read the log of a program."""
+        found = []
+        for path in glob.glob('/proc/[0-9]*/cmdline'):
+            try:
+                with open(path, 'rb') as file:
+                    words = file.read().split(b'\0')
+                with open(os.path.join(os.path.dirname(path), 'stat'), encoding='ascii') as file:
+                    parent = int(file.read().rpartition(')')[2].split()[1])
+            except OSError:
+                continue
+            if b'replay' in words[1:2] and parent == self.keeper.pid:
+                found.append(path)
+        return found
+
+    def other_program(self, *cases: str) -> str:
+        """A program that does what these cases of a shell say, else what the program does."""
+        own = ''.join(f'{case} ;;\n' for case in cases)
+        path = self.write('program', f'#!/bin/sh\ncase $1 in\n{own}*) exec {support.program()} "$@" ;;\nesac\n')
+        os.chmod(path, 0o755)
+        return path
+
     # ---- what must hold ----
 
     def uncut(self) -> tuple[list[bytes], dict[int, list[bytes]]]:
@@ -305,7 +336,7 @@ class KeeperFailureTests(KeeperCase):
             self.device.line.settimeout(SECONDS)
 
     def test_program_killed(self) -> None:
-        self.starts(**limits.around({'standby.WITHIN': 0.0}))       # (else they are taken for a state that does harm)
+        self.starts(**self.within(keeper_WITHIN=0.0))       # (else they are taken for a state that does harm)
         self.calls()
         for _ in range(12):
             self.killed(signal.SIGKILL)
@@ -365,16 +396,18 @@ class KeeperFailureTests(KeeperCase):
         self.assertEqual([name for name in os.listdir(self.folder) if name.startswith('tell')], [])
 
     def test_both(self) -> None:
-        """If both are killed no state is known: the calls end, the trunk does not."""
-        self.starts()
+        """In either order, and at once: the log has all."""
+        self.starts(**self.within(keeper_WITHIN=0.0))       # (else they are taken for a state that does harm)
         self.calls()
-        os.kill(self.shadow, signal.SIGSTOP)
-        with contextlib.suppress(ProcessLookupError):   # (the keeper may have killed it already)
-            os.kill(self.shadow, signal.SIGKILL)
-        os.kill(self.program, signal.SIGKILL)
-        self.awaits('no state is known|the shadow ended')
-        if 'no state is known' in self.told():
-            self.assertIn('all calls begin anew', self.goes_on())
+        for first, second in (('shadow', 'program'), ('program', 'shadow')) * 3:
+            pids = [getattr(self, first), getattr(self, second)]
+            for pid in pids:
+                os.kill(pid, signal.SIGKILL)
+            while self.goes_on() and self.program in pids:
+                pass
+            self.step(self.chance.randrange(1, 30))
+        self.assertNotIn('no state is known', self.told())
+        self.as_uncut()
         self.ends()
 
 
@@ -397,53 +430,52 @@ class KeeperHandoverTests(KeeperCase):
         self.ends()
 
     def test_configurations(self) -> None:
-        """One that is none, one of another law, and one with another circuit 7: all others go on."""
+        """One that is none and one of another law are refused with no program ended for them; of one with another
+        circuit 7 all other circuits go on."""
         self.starts()
         self.calls()
         program = self.program
         with open(self.config, encoding='ascii') as file:
             right = file.read()
-        self.write('trunk.toml', right + 'x = 1\n')
-        self.keeper.send_signal(signal.SIGHUP)
-        self.awaits('reload: refused.*config 2 UnknownKey at 30: .*trunk.toml')
-        self.step(10)
-        os.kill(program, 0)
-        self.write('trunk.toml', right.replace('"A"', '"mu"'))
-        self.keeper.send_signal(signal.SIGHUP)
-        self.awaits('reload: refused.*: state 5 Config at 0')
-        self.goes_on()
-        self.step(10)
+        for text, words in ((right + 'x = 1\n', 'config 2 UnknownKey at 30: .*trunk.toml'),
+                            (right.replace('"A"', '"mu"'), 'state 5 Config at 0')):
+            self.write('trunk.toml', text)
+            self.keeper.send_signal(signal.SIGHUP)
+            self.awaits(f'reload: refused, the trunk goes on as it was: {words}')
+            self.step(10)
+            os.kill(program, 0)
         self.write('trunk.toml', self.peers.config(prefill=400))
         self.keeper.send_signal(signal.SIGHUP)
         self.goes_on()
         self.awaits('program: circuit 7 begins as new')
         self.step(60)
         self.assertNotEqual(self.device.exchange.signals[7], self.up()[7])
-        os.kill(self.program, signal.SIGKILL)
-        self.goes_on()
+        self.dies()
         self.step(10)
         self.assertEqual(self.told().count('begins as new'), 1)
         self.write('trunk.toml', right)
         self.as_uncut(7)
 
     def test_keeper_replaced(self) -> None:
-        """Another keeper in its place holds what it held."""
+        """Another service in its place holds what it held, and has a follower of its own."""
         self.starts()
         self.calls()
         program = self.program
         for _ in range(2):
             waiting = self.send(2)
             self.keeper.send_signal(signal.SIGUSR2)
-            self.awaits('the keeper was replaced')
+            self.awaits('the keeper was replaced; (?=program)')
+            self.goes_on()
+            self.assertEqual(self.program, program)
             self.take(waiting + self.send(2))
             self.step(20)
-        os.kill(program, 0)
         os.kill(self.shadow, signal.SIGKILL)
         self.goes_on()
         self.step(30)
         self.keeper.send_signal(signal.SIGHUP)
         self.goes_on()
         self.step(30)
+        self.assertNotIn('at most', self.told())
         self.as_uncut()
         self.ends()
 
@@ -519,20 +551,6 @@ class KeeperFifoTests(support.FolderCase):
             self.assertEqual(keeper.wait(SECONDS), 0)
 
 
-class KeeperAboutTests(support.FolderCase):
-    """What a keeper tells those who watch its trunk."""
-
-    def test_nothing_is_told_behind_the_end(self) -> None:
-        tell = self.path('tell')
-        about = TrunkAbout(tell)
-        about.failed('the trunk has ended')
-        about.opened()
-        self.assertEqual({'since', 'fault'}, about_trunk(tell).keys())
-        about.forget()
-        about.failed('the trunk has ended')
-        self.assertEqual([], os.listdir(self.folder))
-
-
 class KeeperEndTests(KeeperCase):
     """How a keeper ends."""
 
@@ -558,8 +576,8 @@ class KeeperEndTests(KeeperCase):
         self.assertIn('No such file', self.refused('--config', self.config, '--unix', self.path('none'), status=1))
         other = self.write('other.toml', 'law = "B"\n')
         self.assertIn('config 5 OutOfRange at 0', self.refused('--config', other, *unix))
-        self.assertIn('somebody listens', self.refused('--config', self.config, *unix, '--control', self.config))
-        self.assertIn('somebody listens', self.refused('--config', self.config, *unix, '--control', self.device.path))
+        for path in (self.config, self.device.path):
+            self.assertIn('somebody listens', self.refused('--config', self.config, *unix, '--program-control', path))
         self.assertIn('--tell', self.refused('--config', self.config, *unix, '--tell', self.device.path))
 
     def test_program_that_never_answers(self) -> None:
@@ -571,21 +589,6 @@ class KeeperEndTests(KeeperCase):
                                    self.config, '--unix', self.device.path], stderr=subprocess.PIPE, timeout=SECONDS)
         self.assertEqual(done.returncode, 1)
         self.assertIn('socket 1', done.stderr.decode())
-
-    def test_deaths(self) -> None:
-        """Five deaths in two seconds are too many; then there are pauses, up to ten seconds, until one has lived."""
-        deaths, now = Deaths(), 100.0
-        self.assertEqual([deaths.died(now + place * 0.1) for place in range(DEATHS)], [None] * (DEATHS - 1) + [0.0])
-        pauses, now = [0.0], now + 0.5
-        for _ in range(9):
-            pause = deaths.died(now)
-            assert pause is not None
-            pauses.append(pause)
-            now += pause + 0.01
-        self.assertEqual(pauses, [0.0, 0.5, 1.0, 2.0, 4.0, 8.0, *[MOST_PAUSE] * 4])
-        self.assertIsNone(deaths.died(now + 100))
-        slow = Deaths()
-        self.assertEqual([slow.died(place * 0.6) for place in range(20)], [None] * 20)
 
 
 if __name__ == '__main__':

@@ -1,25 +1,23 @@
-"""A keeper that is killed, in lock step: the next one goes on with the program that is there, or with its state."""
+"""An e1gw-trunk that is killed, in lock step: the next one goes on with the program that is there, or its state."""
 from __future__ import annotations
 
 import contextlib
-import glob
 import json
 import os
 import signal
 import subprocess
 import sys
 import tempfile
-import time
 import unittest
+from typing import Any
 
 from . import support
 from .manager import Manager
 from .support import SECONDS
-from .test_keeper import LAUNCHER, KeeperCase
-from e1gw.keeping import RUN_NAMES
-from e1gw.recovery import NOTE
-from e1gw.running import Adopted, started
-from e1gw.session import MULTIFRAME, Kind, records_in
+from .test_keeper import KeeperCase
+from .world import LAUNCHER
+from e1gw.service.process import UNKNOWN, Child, start_of
+from e1gw.session import MULTIFRAME
 
 
 class RestartedKeeperCase(KeeperCase):
@@ -33,7 +31,7 @@ class RestartedKeeperCase(KeeperCase):
         self.addCleanup(memory.cleanup)
         self.memory = memory.name
         self.words = [sys.executable, '-B', LAUNCHER, '--program', support.program(), '--config', self.config,
-                      '--unix', self.device.path, '--control', self.path('control'), '--folder', self.memory]
+                      '--unix', self.device.path, '--program-control', self.path('control'), '--folder', self.memory]
         self.addCleanup(self._end_all)
 
     def _end_all(self) -> None:
@@ -57,21 +55,26 @@ class RestartedKeeperCase(KeeperCase):
         self.addCleanup(self._end)
 
     def settles(self) -> None:
-        """Until systemd has the descriptors of the run of now and no others, and a program waits."""
+        """Until systemd has the descriptors of the program of now, and no others."""
         def settled() -> bool:
-            number = self.waits()
-            return number is not None and {name for name in self.manager.files if name[-1].isdigit()} == {
-                f'{name}-{number}' for name in RUN_NAMES}
+            note = self.note()
+            return note is not None and {'kept', 'trunk-in', *note['files'].values()} == {*self.manager.files}
         support.until(settled)
 
-    def waits(self) -> str | None:
-        """The number of the run of now, once a program waits beside it, by what the keeper has noted."""
-        for path in glob.glob(os.path.join(self.memory, 'keep-*', NOTE)):
-            with contextlib.suppress(FileNotFoundError), open(path, encoding='utf-8') as file:
-                kept = json.load(file)
-                if kept['keeper'][0] == self.keeper.pid and kept['up'] and kept['others']:
-                    return os.path.basename(str(kept['run']['folder']))
-        return None
+    def note(self) -> dict[str, Any] | None:
+        """What the service of now has noted of its program."""
+        file = self.manager.files.get('kept')
+        octets = os.pread(file, 65_536, 0).partition(b'\n')[0] if file is not None else b''
+        found: dict[str, Any] = json.loads(octets) if octets else {}
+        program: dict[str, Any] | None = found.get('program')
+        return program if found.get('service', [0])[0] == self.keeper.pid and program and program['up'] else None
+
+    def comes_back(self) -> None:
+        """The service is begun again, and goes on with the program that is there."""
+        self.again()
+        self.awaits('the keeper was killed[;:] (?=program)')
+        self.goes_on()
+        self.settles()
 
     def kill_keeper(self) -> None:
         self.keeper.kill()
@@ -82,41 +85,32 @@ class KilledKeeperTests(RestartedKeeperCase):
     """It is killed, and started again as systemd does it."""
 
     def test_program_goes_on(self) -> None:
-        """Not an octet is lost, and the next keeper does all that the first one did."""
+        """Not an octet is lost, and the next one does all that the first one did."""
         self.begins()
         program = self.program
         for _ in range(2):
             waiting = self.send(2)
             self.kill_keeper()
-            waiting += self.send(2)
-            self.take(waiting)
+            self.take(waiting + self.send(2))
             self.step(20)
-            self.again()
-            self.awaits(f'the keeper was killed; program {program} goes on')
+            self.comes_back()
+            self.assertEqual(self.program, program)
             self.step(20)
-        os.kill(self.shadow, signal.SIGKILL)
-        self.goes_on()
-        self.step(20)
-        self.assertNotEqual(program, self.program)
         self.keeper.send_signal(signal.SIGHUP)
         self.goes_on()
+        self.assertNotEqual(self.program, program)
         self.step(20)
         self.settles()
-        self.kill_keeper()
-        self.again()
-        self.awaits(f'the keeper was killed; program {self.program} goes on')
-        self.keeper.send_signal(signal.SIGUSR2)
-        self.awaits('the keeper was replaced')
-        self.keeper.send_signal(signal.SIGHUP)
-        self.goes_on()
-        self.step(20)
         self.assertNotIn('at most', self.told())
+        self.dies()
+        self.step(20)
         self.as_uncut()
         self.ends()
         self.assertEqual(os.listdir(self.memory), [])
+        support.until(lambda: not self.manager.files)
 
     def test_program_that_dies_meanwhile(self) -> None:
-        """The next keeper begins with what the shadow has saved."""
+        """The state is that of the log, of which the next one has the descriptor."""
         self.begins()
         self.step(20)
         self.kill_keeper()
@@ -129,163 +123,107 @@ class KilledKeeperTests(RestartedKeeperCase):
         self.as_uncut()
         self.ends()
 
-    def test_shadow_that_dies_meanwhile(self) -> None:
-        """The program saves its state, and nothing is lost."""
-        self.begins()
-        self.kill_keeper()
-        os.kill(self.shadow, signal.SIGKILL)
-        self.step(20)
-        self.again()
-        self.goes_on()
-        self.step(60)
-        self.assertNotIn('at most', self.told())
-        self.as_uncut()
-        self.ends()
-
-    def test_in_the_middle_of_a_handover(self) -> None:
-        """At any moment of one: no call ends."""
+    def test_at_any_moment_of_a_reload(self) -> None:
+        """No call ends."""
         self.begins()
         for _ in range(6):
             self.keeper.send_signal(signal.SIGHUP)
-            time.sleep(self.chance.random() * 0.05)
+            for _ in range(self.chance.randrange(40)):
+                self.step()
             self.kill_keeper()
-            self.told_from = len(self.told())       # what the next keeper says
-            self.again()
-            self.awaits('(the keeper was killed|behind octet).*')
-            support.until(self.waits)
-            found = [line for line in self.told().splitlines() if ' program ' in line]
-            self.program = int(found[-1].split(' program ')[1].split()[0].rstrip(':;'))
+            self.told_from = len(self.told())
+            self.comes_back()
             self.step(20)
         self.assertNotIn('no state is known', self.told())
         self.as_uncut()
         self.ends()
 
-    def test_with_a_recorder(self) -> None:
-        """It goes on with its program, and what is kept has all."""
-        self.begins('--session', self.path('kept'))
-        self.kill_keeper()
-        self.step(20)
-        self.again()
-        self.awaits('the keeper was killed')
-        self.step(20)
-        self.keeper.send_signal(signal.SIGHUP)
-        self.goes_on()
-        self.step(20)
+    def test_without_systemd(self) -> None:
+        """The program ends in order, and another one begins with its state on the trunk opened again."""
+        self.begins()
+        for _ in range(2):
+            self.kill_keeper()
+            self.step(20)
+            self.manager.files.clear()
+            self.again()
+            line = self.device.line
+            self.device.accept()
+            line.close()
+            self.assertIn(f'behind octet {len(self.heard) * MULTIFRAME}', self.goes_on())
+            self.step(40)
+            self.settles()
         self.as_uncut()
         self.ends()
-        with open(self.path('kept'), 'rb') as file:
-            mine = support.run('replay', '--config', self.config, given=file.read())
-        heard = [record.body for record in records_in(mine) if record.kind is Kind.TRUNK]
-        self.assertEqual(b''.join(heard), b''.join(piece or b'' for piece in self.heard))
+
+    def test_follower_that_dies_meanwhile(self) -> None:
+        """Nothing is lost, and another one follows."""
+        self.begins()
+        self.kill_keeper()
+        os.kill(self.shadow, signal.SIGKILL)
+        self.step(20)
+        self.comes_back()
+        self.step(60)
+        self.assertNotIn('at most', self.told())
+        self.as_uncut()
+        self.ends()
 
     def test_descriptors_that_are_held(self) -> None:
-        """Those of the run of now and of the trunk, not more and not fewer, and none behind an orderly end. What is
-        held of a run of which nothing is noted is forgotten."""
+        """Those of the program of now and of the trunk, not more and not fewer, and none behind an orderly end. What is
+        held of a program of which nothing is noted is forgotten."""
         self.begins()
-        self.assertEqual(sorted(name.split('-')[0] for name in self.manager.files),
-                         ['hello', 'program', 'tape', 'trunk'])
+        held = sorted(name.split('-')[0] for name in self.manager.files)
         self.keeper.send_signal(signal.SIGHUP)
         self.goes_on()
         self.settles()
-        self.assertEqual(len(self.manager.files), 4)
-        self.kill_keeper()
-        self.again()
-        self.awaits('the keeper was killed')
-        self.assertEqual(len(self.manager.files), 4)
+        self.assertLessEqual({*held}, {name.split('-')[0] for name in self.manager.files})
         self.ends()
         self.assertIn('STOPPING=1', self.manager.told)
-        self.none_held()
+        support.until(lambda: not self.manager.files)
         self.device.line.close()
         self.manager.files['trunk-in'] = os.open(os.devnull, os.O_RDONLY)
         self.again()
         self.device.accept()
         self.goes_on()
         self.settles()
-        self.assertEqual(len(self.manager.files), 4)
         self.step(20)
-        self.ends()
-
-    def none_held(self) -> None:
-        """Until systemd has taken what it was told last."""
-        support.until(lambda: not self.manager.files)
-
-
-class ReopenedTrunkTests(RestartedKeeperCase):
-    """Without systemd: the trunk is opened again."""
-
-    def again(self) -> None:
-        self.manager.files.clear()
-        super().again()
-
-    def settles(self) -> None:
-        support.until(self.waits)
-
-    def reopens(self) -> None:
-        """The exchange's device takes another connection, and what is in the first one is lost with it."""
-        self.again()
-        line = self.device.line
-        self.device.accept()
-        line.close()
-
-    def test_program_goes_on(self) -> None:
-        """The program that is there ends in order, and another one begins with its state on the trunk opened again."""
-        self.begins()
-        for _ in range(2):
-            self.kill_keeper()
-            self.step(20)
-            self.reopens()
-            self.awaits('the keeper was killed: ')
-            self.assertIn(f'behind octet {len(self.heard) * MULTIFRAME}', self.goes_on())
-            self.step(40)
-            self.settles()
-        self.as_uncut()
-        self.ends()
-        self.assertEqual(os.listdir(self.memory), [])
-
-    def test_program_that_dies_meanwhile(self) -> None:
-        self.begins()
-        self.kill_keeper()
-        self.step(20)
-        os.kill(self.program, signal.SIGKILL)
-        self.reopens()
-        self.assertIn(f'behind octet {len(self.heard) * MULTIFRAME}, what it had in hand is lost', self.goes_on())
-        self.step(60)
-        self.as_uncut()
         self.ends()
 
     def test_another_trunk(self) -> None:
-        """A keeper of another trunk in the same folder is none of its business."""
+        """What was killed of another trunk in the same folder is none of its business."""
         self.begins()
         other = [word if word != self.path('control') else self.path('other') for word in self.words]
         self.kill_keeper()
         done = subprocess.Popen(other, stderr=subprocess.PIPE, stdin=subprocess.DEVNULL)
-        self.device.line.close()
+        line = self.device.line
         self.device.accept()
         assert done.stderr
         said = done.stderr.readline() + done.stderr.readline()
         done.terminate()
         done.communicate(timeout=SECONDS)
         self.assertNotIn(b'killed', said)
-        self.reopens()
-        self.awaits('the keeper was killed: ')
-        self.goes_on()
+        self.device.line.close()
+        self.device.line = line
+        self.comes_back()
+        self.step(20)
+        self.as_uncut()
         self.ends()
 
 
-class RunNumberTests(unittest.TestCase):
-    def test_a_number_that_another_process_has(self) -> None:
+class ChildTests(unittest.IsolatedAsyncioTestCase):
+    async def test_a_number_that_another_process_has(self) -> None:
         """A process is known by its number and when it was started."""
-        with subprocess.Popen(['sleep', str(SECONDS)]) as process:
-            when = started(process.pid)
-            self.assertFalse(Adopted((process.pid, when)).ended())
-            self.assertTrue(Adopted((process.pid, when + 1)).ended())
-            Adopted((process.pid, when + 1)).kill()
-            self.assertIsNone(process.poll())
-            its = Adopted((process.pid, when))
-            os.kill(process.pid, signal.SIGSTOP)
-            support.until(its.stopped)
-            its.kill()
-            self.assertEqual((its.status, its.words()), (Adopted.UNKNOWN, 'ended while no keeper was there'))
+        said = subprocess.run(['sh', '-c', f'sleep {SECONDS} > /dev/null & echo $!'], check=True,
+                              stdout=subprocess.PIPE).stdout
+        pid = int(said)
+        when = start_of(pid)
+        its, other = Child(pid, when), Child(pid, when + 1)
+        self.assertEqual((its.over.is_set(), other.over.is_set()), (False, True))
+        await other.kill()
+        self.assertEqual(start_of(pid), when)
+        os.kill(pid, signal.SIGSTOP)
+        support.until(its.is_stopped)
+        await its.kill()
+        self.assertEqual((its.status, its.words()), (UNKNOWN, 'ended while no keeper was there'))
 
 
 if __name__ == '__main__':

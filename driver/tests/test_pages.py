@@ -6,7 +6,9 @@ import subprocess
 import unittest
 
 from . import support
-from e1gw import carrying, control, ctl, keeping, trunk, watching
+from e1gw import ctl
+from e1gw.service import commands as control
+from e1gw.service import service
 
 
 def page(name: str) -> str:
@@ -24,19 +26,19 @@ def offered(command: str, *words: str) -> set[str]:
 
 class PagesTests(unittest.TestCase):
     def test_options(self) -> None:
-        for command, parser in (('e1gw-trunk', trunk.parser()), ('e1gw-keep', keeping.parser()),
-                                ('e1gw-carry', carrying.parser()), ('e1gw-watch', watching.parser())):
-            options = {word for action in parser._actions for word in action.option_strings if word.startswith('--')}
-            text = page(f'{command}.1')
-            synopsis, described = text.split('.Sh DESCRIPTION')
-            named = {f'--{word}' for word in re.findall(r'(?:Fl|\|) -([\w-]+)', synopsis)}
-            items = {f'--{word}' for line in re.findall(r'^\.It Fl .*', described, re.M)
-                     for word in re.findall(r'(?:Fl|,) -([\w-]+)', line)}
-            self.assertEqual((named, items), (options, options))
-            self.assertEqual(offered(command, '--'), options)
+        command = 'e1gw-trunk'
+        options = {word for action in service.parser()._actions for word in action.option_strings
+                   if word.startswith('--')}
+        text = page(f'{command}.1')
+        synopsis, described = text.split('.Sh DESCRIPTION')
+        named = {f'--{word}' for word in re.findall(r'(?:Fl|\|) -([\w-]+)', synopsis)} - {'--force'}     # of reload
+        items = {f'--{word}' for line in re.findall(r'^\.It Fl .*', described, re.M)
+                 for word in re.findall(r'(?:Fl|,) -([\w-]+)', line)}
+        self.assertEqual((named, items), (options, options))
+        self.assertEqual(offered(command, '--'), options)
 
     def test_commands(self) -> None:
-        commands = {*control.COMMANDS, 'codec', 'status', 'events', 'on-loss', 'quit', 'help'}
+        commands = {*control.COMMANDS, 'codec', 'status', 'events', 'on-loss', 'reload', 'quit', 'help'}
         text = page('e1gw-trunk.1').split('.Sh COMMANDS')[1].split('.Sh FILES')[0]
         named = {word for line in re.findall(r'^\.It Ic .*', text, re.M) for word in re.findall(r'Ic ([\w-]+)', line)}
         self.assertEqual(named, commands)
@@ -49,24 +51,8 @@ class PagesTests(unittest.TestCase):
     def test_where_the_socket_of_a_name_is(self) -> None:
         self.assertEqual(ctl.path_of('trunk1'), '/run/e1gw/trunk1/control')
         self.assertIn(ctl.path_of('NAME'), page('e1gw-ctl.1'))
-        for unit in ('e1gw-trunk', 'e1gw-watch'):
-            with open(f'{support.TOP}/dist/system/{unit}@.service', encoding='utf-8') as file:
-                self.assertIn(' --control /run/e1gw/%i/control', file.read())
-
-    def test_sockets_of_the_watcher_are_those_of_the_keeper(self) -> None:
-        def sockets(unit: str, *options: str) -> list[str]:
-            with open(f'{support.TOP}/dist/system/{unit}@.service', encoding='utf-8') as file:
-                words = file.read().replace('\\\n', ' ').split()
-            return [words[words.index(option) + 1] for option in options]
-        self.assertEqual(sockets('e1gw-watch', '--tell', '--program-control'),
-                         sockets('e1gw-keep', '--tell', '--control'))
-
-    def test_where_the_sockets_of_a_carrier_are(self) -> None:
-        with open(f'{support.TOP}/dist/system/e1gw-carry@.service', encoding='utf-8') as file:
-            unit = file.read()
-        for option, name in (('--listen', 'trunk'), ('--status', 'status')):
-            self.assertIn(f'{option} /run/e1gw-carry/%i/{name}', unit)
-            self.assertIn(f'/run/e1gw-carry/NAME/{name}', page('e1gw-carry.1'))
+        with open(f'{support.TOP}/dist/system/e1gw-trunk@.service', encoding='utf-8') as file:
+            self.assertIn(' --control /run/e1gw/%i/control', file.read())
 
 
 if __name__ == '__main__':

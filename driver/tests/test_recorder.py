@@ -1,39 +1,27 @@
-"""Recordings of a kept trunk, in lock step: what is kept replays to what was heard, whatever ends meanwhile.
+"""Recordings of a trunk, in lock step: what is kept replays to what was heard, whatever ends meanwhile.
 
-A file of a ring, too, replays from the state beside it. What keeps them may be killed or stand still, and its disk may
-be full: the calls go on."""
+A file of a ring, too, replays from the state beside it. The disk may be full: the calls go on."""
 from __future__ import annotations
 
-import glob
-import itertools
 import json
 import os
-import re
 import signal
 import subprocess
 import sys
-import tempfile
 import time
 import unittest
-from unittest import mock
 
 from . import support
 from .support import SECONDS
-from .test_keeper import LAUNCHER, KeeperCase
-from e1gw import recorder
+from .test_keeper import KeeperCase
+from .world import LAUNCHER
 from e1gw.archive import run_last
 from e1gw.kept import beside, kept, octets_of
-from e1gw.session import MULTIFRAME, Kind, encode_record, records_in
-
-RECORDER = re.compile(r'recorder (\d+)')
+from e1gw.session import MULTIFRAME, Kind, records_in
 
 
 class RecorderCase(KeeperCase):
-    """A kept trunk whose recordings are kept."""
-
-    def recorder(self) -> int:
-        """The recorder of now."""
-        return int(RECORDER.findall(self.told())[-1])
+    """A trunk whose recordings are kept."""
 
     def given_trunk(self) -> bytes:
         return b''.join(record.body for record in records_in(b''.join(self.given)) if record.kind is Kind.TRUNK)
@@ -71,8 +59,6 @@ class RecordedFileTests(RecorderCase):
         self.calls()
         self.handed_over(None)
         self.handed_over(signal.SIGKILL, self.shadow)
-        self.handed_over(signal.SIGKILL, self.recorder())
-        self.handed_over(signal.SIGSTOP, self.recorder())
         self.assertNotIn('at most', self.told())
         self.as_uncut()
         self.ends()
@@ -80,7 +66,7 @@ class RecordedFileTests(RecorderCase):
         self.assertEqual(self.answers(mine)[:MULTIFRAME * 100], self.heard_all()[:MULTIFRAME * 100])
 
     def test_nothing_is_missing(self) -> None:
-        """Where no recorder died, not one octet, datagram or command is missing."""
+        """Not one octet, datagram or command."""
         self.starts('--session', self.path('kept'))
         self.calls()
         self.handed_over(None)
@@ -110,7 +96,7 @@ class RecordedFileTests(RecorderCase):
         self.assertEqual(len(kept), 30)
 
     def test_clients_that_say_nothing(self) -> None:
-        """Eight that take all places, the keeper's too, keep no reload from being orderly."""
+        """Eight that take all places keep no reload from being orderly."""
         self.starts()
         self.calls()
         clients = [self.client() for _ in range(8)]
@@ -134,16 +120,19 @@ class RecordedFileTests(RecorderCase):
         self.assertEqual(self.device.exchange.signals, self.up())
         self.ends()
 
-    def test_recorder_and_program(self) -> None:
-        """If the recorder dies, and the program before another one has begun, no state is taken for that of now."""
-        self.starts('--session', self.path('kept'))
+    def test_reader_that_stands_still(self) -> None:
+        """What waits for it stays in memory up to a bound. Then the recording ends, and no call does."""
+        os.mkfifo(self.path('kept'))
+        stands = os.open(self.path('kept'), os.O_RDWR)
+        self.addCleanup(os.close, stands)
+        self.starts('--session', self.path('kept'),
+                    **self.within(reader_MOST_BEHIND=100_000, recordings_FLUSH=0.1))
         self.calls()
-        os.kill(self.keeper.pid, signal.SIGSTOP)
-        for pid in (self.recorder(), self.program):
-            os.kill(pid, signal.SIGKILL)
-        os.kill(self.keeper.pid, signal.SIGCONT)
-        self.awaits('no state is known')
-        self.assertIn('all calls begin anew', self.goes_on())
+        while 'session ended, the calls go on: it takes too little' not in self.told():
+            self.step(20)
+        self.dies()
+        self.step(20)
+        self.as_uncut()
         self.ends()
 
 
@@ -163,10 +152,10 @@ class RecordedRingTests(RecorderCase):
         self.starts_ring()
         self.handed_over(None)
         self.handed_over(signal.SIGKILL, self.shadow)
+        self.handed_over(None)
         self.ends()
         self.as_uncut()
         places = [beside(f'{front}.e1gw')['place'] for front in self.files()]
-        self.assertEqual(len(places), 3)
         self.assertEqual([beside(f'{front}.e1gw')['begins'] for front in self.files()], ['start', 'middle', 'middle'])
         ends = [*places[1:], len(self.given_trunk())]
         for front, begin, end in zip(self.files(), places, ends):
@@ -220,24 +209,21 @@ class RecordedRingTests(RecorderCase):
             self.assertEqual(self.answers(file.read(), '--load', f'{front}.state'), self.heard_all()[place:])
 
     def test_a_ring_that_begins_again(self) -> None:
-        """Where it could not be written, and the recorder finds that it can: no octet is lost, and the file that is
-        begun replays from its state."""
+        """With no other program: the file that is begun has the state of a checkpoint, and replays from that."""
         self.write('ring', '')
-        self.starts_ring()
+        self.starts('--session', self.path('ring'), '--keep', '1m', '--name', 'west', **self.within(reader_AGAIN=0.1))
+        self.calls()
         self.awaits('session ended, the calls go on: File exists')
+        program = self.program
         os.unlink(self.path('ring'))
-        self.step(20)
-        number = os.path.realpath(self.path('control')).rpartition('.')[2]
-        (run,) = glob.glob(os.path.join(self.memory, 'keep-*', number))
-        with open(os.path.join(run, recorder.ROOM), 'wb'):
-            pass                        # (the recorder looks once a minute)
-        self.goes_on()
-        self.assertIn('the recording begins again: program', self.told())
+        self.awaits('the recording begins again: program')
         self.step(60)
+        os.kill(program, 0)
         self.as_uncut()
         self.ends()
         (front,) = self.files()
         place = beside(f'{front}.e1gw')['place']
+        self.assertGreater(place, 0)
         with open(f'{front}.e1gw', 'rb') as file:
             self.assertEqual(self.answers(file.read(), '--load', f'{front}.state'), self.heard_all()[place:])
 
@@ -255,45 +241,6 @@ class RecordedRingTests(RecorderCase):
                 self.assertEqual(json.load(file)['config'], self.config)
             status, said = run_last([os.path.join(support.TOP, 'tools', 'records'), f'{front}.e1gw'])
             self.assertEqual(status, 0, said)
-
-
-class RecordCutTests(unittest.TestCase):
-    def test_pieces_of_any_length(self) -> None:
-        """Whole records come out as early as they can, with the place of the trunk behind them."""
-        bodies = [(Kind.TRUNK, 0), (Kind.TRUNK, 256), (Kind.DATAGRAM, 172), (Kind.COMMAND, 1), (Kind.TRUNK, 2048)]
-        records = [encode_record(kind, 1, bytes(length)) for kind, length in bodies]
-        places = list(itertools.accumulate(length * (kind is Kind.TRUNK) for kind, length in bodies))
-        given = b''.join(records)
-        for step in (1, 3, 4, 5, 260, len(given)):
-            cut, out = recorder.Records(7), b''
-            for at in range(0, len(given), step):
-                out += cut.whole(given[at:at + step])
-                whole = [n for n in range(len(records) + 1) if len(b''.join(records[:n])) <= at + step][-1]
-                self.assertEqual(out, b''.join(records[:whole]))
-                self.assertEqual(cut.place, 7 + (places[whole - 1] if whole else 0))
-            self.assertEqual(cut.commands, 1)
-
-
-class RingRetryTests(unittest.TestCase):
-    def test_room(self) -> None:
-        """It asks when a minute has gone by and there is room, and not before."""
-        with tempfile.TemporaryDirectory() as folder:
-            ring, asks = os.path.join(folder, 'ring'), os.path.join(folder, 'asks')
-            with open(ring, 'wb'):
-                pass                    # a file in the place of its folder
-            again = recorder.RingRetry(ring, asks)
-
-            def look(now: float) -> bool:
-                again.look(now)
-                if thread := again._thread:     # pylint: disable=protected-access
-                    thread.join(SECONDS)
-                return os.path.exists(asks)
-            self.assertEqual([look(now) for now in (0.0, 59.0, 61.0)], [False] * 3)
-            os.unlink(ring)
-            with mock.patch.object(recorder, 'LEAST', 1 << 62):
-                self.assertFalse(look(122.0))
-            self.assertEqual([look(now) for now in (181.0, 183.0)], [False, True])
-            self.assertEqual(os.listdir(ring), [])
 
 
 class RecorderRefusalTests(RecorderCase):

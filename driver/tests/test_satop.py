@@ -2,20 +2,11 @@
 import argparse
 import contextlib
 import io
-import os
 import socket
-import stat
-import sys
-import tempfile
 import unittest
 
 from e1gw import satop
 from e1gw.satop import SatopCircuit
-
-SCRIPT = '''
-import sys
-print(*sys.argv[1:], file=sys.stderr, flush=True)
-'''
 
 
 class SatopOptionTests(unittest.TestCase):
@@ -45,7 +36,7 @@ class SatopOpeningTests(unittest.TestCase):
         for bad in ('', ',', '127.0.0.1:5000', '127.0.0.1:5000,', ':5000,127.0.0.1:1', 'a:0,b:1', 'a:65536,b:1',
                     'a:1,b:x', 'a:1,b:\u0661'):
             with self.assertRaises(ValueError):
-                satop.open_satop(bad, SatopCircuit(), 'e1gw')
+                satop.ends_of(bad)
 
     def test_addresses(self) -> None:
         self.assertEqual(satop.addresses_of(('127.0.0.1', 5000), ('192.0.2.1', 5001)),
@@ -53,21 +44,6 @@ class SatopOpeningTests(unittest.TestCase):
         self.assertEqual(satop.addresses_of(('::1', 5000), ('::1', 5001)), ['[::1]:5000', '[::1]:5001'])
         with self.assertRaises(socket.gaierror):
             satop.addresses_of(('127.0.0.1', 5000), ('::1', 5001))
-
-    def test_the_command_line(self) -> None:
-        with tempfile.TemporaryDirectory() as folder:
-            path = os.path.join(folder, 'e1gw')
-            with open(path, 'w', encoding='utf-8') as file:
-                file.write(f'#!{sys.executable}{SCRIPT}')
-            os.chmod(path, stat.S_IRWXU)
-            circuit = SatopCircuit(rtp=97)
-            with contextlib.closing(satop.open_satop('localhost:5000,127.0.0.1:5001', circuit, path)) as trunk:
-                self.assertEqual(trunk.name, '127.0.0.1:5000 127.0.0.1:5001')
-                with self.assertRaises(OSError) as ended:
-                    while True:
-                        trunk.read(256)
-        self.assertEqual(str(ended.exception), 'e1gw satop ended with status 0: satop 127.0.0.1:5000 127.0.0.1:5001 '
-                                               '--size 256 --jitter 4 --rtp 97 --fill again --clock packets')
 
 
 if __name__ == '__main__':

@@ -5,7 +5,6 @@ from __future__ import annotations
 
 import contextlib
 import glob
-import json
 import os
 import signal
 import subprocess
@@ -13,231 +12,18 @@ import unittest
 from typing import Any
 from unittest import mock
 
-from . import limits, support, test_keeper, test_keeper_killed
+from . import support
 from .support import SECONDS
+from .test_keeper import KeeperCase
+from .test_keeper_killed import RestartedKeeperCase
 from e1gw.service.log import STATE_ROOM, TrunkLog, in_memory, take_file
 from e1gw.service.version import VersionRefused, look_up, with_addresses
-from e1gw.session import MULTIFRAME, encode_record, trunk_record
+from e1gw.session import encode_record, trunk_record
 
 END = encode_record(0x45, 0, b'')
 
 
-class ServiceCase(test_keeper.KeeperCase):
-    """The service in place of the keeper."""
-
-    def setUp(self) -> None:
-        around = mock.patch.dict(os.environ, {'E1GW_SERVICE': '1'})
-        around.start()
-        self.addCleanup(around.stop)
-        super().setUp()
-
-    def within(self, **of_modules: Any) -> dict[str, str]:
-        """The environment in which these limits of the service hold: keeper_START=0.5 is keeper.START."""
-        return limits.around({f'service.{name.replace("_", ".", 1)}': value for name, value in of_modules.items()})
-
-    def dies(self, number: int = signal.SIGKILL) -> None:
-        """The program is sent a signal when it has answered all, and another one goes on behind that."""
-        os.kill(self.program, number)
-        self.assertIn(f'behind octet {len(self.heard) * MULTIFRAME}', self.goes_on())
-
-    def followers(self) -> list[str]:
-        """The processes that read the log of a program."""
-        found = []
-        for path in glob.glob('/proc/[0-9]*/cmdline'):
-            try:
-                with open(path, 'rb') as file:
-                    words = file.read().split(b'\0')
-                with open(os.path.join(os.path.dirname(path), 'stat'), encoding='ascii') as file:
-                    parent = int(file.read().rpartition(')')[2].split()[1])
-            except OSError:
-                continue
-            if b'replay' in words[1:2] and parent == self.keeper.pid:
-                found.append(path)
-        return found
-
-    def other_program(self, *cases: str) -> str:
-        """A program that does what these cases of a shell say, else what the program does."""
-        own = ''.join(f'{case} ;;\n' for case in cases)
-        path = self.write('program', f'#!/bin/sh\ncase $1 in\n{own}*) exec {support.program()} "$@" ;;\nesac\n')
-        os.chmod(path, 0o755)
-        return path
-
-
-class ServiceFailureTests(ServiceCase, test_keeper.KeeperFailureTests):
-    """What test_keeper asks of program and shadow; and more, as no state is lost if both are killed."""
-
-    def test_both(self) -> None:
-        """In either order, and at once: the log has all."""
-        self.starts(**self.within(keeper_WITHIN=0.0))       # (else they are taken for a state that does harm)
-        self.calls()
-        for first, second in (('shadow', 'program'), ('program', 'shadow')) * 3:
-            pids = [getattr(self, first), getattr(self, second)]
-            for pid in pids:
-                os.kill(pid, signal.SIGKILL)
-            while self.goes_on() and self.program in pids:
-                pass
-            self.step(self.chance.randrange(1, 30))
-        self.assertNotIn('no state is known', self.told())
-        self.as_uncut()
-        self.ends()
-
-
-class ServiceHandoverTests(ServiceCase, test_keeper.KeeperHandoverTests):
-    """What test_keeper asks of reloads, and of an end in order."""
-
-    def test_configurations(self) -> None:
-        """One that is none and one of another law are refused with no program ended for them; of one with another
-        circuit 7 all other circuits go on."""
-        self.starts()
-        self.calls()
-        program = self.program
-        with open(self.config, encoding='ascii') as file:
-            right = file.read()
-        for text, words in ((right + 'x = 1\n', 'config 2 UnknownKey at 30: .*trunk.toml'),
-                            (right.replace('"A"', '"mu"'), 'state 5 Config at 0')):
-            self.write('trunk.toml', text)
-            self.keeper.send_signal(signal.SIGHUP)
-            self.awaits(f'reload: refused, the trunk goes on as it was: {words}')
-            self.step(10)
-            os.kill(program, 0)
-        self.write('trunk.toml', self.peers.config(prefill=400))
-        self.keeper.send_signal(signal.SIGHUP)
-        self.goes_on()
-        self.awaits('program: circuit 7 begins as new')
-        self.step(60)
-        self.assertNotEqual(self.device.exchange.signals[7], self.up()[7])
-        self.dies()
-        self.step(10)
-        self.assertEqual(self.told().count('begins as new'), 1)
-        self.write('trunk.toml', right)
-        self.as_uncut(7)
-
-    def test_keeper_replaced(self) -> None:
-        """Another service in its place holds what it held, and has a follower of its own."""
-        self.starts()
-        self.calls()
-        program = self.program
-        for _ in range(2):
-            waiting = self.send(2)
-            self.keeper.send_signal(signal.SIGUSR2)
-            self.awaits('the keeper was replaced; (?=program)')
-            self.goes_on()
-            self.assertEqual(self.program, program)
-            self.take(waiting + self.send(2))
-            self.step(20)
-        os.kill(self.shadow, signal.SIGKILL)
-        self.goes_on()
-        self.step(30)
-        self.keeper.send_signal(signal.SIGHUP)
-        self.goes_on()
-        self.step(30)
-        self.assertNotIn('at most', self.told())
-        self.as_uncut()
-        self.ends()
-
-
-class ServiceKilledCase(ServiceCase, test_keeper_killed.RestartedKeeperCase):
-    """A service that is killed, and begun again as systemd does it."""
-
-    def settles(self) -> None:
-        """Until systemd has the descriptors of the program of now, and no others."""
-        def settled() -> bool:
-            note = self.note()
-            return note is not None and {'kept', 'trunk-in', *note['files'].values()} == {*self.manager.files}
-        support.until(settled)
-
-    def note(self) -> dict[str, Any] | None:
-        """What the service of now has noted of its program."""
-        file = self.manager.files.get('kept')
-        octets = os.pread(file, 65_536, 0).partition(b'\n')[0] if file is not None else b''
-        found: dict[str, Any] = json.loads(octets) if octets else {}
-        program: dict[str, Any] | None = found.get('program')
-        return program if found.get('service', [0])[0] == self.keeper.pid and program and program['up'] else None
-
-    def comes_back(self) -> None:
-        """The service is begun again, and goes on with the program that is there."""
-        self.again()
-        self.awaits('the keeper was killed[;:] (?=program)')
-        self.goes_on()
-        self.settles()
-
-
-class ServiceKilledTests(ServiceKilledCase):
-    """It goes on with what is there."""
-
-    def test_program_goes_on(self) -> None:
-        """Not an octet is lost, and the next service does all that the first one did."""
-        self.begins()
-        program = self.program
-        for _ in range(2):
-            waiting = self.send(2)
-            self.kill_keeper()
-            self.take(waiting + self.send(2))
-            self.step(20)
-            self.comes_back()
-            self.assertEqual(self.program, program)
-            self.step(20)
-        self.keeper.send_signal(signal.SIGHUP)
-        self.goes_on()
-        self.assertNotEqual(self.program, program)
-        self.step(20)
-        self.settles()
-        self.assertNotIn('at most', self.told())
-        self.dies()
-        self.step(20)
-        self.as_uncut()
-        self.ends()
-        self.assertEqual(os.listdir(self.memory), [])
-        support.until(lambda: not self.manager.files)
-
-    def test_program_that_dies_meanwhile(self) -> None:
-        """The state is that of the log, of which the next service has the descriptor."""
-        self.begins()
-        self.step(20)
-        self.kill_keeper()
-        self.step(20)
-        os.kill(self.program, signal.SIGKILL)
-        self.again()
-        self.awaits('the keeper was killed')
-        self.assertIn(f'behind octet {len(self.heard) * MULTIFRAME}, what it had in hand is lost', self.goes_on())
-        self.step(60)
-        self.as_uncut()
-        self.ends()
-
-    def test_at_any_moment_of_a_reload(self) -> None:
-        """No call ends."""
-        self.begins()
-        for _ in range(6):
-            self.keeper.send_signal(signal.SIGHUP)
-            for _ in range(self.chance.randrange(40)):
-                self.step()
-            self.kill_keeper()
-            self.told_from = len(self.told())
-            self.comes_back()
-            self.step(20)
-        self.assertNotIn('no state is known', self.told())
-        self.as_uncut()
-        self.ends()
-
-    def test_without_systemd(self) -> None:
-        """The program ends in order, and another one begins with its state on the trunk opened again."""
-        self.begins()
-        for _ in range(2):
-            self.kill_keeper()
-            self.step(20)
-            self.manager.files.clear()
-            self.again()
-            line = self.device.line
-            self.device.accept()
-            line.close()
-            self.assertIn(f'behind octet {len(self.heard) * MULTIFRAME}', self.goes_on())
-            self.step(40)
-            self.settles()
-        self.as_uncut()
-        self.ends()
-
-
-class ServiceSequenceTests(ServiceKilledCase):
+class ServiceSequenceTests(RestartedKeeperCase):
     """Any sequence of what may happen to a trunk."""
 
     def program_dies(self) -> None:
@@ -250,7 +36,8 @@ class ServiceSequenceTests(ServiceKilledCase):
     def both_die(self) -> None:
         before = self.program
         for pid in self.chance.sample((self.program, self.shadow), 2):
-            os.kill(pid, signal.SIGKILL)
+            with contextlib.suppress(ProcessLookupError):       # (a shadow ends behind its program)
+                os.kill(pid, signal.SIGKILL)
         while self.goes_on() and self.program == before:
             pass
 
@@ -288,7 +75,7 @@ class ServiceSequenceTests(ServiceKilledCase):
         self.ends()
 
 
-class ServiceLogTests(ServiceCase):
+class ServiceLogTests(KeeperCase):
     """The state after any death is that of the log."""
 
     def test_service_and_follower_that_stand_still(self) -> None:
@@ -322,7 +109,7 @@ class ServiceLogTests(ServiceCase):
         self.ends()
 
 
-class ServiceFaultTests(ServiceCase):
+class ServiceFaultTests(KeeperCase):
     """A step that fails is told, and ends no call."""
 
     def test_an_exception_in_each_look(self) -> None:
@@ -396,7 +183,7 @@ class ServiceFaultTests(ServiceCase):
         self.ends()
 
 
-class ServiceVersionTests(ServiceCase):
+class ServiceVersionTests(KeeperCase):
     """A version that does not do: the one before comes back, with all calls."""
 
     def renewed(self, *cases: str, **limits_: Any) -> None:
@@ -456,7 +243,7 @@ class ServiceVersionTests(ServiceCase):
         self.ends()
 
 
-class ServiceRoomTests(ServiceCase):
+class ServiceRoomTests(KeeperCase):
     """A folder in memory that is full."""
 
     def setUp(self) -> None:
@@ -488,7 +275,8 @@ class ServiceRoomTests(ServiceCase):
         self.as_uncut()
         self.ends()
 
-class ServiceNoRoomTests(ServiceCase):
+
+class ServiceNoRoomTests(KeeperCase):
     def test_nowhere(self) -> None:
         """Where no folder has room for a state a program that works is not asked to end."""
         self.starts(**self.within(log_STATE_ROOM=1 << 60))

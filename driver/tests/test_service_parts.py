@@ -29,6 +29,8 @@ class DeathCountTests(unittest.TestCase):
             now += pause + 0.01
         self.assertEqual(pauses, [0.0, 0.5, 1.0, 2.0, 4.0, 8.0, *[MOST_PAUSE] * 4])
         self.assertIsNone(deaths.died(now + 100))
+        slow = DeathCount()
+        self.assertEqual([slow.died(place * 0.6) for place in range(20)], [None] * 20)
 
 
 class VersionHistoryTests(unittest.TestCase):
@@ -59,7 +61,7 @@ class VersionHistoryTests(unittest.TestCase):
         history.renew(second)
         history.is_up(100.0)
         self.assertEqual([history.has_died(), history.has_died()], [False, True])
-        self.assertIs(history.go_back(), second)
+        self.assertIs(history.go_back('it dies'), second)
         self.assertEqual((history.now, history.before), (first, None))
         for version in (first, second):
             version.close()

@@ -2,7 +2,6 @@
 from __future__ import annotations
 
 import contextlib
-import glob
 import json
 import os
 import signal
@@ -14,29 +13,18 @@ import time
 import unittest
 import unittest.mock
 from functools import partial
-from typing import Any, Sequence, TypeVar
+from typing import Any, TypeVar
 
 from . import support
 from .flowing import is_seized
 from .support import SECONDS
-from .world import ANSWERED, IDLE, LAUNCHER, SEIZED, World, config_of, descendant
+from .world import IDLE, LAUNCHER, SEIZED, World, config_of
 from e1gw import session
 from e1gw.clearing import DisconnectPolicy, DisconnectWatch, OutageWatch
-from e1gw.recovery import NOTE, forget_folders, own_prefix
 from e1gw.testing.ports import free_ports
 from e1gw.testing.service import ask
-from e1gw.trunk import options_of, parts_of
 
 FOUR = range(1, 5)
-# Runs a command in the background of a terminal, as a shell does.
-BACKGROUND = """
-import fcntl, os, subprocess, sys, termios
-os.setsid()
-terminal = os.open(sys.argv[1], os.O_RDWR | os.O_NOCTTY)
-fcntl.ioctl(terminal, termios.TIOCSCTTY, 0)
-sys.exit(subprocess.run(sys.argv[2:], stdin=terminal, process_group=0).returncode)
-"""
-
 
 W = TypeVar('W', bound=World)
 
@@ -67,23 +55,6 @@ def catches(pid: int, number: int) -> bool:
     """Whether a process catches a signal (proc(5))."""
     with open(f'/proc/{pid}/status', encoding='ascii', errors='replace') as file:
         return any(int(line.split()[1], 16) >> number - 1 & 1 for line in file if line.startswith('SigCgt:'))
-
-
-def keepers(world: World) -> list[int]:
-    """The keeper of now, once it is there."""
-    try:
-        return [descendant(world.process.pid, 'e1gw-keep')]
-    except AssertionError:
-        return []
-
-
-def has_taken_over(world: World, keeper: int) -> bool:
-    """Whether this keeper has noted what it has."""
-    for path in glob.glob(os.path.join(world.path('run'), 'trunk-*', 'keep-*', NOTE)):
-        with open(path, encoding='utf-8') as file:
-            if json.load(file)['keeper'][0] == keeper:
-                return True
-    return False
 
 
 def call(world: World, circuit: int) -> None:
@@ -271,112 +242,6 @@ class BesideCallsTests(unittest.TestCase):
         with World(config_of(FOUR), '--metrics', '@/none/e1gw.prom') as world:
             self.goes_on(world, 'metrics')
 
-    def test_a_watcher_that_is_killed(self) -> None:
-        """What is sent is to the octet what one uncut replay gives, and another watcher comes."""
-        for number in (signal.SIGKILL, signal.SIGTERM):
-            with self.subTest(number), World('law = "A"\n') as world:
-                aligned(world)
-                before = len(world.sent)
-                commands = b''
-                for n in FOUR:
-                    self.assertEqual(world.ask(f'seize {n}'), f'seize {n}: done')
-                    commands += session.command_record(n, session.Command.SEIZE)
-                world.step(60)
-                os.kill(descendant(world.process.pid, 'e1gw-watch'), number)
-                world.step(300)
-                world.connected()
-                world.step(60)
-                self.assertEqual([world.state(n) for n in FOUR], ['answered'] * 4)
-                given = records_of(world.sent[:before]) + commands + records_of(world.sent[before:])
-                answered = support.run('replay', '--config', world.config, given=given)
-                uncut = b''.join(r.body for r in session.records_in(answered) if r.kind is session.Kind.TRUNK)
-                self.assertEqual(bytes(world.heard), uncut)
-                self.assertEqual(world.quit()[0], 0)
-
-    def test_a_keeper_that_is_killed(self) -> None:
-        """Twice; the program goes on, and what is sent is to the octet what one uncut replay gives."""
-        with World('law = "A"\n') as world:
-            aligned(world)
-            before = len(world.sent)
-            self.assertEqual(world.ask('seize 1'), 'seize 1: done')
-            world.step(60)
-            program = descendant(world.process.pid, 'trunk', '/dev/fd/3')       # not the one that waits
-            for _ in range(2):
-                keeper = descendant(world.process.pid, 'e1gw-keep')
-                os.kill(keeper, signal.SIGKILL)
-                world.step(100)
-                world.until(lambda: any(has_taken_over(world, other) for other in keepers(world) if other != keeper))
-                world.step(200)
-            self.assertTrue(is_there(program))
-            self.assertEqual(world.state(1), 'answered')
-            given = records_of(world.sent[:before]) + session.command_record(1, session.Command.SEIZE)
-            answered = support.run('replay', '--config', world.config, given=given + records_of(world.sent[before:]))
-            uncut = b''.join(r.body for r in session.records_in(answered) if r.kind is session.Kind.TRUNK)
-            self.assertEqual(bytes(world.heard), uncut)
-            status, said = world.quit()
-            self.assertEqual((status, said.count('e1gw-keep ended by signal 9 (SIGKILL), the calls go on'),
-                              said.count(f'the keeper was killed; program {program} goes on')), (0, 2, 2))
-
-    def test_an_end_without_a_keeper(self) -> None:
-        """The trunk ends before another keeper has taken over: the program, its shadow and the recorder end too."""
-        with World('law = "A"\n') as world:
-            aligned(world)
-            program = descendant(world.process.pid, 'trunk', '/dev/fd/3')
-            os.kill(descendant(world.process.pid, 'e1gw-keep'), signal.SIGKILL)
-            status, _ = world.quit()        # once nobody has its standard error any more
-            self.assertEqual((status, is_there(program)), (0, False))
-
-    def test_a_carrier_that_is_killed(self) -> None:
-        """Another one opens the trunk again, and the call is up."""
-        with World(config_of(FOUR), '--align', '--reopen') as world:
-            aligned(world)
-            call(world, 1)
-            with world.new_listener() as listener:
-                os.kill(descendant(world.process.pid, 'e1gw-carry'), signal.SIGKILL)
-                world.line.close()
-                world.take(listener)
-            world.exchange = support.Exchange()
-            world.exchange.pairs[1] = ANSWERED
-            world.connected()
-            world.step(60)
-            self.assertEqual(world.state(1), 'answered')
-            status, said = world.quit()
-            self.assertEqual((status, said.count('e1gw-carry ended by signal 9 (SIGKILL), the calls go on')), (0, 1))
-
-    def test_a_folder_that_a_killed_one_left(self) -> None:
-        """The next start takes it away, and none of a process that is there."""
-        with tempfile.TemporaryDirectory() as folder:
-            with subprocess.Popen(['true']) as gone:
-                pass
-            left = [os.path.join(folder, f'{front}.x') for front in
-                    (f'trunk-{gone.pid}.1', own_prefix('trunk-')[:-1], 'trunk-abc')]
-            for path in left:
-                os.mkdir(path)
-            forget_folders(folder, 'trunk-')
-            self.assertEqual([os.path.exists(path) for path in left], [False, True, True])
-
-    def test_what_ends_with_e1gw_trunk(self) -> None:
-        """All that it has started ends once it is killed."""
-        with World(config_of(FOUR), '--align') as world:
-            aligned(world)
-            left = [descendant(world.process.pid, name) for name in ('e1gw-keep', 'e1gw-carry', 'e1gw-watch', 'trunk')]
-            os.kill(world.process.pid, signal.SIGKILL)
-            support.until(lambda: not any(map(is_there, left)))
-
-    def test_what_ends_with_e1gw_trunk_while_it_opens(self) -> None:
-        with tempfile.TemporaryDirectory() as folder:
-            fifo, config = os.path.join(folder, 'fifo'), os.path.join(folder, 'trunk.toml')
-            os.mkfifo(fifo)
-            with open(config, 'w', encoding='ascii') as file:
-                file.write('law = "A"\n')
-            with subprocess.Popen([sys.executable, '-B', LAUNCHER, '--program', support.program(), '--config', config,
-                                   '--in', fifo, '--out', '/dev/null'], stdin=subprocess.DEVNULL,
-                                  stderr=subprocess.PIPE) as process:
-                assert process.stderr
-                process.stderr.readline()       # whose datagrams are received; then the FIFO is waited for
-                os.kill(process.pid, signal.SIGKILL)
-                self.assertNotIn(b'Traceback', process.stderr.read())       # up to the end of all
-
     def test_readers_that_go_and_readers_that_stand_still(self) -> None:
         reads, writes = os.pipe()
         with World(config_of(FOUR), '--watch', stdout=writes) as world:
@@ -398,38 +263,6 @@ class BesideCallsTests(unittest.TestCase):
                 self.goes_on(world)
                 self.assertEqual(world.quit()[0], 0)
 
-    def test_typed_letters(self) -> None:
-        with World(config_of(FOUR), stdin=subprocess.PIPE, stdout=subprocess.PIPE) as world:
-            assert world.process.stdin and world.process.stdout
-            world.process.stdin.write(b'\xff\xfe\n\0\nseize \xc3\xa9\n' + b'x' * 10_000 + b'\nseize 31\nquit')
-            world.process.stdin.close()
-            said = world.process.stdout.read().decode()
-            self.assertEqual(world.wait()[0], 0)
-            self.assertIn('seize 31: circuits are 1 to 30', said)
-            self.assertTrue(said.endswith('quit: done\n'))
-            world.process.stdout.close()
-
-    def test_the_table_in_the_terminal(self) -> None:
-        with World(config_of(FOUR), '--top', stdout=subprocess.PIPE) as world:
-            aligned(world)
-            assert world.process.stdout
-            shown = ''
-            while shown.count('\x1b[H\x1b[2J') < 3 or ' 4 outgoing idle ' not in shown:
-                shown += os.read(world.process.stdout.fileno(), 65536).decode()
-            world.quit()
-            world.process.stdout.close()
-
-    def test_a_line_typed_while_it_is_in_the_background(self) -> None:
-        keyboard, terminal = os.openpty()
-        front = (sys.executable, '-c', BACKGROUND, os.ttyname(terminal))
-        with World(config_of(FOUR), front=front) as world:
-            aligned(world)
-            os.write(keyboard, b'quit\n')
-            self.goes_on(world)
-            self.assertEqual(world.quit()[0], 0)
-        os.close(keyboard)
-        os.close(terminal)
-
     def test_signals(self) -> None:
         """They end nothing. One takes the program and the configuration of now, with all calls up."""
         with tempfile.NamedTemporaryFile() as told, World(config_of(FOUR), stderr=told) as world:
@@ -441,7 +274,7 @@ class BesideCallsTests(unittest.TestCase):
 
             def reloaded() -> bool:
                 with open(told.name, encoding='utf-8') as file:
-                    return 'e1gw-keep: reload: program' in file.read()
+                    return 'e1gw-trunk: reload: program' in file.read()
             world.until(reloaded)
             world.connected()
             self.assertEqual(world.state(2), 'answered')
@@ -475,16 +308,6 @@ class BesideCallsTests(unittest.TestCase):
             self.assertFalse(os.path.exists(world.path('ctl')))
 
 
-def cut(options: Sequence[str]) -> list[list[str]]:
-    """Each option with its values."""
-    found: list[list[str]] = []
-    for word in options:
-        if word.startswith('--'):
-            found.append([])
-        found[-1].append(word)
-    return found
-
-
 class RefusedOptionsTests(support.FolderCase):
     """Command lines that are refused with status 2, before anything is emptied."""
 
@@ -512,7 +335,7 @@ class RefusedOptionsTests(support.FolderCase):
     def test_words_of_the_command_line(self) -> None:
         rows: list[list[str]] = [
             ['--tcp', '127.0.0.1:99999'], ['--tcp', '.x:1'], ['--tcp', 'host'], ['--tcp', ':1'], ['--in', '/dev/null'],
-            [], ['--unix', 'a', '--tcp', 'b:1'], ['--unix', 'a', '--most', '0'], ['--unix', 'a', '--keep', '1h'],
+            [], ['--unix', 'a', '--tcp', 'b:1'], ['--unix', 'a', '--repeat', '9'], ['--unix', 'a', '--keep', '1h'],
             ['--unix', 'a', '--session', 's', '--keep', '1x'], ['--unix', 'a', '--on-loss', 'drop'],
             ['--unix', 'a', '--http', '1'], ['--unix', 'a', '--gap', 'x']]
         for words in rows:
@@ -585,9 +408,15 @@ class RefusedOptionsTests(support.FolderCase):
             text = f'law = "A"\n[[circuit]]\nnumber = 3\nlocal_port = {port}\npeer_port = 9\n'
             config = self.write('port.toml', text)
             status, said = self.run_driver('--config', config, '--in', '/dev/zero', '--out', '/dev/null', '--reopen')
-        lines = [line.removeprefix('e1gw-keep: ') for line in said.splitlines()]
+        lines = [line.removeprefix('e1gw-trunk: ') for line in said.splitlines()]
         at = lines.index(f'port {port} is in use (ss -ulpn shows by whom)')
         self.assertEqual((status, lines[at + 1]), (1, 'ends: the program says: socket 3, behind octet 0'))
+
+    def test_a_name_server_that_is_away(self) -> None:
+        """The unit tries it again."""
+        text = 'law = "A"\n[[circuit]]\nnumber = 3\nlocal_port = 9\npeer_port = 9\npeer_host = "no.such.invalid"\n'
+        status, said = self.run_driver('--config', self.write('names.toml', text), '--unix', 'card')
+        self.assertEqual((status, 'no.such.invalid: ' in said), (1, True))
 
     def test_options_that_a_unit_lacks(self) -> None:
         none = os.path.join(self.folder, 'west.options')
@@ -609,43 +438,6 @@ class RefusedOptionsTests(support.FolderCase):
             with self.subTest(host=host, option=option):
                 status, told = self.run_driver('--config', config, *words, *option)
                 self.assertEqual((status, told.count(f'({said})')), (0, 1))
-
-    def words(self, name: str, *options: str) -> list[str]:
-        """What one of the programs is started with, for these options."""
-        asked = options_of(['--config', self.good, *options])
-        parts = parts_of(asked, 'e1gw', self.folder)
-        try:
-            return next(part.words for part in parts.every() if part.name == name)
-        finally:
-            for part in parts.every():
-                part.close()
-                os.unlink(os.path.join(self.folder, f'{part.name}.ready'))
-
-    def test_options_are_passed_on(self) -> None:
-        """Each option goes to the program that does it, as it was asked for."""
-        trunk = ('--in', '/dev/null', '--out', '/dev/zero')
-        for name, options in (('e1gw-keep', trunk), ('e1gw-keep', ('--unix', 'card', '--reopen')),
-                              ('e1gw-keep', (*trunk, '--repeat', '2', '--seizure-wait', '2000', '--totals')),
-                              ('e1gw-keep', (*trunk, '--senders', 'peer', '--state', 'state')),
-                              ('e1gw-keep', (*trunk, '--session', 'kept', '--keep', '1h')),
-                              ('e1gw-carry', ('--tcp', 'host:1', '--reopen', '--clear')),
-                              ('e1gw-carry', ('--unix', 'card', '--align', '--crc4')),
-                              ('e1gw-carry', ('--satop', '127.0.0.1:1,127.0.0.1:2', '--satop-jitter', '8')),
-                              ('e1gw-watch', (*trunk, '--name', 'west', '--control', 'ctl', '--control-mode', '600')),
-                              ('e1gw-watch', (*trunk, '--on-loss', 'clear', '5', '--http', '[::1]:80', '--top')),
-                              ('e1gw-watch', (*trunk, '--json', '-', '--calls', 'csv', '--dark', '2.5', '--watch'))):
-            with self.subTest(options):
-                given = self.words(name, *options)
-                for words in cut(options[4:] if name == 'e1gw-watch' else options):
-                    at = given.index(words[0])
-                    self.assertEqual(given[at:at + len(words)], words)
-
-    def test_a_trunk_that_is_carried(self) -> None:
-        """The keeper opens the socket of the carrier, and opens it again if the carrier was begun again."""
-        given = self.words('e1gw-keep', '--unix', 'card', '--crc4')
-        at = given.index('--unix')
-        self.assertEqual(given[at:at + 3], ['--unix', os.path.join(self.folder, 'carried'), '--reopen'])
-        self.assertNotIn('--reopen', self.words('e1gw-carry', '--unix', 'card', '--crc4'))
 
     def test_a_file_goes_through(self) -> None:
         trunk = os.path.join(self.folder, 'trunk')
@@ -671,8 +463,8 @@ class UnitTests(support.FolderCase):
         self.line.settimeout(SECONDS)
 
     def told(self) -> str:
-        """What is told next that is no sign of life."""
-        while (told := self.line.recv(4096).decode()) == 'WATCHDOG=1':
+        """What is told next that is no sign of life, and no descriptor to keep."""
+        while (told := self.line.recv(4096).decode()).startswith(('WATCHDOG=1', 'FDSTORE')):
             pass
         return told
 
@@ -693,11 +485,11 @@ class UnitTests(support.FolderCase):
             listener.listen(1)
             process = self.starts('--unix', self.path('card'))
             line = listener.accept()[0]
-            self.assertEqual(self.told(), 'READY=1\nSTATUS=in service')
+            self.assertRegex(self.told(), 'READY=1\nSTATUS=program [0-9]+, shadow [0-9]+')
             self.assertTrue(os.path.exists(self.path('ctl')))
             process.send_signal(signal.SIGHUP)
             self.assertTrue(self.told().startswith('RELOADING=1\nMONOTONIC_USEC='))
-            self.assertEqual(self.told(), 'READY=1\nSTATUS=in service')
+            self.assertRegex(self.told(), 'READY=1\nSTATUS=program [0-9]+, shadow [0-9]+')
             process.terminate()
             self.assertEqual(self.told(), 'STOPPING=1')
             line.close()

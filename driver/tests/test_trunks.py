@@ -88,7 +88,7 @@ class TrunkKindTests(support.FolderCase):
 
 class TrunkKindServiceTests(unittest.TestCase):
     def test_a_seizure_while_no_octets_come(self) -> None:
-        with World(config_of(FOUR), within={'watcher.STALLED': 10}) as world:
+        with World(config_of(FOUR), within={'service.status.QUIET': 1.0}) as world:
             aligned(world)
             support.until(lambda: bool(world.told()['clock']['stalled']))
             self.assertEqual(world.ask('seize 2'), 'seize 2: the trunk is stalled')

@@ -1,5 +1,4 @@
-"""A trunk that e1gw-keep carries and e1gw-watch watches, with a played exchange: calls, while each of the processes is
-killed."""
+"""A trunk in service in real time, with a played exchange: calls, while each of its processes is killed."""
 from __future__ import annotations
 
 import contextlib
@@ -7,7 +6,6 @@ import csv
 import json
 import os
 import signal
-import socket
 import subprocess
 import sys
 import unittest
@@ -15,50 +13,43 @@ from typing import Any, Callable, Mapping
 
 from . import limits, support
 from .support import SECONDS
-from .telling import LAUNCHER as WATCHER
+from .manager import Manager
 from .test_keeper import GOES_ON
-from .test_keeper import LAUNCHER as KEEPER
-from .world import ServedProgram, config_of
+from .test_keeper_killed import RestartedKeeperCase
+from .world import LAUNCHER, ServedProgram, config_of
 
 EXCHANGE = os.path.join(support.TOP, 'examples', 'exchange')
 
 
-def tells() -> bool:
-    """Whether the program has --tell."""
-    return b'--tell' in support.run('replay', '--help')
-
-
-class FourProcesses(ServedProgram):
-    """The four processes."""
+class PlayedTrunk(ServedProgram):
+    """An e1gw-trunk, which is started again as systemd does it, and an exchange."""
 
     process: subprocess.Popen[bytes]
 
     def __init__(self, within: Mapping[str, Any] = {}) -> None:
         super().__init__(config_of(range(1, 5), incoming=(2, 4)))
-        self.around = os.environ | limits.around(within)
-        self.process = self.exchange = self.start(EXCHANGE, 'card', stdin=subprocess.PIPE, name='exchange')
+        self.manager = Manager(self.path('notify'))
+        with open(self.path('seen'), 'wb') as seen:
+            self.exchange = subprocess.Popen([sys.executable, '-B', EXCHANGE, self.path('card')], stdout=seen,
+                                             stdin=subprocess.PIPE)
         self.until(lambda: os.path.exists(self.path('card')))
-        self.keeper = self.start(KEEPER, '--program', support.program(), '--config', 'trunk.toml', '--unix', 'card',
-                                 '--control', 'program', '--tell', 'tell', name='keeper')
-        self.until(lambda: GOES_ON.search(self.said('keeper')))
-        self.watch = (WATCHER, '--config', 'trunk.toml', '--program-control', 'program', '--tell', 'tell',
-                      '--control', 'ctl', '--calls', 'calls.csv')
+        self.words = ['/usr/bin/env', *(f'{name}={value}' for name, value in limits.around(within).items()),
+                      sys.executable, '-B', LAUNCHER, '--program', support.program(), '--config', self.config, '--unix',
+                      self.path('card'), '--tell', self.path('tell'), '--control', self.path('ctl'), '--folder',
+                      self.folder, '--calls', self.path('calls.csv')]
         self.begin()
 
     def begin(self) -> None:
-        """Starts the watcher."""
-        self.process = self.start(*self.watch, name='watcher')
+        """Starts e1gw-trunk."""
+        with open(self.path('told'), 'ab') as told:
+            self.process = self.manager.starts(self.words, told.fileno())
         self.until(lambda: self.stands(shadow=True, program=True))
 
-    def start(self, *words: str, name: str, stdin: int = subprocess.DEVNULL) -> subprocess.Popen[bytes]:
-        with open(self.path(name), 'ab') as told:
-            return subprocess.Popen([sys.executable, '-B', *words], cwd=self.folder, stdout=subprocess.DEVNULL,
-                                    stderr=told, stdin=stdin, env=self.around)
-
     def close(self) -> None:
-        for process in (self.process, self.keeper, self.exchange):
+        for process in (self.process, self.exchange):
             process.terminate()
             process.wait(SECONDS)
+        self.manager.close()
         assert self.exchange.stdin
         self.exchange.stdin.close()
 
@@ -92,27 +83,22 @@ class FourProcesses(ServedProgram):
         self.exchange.stdin.write(f'{line}\n'.encode())
         self.exchange.stdin.flush()
 
-    def type_and_see(self, line: str, circuit: int, state: str) -> None:
-        """To the exchange, until the shadow tells that a circuit is in this state."""
+    def type_and_see(self, line: str, signal: str) -> None:
+        """To the exchange, until it has seen a line signal once more."""
+        before = self.said('seen').count(signal)
         self.type(line)
-        with socket.socket(socket.AF_UNIX) as client:
-            client.settimeout(SECONDS)
-            client.connect(self.path('tell'))
-            with client.makefile() as lines:
-                next(each for each in lines if each.split()[:2] == ['line', str(circuit)] and each.split()[3] == state)
+        support.until(lambda: self.said('seen').count(signal) > before)
 
     def kill(self, what: str) -> None:
-        """Kills the program or the shadow of now, and waits for the next one."""
-        found = list(GOES_ON.finditer(self.said('keeper')))
+        """Kills the program or the follower of now, and waits for the next one."""
+        found = list(GOES_ON.finditer(self.said('told')))
         os.kill(int(found[-1][1 if what == 'program' else 3]), signal.SIGKILL)
-        self.until(lambda: len(list(GOES_ON.finditer(self.said('keeper')))) > len(found))
+        self.until(lambda: len(list(GOES_ON.finditer(self.said('told')))) > len(found))
 
 
 class WatchedTrunkTests(unittest.TestCase):
-    def begun(self, **within: Any) -> FourProcesses:
-        if not tells():
-            raise unittest.SkipTest('the program has no --tell')
-        trunk = FourProcesses({f'watcher.{name}': value for name, value in within.items()})
+    def begun(self, **within: Any) -> PlayedTrunk:
+        trunk = PlayedTrunk({f'service.status.{name}': value for name, value in within.items()})
         self.addCleanup(trunk.__exit__)
         return trunk
 
@@ -146,27 +132,31 @@ class WatchedTrunkTests(unittest.TestCase):
         trunk.until(lambda: len(ended()) == 2)
         self.assertEqual([(line['circuit'], line['seized'], line['by']) for line in ended()],
                          [('2', '', 'exchange'), ('1', '', 'gateway')])
-        self.assertEqual(trunk.ask('quit').splitlines()[-1], 'quit: done')
-        self.assertIsNone(trunk.keeper.poll())
+        self.assertEqual(trunk.ask('quit'), 'quit: done')
+        self.assertEqual(trunk.process.wait(SECONDS), 0)
 
     def test_names_of_calls(self) -> None:
-        """Another watcher counts seizures as the one before it, and one that happened in between."""
+        """The next follower and the next e1gw-trunk count seizures as those before them, and one in between."""
         trunk = self.begun()
         trunk.is_in(1, 'idle')
         trunk.type('seize 2')
         trunk.is_in(2, 'acked')
         life = trunk.told()['life']
-        for lines, seizures in ((), 1), ((('clear 2', 'idle'), ('seize 2', 'acked')), 2):
+        trunk.kill('shadow')
+        trunk.is_in(2, 'acked')
+        self.assertEqual((trunk.told()['life'], trunk.told()['circuits'][1]['seizures']), (life, 1))
+        for lines, seizures in ((), 1), ((('clear 2', '2: 10'), ('seize 2', '2: 11')), 2):
             trunk.process.kill()
             trunk.process.wait(SECONDS)
-            for line, state in lines:
-                trunk.type_and_see(line, 2, state)
+            for line, seen in lines:
+                trunk.type_and_see(line, seen)
             trunk.begin()
             trunk.is_in(2, 'acked')
-            self.assertEqual((trunk.told()['life'], trunk.told()['circuits'][1]['seizures']), (life, seizures))
+            trunk.until(lambda: trunk.told()['circuits'][1]['seizures'] == seizures)
+            self.assertEqual(trunk.told()['life'], life)
 
     def test_a_trunk_that_stops(self) -> None:
-        trunk = self.begun(STALLED=10)
+        trunk = self.begun(QUIET=1.0)
         trunk.is_in(1, 'idle')
         os.kill(trunk.exchange.pid, signal.SIGSTOP)
         trunk.until(lambda: trunk.told()['clock']['stalled'])
@@ -182,6 +172,27 @@ class WatchedTrunkTests(unittest.TestCase):
         version = support.run('--version').decode().split()[1]
         trunk.until(lambda: trunk.stands(version=version))
         self.assertEqual([before['alarm'], before['remote_alarm']], [{'frame': False, 'multiframe': False}] * 2)
+
+
+class KilledCallTests(RestartedKeeperCase):
+    """A line for each call, whoever is killed."""
+
+    def test_calls(self) -> None:
+        """Thirty calls are thirty lines, also of an e1gw-trunk that was killed and begun again."""
+        self.begins('--calls', self.path('calls'))
+        self.kill_keeper()
+        self.step(20)
+        began = len(self.told())
+        self.comes_back()
+        while 'connected to the shadow' not in self.told()[began:]:
+            self.step()
+        self.step(20)
+        self.ends()
+        with open(self.path('calls'), encoding='utf-8', newline='') as file:
+            rows = list(csv.DictReader(file))
+        self.assertEqual(sorted(int(row['circuit']) for row in rows), list(range(1, 31)))
+        self.assertEqual({row['by'] for row in rows}, {'stop'})
+        self.assertEqual(len({row['call'] for row in rows}), 30)
 
 
 if __name__ == '__main__':

@@ -1,4 +1,4 @@
-"""The watcher in service, between stand-ins of the shadow and of the program."""
+"""What an operator has of a trunk, between stand-ins of the follower and of the program."""
 from __future__ import annotations
 
 import csv
@@ -7,21 +7,15 @@ import os
 import signal
 import socket
 import subprocess
-import sys
-import time
 import unittest
 import urllib.request
 from typing import Any, Mapping
 
-from .support import SECONDS, FolderCase
-from .telling import IDLE, LAUNCHER, StandInListener, StandInProgram, StandInShadow, WatchedTrunk, row
+from .support import SECONDS
+from .telling import IDLE, StandInProgram, StandInShadow, WatchedTrunk, row
 from .test_web import samples
-from e1gw.keep import put_file
-from e1gw.links import Link
-from e1gw.loop import Loop
 from e1gw.session import Codec, Command, Record, codec_record, command_record
 from e1gw.testing.ports import free_port
-from e1gw.watcher import PATIENCE, Program
 
 CONFIG = 'law = "A"\n[[circuit]]\nnumber = 1\nprefill = 320\n[[circuit]]\nnumber = 2\nrole = "incoming"\n'
 ROWS = [IDLE[0], row(2, 'idle', role='incoming')[5:], *IDLE[2:]]
@@ -50,102 +44,6 @@ class WatcherCase(unittest.TestCase):
                 return list(csv.DictReader(file))
         lines: list[dict[str, str]] = world.until(lambda: os.path.exists(world.path('calls')) and found())
         return lines
-
-
-class CommandAnswerTests(FolderCase):
-    """An answer of the program waits until the shadow has told of the command, and no longer than a moment."""
-
-    def setUp(self) -> None:
-        super().setUp()
-        listener = StandInProgram(self.path('program'))
-        self.addCleanup(listener.close)
-        self.loop, self.said = Loop(1.0), list[str]()
-        self.program = Program(self.loop, listener.path, lambda what, on, why: None)
-        self.program.link.look()
-        self.addCleanup(self.program.link.close, '')
-        self.records = [command_record(n, Command.SEIZE) for n in (1, 2)]
-        for record in self.records:
-            self.program.give(record, lambda answer: self.said.append(f'{answer.circuit} {answer.refusal}'),
-                              self.said.append)
-        asked = self.program._asked[-1]     # pylint: disable=protected-access
-        while asked.answer is None:
-            self.loop.turn()
-
-    def test_told(self) -> None:
-        self.program.told(command_record(3, Command.SEIZE))     # of another client
-        self.program.told(self.records[1])
-        self.program.settle(0.0, True)
-        self.assertEqual(self.said, [])
-        self.program.told(self.records[0])
-        self.program.settle(0.0, True)
-        self.assertEqual(self.said, ['1 None', '2 None'])
-
-    def test_not_told_in_time(self) -> None:
-        self.program.settle(time.monotonic() + PATIENCE, True)
-        self.assertEqual(self.said, ['1 None', '2 None'])
-
-    def test_no_shadow(self) -> None:
-        self.program.settle(0.0, False)
-        self.assertEqual(self.said, ['1 None', '2 None'])
-
-
-class LinkRestTests(FolderCase):
-    """A link that rests for a minute after each read."""
-
-    def setUp(self) -> None:
-        super().setUp()
-        listener = StandInListener(self.path('tell'))
-        self.addCleanup(listener.close)
-        self.loop, self.took, self.gone = Loop(1.0), list[bytes](), list[str]()
-        self.link = Link(self.loop, listener.path, lambda _: None, self.took.append, self.gone.append, 60.0)
-        self.link.look()
-        while not listener.clients:
-            self.loop.turn(time.monotonic())
-        self.line = listener.clients[0]
-
-    def comes(self, octets: bytes) -> None:
-        """Octets come, and are read by the next turns."""
-        self.line.sendall(octets)
-        while self.took[-1:] != [octets]:
-            self.loop.turn()
-
-    def waits(self, octets: bytes) -> None:
-        """Octets come, and are not read."""
-        self.line.sendall(octets)
-        before = [*self.took]
-        for _ in range(3):
-            self.loop.turn(time.monotonic())
-        self.assertEqual(self.took, before)
-
-    def test_what_comes_in_a_rest_is_read_when_it_is_asked_for(self) -> None:
-        self.comes(b'one')
-        self.waits(b'two')
-        self.link.read()
-        self.waits(b'three')
-        self.waits(b'four')
-        self.link.read()
-        self.assertEqual(self.took, [b'one', b'two', b'threefour'])
-
-    def test_where_nothing_has_come_the_next_octets_are_waited_for(self) -> None:
-        self.comes(b'one')
-        self.link.read()
-        self.comes(b'two')
-        self.waits(b'three')
-
-    def test_a_shorter_rest_is_one_from_now_on(self) -> None:
-        self.comes(b'one')
-        self.waits(b'two')
-        self.link.rests(0.0)
-        while len(self.took) < 2:
-            self.loop.turn()
-        self.comes(b'three')
-        self.comes(b'four')
-
-    def test_an_end_in_a_rest(self) -> None:
-        self.comes(b'one')
-        self.line.close()
-        self.link.read()
-        self.assertEqual((len(self.gone), self.link.is_there()), (1, False))
 
 
 class WatcherServiceTests(WatcherCase):
@@ -190,7 +88,7 @@ class WatcherServiceTests(WatcherCase):
         self.assertEqual([json.loads(next(events))['event'] for _ in range(2)], ['state', 'command'])
 
     def test_a_shadow_that_does_not_tell_of_a_command(self) -> None:
-        world = self.watched(within={'watcher.PATIENCE': 0.1})
+        world = self.watched(within={'service.connection.PATIENCE': 0.1})
         world.program.shadow = None
         self.assertEqual([world.ask(f'clear {n}') for n in (1, 3)], ['clear 1: done', 'clear 3: done'])
 
@@ -237,14 +135,11 @@ class WatcherServiceTests(WatcherCase):
         with open(world.path('json'), encoding='utf-8') as file:
             self.assertLessEqual({'state', 'command', 'alarm', 'lost'}, {json.loads(line)['event'] for line in file})
 
-    def test_quit_ends_the_watcher_alone(self) -> None:
+    def test_quit(self) -> None:
+        """It asks for the end of the whole, which the test plays."""
         world = self.watched()
-        self.assertEqual(world.ask('quit'), 'the watcher ends; the trunk and its calls go on\nquit: done')
-        status, said = world.wait()
-        self.assertEqual((status, world.program.taken), (0, []))
-        for words in ('connected to the shadow', 'connected to the program', 'ends: quit'):
-            self.assertIn(words, said)
-        self.assertFalse(os.path.exists(world.path('ctl')))
+        self.assertEqual(world.ask('quit'), 'quit: done')
+        self.assertEqual(world.wait()[0], 0)
 
     def test_pages(self) -> None:
         port = free_port()
@@ -280,16 +175,6 @@ class WatcherServiceTests(WatcherCase):
         world.has(2, state='blocked')
         self.assertEqual(world.ask('clear 1'), 'clear 1: done')
 
-    def test_unknown_command_lines(self) -> None:
-        world = self.watched()
-        for words, said in ((['--config', world.config], 'required: --tell, --program-control'),
-                            (['--config', '/none', '--tell', 'a', '--program-control', 'b'], '/none: No such file'),
-                            (['--config', world.config, '--tell', 'a', '--program-control', 'b', '--control',
-                              world.path('ctl')], 'another one listens')):
-            done = subprocess.run([sys.executable, '-B', LAUNCHER, *words], check=False,
-                                  stdin=subprocess.DEVNULL, stderr=subprocess.PIPE, timeout=SECONDS)
-            self.assertEqual((done.returncode, said in done.stderr.decode()), (2, True), done.stderr)
-
 
 class WatcherConnectionTests(WatcherCase):
     def test_no_program(self) -> None:
@@ -305,26 +190,6 @@ class WatcherConnectionTests(WatcherCase):
         world.connected()
         self.assertEqual(world.program.taken, [])
         self.assertEqual(world.ask('seize 1'), 'seize 1: done')
-
-    def test_what_the_keeper_says_of_the_trunk(self) -> None:
-        """Since when it is open, which is not since when it is watched, the version, and why it is not open."""
-        world = self.watched()
-        about = {'since': 1_700_000_000.0, 'version': '9.8.7', 'fault': None}
-
-        def says(**more: object) -> None:
-            put_file(world.path('tell.about'), json.dumps(about | more).encode())
-        says()
-        found = world.status()
-        self.assertEqual((found['version'], round(found['time'] - found['uptime'], 3)), ('9.8.7', about['since']))
-        self.assertRegex(world.ask('status'), r'^trunk trunk, e1gw 9\.8\.7, up \d{8,} s\n')
-        events, fault = self.events(world), 'the trunk cannot be opened: /dev/e1: No such file or directory'
-        says(fault=fault)
-        world.program.close()
-        self.assertEqual(self.next(events, 'disconnected', 'from', 'why'), ['program', fault])
-        lines = world.ask('status').splitlines()
-        self.assertEqual(lines[0], 'trunk trunk, e1gw 9.8.7, not open')
-        self.assertRegex(lines[1], rf' UTC, {fault}; the other end: not heard$')
-        self.assertEqual(world.ask('clear 1'), f'clear 1: {fault}')
 
     def test_a_program_that_goes_before_it_answers(self) -> None:
         world = self.watched()
@@ -347,7 +212,7 @@ class WatcherConnectionTests(WatcherCase):
         self.assertEqual(world.ask('seize 1'), 'seize 1: done')
 
     def test_another_shadow(self) -> None:
-        """A shadow goes and another one comes; a link leads to each, as e1gw-keep makes it."""
+        """A shadow goes and another one comes; a link leads to each, as e1gw-trunk makes it."""
         world = self.watched('--calls', '@/calls')
         world.shadow.tell('command 1 1 0', row(1, 'seized', '00 10'))
         world.shadow.row(1, 'answered', '00 01', (50, 40, 0))
@@ -436,7 +301,7 @@ class WatcherConnectionTests(WatcherCase):
         world.connected()
 
     def test_a_trunk_without_octets(self) -> None:
-        world = self.watched(within={'watcher.STALLED': 10})
+        world = self.watched(within={'service.status.QUIET': 1.0})
         events = self.events(world)
         world.shadow.flows = False
         self.next(events, 'stalled')

@@ -1,6 +1,7 @@
 """What is seen from outside: pages over HTTP, the text of Prometheus, the file of metrics, and the rules of alerts."""
 from __future__ import annotations
 
+import asyncio
 import contextlib
 import http.client
 import json
@@ -10,6 +11,7 @@ import socket
 import unittest
 import urllib.error
 import urllib.request
+from unittest import mock
 
 from . import support
 from .support import SECONDS
@@ -17,6 +19,7 @@ from .test_trunk import FOUR, aligned, call
 from .world import World, config_of
 from e1gw.crc4 import Crc4
 from e1gw.metrics import exposition, family
+from e1gw.service import pages as service_pages
 from e1gw.testing.ports import free_port
 
 SAMPLE = re.compile(r'([a-z_0-9]+)(\{(?:[a-z_]+="(?:[^"\\]|\\.)*",?)*\})? (-?[0-9.e+-]+)')
@@ -67,6 +70,32 @@ class PictureRequestTests(unittest.TestCase):
             call(world, 2)
 
 
+class DrawnPageTests(unittest.IsolatedAsyncioTestCase):
+    """A picture that takes longer than somebody waits for it."""
+
+    async def test_a_slow_picture(self) -> None:
+        """One process draws, however many ask; they are told so, and later get it."""
+        drawn, begun = asyncio.Event(), list[tuple[object, ...]]()
+
+        async def communicate() -> tuple[bytes, None]:
+            await drawn.wait()
+            return b'<html></html>\n', None
+
+        async def begin(*words: object, **_: object) -> object:
+            begun.append(words)
+            return mock.Mock(pid=os.getpid(), communicate=communicate)
+        with (mock.patch.object(service_pages, 'WAITED', 0.01), mock.patch.object(service_pages, 'put_behind'),
+              mock.patch('asyncio.create_subprocess_exec', begin)):
+            page = service_pages.DrawnPage(['--last', '60s', 'ring'])
+            for _ in range(3):
+                self.assertIn(b'is being drawn', await page.fresh())
+            drawn.set()
+            while (found := await page.fresh()) == service_pages.SOON:
+                await asyncio.sleep(0)
+        self.assertEqual((found, len(begun)), (b'<html></html>\n', 1))
+        self.assertEqual(begun[0][-3:], ('--last', '60s', 'ring'))
+
+
 class WebTests(unittest.TestCase):
     def setUp(self) -> None:
         self.port = free_port()
@@ -94,7 +123,7 @@ class WebTests(unittest.TestCase):
                 ('e1gw_circuit_state{trunk="west",circuit="1",role="outgoing",state="answered"}', 1),
                 ('e1gw_circuit_state{trunk="west",circuit="1",role="outgoing",state="idle"}', 0),
                 ('e1gw_circuit_seizures_total{trunk="west",circuit="1"}', 1),
-                ('e1gw_datagrams_total{trunk="west",circuit="1",what="sent"}', counts['sent']),
+                ('e1gw_rtp_packets_total{trunk="west",circuit="1",direction="sent"}', counts['sent']),
                 ('e1gw_commands_total{trunk="west",command="seize",answer="not idle"}', 1),
                 ('e1gw_ended{trunk="west",what="json"}', 0), ('e1gw_counts_stale{trunk="west"}', 0)):
             self.assertEqual(found.get(name), value, name)

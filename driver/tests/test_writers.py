@@ -13,7 +13,9 @@ from . import support
 from .test_trunk import FOUR, aligned, call
 from .world import World, config_of
 from e1gw import writers
-from e1gw.writers import Journal, Writer, to_file
+from e1gw.service.events import EventFile, lines_to
+from e1gw.service.journal import MINUTE
+from e1gw.writers import Writer
 
 
 class WriterOpeningTests(support.FolderCase):
@@ -29,18 +31,18 @@ class WriterOpeningTests(support.FolderCase):
 
     def test_a_fifo_that_nobody_reads(self) -> None:
         with mock.patch.object(writers, 'OPENS', 0.1):
-            writer = to_file('session', self.fifo, lambda what, why: self.ended.append(f'{what}: {why}'))
-            writer.put(b'abc')
-            self.assertEqual(self.until_ended(), f'session: nobody reads it: {self.fifo}')
+            file = EventFile('json', lines_to(self.fifo), lambda what, why: self.ended.append(f'{what}: {why}'), 'x')
+            file.put('abc')
+            self.assertEqual(self.until_ended(), 'json: nobody reads it: x')
+            file.close()
 
     def test_a_fifo_that_somebody_reads_in_time(self) -> None:
-        writer = to_file('session', self.fifo, lambda what, why: self.ended.append(why))
-        writer.put(b'abc')
-        time.sleep(0.1)
-        with open(self.fifo, 'rb') as file:
-            writer.put(b'def')
-            self.assertEqual(file.read(6), b'abcdef')
-            writer.close()
+        file = EventFile('json', lines_to(self.fifo), lambda what, why: self.ended.append(why))
+        file.put('abc')
+        with open(self.fifo, 'rb') as reads:
+            file.put('def')
+            self.assertEqual(reads.read(8), b'abc\ndef\n')
+            file.close()
         self.assertEqual(self.ended, [])
 
     def test_an_opening_that_never_ends(self) -> None:
@@ -77,25 +79,7 @@ class WriterOpeningTests(support.FolderCase):
                              [0o640, 0o640])
 
 
-class JournalTests(unittest.TestCase):
-    def test_lines_of_a_kind(self) -> None:
-        now = [100.0]
-        reads, writes = os.pipe()
-        journal = Journal(writes, lambda: now[0])
-        for second in range(120):
-            now[0] = 100.0 + second
-            for _ in range(10):
-                journal.line(Journal.WARNING, 'gap', 'gap')
-            journal.look()
-        journal.line(Journal.NOTICE, 'rate', 'rate')
-        journal.line(Journal.ERROR, 'end')
-        journal.close()
-        os.close(writes)
-        with open(reads, encoding='utf-8') as file:
-            said = [line.removeprefix('e1gw-trunk: ') for line in file.read().splitlines()]
-        self.assertEqual(said, [*['gap'] * 20, 'gap: .. and 580 more in the last minute', *['gap'] * 20, 'rate', 'end',
-                                'gap: .. and 580 more in the last minute'])
-
+class JournalStormTests(unittest.TestCase):
     def test_a_storm_on_a_trunk(self) -> None:
         support.program()
         began = time.monotonic()
@@ -110,7 +94,7 @@ class JournalTests(unittest.TestCase):
         self.assertEqual((status, len(lost)), (0, 15))
         # one line for a loss, and not one for the alarm and one for the alignment
         self.assertNotIn('alignment lost', said)
-        self.assertLessEqual(said.count('alarm: loss of '), 20 * (1 + (time.monotonic() - began) // Journal.MINUTE))
+        self.assertLessEqual(said.count('alarm: loss of '), 20 * (1 + (time.monotonic() - began) // MINUTE))
 
 
 if __name__ == '__main__':

@@ -36,6 +36,20 @@ def child_of(parent: int, word: str) -> int:
     raise AssertionError(f'no e1gw {word}')
 
 
+def of_words(parent: int, word: str) -> list[int]:
+    """The processes that a process has started whose first words have this one."""
+    found = []
+    for name in filter(str.isdecimal, os.listdir('/proc')):
+        try:
+            with open(f'/proc/{name}/stat', encoding='ascii') as about, open(f'/proc/{name}/cmdline', 'rb') as line:
+                is_child = int(about.read().rpartition(')')[2].split()[1]) == parent
+                if is_child and any(word.encode() in each for each in line.read().split(b'\0')[1:4]):
+                    found.append(int(name))
+        except (OSError, ValueError):
+            pass
+    return found
+
+
 def descendant(parent: int, word: str, without: str | None = None) -> int:
     """A process that another one has started, or one of those has, with this word in its command line, and not that
     end of one."""

@@ -1,7 +1,6 @@
 """The scripts of the package that dpkg runs: what they ask systemd for; and what its units do at a reload."""
 import os
 import re
-import shutil
 import subprocess
 import tempfile
 import unittest
@@ -55,8 +54,7 @@ class Units(unittest.TestCase):
 
     def test_removal_stops_all(self) -> None:
         """Each kind of unit is stopped, ties before the trunks that they command."""
-        self.assertEqual(self.units(), ['e1gw-carry@*.service', 'e1gw-keep@*.service', 'e1gw-tie@*.service',
-                                        'e1gw-trunk@*.service', 'e1gw-watch@*.service'])
+        self.assertEqual(self.units(), ['e1gw-tie@*.service', 'e1gw-trunk@*.service'])
         self.assertEqual(asked('prerm', 'remove'), ['deb-systemd-invoke', 'stop', *self.units()])
 
     def test_upgrade_stops_none(self) -> None:
@@ -64,27 +62,13 @@ class Units(unittest.TestCase):
         self.assertEqual(asked('postrm', 'upgrade', '0.2.0'), [])
         self.assertNotIn('stop', asked('postinst', 'configure', '0.1.0'))
 
-    def test_a_reload_checks_the_configuration_first(self) -> None:
-        """In each unit that is reloaded: with a file that is refused it fails before the signal."""
-        reloaded = []
-        with tempfile.TemporaryDirectory() as folder:
-            files = {name: os.path.join(folder, name) for name in ('good', 'bad', 'none')}
-            shutil.copyfile(os.path.join(TOP, 'dist', 'system', 'thirty.toml'), files['good'])
-            with open(files['bad'], 'w', encoding='ascii') as file:
-                file.write('law = "A"\n[[circuit]]\nnumber = 1\ncodecc = "pcma"\n')
-            for name in (unit.replace('@*', '@') for unit in self.units()):
-                with open(os.path.join(TOP, 'dist', 'system', name), encoding='utf-8') as unit:
-                    text = unit.read()
-                if not (found := re.findall('(?m)^ExecReload=(.*)$', text)):
-                    continue
-                reloaded.append(name)
-                self.assertEqual([*found[1:]], ['/bin/kill -HUP $MAINPID'], name)
-                *words, config = found[0].replace('/usr/bin/e1gw-', f'{TOP}/tools/').split()
-                self.assertIn(f'--config {config} ', text)
-                ends = {which: subprocess.run([*words, path], capture_output=True, check=False, timeout=20).returncode
-                        for which, path in files.items()}
-                self.assertEqual(ends, {'good': 0, 'bad': 2, 'none': 2}, name)
-        self.assertEqual(reloaded, ['e1gw-keep@.service', 'e1gw-trunk@.service'])
+    def test_a_reload_is_asked_for(self) -> None:
+        """The unit that is reloaded asks for it, and fails where it is refused; a signal would say nothing."""
+        found = {}
+        for name in (unit.replace('@*', '@') for unit in self.units()):
+            with open(os.path.join(TOP, 'dist', 'system', name), encoding='utf-8') as unit:
+                found[name] = re.findall('(?m)^ExecReload=(.*)$', unit.read())
+        self.assertEqual(found, {'e1gw-tie@.service': [], 'e1gw-trunk@.service': ['/usr/bin/e1gw-trunk reload %i']})
 
     def test_an_update_names_what_runs_on(self) -> None:
         """Only where there was a version before, and only while units run."""
@@ -95,6 +79,34 @@ class Units(unittest.TestCase):
         self.assertNotIn('reload', run('postinst', ('configure', '0.0.9'), running.splitlines()[0])[1])
         self.assertEqual(run('postinst', ('configure', '0.0.9'), '')[1], '')
         self.assertEqual(run('postinst', ('configure', ''), running)[1], '')
+
+    def test_an_update_names_options_that_are_refused(self) -> None:
+        with tempfile.TemporaryDirectory() as folder:
+            for name, words in (('west', '--unix card --pace 2'), ('east', '--unix card --picture 60')):
+                with open(os.path.join(folder, f'{name}.options'), 'w', encoding='ascii') as file:
+                    file.write(f'TRUNK="{words}"\n')
+            with open(os.path.join(TOP, 'dist', 'package', 'postinst'), encoding='ascii') as script:
+                text = script.read().replace('/etc/e1gw', folder).replace(RUNS, f'{folder}/none')
+            said = subprocess.run(['sh', '-c', text, 'postinst', 'configure', '0.0.9'], check=True, timeout=20,
+                                  stdout=subprocess.PIPE, text=True).stdout
+        self.assertRegex(said, r'^e1gw: take --pace, .* do not begin: \S*/west.options \n$')
+
+    def test_an_upgrade_leaves_units_their_files(self) -> None:
+        """Those that run of a package before this one, until the next boot."""
+        with tempfile.TemporaryDirectory() as folder:
+            for name in ('e1gw-keep', 'e1gw-watch'):
+                with open(os.path.join(folder, f'{name}@.service'), 'w', encoding='ascii') as file:
+                    file.write(name)
+            with open(os.path.join(folder, 'systemctl'), 'w', encoding='ascii') as file:
+                file.write('#!/bin/sh\ncase "$*" in *e1gw-keep@*) echo e1gw-keep@west.service ;; esac\n')
+            os.chmod(file.name, 0o755)
+            os.mkdir(os.path.join(folder, 'run'))
+            with open(os.path.join(TOP, 'dist', 'package', 'preinst'), encoding='ascii') as script:
+                text = script.read().replace('/usr/lib/systemd/system', folder).replace(RUNS, f'{folder}/run')
+            for word, left in (('install', []), ('upgrade', ['e1gw-keep@.service'])):
+                subprocess.run(['sh', '-c', text, 'preinst', word], check=True, timeout=20,
+                               env={**os.environ, 'PATH': f'{folder}:{os.environ["PATH"]}'})
+                self.assertEqual(os.listdir(os.path.join(folder, 'run')), left)
 
     def test_purge_says_what_is_left(self) -> None:
         """Recordings with their size, and each other thing that stays; nothing where nothing does."""

@@ -10,6 +10,8 @@ A line is answered by one or more lines and an empty one:
   on-loss clear SECONDS      when the last client that asked for it is gone so long, calls are cleared
   on-loss block SECONDS      the same, and idle incoming circuits are blocked
   on-loss keep               takes that back
+  reload                     takes the program and the configuration of now; `reload force` also if that ends
+                             more than three calls
   quit                       ends the trunk
   help                       these lines
 """
@@ -63,6 +65,9 @@ class CommandTrunk(Protocol):
 
     def left(self, client: object) -> bool:
         """A client is gone."""
+
+    async def reload(self, force: bool) -> str:
+        """Another program or configuration is asked for; the answer in words, when it is there."""
 
     def quit(self) -> str:
         """The end is asked for; the answer in words."""
@@ -131,12 +136,14 @@ class CommandServer:
                 return self._trunk.asked_on_loss(peer, rest)
             case ['help']:
                 return (__doc__ or '').partition('\n\n')[2].rstrip('\n')
+            case ['reload'] | ['reload', 'force']:
+                return await self._trunk.reload(words[1:] == ['force'])
             case ['quit']:
                 return self._trunk.quit()
             case [name, *rest] if name in COMMANDS or name == 'codec':
                 return await self._obey_circuit(name, rest)
         return (f'{words[0][:40]}: no such command; there are {", ".join(COMMANDS)}, codec, status, events, on-loss, '
-                'quit and help')
+                'reload, quit and help')
 
     async def _obey_circuit(self, name: str, words: list[str]) -> str:
         trunk = self._trunk

@@ -4,6 +4,7 @@ from __future__ import annotations
 import json
 import logging
 import logging.handlers
+import os
 import queue
 import sys
 import threading
@@ -13,14 +14,17 @@ from typing import Any, Callable, TextIO
 from ..calls import FIELDS, KEPT, MOST_OCTETS
 from ..events import NOTICED, WARNED, words_of
 from ..lines import Event, State
+from ..writers import open_to_append
 from .journal import MOST_WAITING, NOTICE
+
+OPEN = logging.DEBUG        # the level of the record that has a file opened
 
 logger = logging.getLogger(__name__)
 
 
 class EventFile:
-    """A place of lines beside the calls, written by a thread of its own: nothing waits for it. If it fails it ends,
-    and `ended(name, why)` is called once, in any thread."""
+    """A place of lines beside the calls, opened and written by a thread of its own: nothing waits for it. If it fails
+    it ends, and `ended(name, why)` is called once, in any thread."""
 
     def __init__(self, name: str, handler: logging.Handler, ended: Callable[[str, str], None], where: str = '') -> None:
         self._name, self._ended, self._where, self._has_ended = name, ended, where, False
@@ -31,6 +35,7 @@ class EventFile:
         self._logger.addHandler(self._sends)
         self._listener = logging.handlers.QueueListener(self._sends.queue, handler)
         self._listener.start()
+        self._logger.log(OPEN, '')
 
     def _failed(self, _: logging.LogRecord) -> None:
         if not self._has_ended:
@@ -51,24 +56,51 @@ class EventFile:
         stops.join(seconds)
 
 
-class CallFile(logging.handlers.RotatingFileHandler):
+class LineFile(logging.handlers.RotatingFileHandler):
+    """A file that is appended to, and rotated if `most` octets are given. A new one has the mode 640."""
+
+    def __init__(self, path: str, most: int = 0) -> None:
+        super().__init__(path, maxBytes=most, backupCount=KEPT, delay=True)
+
+    def _open(self) -> Any:
+        return open(open_to_append(self.baseFilename), 'a', encoding='utf-8')
+
+    def emit(self, record: logging.LogRecord) -> None:
+        if record.levelno != OPEN:
+            return super().emit(record)
+        try:
+            self.stream = self._open()
+        except OSError:
+            self.handleError(record)
+
+
+class CallFile(LineFile):
     """The lines of calls, below a head; ten files of 10 MiB are kept."""
 
     def __init__(self, path: str) -> None:
-        super().__init__(path, maxBytes=MOST_OCTETS, backupCount=KEPT, delay=True)
+        super().__init__(path, MOST_OCTETS)
 
     def _open(self) -> Any:
         stream = super()._open()
-        if stream.seekable() and stream.tell() == 0:
+        if os.fstat(stream.fileno()).st_size == 0:
             stream.write(','.join(FIELDS) + '\n')
+            stream.flush()
         return stream
 
 
+class StreamLines(logging.StreamHandler[TextIO]):
+    """A stream, which is open."""
+
+    def emit(self, record: logging.LogRecord) -> None:
+        if record.levelno != OPEN:
+            super().emit(record)
+
+
 def lines_to(file: TextIO | str) -> logging.Handler:
-    """A handler of lines for a stream, or for a file that is appended to."""
+    """A handler of lines for a stream, or for a file."""
     if isinstance(file, str):
-        return logging.FileHandler(file, delay=True)
-    return logging.StreamHandler(file)
+        return LineFile(file)
+    return StreamLines(file)
 
 
 def json_line(event: Event) -> str:

@@ -15,9 +15,11 @@ from typing import Callable
 from ..explain import config_words, gateway_words
 from ..trunks import Stream
 from .checkpoints import Checkpoints, NoRoom, point
+from .devices import LineOptions
 from .journal import NOTICE
 from .log import Checkpoint, in_memory
 from .program import TrunkProgram
+from .reader import LogReader
 from .recovery import Handover, Notifier
 from .trunk import TrunkFiles, either
 from .version import ProgramVersion, VersionHistory
@@ -48,6 +50,7 @@ class TrunkWants:
     both: list[str] = field(default_factory=list)
     reopens: bool = False
     totals: bool = False
+    line: LineOptions | None = None     # of a trunk that is no plain device
 
 
 class DeathCount:
@@ -76,12 +79,14 @@ class TrunkKeeper:
         self.program: TrunkProgram | None = None
         self.state, self.why, self.lost = Checkpoint(), 'begins', ''      # of the next program
         self.number, self.status = 0, None      # type: int, int | None
-        self.was_up = False
+        self.was_up, self.is_whole = False, True        # (whether all that was taken up to the state was sent)
+        self.reader: LogReader | None = None
         self.ending, self.wanted = '', ''       # why no other program is to follow, or why one is
         self._ends, self._wake = asyncio.Event(), asyncio.Event()
         self._handover, self._notifier = handover, notifier
         self._silent, self._due, self._deaths = time.monotonic(), 0.0, DeathCount()
         self._finishing = set[asyncio.Task[None]]()
+        trunk.ask = self.ask
 
     # ---- from the beginning to the end ----
 
@@ -94,6 +99,7 @@ class TrunkKeeper:
             except Exception as fault:      # pylint: disable=broad-exception-caught
                 logger.error('the keeper goes on: %s', placed(fault), extra={'kind': 'fault'})
                 await asyncio.sleep(AGAIN)
+        await self.trunk.finish(self.state.counted['octets'])
         if self._finishing:
             await asyncio.wait(self._finishing, timeout=GRACE)
         return self.status
@@ -106,7 +112,7 @@ class TrunkKeeper:
         if not self.program and self.ending:
             self._finish(self.ending, 0)
             return None
-        program = self.program or self._start()
+        program = self.program or await self._start()
         if not program.is_up and not await program.comes_up(START) and not program.ended_well():
             await self._never_up(program)
             return None
@@ -114,13 +120,16 @@ class TrunkKeeper:
             self._follow(program)
         return program
 
-    def _start(self) -> TrunkProgram:
+    async def _start(self) -> TrunkProgram:
         """Starts a program from the state of now, and remembers it before anything else happens."""
+        await self.trunk.join(self.state.counted['octets'], self.state.state < 0, self.is_whole)
         self.number += 1
         self.program = program = TrunkProgram.started(
             self.number, self.versions.now, self.state, f'{self.wants.control}.{self.number}',
             self.checkpoints.new_path(False), self.trunk.both,
             ['--senders', self.versions.now.senders, *self.wants.words, *self.wants.both])
+        if self.reader:
+            self.reader.began(program, self.lost == LOST)
         self.note()
         return program
 
@@ -132,12 +141,12 @@ class TrunkKeeper:
         if self.wants.state and not self.was_up and os.path.exists(self.wants.state):
             os.unlink(self.wants.state)
         after = f' goes on after {(now - self._silent) * 1000:.0f} ms' if self.was_up else ' carries the trunk'
-        behind = f' behind octet {octets}' if (octets := program.begun.counted['octets']) else ''
-        its = f'; program {pid} goes on' if program.is_adopted else f': program {pid}{after}{behind}{self.lost}'
-        logger.log(logging.WARNING if self.lost else NOTICE, '%s%s; shadow %d', self.why, its, shadow)
+        logger.log(logging.WARNING if self.lost else NOTICE, '%s%s; shadow %d', self.why,
+                   begun_words(program, after, self.lost), shadow)
         pass_on(program)
         self.was_up, self.lost = True, ''
-        self.versions.is_up(now)
+        if program.version is self.versions.now:
+            self.versions.is_up(now)
         self.note()
         self._notifier.tell('READY=1', f'STATUS=program {pid}, shadow {shadow}')
 
@@ -165,7 +174,8 @@ class TrunkKeeper:
         os.makedirs(self.wants.folder, 0o700, exist_ok=True)
         if not os.path.lexists(program.control) and now >= self._due:
             # (another program has one, once a minute at most)
-            self.wanted, self._due = self.wanted or 'the control socket is gone', now + APART
+            self._due = now + APART
+            self.ask('the control socket is gone')
         self.note()
 
     # ---- one after another ----
@@ -184,14 +194,17 @@ class TrunkKeeper:
         self.state = state or Checkpoint(counted=program.checkpoint.counted)
         pass_on(program)
         self.lost = ANEW if not state else '' if is_well else LOST
-        self._silent, self.wanted = silent, ''
+        self.is_whole = is_well
+        self._silent, self.wanted, failure = silent, '', self.trunk.failure()
         if self.ending or is_over and not self.wants.reopens:
-            return self._finish(self.ending or trunk_words(program, words), 0 if self.ending or is_well else 1)
+            is_good = bool(self.ending or is_well and not failure)
+            return self._finish(self.ending or failure or trunk_words(program, words), int(not is_good))
         if is_over:
-            self.why = trunk_words(program, words)
+            self.why = failure or trunk_words(program, words)
             logger.warning('%s, behind octet %d; it is opened again', self.why, self.state.counted['octets'])
-            self.trunk.close()
+            await self.trunk.finish(self.state.counted['octets'])
             self.trunk.fault = self.why
+            self.note()             # (the next one has the same names)
         else:
             self.why = why if why and is_well else f'the program {words}'
         self._retire(program)
@@ -207,11 +220,10 @@ class TrunkKeeper:
             logger.error('%s: no room for a state, the program goes on', why)
             self.wanted = ''
             if why == 'reload':
-                self.versions.go_back().close()
+                self.versions.go_back('no room for a state').close()
             return False
         program.ask_end()
-        if not await program.process.ends_within(GRACE):
-            await program.process.kill()
+        await program.process.end_within(GRACE)
         return True
 
     async def _died(self) -> None:
@@ -229,11 +241,9 @@ class TrunkKeeper:
         """A program does not come up: it has ended, or hangs."""
         hangs = not program.process.over.is_set()
         await program.process.kill()
-        words = f'does not begin within {START:g} s' if hangs else program.last_words()
+        words, self.is_whole = f'does not begin within {START:g} s' if hangs else program.last_words(), False
         if self.ending or not (self.was_up or self.state.state >= 0):
-            for line in words.removeprefix('says: ').split('; '):
-                if told := gateway_words(line, self.wants.config):
-                    logger.error('%s', told)
+            explain(words, self.wants.config)
             return self._finish(self.ending or f'the program {words}', 0 if self.ending else 1)
         self._retire(program)
         if self.versions.before:
@@ -248,13 +258,7 @@ class TrunkKeeper:
     def _retire(self, program: TrunkProgram) -> None:
         """Another one follows. The follower still reads the rest of the log, for those whom it tells."""
         self.program = None
-
-        async def finish() -> None:
-            follower = program.follower
-            if follower and (found := await follower.finish()) and found.state != self.state.state:
-                os.close(found.state)
-            program.close(self.state.state)
-        task = asyncio.create_task(finish())
+        task = asyncio.create_task(close_behind(program, lambda: self.state.state))
         self._finishing.add(task)
         task.add_done_callback(self._finishing.discard)
 
@@ -264,12 +268,7 @@ class TrunkKeeper:
         logger.log(logging.ERROR if status else logging.INFO, 'ends: %s, behind octet %d', why, counted['octets'])
         if self.wants.totals:
             logger.info('totals: %s', ', '.join(f'{word} {count}' for word, count in counted.items()))
-        if self.wants.state and self.state.state >= 0:
-            try:
-                store(self.state.state, self.wants.state)
-            except OSError as fault:
-                logger.error('the state is not saved: %s', fault)
-                status = 1
+        status = status if is_stored(self.state.state, self.wants.state) else 1
         if self.program:
             self._retire(self.program)
         self._notifier.tell('STOPPING=1')
@@ -286,9 +285,13 @@ class TrunkKeeper:
 
     def _go_back(self, words: str) -> None:
         """To the version before."""
-        self.versions.go_back().close()
-        refused(words, self.wants.config)
+        self.versions.go_back(refused(words, self.wants.config)).close()
         self._notifier.tell('READY=1')
+
+    def ask(self, why: str) -> None:
+        """Another program is to follow, for this reason."""
+        self.wanted = self.wanted or why
+        self._wake.set()
 
     def hurry(self) -> None:
         """The follower is given all that the log has, at once."""
@@ -303,25 +306,40 @@ class TrunkKeeper:
 
     def files(self) -> dict[str, int]:
         """The descriptors that the next service has to have."""
-        return self.trunk.named() | (self.program.files() if self.program else {})
+        its = (self.reader.files() if self.reader else {}), (self.program.files() if self.program else {})
+        return self.trunk.named() | its[0] | its[1]
 
     def note(self) -> None:
         """Notes what the next service has to know if this one ends. What lies behind the checkpoint that is noted is
         given back."""
         program = self.program
-        note = {'number': self.number, 'up': self.was_up, 'program': program and program.note()}
+        note = {'number': self.number, 'up': self.was_up, 'program': program and program.note(),
+                'trunk': self.trunk.note(), 'read': self.reader and self.reader.note()}
         if self._handover.put(note, self.files()) and program:
-            program.log.free(program.checkpoint.place)
-
-    def take_up(self, number: int, why: str) -> None:
-        """Goes on where the service before this one has left."""
-        self.number, self.was_up, self.why = number, True, why
+            place = program.checkpoint.place
+            program.log.free(min(place, self.reader.needed(program)) if self.reader else place)
 
 
-def refused(words: str, config: str) -> None:
-    """Tells why a reload is refused."""
+def begun_words(program: TrunkProgram, after: str, lost: str) -> str:
+    """How a program has begun."""
+    behind = f' behind octet {octets}' if (octets := program.begun.counted['octets']) else ''
+    pid = program.process.pid
+    return f'; program {pid} goes on' if program.is_adopted else f': program {pid}{after}{behind}{lost}'
+
+
+def refused(words: str, config: str) -> str:
+    """Tells why a reload is refused, and returns that."""
     why = config_words(config) if words.startswith('config ') else None
-    logger.error('reload: refused, the trunk goes on as it was: %s', f'{words}: {why}' if why else words)
+    words = f'{words}: {why}' if why else words
+    logger.error('reload: refused, the trunk goes on as it was: %s', words)
+    return words
+
+
+def explain(words: str, config: str) -> None:
+    """Tells what the last words of a program mean that did not begin."""
+    for line in words.removeprefix('says: ').split('; '):
+        if told := gateway_words(line, config):
+            logger.error('%s', told)
 
 
 def pass_on(program: TrunkProgram) -> None:
@@ -340,14 +358,29 @@ def trunk_words(program: TrunkProgram, words: str) -> str:
     return 'the trunk has ended' if program.ended_well() else f'the trunk has ended: the program {words}'
 
 
-def store(state: int, path: str) -> None:
-    """Puts a state into the place of a file, whole and up to the disk."""
+async def close_behind(program: TrunkProgram, state: Callable[[], int]) -> None:
+    """Gives back all that a program has but for the state of then, once its follower has told the rest of the log."""
+    follower = program.follower
+    if follower and (found := await follower.finish()) and found.state != state():
+        os.close(found.state)
+    program.close(state())
+
+
+def is_stored(state: int, path: str | None) -> bool:
+    """Puts a state into the place of a file, whole and up to the disk, if there is one and a path is asked for."""
+    if not path or state < 0:
+        return True
     octets = os.pread(state, os.fstat(state).st_size, 0)
-    with open(os.open(f'{path}.new', os.O_WRONLY | os.O_CREAT | os.O_TRUNC, 0o640), 'wb') as file:
-        file.write(octets)
-        file.flush()
-        os.fsync(file.fileno())
-    os.replace(f'{path}.new', path)
+    try:
+        with open(os.open(f'{path}.new', os.O_WRONLY | os.O_CREAT | os.O_TRUNC, 0o640), 'wb') as file:
+            file.write(octets)
+            file.flush()
+            os.fsync(file.fileno())
+        os.replace(f'{path}.new', path)
+        return True
+    except OSError as fault:
+        logger.error('the state is not saved: %s', fault)
+        return False
 
 
 def loaded(path: str | None) -> Checkpoint:

@@ -14,13 +14,19 @@ from typing import Any, Callable
 from ..keep import put_file
 from ..lines import Line
 from ..metrics import exposition, table
+from ..pipes import put_behind
 from ..sockets import SocketTables, with_sockets
 
 EVERY = 0.25                        # seconds between two statuses
 SECONDS, MOST_VISITORS = 10.0, 64   # for one request, and who may ask at once
 FRESH, DRAWN = 5.0, 60.0            # seconds in which nobody gets another picture, and for one to be drawn
+NICE = 15                           # of the process that draws
 METRICS_EVERY = 5.0
+PACKAGE = os.path.dirname(os.path.dirname(os.path.dirname(os.path.abspath(__file__))))
+WAITED = 5.0                        # and for which somebody waits for it
 WHOLE = b'</html>\n'
+SOON = (b'<!DOCTYPE html><html><head><title>e1gw</title><meta http-equiv="refresh" content="10"></head><body>The '
+        b'picture is being drawn; this page loads again by itself. <a href="/table">The table</a></body></html>\n')
 HEAD = ('HTTP/1.0 {status}\r\nContent-Type: {kind}; charset=utf-8\r\nContent-Length: {length}\r\n'
         'Cache-Control: no-store\r\nConnection: close\r\n\r\n')
 
@@ -79,9 +85,8 @@ class WebServer:
     command that draws the last seconds, if that is wanted."""
 
     def __init__(self, pages: TrunkPages, picture: list[str] | None = None) -> None:
-        self._pages, self._picture, self._drawn, self._until = pages, picture, b'', 0.0
+        self._pages, self._picture = pages, DrawnPage(picture) if picture else None
         self._visitors: dict[asyncio.Task[None], None] = {}
-        self._draws = asyncio.Lock()
 
     async def came(self, reader: asyncio.StreamReader, writer: asyncio.StreamWriter) -> None:
         task = asyncio.current_task()
@@ -104,7 +109,7 @@ class WebServer:
         kind, body = 'text/plain', b''
         if method not in (b'GET', b'HEAD'):
             status, body = '405 Method Not Allowed', b'there are GET and HEAD\n'
-        elif path == '/' and self._picture and (drawn := await self._draw(self._picture)):
+        elif path == '/' and self._picture and (drawn := await self._picture.fresh()):
             kind, body = 'text/html', drawn
         elif path in ('/', '/table'):
             body = now.table.encode()
@@ -116,21 +121,41 @@ class WebServer:
             status, body = '404 Not Found', b'there are /, /table, /metrics and /status\n'
         return HEAD.format(status=status, kind=kind, length=len(body)).encode() + body * (method != b'HEAD')
 
-    async def _draw(self, words: list[str]) -> bytes:
-        """The picture of the last seconds, drawn by a process behind the calls; nothing if it cannot be drawn."""
-        async with self._draws:
-            if time.monotonic() >= self._until:
-                process = await asyncio.create_subprocess_exec(
-                    'nice', '-n', '15', sys.executable, '-B', '-m', 'e1gw', 'picture', *words,
-                    stdin=asyncio.subprocess.DEVNULL, stdout=asyncio.subprocess.PIPE, stderr=asyncio.subprocess.DEVNULL,
-                    env=os.environ | {'PYTHONPATH': os.pathsep.join(sys.path[:1])})
-                try:
-                    async with asyncio.timeout(DRAWN):
-                        self._drawn = (await process.communicate())[0]
-                except TimeoutError:
-                    process.kill()
-                self._until = time.monotonic() + FRESH
-            return self._drawn if self._drawn.endswith(WHOLE) else b''
+
+class DrawnPage:
+    """The picture of the last seconds, drawn by a process behind the calls. `words` are those of its command."""
+
+    def __init__(self, words: list[str]) -> None:
+        self._words, self._drawn, self._until = words, b'', 0.0
+        self._drawing: asyncio.Task[None] | None = None
+
+    async def fresh(self) -> bytes:
+        """The page; nothing if it cannot be drawn. Who has waited for some seconds gets the last one, or is told that
+        it is being drawn."""
+        if not self._drawing and time.monotonic() >= self._until:
+            self._drawing = asyncio.create_task(self._draw())
+        if self._drawing:
+            await asyncio.wait([self._drawing], timeout=WAITED)
+        if self._drawn.endswith(WHOLE):
+            return self._drawn
+        return SOON if self._drawing else b''
+
+    async def _draw(self) -> None:
+        try:
+            process = await asyncio.create_subprocess_exec(
+                sys.executable, '-BP', '-m', 'e1gw', 'picture', *self._words, stdin=asyncio.subprocess.DEVNULL,
+                stdout=asyncio.subprocess.PIPE, stderr=asyncio.subprocess.DEVNULL,
+                env=os.environ | {'PYTHONPATH': PACKAGE})
+            put_behind(process.pid, NICE)
+            try:
+                async with asyncio.timeout(DRAWN):
+                    self._drawn = (await process.communicate())[0]
+            except TimeoutError:
+                process.kill()
+        except OSError:
+            self._drawn = b''
+        finally:
+            self._drawing, self._until = None, time.monotonic() + FRESH
 
 
 async def keep_metrics(pages: TrunkPages, path: str, ended: Callable[[str, str], None]) -> None:

@@ -6,9 +6,11 @@ import os
 import select
 import signal
 import subprocess
+import time
 from contextlib import suppress
 from typing import Iterable, Sequence
 
+LOOK = 0.1                  # seconds between two looks whether a signal has stopped it
 UNKNOWN = 255               # the status of a process that ended while nobody waited for it
 
 
@@ -64,9 +66,21 @@ class Child:
                 await self.over.wait()
         return self.over.is_set()
 
+    async def end_within(self, seconds: float) -> None:
+        """Waits for its end, so long at most, and kills it then, or if a signal has stopped it."""
+        until = time.monotonic() + seconds
+        while time.monotonic() < until and not self.is_stopped():
+            if await self.ends_within(LOOK):
+                return
+        await self.kill()
+
     def is_stopped(self) -> bool:
         """Whether a signal has stopped it."""
         return not self.over.is_set() and fields_of(self.pid)[:1] == ['T']
+
+    def rests(self) -> bool:
+        """Whether it waits for something."""
+        return fields_of(self.pid)[:1] == ['S']
 
     def ticks(self) -> int:
         """How much of a processor it has had."""
@@ -102,19 +116,20 @@ def start(program: str, executable: str, words: Sequence[str], files: tuple[int,
 
 
 async def output_of(program: str, executable: str, words: Sequence[str], passed: Iterable[int],
-                    seconds: float) -> tuple[int | None, str]:
-    """Runs a process to its end: its status, None if it takes too long, and what it says on standard error."""
-    said = os.memfd_create('e1gw-words')
+                    seconds: float) -> tuple[int | None, str, str]:
+    """Runs a process to its end: its status, None if it takes too long, and what it says on standard error and on
+    standard output."""
+    said, listed = os.memfd_create('e1gw-words'), os.memfd_create('e1gw-list')
     nowhere = os.open(os.devnull, os.O_RDWR)
     try:
-        process = start(program, executable, words, (nowhere, nowhere, said), passed)
+        process = start(program, executable, words, (nowhere, listed, said), passed)
         if not await process.ends_within(seconds):
             await process.kill()
-            return None, ''
-        return process.status, text_of(said).strip()
+            return None, '', ''
+        return process.status, text_of(said).strip(), text_of(listed)
     finally:
-        os.close(nowhere)
-        os.close(said)
+        for file in (nowhere, said, listed):
+            os.close(file)
 
 
 def text_of(file: int) -> str:

@@ -3,6 +3,8 @@
 The program carries the octets by itself, and logs all that it takes in memory. If it dies another one goes on from the
 state of that log. This process may be killed: the program goes on, and the next start takes it up.
 
+`e1gw-trunk reload TRUNK` takes the program and the configuration of now, and ends with 1 where they will not do.
+
 Signals: SIGHUP reload; SIGUSR2 another process in place of this one; SIGTERM, SIGINT end.
 Statuses: 0 ended as asked, or with the trunk's input; 1 the trunk or the program failed; 2 the command line or the
 configuration.
@@ -15,23 +17,29 @@ import logging
 import os
 import shutil
 import signal
+import sys
 import zlib
-from typing import NoReturn
+from typing import Any, NoReturn
 
 from ..explain import config_words
-from ..faults import Parser, options_words, words_of_fault
+from ..faults import Parser, number, options_words, words_of_fault
+from ..keep import seconds_of
 from ..lines import wait_words
 from ..options import add_calls, add_control, add_options, fields_of
-from ..programs import add_program, program_of, version_of
-from ..trunks import add_device, device_of
+from ..programs import add_program, add_session, program_of, version_of
+from ..writers import hold_descriptors
 from .commands import CannotListen
+from .devices import add_line, line_of, line_words, opening_of
 from .journal import ServiceJournal
 from .keeper import GRACE, TrunkKeeper, TrunkWants
-from .program import MOST_PATH
+from .log import Checkpoint
+from .program import MOST_PATH, TrunkProgram
+from .reader import LogReader
+from .recordings import RecordingWants
 from .recovery import Handover, Notifier, given_files, note_of
-from .reload import ReloadRequests
+from .reload import ReloadRequests, ask_reload
 from .takeover import CannotBegin, first_keeper, next_keeper, open_first
-from .version import VersionRefused
+from .version import NotYet, VersionRefused
 from .watch import TrunkWatch, WatchWants
 
 NAME = 'e1gw-trunk'
@@ -47,10 +55,16 @@ def parser() -> argparse.ArgumentParser:
     words = Parser(NAME, description=__doc__, formatter_class=argparse.RawDescriptionHelpFormatter)
     add_options(words)
     add_program(words)
-    add_device(words.add_argument_group('the trunk'))
+    add_line(words)
     told = words.add_argument_group('control and what is told')
     add_control(told)
-    add_calls(told)
+    told.add_argument('--picture', type=number(10, 3600, float), metavar='SECONDS',
+                      help='/ is a picture of the last seconds, 10 to 3600, of what --keep has; wants both')
+    kept = words.add_argument_group('sessions and calls')
+    add_session(kept)
+    kept.add_argument('--gap', type=number(20, 10_000), default=100, metavar='MS',
+                      help='lost octets of so many milliseconds restart the playout of open calls [default: 100]')
+    add_calls(kept)
     words.add_argument('--folder', metavar='DIR', help='where its sockets are, in memory [default: '
                        'RUNTIME_DIRECTORY, or /dev/shm]')
     words.add_argument('--program-control', metavar='SOCKET', help='where the program takes records, e1gw(1)')
@@ -65,7 +79,7 @@ def name_of(asked: argparse.Namespace) -> str:
 def opens_of(asked: argparse.Namespace) -> list[str | None]:
     """Which trunk it is: the same for a service that is started again."""
     paths = asked.input, asked.out, asked.unix, asked.program_control
-    return [*(path and os.path.abspath(path) for path in paths), asked.tcp]
+    return [*(path and os.path.abspath(path) for path in paths), asked.tcp, *line_words(asked)]
 
 
 def folder_of(asked: argparse.Namespace) -> str:
@@ -74,12 +88,27 @@ def folder_of(asked: argparse.Namespace) -> str:
     return os.path.join(within, f'{name_of(asked)}-{os.getuid()}-{zlib.crc32(repr(opens_of(asked)).encode()):08x}')
 
 
+def recording_of(asked: argparse.Namespace) -> RecordingWants | None:
+    """What is kept of the trunk. ValueError if that cannot be."""
+    keep = seconds_of(asked.keep) if asked.keep else None
+    if asked.keep and not asked.session:
+        raise ValueError('--keep wants --session')
+    if asked.picture and not (asked.http and asked.keep):
+        raise ValueError('--picture wants --http, and --session with --keep')
+    return RecordingWants(os.path.abspath(asked.session), keep, name_of(asked), os.path.abspath(asked.config),
+                          asked.seizure_wait) if asked.session else None
+
+
+def picture_words(asked: argparse.Namespace, program: str) -> list[str]:
+    """The command that draws the last seconds; nothing if that is not asked."""
+    return ['--last', f'{asked.picture}s', '--title', name_of(asked), '--refresh', '10', '--program', program,
+            os.path.abspath(asked.session)] if asked.picture else []
+
+
 def wants_of(asked: argparse.Namespace) -> TrunkWants:
     """What is wanted, of a command line. ValueError if it is not one trunk, or a path is too long."""
-    opens = device_of(asked)
-    assert opens
-    if asked.top:
-        raise ValueError('--top: e1gw-ctl shows the table')
+    opens = opening_of(asked)
+    recording_of(asked)
     folder = folder_of(asked)
     control = asked.program_control or os.path.join(folder, 'program')
     for path in filter(None, (control, asked.tell)):
@@ -88,9 +117,10 @@ def wants_of(asked: argparse.Namespace) -> TrunkWants:
     program = shutil.which(program_of(asked.program)) or program_of(asked.program)
     both = wait_words(asked.seizure_wait)
     tell = asked.tell or (os.path.join(folder, 'tell') if any(fields_of(asked)[name] for name in WATCHED) else None)
-    return TrunkWants(os.path.abspath(program), asked.config, asked.senders, opens, folder, control, tell,
-                      asked.state, ['--repeat', str(asked.repeat)] * (asked.repeat > 0), both, asked.reopen,
-                      asked.totals)
+    program = os.path.abspath(program)
+    return TrunkWants(program, asked.config, asked.senders, opens, folder, control, tell, asked.state,
+                      ['--repeat', str(asked.repeat)] * (asked.repeat > 0), both, asked.reopen, asked.totals,
+                      line_of(asked, program))
 
 
 async def sign_of_life(notifier: Notifier) -> None:
@@ -100,7 +130,8 @@ async def sign_of_life(notifier: Notifier) -> None:
         await asyncio.sleep(SIGN)
 
 
-async def opened_watch(asked: argparse.Namespace, keeper: TrunkKeeper, goes_on: bool) -> TrunkWatch | None:
+async def opened_watch(asked: argparse.Namespace, keeper: TrunkKeeper, requests: ReloadRequests,
+                       goes_on: bool) -> TrunkWatch | None:
     """Watches the trunk, if an operator wants something of it. One that cannot listen ends no trunk that `goes_on`."""
     fields, wants = fields_of(asked), keeper.wants
     if not wants.tell or not any(fields[name] for name in WATCHED):
@@ -109,11 +140,18 @@ async def opened_watch(asked: argparse.Namespace, keeper: TrunkKeeper, goes_on: 
     def ends() -> str:
         asyncio.get_running_loop().call_later(0.01, keeper.end, 'quit')
         return 'quit: done'
+
+    def config_path() -> str:
+        return keeper.versions.now.config_path()
     version = await asyncio.to_thread(version_of, wants.program)
-    fields |= {'config': lambda: keeper.versions.now.config_path(), 'tell': wants.tell, 'program': wants.control}
-    del fields['top']
+    fields |= {'config': config_path, 'tell': wants.tell, 'program': wants.control,
+               'picture': picture_words(asked, wants.program)}
     watch = TrunkWatch(WatchWants(**fields), ends, keeper.hurry,
                        lambda: keeper.trunk.facts() | {'version': version})
+    watch.reloads, keeper.trunk.tell = requests.reload, watch.tell
+    watch.status.session = lambda path: session_of(keeper.program, path)
+    if keeper.reader:
+        keeper.reader.found, watch.flow = watch.flowed, keeper.reader.clock.status
     try:
         await watch.open()
     except (OSError, CannotListen, KeyError) as fault:
@@ -124,17 +162,47 @@ async def opened_watch(asked: argparse.Namespace, keeper: TrunkKeeper, goes_on: 
     return watch
 
 
+def state_name(checkpoint: Checkpoint) -> str:
+    """What no other state has; nothing for a gateway that is new."""
+    its = checkpoint.state
+    return f'{zlib.crc32(os.pread(its, os.fstat(its).st_size, 0)):08x}' if its >= 0 else ''
+
+
+def session_of(program: TrunkProgram | None, path: str) -> str:
+    """The state with which the follower that tells at this path has begun; nothing if it is another one."""
+    if not program or not program.follower or program.follower.tell != path:
+        return ''
+    return state_name(program.checkpoint) or f'{program.process.pid}.{program.process.started}'
+
+
+def reader_of(asked: argparse.Namespace, keeper: TrunkKeeper) -> LogReader:
+    """Reads what the programs of a keeper log."""
+    async def checkpoint() -> TrunkProgram | None:
+        program = keeper.program
+        if not program or not program.follower or program.process.over.is_set():
+            return None
+        before = program.checkpoint
+        await keeper.checkpoints.take(program)
+        return program if program is keeper.program and program.checkpoint is not before else None
+
+    def note() -> None:
+        if keeper.status is None:       # (of a trunk that has ended nothing is noted any more)
+            keeper.note()
+    return LogReader(recording_of(asked), asked.gap / 1000, note, checkpoint)
+
+
 def catch_signals(keeper: TrunkKeeper, requests: ReloadRequests) -> None:
     loop = asyncio.get_running_loop()
-    tasks = set[asyncio.Task[None]]()
+    tasks = set[asyncio.Task[Any]]()
 
-    def runs(task: asyncio.Task[None]) -> None:
+    def runs(task: asyncio.Task[Any]) -> None:
         tasks.add(task)
         task.add_done_callback(tasks.discard)
     loop.add_signal_handler(signal.SIGHUP, lambda: runs(loop.create_task(requests.reload())))
     loop.add_signal_handler(signal.SIGUSR2, lambda: runs(loop.create_task(requests.replace())))
-    for number in (signal.SIGTERM, signal.SIGINT):
-        loop.add_signal_handler(number, keeper.end, f'signal {number}')
+    loop.add_signal_handler(signal.SIGUSR1, lambda: None)
+    for each in (signal.SIGTERM, signal.SIGINT):
+        loop.add_signal_handler(each, keeper.end, f'signal {each}')
 
 
 async def serve(asked: argparse.Namespace, wants: TrunkWants) -> int:
@@ -150,15 +218,23 @@ async def serve(asked: argparse.Namespace, wants: TrunkWants) -> int:
             os.close(file)
             notifier.tell('FDSTOREREMOVE=1', f'FDNAME={name}')
         keeper = await first_keeper(wants, handover, notifier)
-    catch_signals(keeper, ReloadRequests(keeper, handover, notifier))
-    beside = [asyncio.create_task(sign_of_life(notifier))]
-    if watch := await opened_watch(asked, keeper, note is not None):
+    requests = ReloadRequests(keeper, handover, notifier)
+    catch_signals(keeper, requests)
+    keeper.reader = reader_of(asked, keeper)
+    keeper.reader.take_up(note and note.get('read'), files)
+    if keeper.program:
+        keeper.reader.began(keeper.program, False)
+    beside = [asyncio.create_task(sign_of_life(notifier)), asyncio.create_task(keeper.reader.run())]
+    if watch := await opened_watch(asked, keeper, requests, note is not None):
         beside.append(asyncio.create_task(watch.run()))
     await open_first(keeper)
     status = await keeper.serve()
+    if watch and keeper.state.state >= 0:
+        watch.status.saved(state_name(keeper.state))
     for task in beside:
         task.cancel()
     await asyncio.wait(beside, timeout=GRACE)
+    await keeper.reader.finish()
     for path in filter(None, (wants.control, wants.tell)):
         if os.path.islink(path):
             os.unlink(path)
@@ -166,8 +242,10 @@ async def serve(asked: argparse.Namespace, wants: TrunkWants) -> int:
     return status
 
 
-def status_of(words: list[str] | None, journal: ServiceJournal) -> int:
+def status_of(words: list[str], journal: ServiceJournal) -> int:
     """Serves by a command line; what is wrong is told in one line."""
+    if words[:1] == ['reload']:
+        return ask_reload(NAME, words[1:])
     asked = parser().parse_args(words)
     try:
         wants = wants_of(asked)
@@ -181,6 +259,7 @@ def status_of(words: list[str] | None, journal: ServiceJournal) -> int:
         logger.error('%s', fault)
         if fault.is_config and (why := config_words(asked.config)):
             logger.error('%s', why)
+        return 1 if isinstance(fault, NotYet) else 2
     except CannotBegin as fault:
         logger.error('%s', fault)
         return fault.status
@@ -190,11 +269,9 @@ def status_of(words: list[str] | None, journal: ServiceJournal) -> int:
 
 
 def main(words: list[str] | None = None) -> NoReturn:
-    while (file := os.open(os.devnull, os.O_RDWR)) <= 2:
-        pass
-    os.close(file)
+    hold_descriptors()
     journal = ServiceJournal(NAME)
-    status = status_of(words, journal)
+    status = status_of(sys.argv[1:] if words is None else words, journal)
     journal.close()
     os._exit(status)
 

@@ -38,6 +38,7 @@ class TrunkStatus:
         self.lost: Callable[[], None] = lambda: None
         self.fault: Callable[[], str] = str             # why the trunk is not open, if that is known
         self.is_followed: Callable[[], bool] = lambda: False
+        self.session: Callable[[str], str] = lambda _: ''      # the state with which the follower at a path has begun
         self.start = time.monotonic()
         self.naming = Naming(note_of(path))
         self.changed: frozenset[int] = frozenset()      # circuits that were configured otherwise before
@@ -98,8 +99,10 @@ class TrunkStatus:
             await asyncio.sleep(AGAIN)
 
     def _take(self, octets: bytes) -> None:
+        place = self.lines.place
         self.lines.take(octets)
-        self._moved = time.monotonic()
+        if self.lines.place != place:       # (commands are told of a trunk that stands, too)
+            self._moved = time.monotonic()
         self.read()
 
     def take_now(self) -> None:
@@ -121,7 +124,8 @@ class TrunkStatus:
     def _came(self, line: socket.socket) -> None:
         peer = struct.unpack('iii', line.getsockopt(socket.SOL_SOCKET, socket.SO_PEERCRED, 12))[0]
         with suppress(OSError):
-            self._session = f'{peer}.{os.stat(self._path).st_mtime_ns}'
+            path = os.path.realpath(self._path)
+            self._session = self.session(path) or f'{peer}.{os.stat(path).st_mtime_ns}'
         with suppress(OSError, ValueError, KeyError, TypeError):
             before, self._tables = self._tables, tables_of(read_config(self._config()))
             self.changed = frozenset(n for n in CIRCUITS if before.get(n) != self._tables.get(n))
@@ -136,6 +140,11 @@ class TrunkStatus:
         self.stands('shadow', True)
         self.began()
 
+    def saved(self, session: str) -> None:
+        """The trunk has ended with this state: the next one that begins with it goes on counting."""
+        self.take_now()
+        self.naming.saved(session, self.lines.lines)
+
     # ---- octets ----
 
     async def look_at_flow(self) -> None:
@@ -145,6 +154,8 @@ class TrunkStatus:
             if not self._line:
                 continue
             comes = self.lines.live and time.monotonic() < self._moved + PULSE or await self._place_comes()
+            if comes is None:
+                continue
             if comes and self._stood:
                 self.tell({'event': 'flows', 'seconds': round(time.monotonic() - self._stood, 3)})
                 self._stood = 0.0
@@ -154,8 +165,9 @@ class TrunkStatus:
                 self._stalls += 1
                 self.tell({'event': 'stalled', 'seconds': QUIET})
 
-    async def _place_comes(self) -> bool:
-        """Waits for a new place of the trunk: who connects to the follower is told it at the next octets."""
+    async def _place_comes(self) -> bool | None:
+        """Waits for a new place of the trunk: who connects to the follower is told it at the next octets. None if the
+        follower has gone meanwhile."""
         until = time.monotonic() + QUIET
         while not self.lines.live and time.monotonic() < until:
             await asyncio.sleep(AGAIN)
@@ -167,7 +179,7 @@ class TrunkStatus:
             return False                # (it waits on: one connection, however long nothing comes)
         pulse, self._pulse = self._pulse, None
         if pulse.exception():
-            return False
+            return None
         self.lines.reach(pulse.result())
         self._moved = time.monotonic()
         return True

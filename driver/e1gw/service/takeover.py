@@ -1,6 +1,7 @@
 """How a service begins: with a trunk of its own, or where the service before this one has left."""
 from __future__ import annotations
 
+import glob
 import logging
 import os
 import stat
@@ -10,14 +11,15 @@ from typing import Any
 
 from ..faults import words_of_fault
 from ..programs import SENDERS
+from .chain import CarriedTrunk
 from .follower import totals_in
 from .journal import NOTICE
 from .keeper import ANEW, GRACE, TrunkKeeper, TrunkWants, loaded
 from .log import Checkpoint, take_file
-from .process import Child, text_of
+from .process import Child, start_of, text_of
 from .program import END, TrunkProgram, connected
 from .recovery import REPLACED, Handover, Notifier
-from .trunk import TrunkFiles
+from .slot_trunk import before_signal, trunk_of
 from .version import version_of_now
 
 logger = logging.getLogger(__name__)
@@ -38,10 +40,12 @@ async def first_keeper(wants: TrunkWants, handover: Handover, notifier: Notifier
         if path and is_taken(path):
             raise CannotBegin(f'{option} {path}: somebody listens there, or something else has this name', 2)
     logger.info('%s', SENDERS[version.senders])
-    keeper = TrunkKeeper(wants, version, TrunkFiles(wants.opens, {}), handover, notifier)
+    keeper = TrunkKeeper(wants, version, trunk_of(wants.opens, wants.line, {}, None), handover, notifier)
     keeper.state = loaded(wants.state)
     if keeper.state.state >= 0:
         keeper.why = 'begins with what was saved'
+        if isinstance(keeper.trunk, CarriedTrunk):
+            keeper.trunk.origin = await before_signal(version, keeper.state)
     return keeper
 
 
@@ -69,26 +73,45 @@ async def next_keeper(wants: TrunkWants, handover: Handover, notifier: Notifier,
                       files: dict[str, int]) -> TrunkKeeper:
     """The keeper that goes on where the one before it left: with the program that is there, if it has all its
     descriptors, else with the state of that program, which ends, on the trunk opened again."""
-    trunk, left = TrunkFiles(wants.opens, files), note['program']
+    trunk, left = trunk_of(wants.opens, wants.line, files, note.get('trunk')), note['program']
     how = 'replaced' if os.environ.pop(REPLACED, '') else 'killed'
     try:
         program = TrunkProgram.of_note(left, files) if left and trunk.is_open() else None
     except (KeyError, TypeError, ValueError):
         program = None
     number = int(note['number'])
+    if left and not program:
+        names = [name for log in (note.get('read') or {}).get('logs', ()) for name in log['files'].values()]
+        files |= memory_of(int(left['pid']), int(left['started']), [name for name in names if name not in files])
     if program:
         keeper = TrunkKeeper(wants, program.version, trunk, handover, notifier)
         if program.process.over.is_set():
             logger.log(NOTICE, 'the keeper was %s', how)
-        keeper.take_up(number, f'the keeper was {how}')
+        take_up(keeper, number, f'the keeper was {how}')
         keeper.program = program
         return keeper
     state = await state_left(left) if left else None
     version = await version_of_now(wants.program, wants.config, wants.senders, Checkpoint())
     keeper = TrunkKeeper(wants, version, trunk, handover, notifier)
-    keeper.take_up(number, f'the keeper was {how}')
+    take_up(keeper, number, f'the keeper was {how}')
     keeper.state, keeper.lost = state or keeper.state, '' if state else ANEW
     return keeper
+
+
+def take_up(keeper: TrunkKeeper, number: int, why: str) -> None:
+    """A keeper goes on where the service before this one has left."""
+    keeper.number, keeper.was_up, keeper.why = number, True, why
+
+
+def memory_of(pid: int, started: int, names: list[str]) -> dict[str, int]:
+    """The files in memory that have these names, as a process has them: of what it logs all can be kept still."""
+    found: dict[str, int] = {}
+    for path in glob.glob(f'/proc/{pid}/fd/*') if start_of(pid) == started else ():
+        with suppress(OSError):
+            ends = f'-{os.stat(path).st_ino}'
+            if os.readlink(path).startswith('/memfd:'):
+                found |= {name: os.open(path, os.O_RDONLY) for name in names if name.endswith(ends)}
+    return found
 
 
 async def state_left(note: dict[str, Any]) -> Checkpoint | None:

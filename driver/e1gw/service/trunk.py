@@ -10,7 +10,9 @@ import time
 from typing import Any, Callable
 
 from ..faults import words_of_fault
+from ..lines import Event
 from ..trunks import Stream
+from .events import tell_journal
 
 REOPEN, MOST_REOPEN = 0.25, 30.0        # seconds before a trunk is opened again
 NAMES = 'trunk-in', 'trunk-out'         # of the descriptors that are kept
@@ -24,6 +26,8 @@ class TrunkFiles:
     def __init__(self, opens: Callable[[], Stream], files: dict[str, int]) -> None:
         """`files` are descriptors that were kept. Of two that are one the first was kept."""
         self._opens = opens
+        self.tell: Callable[[Event], None] = tell_journal
+        self.ask: Callable[[str], None] = lambda why: None      # asks for another program
         self.since, self.fault = time.time(), ''         # when it was opened, and why it is not
         reads = files.get(NAMES[0], -1)
         self.both = reads, files.get(NAMES[1], reads)
@@ -54,10 +58,26 @@ class TrunkFiles:
                 await either(wait, ending)
                 wait = min(MOST_REOPEN, 2 * wait)
 
+    async def join(self, octets: int, is_new: bool, is_well: bool) -> None:
+        """Called before a program begins, behind so many octets of the trunk: with a new gateway, or with the state of
+        one that has ended well, or not."""
+
     def close(self) -> None:
         for file in {*self.both} - {-1}:
             os.close(file)
         self.both = -1, -1
+
+    async def finish(self, octets: int | None) -> None:
+        """Closes it, after so many octets, behind what was sent last."""
+        self.close()
+
+    def failure(self) -> str:
+        """Why it has ended, if that was a failure which no program has seen."""
+        return ''
+
+    def note(self) -> dict[str, Any] | None:
+        """What the next service has to know of it beside its descriptors."""
+        return None
 
     def facts(self) -> dict[str, Any]:
         """Since when it is open, and why it is not, as plain values."""

@@ -13,13 +13,14 @@ from dataclasses import dataclass, replace
 from math import inf
 from typing import Any
 
-from ..lines import tables_of
+from ..lines import IN_CALL, tables_of
 from .log import Checkpoint, in_memory
 from .process import output_of
 
 MOST_OCTETS = 65_536        # of a configuration
 CHECK = 10.0                # seconds for the program to check it
 LOOK_UP = 10.0              # seconds for all names to be looked up
+NEW = re.compile(r'circuit (\d+) begins as new')
 TRIED, MOST_DEATHS = 60.0, 2            # seconds in which a new version is tried, and deaths that it may not have then
 
 
@@ -29,6 +30,18 @@ class VersionRefused(Exception):
     def __init__(self, words: str, is_config: bool = False) -> None:
         super().__init__(words)
         self.is_config = is_config
+
+
+@dataclass(frozen=True)
+class CheckedVersion:
+    """What a version makes of a state: the circuits that begin as new, and those that are in a call."""
+
+    new: frozenset[int]
+    calls: frozenset[int]
+
+
+class NotYet(VersionRefused):
+    """Why a version will not do now, and may do later: a name server is away."""
 
 
 @dataclass(frozen=True)
@@ -57,16 +70,19 @@ class ProgramVersion:
         """What a process of it has to be passed."""
         return [self.file, self.config]
 
-    async def check(self, checkpoint: Checkpoint) -> None:
+    async def check(self, checkpoint: Checkpoint) -> CheckedVersion:
         """Has the program check the configuration, and whether it goes on from a state."""
         words = ['check', '--config', self.config_path(), *checkpoint.words()]
-        status, said = await output_of(self.program, self.executable(), words,
-                                       [*self.files(), *checkpoint.files()], CHECK)
+        status, said, listed = await output_of(self.program, self.executable(), words,
+                                               [*self.files(), *checkpoint.files()], CHECK)
         if status is None:
             raise VersionRefused(f'the program does not check the configuration within {CHECK:g} s')
         if status:
-            lines = [line for line in said.splitlines() if not line.endswith(' begins as new')]
+            lines = [line for line in said.splitlines() if not NEW.fullmatch(line)]
             raise VersionRefused('; '.join(lines) or f'status {status}', True)
+        rows = [line.split() for line in listed.splitlines()]
+        return CheckedVersion(frozenset(int(found[1]) for line in said.splitlines() if (found := NEW.fullmatch(line))),
+                              frozenset(int(row[0]) for row in rows if row[2:] and row[2] in IN_CALL))
 
     def close(self) -> None:
         os.close(self.file)
@@ -120,11 +136,11 @@ async def look_up(tables: dict[str, Any]) -> dict[str, str]:
         async with asyncio.timeout(LOOK_UP):
             for name, answer in zip(names, await asyncio.gather(*asked, return_exceptions=True)):
                 if isinstance(answer, BaseException):
-                    raise VersionRefused(f'{name}: {getattr(answer, "strerror", None) or answer}')
+                    raise NotYet(f'{name}: {getattr(answer, "strerror", None) or answer}')
                 first = min(answer, key=lambda each: each[0] is not socket.AF_INET)
                 found[name] = str(first[4][0])
     except TimeoutError:
-        raise VersionRefused(f'names are not looked up within {LOOK_UP:g} s: {", ".join(names)}') from None
+        raise NotYet(f'names are not looked up within {LOOK_UP:g} s: {", ".join(names)}') from None
     return found
 
 
@@ -151,17 +167,20 @@ class VersionHistory:
     def __init__(self, now: ProgramVersion) -> None:
         self.now, self.before = now, None       # type: ProgramVersion, ProgramVersion | None
         self._deaths, self._until = 0, inf
+        self.settled, self.refused = asyncio.Event(), ''    # whether the last one is up, or why it is not to be
 
     def renew(self, version: ProgramVersion) -> None:
         """This one is to follow."""
         if self.before:
             self.before.close()
         self.before, self.now = self.now, version
-        self._deaths, self._until = 0, inf
+        self._deaths, self._until, self.refused = 0, inf, ''
+        self.settled.clear()
 
     def is_up(self, now: float) -> None:
         """A program of the version of now carries the trunk."""
         self._until = min(self._until, now + TRIED)
+        self.settled.set()
 
     def look(self, now: float) -> None:
         """To be called now and then."""
@@ -174,8 +193,10 @@ class VersionHistory:
         self._deaths += 1
         return self.before is not None and self._deaths >= MOST_DEATHS
 
-    def go_back(self) -> ProgramVersion:
+    def go_back(self, why: str) -> ProgramVersion:
         """The one before is the one of now again. Returns the other one, which is to be closed."""
         assert self.before
+        self.refused = why
+        self.settled.set()
         given_up, self.now, self.before = self.now, self.before, None
         return given_up

@@ -15,6 +15,7 @@ from typing import Any, Awaitable, Callable
 
 from ..calls import CallLog
 from ..clearing import DisconnectPolicy, DisconnectWatch, OutageWatch
+from ..clock import ClockFinding
 from ..counts import DatagramCounts
 from ..events import words_of
 from ..faults import named, words_of_refusal
@@ -54,6 +55,10 @@ class WatchWants:
     picture: list[str] = field(default_factory=list)
 
 
+async def cannot_reload(_: bool) -> str:
+    return 'reload: there is nobody to do it'
+
+
 class TrunkWatch:
     """One trunk that is watched. `ends` is called when a client asks for its end; `hurry` so that the follower has all
     that the program has; `facts` says when the trunk was opened, and why it is not open."""
@@ -61,6 +66,8 @@ class TrunkWatch:
     def __init__(self, wants: WatchWants, ends: Callable[[], str], hurry: Callable[[], None] = lambda: None,
                  facts: Callable[[], dict[str, Any]] = dict) -> None:
         self.wants, self._ends, self._facts = wants, ends, facts
+        self.flow: Callable[[], dict[str, Any]] = dict      # gaps and the rate of the trunk, if they are measured
+        self.reloads: Callable[[bool], Awaitable[str]] = cannot_reload
         self._loop = asyncio.get_running_loop()
         self.ended: dict[str, str | None] = dict.fromkeys(BESIDE)
         self._restarts = Restarts(self.restart, self.tell)
@@ -161,6 +168,9 @@ class TrunkWatch:
         self._disconnects.left(client, time.monotonic())
         return True
 
+    async def reload(self, force: bool) -> str:
+        return await self.reloads(force)
+
     def quit(self) -> str:
         return self._ends()
 
@@ -197,6 +207,14 @@ class TrunkWatch:
         if self._out:
             self._out.put(words_of(event))
 
+    def flowed(self, finding: ClockFinding) -> None:
+        """What was found of the flow: octets that were lost or came too early, or another rate."""
+        if finding.what == 'rate':
+            return self.tell({'event': 'rate', 'ppm': round(finding.value, 1)})
+        seconds = round(finding.value, 3)
+        self.tell({'event': finding.what, 'seconds': seconds})
+        self._restarts.want(self._lines.open_circuits(), f'{finding.what} of {seconds} s')
+
     def _note(self, what: str, why: str) -> None:
         """From any thread: something beside the calls has ended."""
         self._loop.call_soon_threadsafe(self.end_beside, what, why)
@@ -217,6 +235,8 @@ class TrunkWatch:
             'stale': self._counts.stale(), 'ended': dict(self.ended), 'renewed': self._resyncs,
             'commands': [{'command': name, 'answer': answer, 'count': n}
                          for (name, answer), n in sorted(self._done.items())]}
+        status['clock'] = self.flow() | status['clock']
+        status |= facts.get('carried', {})
         for row in status['circuits']:
             row.update(self._counts.status(row['circuit']))
         return status

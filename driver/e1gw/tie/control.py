@@ -93,7 +93,7 @@ class ControlLink:
         self._tell('warning', about='the driver clears no calls if this program dies', answer=answer)
 
     def _begin(self, client: ControlClient, status: dict[str, Any], life: str) -> None:
-        """Takes the status. A watcher names its life, once it knows how the lines stand."""
+        """Takes the status, which names its life once it is known how the lines stand."""
         named = status.get('life', life)
         if named is not None:
             self.client, self._why = client, ''

@@ -100,7 +100,7 @@ def is_out_of_service(status: dict[str, Any]) -> bool:
 
 
 def octets_come(status: dict[str, Any], before: int) -> bool:
-    """Whether octets of the trunk come: a watcher knows it by its shadow, else there are more than before."""
+    """Whether octets of the trunk come: e1gw-trunk knows it by its follower, else there are more than before."""
     return bool(status['shadow']) if 'shadow' in status else int(status['octets']) != before
 
 

@@ -1,0 +1,264 @@
+"""A trunk that is no plain device: SAToP, any bit offset, CRC-4, a card that keeps slot 0. What becomes of the
+processes on its line."""
+from __future__ import annotations
+
+import asyncio
+import json
+import os
+import signal
+import socket
+import stat
+import sys
+import unittest
+from typing import Any, Callable
+from unittest import mock
+
+from . import limits, support
+from .test_crc4 import MULTIFRAME, checked
+from .test_satop_process import ENDS, SCRIPT
+from .test_keeper_killed import RestartedKeeperCase
+from .test_trunk import is_there
+from e1gw.lines import Event
+from e1gw.service import chain
+from e1gw.service.chain import BROKEN, CarriedTrunk
+from e1gw.service.crc4_trunk import Crc4Trunk
+from e1gw.service.devices import EmulatedStream, LineOptions
+from e1gw.service.line_process import waiting
+from e1gw.service.slot_trunk import SlotTrunk
+from e1gw.trunks import Stream
+
+
+class LineKilledTests(RestartedKeeperCase):
+    """A service that is killed: the processes on its line go on, and the next one sees to them."""
+
+    def settles(self) -> None:
+        """Until systemd has the descriptors of the program and the line of now, and no others."""
+        def settled() -> bool:
+            note, line = self.note(), self.line()
+            return note is not None and {'kept', *note['files'].values(), *line['files'].values()} == {
+                *self.manager.files}
+        support.until(settled)
+
+    def line(self) -> dict[str, Any]:
+        """What the service has noted of its line."""
+        octets = os.pread(self.manager.files['kept'], 65_536, 0).partition(b'\n')[0]
+        found: dict[str, Any] = json.loads(octets)['trunk']
+        return found
+
+    def process(self, name: str) -> int:
+        return int(self.line()['processes'][name][0])
+
+    def dies_meanwhile(self, name: str) -> None:
+        """A process of the line is killed while no service is there."""
+        process = self.process(name)
+        self.kill_keeper()
+        os.kill(process, signal.SIGKILL)
+        self.told_from = len(self.told())
+        self.comes_back()
+        support.until(lambda: self.process(name) != process)
+        self.step(20)
+
+    def test_align(self) -> None:
+        """Not an octet is lost that no process had."""
+        self.begins('--align')
+        process = self.process('align')
+        self.kill_keeper()
+        self.step(20)
+        self.comes_back()
+        self.keeper.send_signal(signal.SIGHUP)
+        self.goes_on()
+        self.keeper.send_signal(signal.SIGUSR2)
+        self.awaits('the keeper was replaced')
+        self.step(20)
+        self.settles()
+        self.assertEqual(self.process('align'), process)
+        self.dies_meanwhile('align')
+        self.dies()
+        self.step(20)
+        self.as_uncut()
+        self.ends()
+        self.assertEqual(os.listdir(self.memory), [])
+        support.until(lambda: not self.manager.files)
+
+    def test_crc4(self) -> None:
+        """`e1gw crc4` goes on with the next program, as if there were one."""
+        self.begins('--crc4')
+        process = self.process('send')
+        self.kill_keeper()
+        self.step(20)
+        self.comes_back()
+        self.keeper.send_signal(signal.SIGHUP)
+        self.goes_on()
+        self.step(20)
+        self.assertEqual(self.process('send'), process)
+        octets, _ = self.uncut()
+        self.assertEqual(b''.join(each or b'' for each in self.heard), support.run('crc4', given=b''.join(octets)))
+        for name in 'check', 'send':
+            self.dies_meanwhile(name)
+            self.assertEqual(self.device.exchange.signals, self.up())
+        self.ends()
+
+    def test_the_line_ends(self) -> None:
+        """The program ends behind what has come, and another one goes on with the device opened again. `e1gw crc4` goes
+        on over a program that is killed; the check begins anew behind another `e1gw align`."""
+        self.begins('--crc4', '--align', '--reopen')
+        check, align = self.process('check'), self.process('align')
+        os.kill(align, signal.SIGKILL)
+        support.until(lambda: self.process('align') != align and self.process('check') != check)
+        self.device.line.close()
+        self.device.accept()
+        self.assertIn(f'behind octet {len(self.heard) * MULTIFRAME}', self.goes_on())
+        self.step(40)
+        before = self.process('send')
+        self.dies()
+        self.step(20)
+        self.assertEqual(self.process('send'), before)
+        self.assertEqual(self.device.exchange.signals, self.up())
+        self.settles()
+        self.ends()
+
+    def test_without_systemd(self) -> None:
+        """What is on the line ends, and another one is begun with the device opened again."""
+        self.begins('--crc4')
+        processes = [self.process(name) for name in ('check', 'send')]
+        self.kill_keeper()
+        self.step(20)
+        self.manager.files.clear()
+        self.again()
+        line = self.device.line
+        self.device.accept()
+        line.close()
+        self.assertIn(f'behind octet {len(self.heard) * MULTIFRAME}', self.goes_on())
+        self.step(40)
+        self.assertEqual(self.device.exchange.signals, self.up())
+        self.assertEqual([is_there(process) for process in processes], [False, False])
+        self.ends()
+
+
+class LineProcessTests(support.FolderCase, unittest.IsolatedAsyncioTestCase):
+    """An emulated circuit, whose `e1gw satop` is a script."""
+
+    def setUp(self) -> None:
+        super().setUp()
+        grace = mock.patch.object(chain, 'GRACE', limits.LONG)
+        grace.start()
+        self.addCleanup(grace.stop)
+
+    async def opened(self, script: str, reopens: bool = False, crc4: bool = False) -> CarriedTrunk:
+        path = self.write('e1gw', f'#!{sys.executable}{script}')
+        os.chmod(path, stat.S_IRWXU)
+        self.told: list[Event] = []
+        line = LineOptions(path, lambda: EmulatedStream(['x']), crc4=crc4, reopens=reopens)
+        trunk = (Crc4Trunk if crc4 else CarriedTrunk)(line, {}, None)
+        trunk.tell = self.told.append
+        await trunk.open()
+        await trunk.join(0, True, True)
+        self.addAsyncCleanup(trunk.finish, None)
+        return trunk
+
+    async def until(self, holds: Callable[[], object]) -> None:
+        while not holds():
+            await asyncio.sleep(0.01)
+
+    async def goes_round(self, trunk: CarriedTrunk) -> None:
+        """Octets go both ways."""
+        os.write(trunk.both[1], bytes(range(256)))
+        await self.until(lambda: waiting(trunk.both[0]) >= 256)
+        self.assertEqual(os.read(trunk.both[0], 1000), bytes(range(255, -1, -1)))
+
+    def process(self, trunk: CarriedTrunk) -> int:
+        return int(trunk.note()['processes']['satop'][0])
+
+    async def test_it_dies_and_is_stopped(self) -> None:
+        """Another one has the same socket pair; what it counts goes on in the status."""
+        trunk = await self.opened(SCRIPT)
+        for number in signal.SIGKILL, signal.SIGSTOP:
+            await self.goes_round(trunk)
+            await self.until(lambda: trunk.status().get('received') == 3)
+            before = self.process(trunk)
+            os.kill(before, number)
+            await self.until(lambda: self.process(trunk) != before)
+        await self.goes_round(trunk)
+        self.assertEqual([event['event'] for event in self.told],
+                         ['trunk', 'trunk lost', 'trunk', 'trunk lost', 'trunk'])
+
+    async def test_it_ends_with_the_line(self) -> None:
+        """Also with a check that was begun behind another one."""
+        trunk = await self.opened(SCRIPT, crc4=True)
+        for _ in range(2):
+            before = self.process(trunk)
+            os.kill(before, signal.SIGKILL)
+            await self.until(lambda: self.process(trunk) != before)
+        await trunk.finish(None)
+        self.assertEqual(trunk.note()['processes'], {})
+
+    async def test_it_ends_by_itself(self) -> None:
+        """The program sees the end of the trunk; with --reopen another one is tried."""
+        why = f'{BROKEN}: e1gw satop ended with status 3: e1gw: 127.0.0.1:5000: Address already in use'
+        trunk = await self.opened(ENDS)
+        await self.until(lambda: trunk.has_ended(0))
+        self.assertEqual((os.read(trunk.both[0], 10), trunk.failure()), (b'', why))
+        trunk = await self.opened(ENDS, reopens=True)
+        await self.until(lambda: self.told.count({'event': 'trunk lost', 'why': why}) > 1)
+        self.assertFalse(trunk.has_ended(0))
+
+    async def test_what_it_was_given_last_goes_out(self) -> None:
+        trunk = await self.opened(f"""{SCRIPT}open('{self.path('over')}', 'w')\n""")
+        os.write(trunk.both[1], bytes(100_000))
+        await trunk.finish(None)
+        self.assertTrue(os.path.exists(self.path('over')))
+
+
+class CountedTrunkTests(unittest.IsolatedAsyncioTestCase):
+    """What programs have read, and not answered: CRC-4, and a card that keeps slot 0."""
+
+    async def test_what_a_program_had_in_hand(self) -> None:
+        """As much is sent for it, and each submultiframe is right."""
+        ours, line = socket.socketpair()
+        self.addCleanup(line.close)
+        file = ours.detach()
+        trunk = Crc4Trunk(LineOptions(support.program(), lambda: Stream(file, file, 'line'), crc4=True), {}, None)
+        await trunk.open()
+        self.addAsyncCleanup(trunk.finish, None)
+        exchange, place, sent = support.Exchange(), 0, b''
+        for lost in 0, 1, 300, 0, 2048:
+            await trunk.join(place, place == 0, False)
+            octets = b''.join(exchange.multiframe() for _ in range(8))
+            os.write(trunk.both[1], octets[:len(octets) - lost])
+            sent, place = sent + octets, place + len(octets)
+        await trunk.join(place, False, False)
+        heard = await self.read(line.fileno(), place)
+        self.assertEqual(set(checked(heard, 0)), {True})
+        frames = [at for at in range(0, place, 32) if heard[at + 1:at + 32] != sent[at + 1:at + 32]]
+        self.assertLessEqual(len(frames), (1 + 300 + 2048) // 32 + 3)
+
+    async def test_octets_that_a_program_did_not_answer(self) -> None:
+        """As many octets go to the card as have come, and each slot stays in its place."""
+        ours, card = socket.socketpair()
+        self.addCleanup(card.close)
+        card.setblocking(False)
+        file = ours.detach()
+        trunk = SlotTrunk(LineOptions('', lambda: Stream(file, file, 'card'), law=lambda: 'A'), {}, None)
+        await trunk.open()
+        self.addAsyncCleanup(trunk.finish, None)
+        sent = bytes(range(1, 32)) * 16
+        for octets, count in (0, 100), (512, 0), (1024, 511), (1536, 512):
+            await trunk.join(octets, False, False)
+            card.send(sent)
+            answers = await self.read(trunk.both[0], 512)
+            os.write(trunk.both[1], answers[:count])
+        self.assertEqual(await self.read(card.fileno(), 100 - 4), sent[:100 - 4])
+        back = await self.read(card.fileno(), 4 * len(sent) - (100 - 4))
+        self.assertEqual(back[-len(sent):], sent)
+        self.assertEqual(set(trunk.note()['processes']), {'pump'})
+
+    async def read(self, file: int, count: int) -> bytes:
+        octets = b''
+        while len(octets) < count:
+            await asyncio.sleep(0.001)
+            octets += os.read(file, min(waiting(file), count - len(octets))) if waiting(file) else b''
+        return octets
+
+
+if __name__ == '__main__':
+    unittest.main()
