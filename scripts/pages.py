@@ -261,8 +261,9 @@ def main() -> None:
     lines = page('e1gw.1')
     compare_options(lines)
     for option, about in described(lines).items():
-        if option not in {'check', 'checkpoint', 'config', 'control', 'follow', 'from', 'live', 'load', 'record', 'record-over',
-                          'reports', 'save', 'seizure-wait', 'senders', 'tell', 'totals', 'help', 'version'}:
+        if option not in {'check', 'checkpoint', 'config', 'control', 'follow', 'from', 'live', 'load', 'record',
+                          'record-over', 'reports', 'save', 'seizure-wait', 'senders', 'tell', 'totals', 'help',
+                          'version'}:
             compare_values(option, about)
     compare_payloads()
     compare_options_passed_over(lines)

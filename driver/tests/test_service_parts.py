@@ -4,6 +4,8 @@ from __future__ import annotations
 import logging
 import os
 import socket
+import subprocess
+import sys
 import unittest
 from unittest import mock
 
@@ -13,6 +15,7 @@ from e1gw.service import trunk
 from e1gw.service.journal import MINUTE, MOST, LineLimit
 from e1gw.service.keeper import DEATHS, MOST_PAUSE, DeathCount
 from e1gw.service.recovery import Handover, Notifier, note_of
+from e1gw.service.takeover import unnoted_programs
 from e1gw.service.version import TRIED, ProgramVersion, VersionHistory
 
 
@@ -139,6 +142,21 @@ class HandoverTests(support.FolderCase):
         self.assertIsNone(note_of({}, self.folder, ['y']))
         with mock.patch('os.getpid', lambda: 1):
             self.assertIsNone(note_of({}, self.folder, ['x']))      # (it is there)
+
+
+class UnnotedProgramTests(unittest.TestCase):
+    """A program that a service has begun and not noted."""
+
+    def test_found_by_its_control_socket(self) -> None:
+        ends = 'import sys; sys.stdin.read()'
+        started = {path: subprocess.Popen([sys.executable, '-c', ends, 'trunk', '--control', path],
+                                          stdin=subprocess.PIPE) for path in ('/x/program.4', '/x/program.5',
+                                                                              '/x/program.y', '/x/other.5')}
+        for process in started.values():
+            self.addCleanup(process.communicate)
+        noted = started['/x/program.4'].pid
+        support.until(lambda: unnoted_programs('/x/program', noted) == [started['/x/program.5'].pid])
+        self.assertEqual(unnoted_programs('/x/none', noted), [])
 
 
 class TrunkEndTests(support.FolderCase):

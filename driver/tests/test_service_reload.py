@@ -1,12 +1,10 @@
 """One process a trunk: a reload that an operator asks for, and what it answers."""
 from __future__ import annotations
 
-import os
 import subprocess
 import sys
 import unittest
 from typing import Iterator
-from unittest import mock
 
 from .support import SECONDS
 from .test_trunk import aligned, call
@@ -19,9 +17,6 @@ class ServiceReloadTests(unittest.TestCase):
     """Circuits that are configured otherwise begin as new."""
 
     def setUp(self) -> None:
-        around = mock.patch.dict(os.environ, {'E1GW_SERVICE': '1'})
-        around.start()
-        self.addCleanup(around.stop)
         self.text = config_of(CIRCUITS)
         self.world = World(self.text)
         self.addCleanup(self.world.__exit__)

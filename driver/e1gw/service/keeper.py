@@ -191,7 +191,7 @@ class TrunkKeeper:
                                or is_well and self.trunk.has_ended(program.totals()['octets']))
         if not state:
             logger.error('the program %s: no state is known', words)
-        self.state = state or Checkpoint(counted=program.checkpoint.counted)
+        self._begins_with(state or Checkpoint(counted=program.checkpoint.counted))
         pass_on(program)
         self.lost = ANEW if not state else '' if is_well else LOST
         self.is_whole = is_well
@@ -234,7 +234,7 @@ class TrunkKeeper:
         if pause is not None:
             logger.error('%s, %d times in a short time: the trunk begins without a state, in %g s', self.why, DEATHS,
                          pause)
-            self.state, self.lost = Checkpoint(counted=self.state.counted), ANEW
+            self._begins_with(None)
             await either(pause, self._ends)
 
     async def _never_up(self, program: TrunkProgram) -> None:
@@ -250,15 +250,20 @@ class TrunkKeeper:
             self._go_back(words)
         elif words.startswith('says: state ') or not self.was_up:
             logger.error('the program %s: the trunk begins without a state', words)
-            self.state, self.lost = Checkpoint(counted=self.state.counted), ANEW
+            self._begins_with(None)
         else:
             self.why = f'the program {words}'
             await self._died()
 
+    def _begins_with(self, state: Checkpoint | None) -> None:
+        """The next program begins with this state, or with none."""
+        self.state.close()
+        self.state, self.lost = state or Checkpoint(counted=self.state.counted), self.lost if state else ANEW
+
     def _retire(self, program: TrunkProgram) -> None:
         """Another one follows. The follower still reads the rest of the log, for those whom it tells."""
         self.program = None
-        task = asyncio.create_task(close_behind(program, lambda: self.state.state))
+        task = asyncio.create_task(close_behind(program))
         self._finishing.add(task)
         task.add_done_callback(self._finishing.discard)
 
@@ -292,11 +297,6 @@ class TrunkKeeper:
         """Another program is to follow, for this reason."""
         self.wanted = self.wanted or why
         self._wake.set()
-
-    def hurry(self) -> None:
-        """The follower is given all that the log has, at once."""
-        if self.program and self.program.follower:
-            self.program.follower.hurry()
 
     def end(self, why: str) -> None:
         """The end is asked for."""
@@ -358,12 +358,11 @@ def trunk_words(program: TrunkProgram, words: str) -> str:
     return 'the trunk has ended' if program.ended_well() else f'the trunk has ended: the program {words}'
 
 
-async def close_behind(program: TrunkProgram, state: Callable[[], int]) -> None:
-    """Gives back all that a program has but for the state of then, once its follower has told the rest of the log."""
-    follower = program.follower
-    if follower and (found := await follower.finish()) and found.state != state():
-        os.close(found.state)
-    program.close(state())
+async def close_behind(program: TrunkProgram) -> None:
+    """Gives back all that a program has, once its follower has told the rest of the log."""
+    if program.follower and (found := await program.follower.finish()):
+        found.close()
+    program.close()
 
 
 def is_stored(state: int, path: str | None) -> bool:

@@ -73,8 +73,12 @@ class Checkpoint:
         return [self.state] if self.state >= 0 else []
 
     def at_begin(self) -> Checkpoint:
-        """The same for the log of the next program."""
-        return Checkpoint(self.state, 0, self.counted)
+        """The same for the log of the next program, with a descriptor of its own."""
+        return Checkpoint(os.dup(self.state) if self.state >= 0 else -1, 0, self.counted)
+
+    def close(self) -> None:
+        if self.state >= 0:
+            os.close(self.state)
 
 
 def in_memory(octets: bytes) -> int:

@@ -52,6 +52,7 @@ class TrunkProgram:
                 (*trunk, found._said), [found.log.file, *version.files(), *begun.files()])
         except OSError:
             found._close_files()
+            found.checkpoint.close()
             shutil.rmtree(os.path.dirname(saves), ignore_errors=True)
             raise
         return found
@@ -107,8 +108,12 @@ class TrunkProgram:
     def reach(self, checkpoint: Checkpoint) -> None:
         """Its state can be had from here on."""
         before, self.checkpoint = self.checkpoint, checkpoint
-        if before.state not in (-1, checkpoint.state):
-            os.close(before.state)
+        before.close()
+
+    def hurry(self) -> None:
+        """Its follower reads all that the log has, at once."""
+        if self.follower:
+            self.follower.hurry()
 
     def totals(self) -> Counter[str]:
         return totals_in(text_of(self._said))
@@ -122,15 +127,14 @@ class TrunkProgram:
         new, self._told = lines[self._told:], len(lines)
         return new
 
-    def close(self, state: int = -1) -> None:
-        """Gives back all that is held of it, but for a state that goes on."""
+    def close(self) -> None:
+        """Gives back all that is held of it."""
         if not self._is_closed:
             self._is_closed = True
             if self.follower:
                 self.follower.close()
             self._close_files()
-            if self.checkpoint.state not in (-1, state):
-                os.close(self.checkpoint.state)
+            self.checkpoint.close()
             shutil.rmtree(os.path.dirname(self._saves), ignore_errors=True)
             with suppress(OSError):
                 os.unlink(self.control)

@@ -141,12 +141,16 @@ async def opened_watch(asked: argparse.Namespace, keeper: TrunkKeeper, requests:
         asyncio.get_running_loop().call_later(0.01, keeper.end, 'quit')
         return 'quit: done'
 
+    def hurry() -> None:
+        if keeper.program:
+            keeper.program.hurry()
+
     def config_path() -> str:
         return keeper.versions.now.config_path()
     version = await asyncio.to_thread(version_of, wants.program)
     fields |= {'config': config_path, 'tell': wants.tell, 'program': wants.control,
                'picture': picture_words(asked, wants.program)}
-    watch = TrunkWatch(WatchWants(**fields), ends, keeper.hurry,
+    watch = TrunkWatch(WatchWants(**fields), ends, hurry,
                        lambda: keeper.trunk.facts() | {'version': version})
     watch.reloads, keeper.trunk.tell = requests.reload, watch.tell
     watch.status.session = lambda path: session_of(keeper.program, path)

@@ -75,6 +75,9 @@ async def next_keeper(wants: TrunkWants, handover: Handover, notifier: Notifier,
     descriptors, else with the state of that program, which ends, on the trunk opened again."""
     trunk, left = trunk_of(wants.opens, wants.line, files, note.get('trunk')), note['program']
     how = 'replaced' if os.environ.pop(REPLACED, '') else 'killed'
+    for pid in unnoted_programs(wants.control, int(left['pid']) if left else 0):
+        logger.warning('program %d, which the keeper had begun and not noted, is killed', pid)
+        await Child(pid).kill()
     try:
         program = TrunkProgram.of_note(left, files) if left and trunk.is_open() else None
     except (KeyError, TypeError, ValueError):
@@ -101,6 +104,19 @@ async def next_keeper(wants: TrunkWants, handover: Handover, notifier: Notifier,
 def take_up(keeper: TrunkKeeper, number: int, why: str) -> None:
     """A keeper goes on where the service before this one has left."""
     keeper.number, keeper.was_up, keeper.why = number, True, why
+
+
+def unnoted_programs(control: str, noted: int) -> list[int]:
+    """The programs of a trunk but the noted one. A service was killed between their start and its note of it: they
+    hold the trunk and its ports, and nobody has their logs."""
+    found = []
+    for path in glob.glob('/proc/[0-9]*/cmdline'):
+        with suppress(OSError, ValueError), open(path, 'rb') as file:
+            words = os.fsdecode(file.read()).split('\0')
+            its = words[words.index('--control') + 1].rpartition('.')
+            if its[0] == control and its[2].isdigit() and (pid := int(path.split('/')[2])) != noted:
+                found.append(pid)
+    return found
 
 
 def memory_of(pid: int, started: int, names: list[str]) -> dict[str, int]:
