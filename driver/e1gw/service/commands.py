@@ -82,9 +82,11 @@ class ControlPeer:
     last: float = field(default_factory=time.monotonic)
 
     def tell(self, line: str) -> None:
-        self.writer.write(f'{line}\n'.encode())
-        if self.writer.transport.get_write_buffer_size() > MOST_HELD:
-            self.writer.transport.abort()
+        """Sends a line; nothing to one who is gone."""
+        if not self.writer.transport.is_closing():
+            self.writer.write(f'{line}\n'.encode())
+            if self.writer.transport.get_write_buffer_size() > MOST_HELD:
+                self.writer.transport.abort()
 
 
 class CommandServer:

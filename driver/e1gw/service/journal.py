@@ -68,10 +68,11 @@ class ServiceJournal:
         writes.setFormatter(LineFormatter(name))
         sends = QuietQueue(waiting)
         sends.addFilter(LineLimit())
-        logger = logging.getLogger(TOP)
-        logger.setLevel(logging.INFO)
-        logger.propagate = False
-        logger.handlers[:] = [sends]
+        for name, level in ((TOP, logging.INFO), ('asyncio', logging.ERROR)):
+            logger = logging.getLogger(name)
+            logger.setLevel(level)
+            logger.propagate = False
+            logger.handlers[:] = [sends]
         self._listener = logging.handlers.QueueListener(waiting, writes)
         self._listener.start()
 
