@@ -219,8 +219,8 @@ class World(ServedProgram):
         return found
 
     def wait_for_watcher(self) -> None:
-        """Returns once the watcher knows what was given."""
-        assert self.ask_at_once(NO_EFFECT) == NO_EFFECT_ANSWER
+        """Returns once the watcher knows what was given. (It connects to another program a moment after its start.)"""
+        support.until(lambda: self.ask_at_once(NO_EFFECT) == NO_EFFECT_ANSWER)
 
     def new_listener(self) -> socket.socket:
         """The socket anew, for a driver that opens its trunk again."""
