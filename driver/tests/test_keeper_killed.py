@@ -80,6 +80,33 @@ class RestartedKeeperCase(KeeperCase):
         self.keeper.kill()
         self.keeper.wait()
 
+    def dies_unkept(self) -> None:
+        """The service is killed where nobody keeps descriptors, and the next one opens the device again."""
+        self.kill_keeper()
+        self.step(20)
+        self.manager.files.clear()
+        self.again()
+        line = self.device.line
+        self.device.accept()
+        line.close()
+
+    def dies_in_reloads(self) -> None:
+        """The service is killed at any moment of six reloads, and comes back."""
+        for _ in range(6):
+            self.keeper.send_signal(signal.SIGHUP)
+            for _ in range(self.chance.randrange(40)):
+                self.step()
+            self.kill_keeper()
+            self.told_from = len(self.told())
+            self.comes_back()
+            self.step(20)
+
+    def leaves_nothing(self) -> None:
+        """The trunk ends, and nothing of it is left."""
+        self.ends()
+        self.assertEqual(os.listdir(self.memory), [])
+        support.until(lambda: not self.manager.files)
+
 
 class KilledKeeperTests(RestartedKeeperCase):
     """It is killed, and started again as systemd does it."""
@@ -105,9 +132,7 @@ class KilledKeeperTests(RestartedKeeperCase):
         self.dies()
         self.step(20)
         self.as_uncut()
-        self.ends()
-        self.assertEqual(os.listdir(self.memory), [])
-        support.until(lambda: not self.manager.files)
+        self.leaves_nothing()
 
     def test_program_that_dies_meanwhile(self) -> None:
         """The state is that of the log, of which the next one has the descriptor."""
@@ -126,14 +151,7 @@ class KilledKeeperTests(RestartedKeeperCase):
     def test_at_any_moment_of_a_reload(self) -> None:
         """No call ends."""
         self.begins()
-        for _ in range(6):
-            self.keeper.send_signal(signal.SIGHUP)
-            for _ in range(self.chance.randrange(40)):
-                self.step()
-            self.kill_keeper()
-            self.told_from = len(self.told())
-            self.comes_back()
-            self.step(20)
+        self.dies_in_reloads()
         self.assertNotIn('no state is known', self.told())
         self.as_uncut()
         self.ends()
@@ -142,13 +160,7 @@ class KilledKeeperTests(RestartedKeeperCase):
         """The program ends in order, and another one begins with its state on the trunk opened again."""
         self.begins()
         for _ in range(2):
-            self.kill_keeper()
-            self.step(20)
-            self.manager.files.clear()
-            self.again()
-            line = self.device.line
-            self.device.accept()
-            line.close()
+            self.dies_unkept()
             self.assertIn(f'behind octet {len(self.heard) * MULTIFRAME}', self.goes_on())
             self.step(40)
             self.settles()

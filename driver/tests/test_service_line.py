@@ -76,9 +76,7 @@ class LineKilledTests(RestartedKeeperCase):
         self.dies()
         self.step(20)
         self.as_uncut()
-        self.ends()
-        self.assertEqual(os.listdir(self.memory), [])
-        support.until(lambda: not self.manager.files)
+        self.leaves_nothing()
 
     def test_crc4(self) -> None:
         """`e1gw crc4` goes on with the next program, as if there were one."""
@@ -121,13 +119,7 @@ class LineKilledTests(RestartedKeeperCase):
         """What is on the line ends, and another one is begun with the device opened again."""
         self.begins('--crc4')
         processes = [self.process(name) for name in ('check', 'send')]
-        self.kill_keeper()
-        self.step(20)
-        self.manager.files.clear()
-        self.again()
-        line = self.device.line
-        self.device.accept()
-        line.close()
+        self.dies_unkept()
         self.assertIn(f'behind octet {len(self.heard) * MULTIFRAME}', self.goes_on())
         self.step(40)
         self.assertEqual(self.device.exchange.signals, self.up())

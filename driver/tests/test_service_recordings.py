@@ -59,13 +59,7 @@ class KilledRecordingTests(RestartedKeeperCase, RecorderCase):
         """The log is that of the program, which is there until it has ended in order."""
         self.begins('--session', self.path('kept'))
         for _ in range(2):
-            self.kill_keeper()
-            self.step(20)
-            self.manager.files.clear()
-            self.again()
-            line = self.device.line
-            self.device.accept()
-            line.close()
+            self.dies_unkept()
             self.goes_on()
             self.step(40)
             self.settles()
@@ -76,14 +70,7 @@ class KilledRecordingTests(RestartedKeeperCase, RecorderCase):
     def test_at_any_moment_of_a_reload(self) -> None:
         """The log of a program is noted with the program."""
         self.begins('--session', self.path('ring'), '--keep', '1h')
-        for _ in range(6):
-            self.keeper.send_signal(signal.SIGHUP)
-            for _ in range(self.chance.randrange(40)):
-                self.step()
-            self.kill_keeper()
-            self.told_from = len(self.told())
-            self.comes_back()
-            self.step(20)
+        self.dies_in_reloads()
         self.as_uncut()
         self.ends()
         self.assertEqual(self.trunk_of(self.path('ring')), self.given_trunk(), self.told())

@@ -23,19 +23,6 @@ LAUNCHER = support.launcher('trunk')
 ANSWERS_AFTER = 20          # multiframes
 
 
-def child_of(parent: int, word: str) -> int:
-    """The process of the program that another one has started with this word, as its number."""
-    for name in os.listdir('/proc'):
-        try:
-            with open(f'/proc/{name}/stat', encoding='utf-8') as stat, open(f'/proc/{name}/cmdline', 'rb') as words:
-                is_child = int(stat.read().rpartition(')')[2].split()[1]) == parent
-                if is_child and words.read().split(b'\0')[1:2] == [word.encode()]:
-                    return int(name)
-        except (OSError, ValueError):
-            pass
-    raise AssertionError(f'no e1gw {word}')
-
-
 def of_words(parent: int, word: str) -> list[int]:
     """The processes that a process has started whose first words have this one."""
     found = []
@@ -68,11 +55,6 @@ def descendant(parent: int, word: str, without: str | None = None) -> int:
             if pid != parent and word in [os.path.basename(each) for each in words]:
                 return pid
     raise AssertionError(f'no process {word}')
-
-
-def aligner_of(parent: int) -> int:
-    """The `e1gw align` that a process has started."""
-    return child_of(parent, 'align')
 
 
 def config_of(circuits: range, codec: str = 'pcma', payload: int = 8, prefill: int = 160,
