@@ -1,5 +1,5 @@
 """The toolchain's command rt, with the sum of each crate's files made once a question: scripts/kit.py WORD.. as rt
-WORD... rt itself makes the sum of a crate anew for each path of crates that leads to it, of which there are
+WORD... rt itself makes the sum of a crate again for each path of crates that leads to it, of which there are
 thousands."""
 from __future__ import annotations
 

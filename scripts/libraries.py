@@ -151,7 +151,7 @@ def processors() -> int:
 
 
 def lanes_for(most: int, memory: int) -> int:
-    """How many checks may run at once on so many processors."""
+    """How many checks may run at once on this number of processors."""
     return max(1, min(most, 2 if memory < FEW_BELOW else memory // NEED))
 
 
@@ -272,7 +272,7 @@ def end(name: str, state: State) -> None:
 
 
 def build(uses: dict[str, list[str]], state: State) -> None:
-    """Builds all that is left; where one is not proved, those that run beside it are the last."""
+    """Builds all that is left; where one is not proved, those that run at the same time are the last."""
     while not state.is_ended and (state.running or (state.left and not state.failed)):
         if not state.failed:
             start_ready(uses, state)

@@ -35,13 +35,35 @@ pub fn two_more(n: u32) -> u32
 {
     one_more(one_more(n))
 }
+
+/// Four more.
+#[tactic(none)]
+pub fn four_more(n: u32) -> u32
+    requires { n < 900 }
+    ensures { result ≡ n + 4 }
+{
+    n + 4
+}
+'''
+# Without it four_more has no proof, nor has a copy of it.
+PROOF = '''use Rattle.std.proofs.Common.{arith}
+use Rattle.small.proofs.four_more.Goals as goal
+
+pub overflow_add-result : goal.overflow_add-result
+overflow_add-result c = omega (arith, c.requires)
+
+pub returns : goal.returns
+returns c = omega arith
 '''
 TWO = 'old: one_more(one_more(n))\nnew: '
 # The wrong bodies, each with what is said of it.
 EDITS = {
     'adds_nothing': ('old:     n + 1\nnew:     n', 'refused: '),
     'adds_one': (f'{TWO}one_more(n)', 'refused: '),
+    'adds_five': ('old:     n + 4\nnew:     n + 5', 'refused: returns of four_more'),
     'right_body': (f'{TWO}one_more(n) + 1', 'NOT REFUSED: two_more: proved'),
+    'right_body_in_a_copy': ('old:     n + 4\nnew:     (n + 4)', 'NOT REFUSED: four_more: proved'),
+    'six_in_a_copy': ('old:     n + 4\nnew:     n + 6', 'refused: returns of four_more'),
     'not_there': ('old: one_less(n)\nnew: n', 'BAD EDIT: its old: text is in src/lib.rt 0 times'),
     'name_that_is_gone': (f'{TWO}one_less(one_more(n))', 'cannot be read: '),
     'refused_in_its_caller': ('old: ensures { result ≡ n + 1 }\nnew: ensures { result ≤ n + 1 }',
@@ -54,11 +76,12 @@ class WrongBodiesTests(unittest.TestCase):
     def test_each_kind(self) -> None:
         top = tempfile.mkdtemp()
         self.addCleanup(shutil.rmtree, top)
-        for folder in ('scripts', 'crates/small/src', 'crates/small/wrong-bodies'):
+        for folder in ('scripts', 'crates/small/src', 'crates/small/wrong-bodies', 'crates/small/proofs/four_more'):
             os.makedirs(f'{top}/{folder}')
         for name in ('wrong-bodies', 'libraries.py', 'kit.py', 'rattle_source.py'):
             shutil.copy(f'{SCRIPTS}/{name}', f'{top}/scripts/{name}')
-        texts = {'crates.txt': 'small:\n', 'crates/small/src/lib.rt': SOURCE}
+        texts = {'crates.txt': 'small:\n', 'crates/small/src/lib.rt': SOURCE,
+                 'crates/small/proofs/four_more/Answers.antt': PROOF}
         texts |= {f'crates/small/wrong-bodies/{name}.edit': f'file: src/lib.rt\n{text}\n'
                   for name, (text, _) in EDITS.items()}
         for path, text in texts.items():
@@ -70,7 +93,7 @@ class WrongBodiesTests(unittest.TestCase):
         self.assertEqual(sorted(told), sorted(EDITS))
         for name, (_, said) in EDITS.items():
             self.assertTrue(told[name].startswith(said), f'{name}: {told[name]}')
-        self.assertEqual((ran.returncode, last), (1, '2 passed, 5 failed'))
+        self.assertEqual((ran.returncode, last), (1, '4 passed, 6 failed'))
 
 
 class FunctionTests(unittest.TestCase):
