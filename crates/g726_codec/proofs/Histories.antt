@@ -43,7 +43,7 @@ octets_more None law s words later = refl
 octets_more (Some r) law s words later = octets_from_more r law s words later
 
 -- the state, by the tables
-after_more : (t : Option RateTables) (s : Variables) (words later : List ℕ)
+pub after_more : (t : Option RateTables) (s : Variables) (words later : List ℕ)
     → after_by t s (words ++ later) ≡ after_by t (after_by t s words) later
 after_more None s words later = refl
 after_more (Some r) s words later = state_after_more r s words later

@@ -11,9 +11,9 @@ use Rattle.e1_g711.specs.Samples.{expand}
 use Rattle.g726_quant.specs.Blocks.{quan_magnitude, quantised, subtb, log}
 use Rattle.g726_quant.specs.Tables.{RateTables, tables16, tables24, tables32, tables40}
 use Rattle.g726_codec.specs.Codec.{Variables, at_reset, word_for, stepped, words_from, octets_from}
-use Rattle.g726_codec.specs.Kinds.{tables_of, words_by, octets_by, enc, dec, encoder_after, decoder_after}
+use Rattle.g726_codec.specs.Kinds.{rate_tables, words_by, octets_by, enc, dec, encoder_after, decoder_after}
 use Rattle.g726_codec.specs.Laws.{OneWordAnOctet, WordsFit, PrefixesComeFirst, NothingIsCoded, SpeechIsItsOwnWords}
-use Rattle.g726_codec.specs.Laws.{NothingIsKept}
+use Rattle.g726_codec.specs.Laws.{NothingIsKept, EachWordFits}
 use Rattle.g726_codec.specs.declared.CodecKind.TheVariants.{G711, G16, G24, G32, G40}
 use Rattle.g726_codec.proofs.Histories.{words_more, octets_more}
 
@@ -31,7 +31,7 @@ octets_counted r law s [] = refl
 octets_counted r law s (word ∷ words) = ap suc (octets_counted r law (stepped r s word) words)
 
 -- the same by the tables, if any
-words_by_counted : (t : Option RateTables) (law : Law) (s : Variables) (octets : List ℕ)
+pub words_by_counted : (t : Option RateTables) (law : Law) (s : Variables) (octets : List ℕ)
     → length (words_by t law s octets) ≡ length octets
 words_by_counted None law s octets = refl
 words_by_counted (Some r) law s octets = words_counted r law s octets
@@ -45,7 +45,7 @@ octets_by_counted (Some r) law s words = octets_counted r law s words
 -- so a codec of any kind gives as many as it takes
 pub counted : OneWordAnOctet
 unfolding enc dec
-counted law kind = (words_by_counted (tables_of kind) law at_reset, octets_by_counted (tables_of kind) law at_reset)
+counted law kind = (words_by_counted (rate_tables kind) law at_reset, octets_by_counted (rate_tables kind) law at_reset)
 
 -- what comes first in a list that is as long
 first_of : (xs ys given : List ℕ) → length xs ≡ length given → take (length given) (xs ++ ys) ≡ xs
@@ -55,7 +55,7 @@ first_of xs ys given e = ap (λ (n : ℕ). take n (xs ++ ys)) (sym e) ∙ take-a
 pub come_first : PrefixesComeFirst
 unfolding enc dec
 come_first law kind =
-    let t = tables_of kind in (
+    let t = rate_tables kind in (
       λ octets later. ap (take (length octets)) (words_more t law at_reset octets later)
           ∙ first_of _ _ octets (words_by_counted t law at_reset octets),
       λ words later. ap (take (length words)) (octets_more t law at_reset words later)
@@ -93,6 +93,14 @@ fit law G24 octets all = words_fit tables24 law (omega arith) at_reset octets
 fit law G32 octets all = words_fit tables32 law (omega arith) at_reset octets
 fit law G40 octets all = words_fit tables40 law (omega arith) at_reset octets
 
+-- so does the word of one octet, from any state
+pub one_fits : EachWordFits
+one_fits law G711 s octet small = small
+one_fits law G16 s octet small = word_fits tables16 _ _ (omega arith)
+one_fits law G24 s octet small = word_fits tables24 _ _ (omega arith)
+one_fits law G32 s octet small = word_fits tables32 _ _ (omega arith)
+one_fits law G40 s octet small = word_fits tables40 _ _ (omega arith)
+
 -- in G.711 words are octets, and no state is kept
 pub same_words : SpeechIsItsOwnWords
 unfolding enc dec
@@ -111,4 +119,4 @@ none_by (Some r) law = (refl, refl)
 -- nor of a codec of any kind
 pub none_coded : NothingIsCoded
 unfolding enc dec
-none_coded law kind = none_by (tables_of kind) law
+none_coded law kind = none_by (rate_tables kind) law

@@ -16,12 +16,12 @@ bits_of G32 = 4
 bits_of G40 = 5
 
 -- the tables of a kind's rate. G.711 has none: its octets are their own words, and it keeps nothing
-abbrev pub tables_of : CodecKind → Option RateTables
-tables_of G711 = None
-tables_of G16 = Some tables16
-tables_of G24 = Some tables24
-tables_of G32 = Some tables32
-tables_of G40 = Some tables40
+abbrev pub rate_tables : CodecKind → Option RateTables
+rate_tables G711 = None
+rate_tables G16 = Some tables16
+rate_tables G24 = Some tables24
+rate_tables G32 = Some tables32
+rate_tables G40 = Some tables40
 
 -- by the tables, if any: the word of an octet, from an encoder's variables
 abbrev pub word_by : Option RateTables → Law → Variables → ℕ → ℕ
@@ -49,18 +49,18 @@ after_by (Some r) s words = state_after r s words
 
 -- the words of octets, and the octets of words, from reset
 unfoldable pub enc : Law → CodecKind → List ℕ → List ℕ
-enc law kind octets = words_by (tables_of kind) law at_reset octets
+enc law kind octets = words_by (rate_tables kind) law at_reset octets
 
 unfoldable pub dec : Law → CodecKind → List ℕ → List ℕ
-dec law kind words = octets_by (tables_of kind) law at_reset words
+dec law kind words = octets_by (rate_tables kind) law at_reset words
 
 -- the variables of the encoder after octets, and of the decoder after words. Those of G.711 stay at reset
 unfoldable pub encoder_after : Law → CodecKind → List ℕ → Variables
 encoder_after law kind octets =
-    after_by (tables_of kind) at_reset (words_by (tables_of kind) law at_reset octets)
+    after_by (rate_tables kind) at_reset (words_by (rate_tables kind) law at_reset octets)
 
 unfoldable pub decoder_after : CodecKind → List ℕ → Variables
-decoder_after kind words = after_by (tables_of kind) at_reset words
+decoder_after kind words = after_by (rate_tables kind) at_reset words
 
 -- a codec: its law, its kind, and the variables of its encoder and of its decoder
 pub record CodecState : Type 0 where
@@ -71,10 +71,10 @@ pub record CodecState : Type 0 where
 
 -- a codec whose encoder has sent words, and one whose decoder has received words
 abbrev pub after_encoding : CodecState → List ℕ → CodecState
-after_encoding c words = record c { encoder = after_by (tables_of c.kind) c.encoder words }
+after_encoding c words = record c { encoder = after_by (rate_tables c.kind) c.encoder words }
 
 abbrev pub after_decoding : CodecState → List ℕ → CodecState
-after_decoding c words = record c { decoder = after_by (tables_of c.kind) c.decoder words }
+after_decoding c words = record c { decoder = after_by (rate_tables c.kind) c.decoder words }
 
 -- a codec after octets to encode and words to decode, since its reset
 abbrev pub codec_after : Law → CodecKind → List ℕ → List ℕ → CodecState

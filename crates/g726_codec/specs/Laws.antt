@@ -1,7 +1,10 @@
 -- Laws of the codecs.
-use Rattle.std.specs.Prelude.{ℕ, ◌≡◌, ◌<◌, ◌^◌, List, [], ◌++◌, length, take, All}
+use Rattle.std.specs.Prelude.{ℕ, ◌≡◌, ◌<◌, ◌^◌, Option, List, [], ◌∷◌, ◌++◌, length, take, All}
 use Rattle.e1_g711.specs.declared.Law.{Law}
-use Rattle.g726_codec.specs.Kinds.{bits_of, enc, dec, codec_after}
+use Rattle.g726_quant.specs.Tables.{RateTables}
+use Rattle.g726_codec.specs.Codec.{Variables}
+use Rattle.g726_codec.specs.Kinds.{bits_of, rate_tables, word_by, octet_by, words_by, after_by, enc, dec}
+use Rattle.g726_codec.specs.Kinds.{encoder_after, decoder_after, codec_after, after_encoding, after_decoding}
 use Rattle.g726_codec.specs.declared.CodecKind.{CodecKind}
 use Rattle.g726_codec.specs.declared.CodecKind.TheVariants.{G711}
 
@@ -21,6 +24,32 @@ abbrev pub PrefixesComeFirst : Type 0
 PrefixesComeFirst = (law : Law) (kind : CodecKind)
     → ((octets later : List ℕ) → take (length octets) (enc law kind (octets ++ later)) ≡ enc law kind octets)
     × ((words later : List ℕ) → take (length words) (dec law kind (words ++ later)) ≡ dec law kind words)
+
+-- the words of later octets are those from the state after the words before, and so is the state after them
+pub record EncodersContinue (t : Option RateTables) (law : Law) (s : Variables) : Type 0 where
+  pub words : (octets later : List ℕ) → words_by t law s (octets ++ later)
+      ≡ words_by t law s octets ++ words_by t law (after_by t s (words_by t law s octets)) later
+  pub states : (words later : List ℕ) → after_by t s (words ++ later) ≡ after_by t (after_by t s words) later
+  pub counted : (octets : List ℕ) → length (words_by t law s octets) ≡ length octets
+  pub one : (octet : ℕ) → words_by t law s (octet ∷ []) ≡ word_by t law s octet ∷ []
+  pub none : (words_by t law s [] ≡ []) × (after_by t s [] ≡ s)
+
+-- a codec that has coded gives the words of the next octet and the octets of the next word, and then is the
+-- codec after both
+pub record HistoriesContinue (law : Law) (kind : CodecKind) (octets words : List ℕ) : Type 0 where
+  pub encodes : (octet word : ℕ) → word ≡ word_by (rate_tables kind) law (encoder_after law kind octets) octet
+      → (enc law kind (octets ++ octet ∷ []) ≡ enc law kind octets ++ word ∷ [])
+      × (after_encoding (codec_after law kind octets words) (word ∷ [])
+      ≡ codec_after law kind (octets ++ octet ∷ []) words)
+  pub decodes : (word octet : ℕ) → octet ≡ octet_by (rate_tables kind) law (decoder_after kind words) word
+      → (dec law kind (words ++ word ∷ []) ≡ dec law kind words ++ octet ∷ [])
+      × (after_decoding (codec_after law kind octets words) (word ∷ [])
+      ≡ codec_after law kind octets (words ++ word ∷ []))
+
+-- the word of an octet is below 2 ^ bits, in each state
+abbrev pub EachWordFits : Type 0
+EachWordFits = (law : Law) (kind : CodecKind) (s : Variables) (octet : ℕ) → octet < 256
+    → word_by (rate_tables kind) law s octet < 2 ^ bits_of kind
 
 -- no octets give no words, and no words give no octets
 abbrev pub NothingIsCoded : Type 0

@@ -6,7 +6,7 @@ use Rattle.g726_tone.specs.Adaptation.{InRange}
 use Rattle.g726_tone.specs.Saved.{saved_adaptation}
 use Rattle.g726_predict.specs.Saved.{saved_prediction, PredictionFits}
 use Rattle.g726_codec.specs.Codec.{Variables, at_reset}
-use Rattle.g726_codec.specs.Kinds.{CodecState, tables_of}
+use Rattle.g726_codec.specs.Kinds.{CodecState, rate_tables}
 
 unfoldable pub saved_variables : Variables → List ℕ
 saved_variables s = saved_adaptation s.adaptation ++ saved_prediction s.prediction
@@ -22,7 +22,7 @@ saved_by None encoder decoder = []
 saved_by (Some r) encoder decoder = saved_variables encoder ++ saved_variables decoder
 
 unfoldable pub saved_codec : CodecState → List ℕ
-saved_codec c = saved_by (tables_of c.kind) c.encoder c.decoder
+saved_codec c = saved_by (rate_tables c.kind) c.encoder c.decoder
 
 -- by the tables, if any: the variables of both fit. Those of G.711 are at reset
 abbrev pub BothFit : Option RateTables → Variables → Variables → Type 0
@@ -30,4 +30,4 @@ BothFit None encoder decoder = (encoder ≡ at_reset) × (decoder ≡ at_reset)
 BothFit (Some r) encoder decoder = VariablesFit encoder × VariablesFit decoder
 
 abbrev pub CodecFits : CodecState → Type 0
-CodecFits c = BothFit (tables_of c.kind) c.encoder c.decoder
+CodecFits c = BothFit (rate_tables c.kind) c.encoder c.decoder

@@ -1,14 +1,14 @@
 //! Encoder and decoder of a circuit by its codec's kind, G.711 or a rate of G.726 (`AnyCodec`).
-ghost use Rattle.std.specs.Prelude.{◌≡◌, ◌<◌, ◌^◌, ℕ, List, [], ◌∷◌, ◌++◌, length};
+ghost use Rattle.std.specs.Prelude.{◌≡◌, ◌≢◌, ◌<◌, ◌^◌, ℕ, List, [], ◌∷◌, ◌++◌, length};
 ghost use Rattle.std.specs.List.{All};
 ghost use Rattle.g726_codec.specs.Codec.{at_reset};
-ghost use Rattle.g726_codec.specs.Kinds.{bits_of, tables_of, word_by, octet_by, words_by, enc, dec};
+ghost use Rattle.g726_codec.specs.Kinds.{bits_of, rate_tables, word_by, octet_by, words_by, enc, dec};
 ghost use Rattle.g726_codec.specs.Kinds.{codec_after, after_encoding, after_decoding};
 ghost use Rattle.g726_codec.specs.Views.{kind_of, state_of};
 
 mod saving;
 
-use crate::{CodecKind, Decoder, Encoder};
+use crate::{CodecKind, Decoder, Encoder, State};
 use e1_g711::Law;
 use g726_quant::{R16, R24, R32, R40, Word};
 use std::marker::Model;
@@ -49,11 +49,49 @@ impl Codec {
         }
     }
 
+    fn copy(&self) -> Codec
+        ensures { (law : Law) → state_of law result ≡ state_of law self.now }
+    {
+        match self {
+            Codec::G711 => Codec::G711,
+            Codec::G16(encoder, decoder) => Codec::G16(encoder.copy(), decoder.copy()),
+            Codec::G24(encoder, decoder) => Codec::G24(encoder.copy(), decoder.copy()),
+            Codec::G32(encoder, decoder) => Codec::G32(encoder.copy(), decoder.copy()),
+            Codec::G40(encoder, decoder) => Codec::G40(encoder.copy(), decoder.copy()),
+        }
+    }
+
+    fn encoder(&self) -> &State
+        requires { kind_of self.now ≢ CodecKind.G711 }
+        ensures { (law : Law) → result.now ≡ (state_of law self.now).encoder }
+    {
+        match self {
+            Codec::G711 => unreachable!(),
+            Codec::G16(encoder, _) => encoder.state(),
+            Codec::G24(encoder, _) => encoder.state(),
+            Codec::G32(encoder, _) => encoder.state(),
+            Codec::G40(encoder, _) => encoder.state(),
+        }
+    }
+
+    fn set_encoder(&mut self, state: State)
+        requires { kind_of self.old ≢ CodecKind.G711 }
+        ensures { (law : Law) → state_of law self.new ≡ record (state_of law self.old) { encoder = state } }
+    {
+        match self {
+            Codec::G711 => unreachable!(),
+            Codec::G16(encoder, _) => *encoder = Encoder::of_state(state),
+            Codec::G24(encoder, _) => *encoder = Encoder::of_state(state),
+            Codec::G32(encoder, _) => *encoder = Encoder::of_state(state),
+            Codec::G40(encoder, _) => *encoder = Encoder::of_state(state),
+        }
+    }
+
     #[inline(always)]
     fn encode(&mut self, law: Law, octet: u8) -> u8
         ensures bound { result < 2 ^ bits_of (kind_of self.old) }
         ensures word { result
-            ≡ word_by (tables_of (kind_of self.old)) law (state_of law self.old).encoder octet }
+            ≡ word_by (rate_tables (kind_of self.old)) law (state_of law self.old).encoder octet }
         ensures state { state_of law self.new ≡ after_encoding (state_of law self.old) (result ∷ []) }
     {
         match self {
@@ -69,7 +107,7 @@ impl Codec {
         ensures len { length octets.new ≡ length octets.old }
         ensures fit { All (λ word. word < 2 ^ bits_of (kind_of self.old)) octets.new }
         ensures words { octets.new
-            ≡ words_by (tables_of (kind_of self.old)) law (state_of law self.old).encoder octets.old }
+            ≡ words_by (rate_tables (kind_of self.old)) law (state_of law self.old).encoder octets.old }
         ensures state { state_of law self.new ≡ after_encoding (state_of law self.old) octets.new }
     {
         match self {
@@ -85,7 +123,7 @@ impl Codec {
     fn decode(&mut self, law: Law, word: u8) -> u8
         requires { word < 2 ^ bits_of (kind_of self.old) }
         ensures octet { result
-            ≡ octet_by (tables_of (kind_of self.old)) law (state_of law self.old).decoder word }
+            ≡ octet_by (rate_tables (kind_of self.old)) law (state_of law self.old).decoder word }
         ensures state { state_of law self.new ≡ after_decoding (state_of law self.old) (word ∷ []) }
     {
         match self {
@@ -127,13 +165,53 @@ impl AnyCodec {
         }
     }
 
+    /// The same encoder and decoder once more.
+    pub fn copy(&self) -> AnyCodec
+        ensures { result ≡ self.now }
+    {
+        AnyCodec {
+            law: self.law,
+            codec: self.codec.copy(),
+        }
+    }
+
+    /// The law.
+    pub fn law(&self) -> Law
+        ensures { result ≡ self.now.law }
+    {
+        self.law
+    }
+
+    /// The kind.
+    pub fn kind(&self) -> CodecKind
+        ensures { result ≡ self.now.kind }
+    {
+        self.codec.kind()
+    }
+
+    /// The encoder's state, at a rate of G.726.
+    pub fn encoder(&self) -> &State
+        requires { self.now.kind ≢ CodecKind.G711 }
+        ensures { result.now ≡ self.now.encoder }
+    {
+        self.codec.encoder()
+    }
+
+    /// Replaces the encoder's state, at a rate of G.726.
+    pub fn set_encoder(&mut self, state: State)
+        requires { self.old.kind ≢ CodecKind.G711 }
+        ensures { self.new ≡ record self.old { encoder = state } }
+    {
+        self.codec.set_encoder(state);
+    }
+
     /// The word of the next octet, below `2^bits`.
     ///
     /// An octet of G.711 is its own word.
     #[inline(always)]
     pub fn encode(&mut self, octet: u8) -> u8
         ensures bound { result < 2 ^ bits_of self.old.kind }
-        ensures word { result ≡ word_by (tables_of self.old.kind) self.old.law self.old.encoder octet }
+        ensures word { result ≡ word_by (rate_tables self.old.kind) self.old.law self.old.encoder octet }
         ensures state { self.new ≡ after_encoding self.old (result ∷ []) }
         ensures words { (law : Law) (kind : CodecKind) (octets words : List ℕ)
             → self.old ≡ codec_after law kind octets words
@@ -150,7 +228,7 @@ impl AnyCodec {
         ensures len { length octets.new ≡ length octets.old }
         ensures fit { All (λ word. word < 2 ^ bits_of self.old.kind) octets.new }
         ensures coded { octets.new
-            ≡ words_by (tables_of self.old.kind) self.old.law self.old.encoder octets.old }
+            ≡ words_by (rate_tables self.old.kind) self.old.law self.old.encoder octets.old }
         ensures state { self.new ≡ after_encoding self.old octets.new }
         ensures words { (law : Law) (kind : CodecKind) (given words : List ℕ)
             → self.old ≡ codec_after law kind given words
@@ -168,7 +246,7 @@ impl AnyCodec {
     #[inline(always)]
     pub fn decode(&mut self, word: u8) -> u8
         requires { word < 2 ^ bits_of self.old.kind }
-        ensures octet { result ≡ octet_by (tables_of self.old.kind) self.old.law self.old.decoder word }
+        ensures octet { result ≡ octet_by (rate_tables self.old.kind) self.old.law self.old.decoder word }
         ensures state { self.new ≡ after_decoding self.old (word ∷ []) }
         ensures octets { (law : Law) (kind : CodecKind) (octets words : List ℕ)
             → self.old ≡ codec_after law kind octets words

@@ -50,6 +50,13 @@ impl<R: Rate> Decoder<R> {
         }
     }
 
+    /// The same decoder once more.
+    pub fn copy(&self) -> Decoder<R>
+        ensures { result ≡ self.now }
+    {
+        Decoder::of_state(self.state.copy())
+    }
+
     /// Its state.
     pub fn state(&self) -> &State
         ensures { result.now ≡ self.now }

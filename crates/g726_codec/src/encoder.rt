@@ -40,6 +40,13 @@ impl<R: Rate> Encoder<R> {
         }
     }
 
+    /// The same encoder once more.
+    pub fn copy(&self) -> Encoder<R>
+        ensures { result ≡ self.now }
+    {
+        Encoder::of_state(self.state.copy())
+    }
+
     /// Its state.
     pub fn state(&self) -> &State
         ensures { result.now ≡ self.now }

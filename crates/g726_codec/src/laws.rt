@@ -1,6 +1,12 @@
 //! Laws of codecs: one word for each octet, prefixes give prefixes, and G.711 words are octets.
 ghost use Rattle.g726_codec.specs.Laws.{OneWordAnOctet, WordsFit, PrefixesComeFirst, NothingIsCoded};
 ghost use Rattle.g726_codec.specs.Laws.{SpeechIsItsOwnWords, NothingIsKept};
+ghost use Rattle.std.specs.Prelude.{ℕ, List};
+ghost use Rattle.e1_g711.specs.declared.Law.{Law};
+ghost use Rattle.g726_codec.specs.Codec.{Variables};
+ghost use Rattle.g726_codec.specs.Kinds.{rate_tables};
+ghost use Rattle.g726_codec.specs.declared.CodecKind.{CodecKind};
+ghost use Rattle.g726_codec.specs.Laws.{EncodersContinue, HistoriesContinue, EachWordFits};
 
 /// There is one word for each octet and one octet for each word.
 pub fn words_are_counted()
@@ -16,6 +22,15 @@ pub fn words_fit()
 /// A prefix of the octets gives a prefix of the words, and the other way round.
 pub fn prefixes_come_first()
     ensures { PrefixesComeFirst }
+{}
+
+/// What is coded later continues what was coded before, and each word is below `2^bits`.
+pub fn codecs_continue()
+    ensures lists { (kind : CodecKind) (law : Law) (s : Variables)
+        → EncodersContinue (rate_tables kind) law s }
+    ensures histories { (law : Law) (kind : CodecKind) (octets words : List ℕ)
+        → HistoriesContinue law kind octets words }
+    ensures fit { EachWordFits }
 {}
 
 /// No octets give no words, and no words give no octets.

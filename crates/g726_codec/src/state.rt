@@ -65,6 +65,17 @@ impl State {
         &self.predictor
     }
 
+    /// The same state once more.
+    pub fn copy(&self) -> State
+        ensures { result ≡ self.now }
+    {
+        let (numbers, pk1, pk2) = self.predictor.numbers();
+        State {
+            adapt: Adapt::of_numbers(self.adapt.numbers()),
+            predictor: Predictor::of_numbers(numbers, pk1, pk2).unwrap(),
+        }
+    }
+
     pub(crate) fn reset() -> State
         ensures { result ≡ at_reset }
     {

@@ -2,7 +2,7 @@
 use Rattle.std.proofs.Common.{◌≡◌, ◌<◌, ◌+◌, ◌++◌, ◌∷◌, ◌∙◌, ℕ, suc, List, [], length, take, drop, get_or, arith}
 use Rattle.std.proofs.Common.{slice_set, refl, sym, ap}
 use Rattle.std.proofs.Math.Seq.{take-suc, take-suc-set}
-use Rattle.std.proofs.lemmas.List.{map-set, length-map, get_or-map, length-set}
+use Rattle.std.proofs.lemmas.List.{map-set, length-map, get_or-map, length-set, set-get_or}
 use Rattle.e1_g711.specs.declared.Law.{Law}
 use Rattle.g726_quant.specs.Tables.{RateTables}
 use Rattle.g726_codec.specs.Codec.{Variables, sync}
@@ -24,6 +24,22 @@ column-length frames k = length-map frames (λ f. lane f k)
 pub column-at : (frames : List (List ℕ)) (i k : ℕ) → i < length frames
     → get_or (column frames k) i 0 ≡ lane (get_or frames i []) k
 column-at frames i k within = get_or-map (λ f. lane f k) frames i [] 0 within
+
+-- a frame whose octet of a circuit is the next one has one more of its octets
+pub column-one-more : (frames : List (List ℕ)) (octets frame : List ℕ) (i k : ℕ)
+    → take i (column frames k) ≡ take i octets → i < length frames → i < length octets
+    → lane frame k ≡ get_or octets i 0 → take (i + 1) (column (slice_set frames i frame) k) ≡ take (i + 1) octets
+column-one-more frames octets frame i k same within more own =
+    let next : i + 1 ≡ suc i = omega arith in
+    rw (next, column-set frames i frame k, own)
+    (take-suc-set (column frames k) i (get_or octets i 0) (rw (column-length frames k) within)
+    ∙ ap (λ (os : List ℕ). os ++ get_or octets i 0 ∷ []) same ∙ sym (take-suc octets i 0 more))
+
+-- a circuit whose octet in a frame stays has its octets
+pub column-kept : (frames : List (List ℕ)) (frame : List ℕ) (i j : ℕ) → i < length frames
+    → lane frame j ≡ lane (get_or frames i []) j → column (slice_set frames i frame) j ≡ column frames j
+column-kept frames frame i j within kept =
+    rw (column-set frames i frame j, kept, ← column-at frames i j within) (set-get_or (column frames j) i 0)
 
 -- a decoder went from one state to another by the words of a list before a place: their octets are there now
 pub record IsDecodedTo (r : RateTables) (law : Law) (first s : Variables) (old now : List ℕ) (i : ℕ) : Type 0 where

@@ -5,6 +5,7 @@
 
 mod adapt;
 mod adaptations;
+mod bundle;
 mod decoding;
 mod encoding;
 mod filter;
@@ -15,4 +16,5 @@ mod poles;
 mod predictions;
 mod quantiser;
 
+pub use bundle::{Bundle, FRAMES};
 pub use lanes::Lanes;

@@ -23,6 +23,7 @@ use Rattle.gw_circuit.specs.declared.circuit.Circuit.{Circuit}
 use Rattle.gw_circuit.specs.declared.circuit.saving.Numbers.{Numbers}
 use Rattle.gw_circuit.specs.declared.speech.Speech.{Speech}
 use Rattle.gw_circuit.specs.Items.{CircuitEvent}
+use Rattle.gw_circuit.specs.Coder.{CodedPacket}
 use Rattle.gw_circuit.specs.Coding.{format_after}
 use Rattle.gw_circuit.specs.Speech.{SpeechHistory}
 use Rattle.gw_circuit.specs.Replies.{packet_size}
@@ -71,22 +72,22 @@ bound-of G40 = refl
 
 -- the octets of speech begin with its codec; the packet is next, then the playout
 pub speech-octets : (s : Speech) (rest : List ℕ) → saved_speech s ++ rest
-    ≡ saved_coding s.kind s.payload_type s.codec ++ (saved_packet s.packet.items ++ (saved_playout s.playout ++ rest))
+    ≡ saved_coding s.kind s.payload_type s.coder.codec
+    ++ (saved_packet s.coder.packet ++ (saved_playout s.playout ++ rest))
 unfolding saved_speech
 speech-octets s rest =
-    three-parts (saved_coding s.kind s.payload_type s.codec) (saved_packet s.packet.items) (saved_playout s.playout)
-    rest
+    three-parts (saved_coding s.kind s.payload_type s.coder.codec) (saved_packet s.coder.packet)
+    (saved_playout s.playout) rest
 
 -- speech by its parts
 pub same-speech : (one other : Speech) → one.kind ≡ other.kind → one.payload_type ≡ other.payload_type
-    → one.codec ≡ other.codec → one.playout ≡ other.playout → one.packet.items ≡ other.packet.items
+    → one.coder.codec ≡ other.coder.codec → one.playout ≡ other.playout → one.coder.packet ≡ other.coder.packet
     → one.size ≡ other.size → one ≡ other
 same-speech one other kind type codec playout packet size = λ i. record {
   kind = kind i;
   payload_type = type i;
-  codec = codec i;
+  coder = record { codec = codec i; packet = packet i };
   playout = playout i;
-  packet = record { items = packet i };
   size = size i;
   type_fits = is_prop→PathP (λ j. type j < 128) (λ j. Prim.hlevel props) one.type_fits other.type_fits i;
   kind_is = is_prop→PathP (λ j. (codec j).kind ≡ kind j) (λ j. Prim.hlevel props) one.kind_is other.kind_is i;
@@ -139,6 +140,16 @@ same-circuit one other law config line speech clock sequence sent received dropp
   received = received i;
   dropped = dropped i;
 }
+
+-- a circuit whose coder is the same, and all else
+pub same-coder : (one other : Circuit) → one.speech.coder ≡ other.speech.coder
+    → record one { speech = other.speech } ≡ other → one.speech.kind ≡ other.speech.kind
+    → one.speech.payload_type ≡ other.speech.payload_type → one.speech.playout ≡ other.speech.playout
+    → one.speech.size ≡ other.speech.size → one ≡ other
+same-coder one other coder rest kind type playout size =
+    let speech = same-speech one.speech other.speech kind type (ap (λ (p : CodedPacket). p.codec) coder) playout
+    (ap (λ (p : CodedPacket). p.packet) coder) size in
+    ap (λ (s : Speech). record one { speech = s }) speech ∙ rest
 
 -- a circuit with a new line, and speech that begins anew, stands before its first item
 pub stands-cleared : (c : Circuit) (law : Law) (config : CircuitConfig) (items : List CircuitEvent) (l : Line)

@@ -30,7 +30,7 @@ saved_packet words = length words ∷ words
 -- the codec, the words that are to be sent, and those that are to be played
 unfoldable pub saved_speech : Speech → List ℕ
 saved_speech s =
-    saved_coding s.kind s.payload_type s.codec ++ saved_packet s.packet.items ++ saved_playout s.playout
+    saved_coding s.kind s.payload_type s.coder.codec ++ saved_packet s.coder.packet ++ saved_playout s.playout
 
 -- the sample clock, and the sequence number of the next datagram
 abbrev pub saved_clocks : ℕ → ℕ → List ℕ
@@ -49,7 +49,7 @@ saved_circuit c = saved_numbers c ++ saved_line c.line ++ saved_speech c.speech
 
 -- the variables of the codec have their ranges and the numbers of the stream 32 bits, as in every circuit
 pub record SpeechFits (s : Speech) : Type 0 where
-  pub codec : CodecFits s.codec
+  pub codec : CodecFits s.coder.codec
   pub stream : StreamFits s.playout.stream
 
 -- each number has its width, as in every circuit

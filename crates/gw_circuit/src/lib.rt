@@ -3,6 +3,7 @@
 
 mod circuit;
 mod codec;
+mod coder;
 mod config;
 pub mod laws;
 pub mod payload_types;

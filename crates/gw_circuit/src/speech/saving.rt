@@ -13,6 +13,7 @@ ghost use Rattle.gw_circuit.specs.Coding.{PayloadFormat};
 ghost use Rattle.gw_circuit.specs.Saved.{kind_number, saved_coding, saved_packet, saved_speech, SpeechFits};
 ghost use Rattle.gw_circuit.specs.Speech.{SpeechHistory};
 
+use crate::coder::Coder;
 use crate::speech::Speech;
 use arrayvec::ArrayVec;
 use e1_g711::Law;
@@ -34,8 +35,9 @@ impl Speech {
         ensures octets { OnOk result (out.new.items ≡ out.old.items ++ saved_speech self.now) }
         ensures fits { OnOk result (SpeechFits self.now) }
     {
-        save_coding(self.kind, self.payload_type, &self.codec, out)?;
-        save_packet(&self.packet, out)?;
+        let (codec, packet) = self.coder.copy();
+        save_coding(self.kind, self.payload_type, &codec, out)?;
+        save_packet(&packet, out)?;
         self.playout.save(out)
     }
 
@@ -60,8 +62,7 @@ impl Speech {
         self.playout.load(1 << coded.kind.bits(), octets)?;
         self.kind = coded.kind;
         self.payload_type = coded.payload_type;
-        self.codec = coded.codec;
-        self.packet = packet;
+        self.coder = Coder::of_words(coded.codec, packet);
         Some(())
     }
 }

@@ -1,20 +1,29 @@
-use Rattle.std.proofs.Common.{arith}
-use Rattle.gw_circuit.proofs.Hearing.{heard-short}
+use Rattle.std.proofs.Common.{arith, ap, ◌∙◌}
+use Rattle.rtp_playout.specs.Order.{drawn_words}
+use Rattle.gw_circuit.specs.Coder.{CodedPacket}
+use Rattle.gw_circuit.proofs.Hearing.{heard-short, encodes-next}
 use Rattle.gw_circuit.proofs.speech.Speech.encode_next.Goals as goal
 
 pub returns-clause-short : goal.returns-clause-short
 returns-clause-short c law coding size prefill octets calls s =
-    (heard-short _ _ _ _ _ _ _ c.args.octet _ _ c.words_are_counted.ensures s c.push.ensures.items
-    (c.encode.ensures.words law _ octets _ s.codec) (omega arith)).0
+    let next = encodes-next law coding.kind octets (drawn_words prefill calls)
+    (c.codecs_continue.ensures.histories law coding.kind octets (drawn_words prefill calls))
+    c.args.self.now.coder.codec c.args.octet s.codec in
+    (heard-short _ _ _ _ _ _ _ c.args.octet _ _ c.words_are_counted.ensures s
+    (ap (λ (p : CodedPacket). p.packet) c.hear.ensures.state) next.0 (omega arith)).0
 
 pub returns-clause-speaks : goal.returns-clause-speaks
-returns-clause-speaks c law coding size prefill octets calls s = record {
-  kind_is = s.kind_is;
-  type_is = s.type_is;
-  size_is = s.size_is;
-  codec = c.encode.ensures.stands law _ octets _ s.codec;
-  playout = s.playout;
-  packet =
-      (heard-short _ _ _ _ _ _ _ c.args.octet _ _ c.words_are_counted.ensures s c.push.ensures.items
-      (c.encode.ensures.words law _ octets _ s.codec) (omega arith)).1;
-}
+returns-clause-speaks c law coding size prefill octets calls s =
+    let next = encodes-next law coding.kind octets (drawn_words prefill calls)
+    (c.codecs_continue.ensures.histories law coding.kind octets (drawn_words prefill calls))
+    c.args.self.now.coder.codec c.args.octet s.codec in
+    record {
+      kind_is = s.kind_is;
+      type_is = s.type_is;
+      size_is = s.size_is;
+      codec = ap (λ (p : CodedPacket). p.codec) c.hear.ensures.state ∙ next.1;
+      playout = s.playout;
+      packet =
+          (heard-short _ _ _ _ _ _ _ c.args.octet _ _ c.words_are_counted.ensures s
+          (ap (λ (p : CodedPacket). p.packet) c.hear.ensures.state) next.0 (omega arith)).1;
+    }

@@ -7,5 +7,6 @@ pub returns-clause-octets : goal.returns-clause-octets
 unfolding saved_speech
 returns-clause-octets c =
     let s = c.args.self.now in
-    append-three c.save.result _ (saved_coding s.kind s.payload_type s.codec) (saved_packet s.packet.items)
-    (saved_playout s.playout) _ _ _ c.in_ok-save_coding.ensures.octets c.in_ok-save_packet.ensures c.save.ensures.octets
+    append-three c.save.result _ (saved_coding s.kind s.payload_type s.coder.codec) (saved_packet s.coder.packet)
+    (saved_playout s.playout) _ _ _ (rw c.copy-codec.ensures.codec at c.in_ok-save_coding.ensures.octets)
+    (rw c.copy-codec.ensures.words at c.in_ok-save_packet.ensures) c.save.ensures.octets

@@ -20,7 +20,7 @@ returns-then-slot-eq0 c = λ config events o h divides room.
     let slot = c.slot.ensures.value s n h.trunk in
     let zero : n % 32 ≡ 0 = sym slot ∙ c.if-slot-eq0.true in
     let passed = c.skip_turn.ensures s n h.trunk (none_in_zero n zero) in
-    record {
+    rw c.work_together.ensures record {
       reply = rw (c.slot_zero.ensures, c.alarms.ensures s passed)
           (sym (sends_frame config events s n _ _ c.if-slot-eq0.true))
           ∙ sent_at config events s n _ _ slot (c.frame-frame.ensures.value s n h.trunk);

@@ -1,0 +1,128 @@
+//! Sixteen octets of each of eight encoders of one kind, which are coded at once (`Bundle`).
+
+ghost use Rattle.std.specs.Prelude.{◌≡◌, ◌≢◌, ◌<◌, length};
+ghost use Rattle.g726_codec.specs.Kinds.{rate_tables, words_by, after_by};
+ghost use Rattle.g726_lanes.specs.Lanes.{lane, column, EachLane};
+ghost use Rattle.g726_lanes.specs.States.{variables};
+
+use crate::lanes::Lanes;
+use e1_g711::Law;
+use g726_codec::{CodecKind, State};
+use g726_quant::{R16, R24, R32, R40};
+
+/// How many octets of each encoder are coded at once.
+pub const FRAMES: usize = 16;
+
+/// The encoders of eight circuits of one kind and law, circuit k in lane k, 0 to 7, with sixteen octets of
+/// each.
+///
+/// A lane that is not loaded is coded like the others.
+#[derive(Drop)]
+pub struct Bundle {
+    /// The law.
+    pub law: Law,
+    /// The kind.
+    pub kind: CodecKind,
+    /// The states.
+    pub lanes: Lanes,
+    /// The octets, or once they are coded their words: a frame has one of each circuit.
+    pub frames: [[u8; 8]; 16],
+}
+
+// The octets of a frame with that in lane k replaced.
+#[inline(always)]
+fn with_octet(frame: [u8; 8], k: usize, octet: u8) -> [u8; 8]
+    requires { k < 8 }
+    ensures own { lane result k ≡ octet }
+    ensures others { EachLane (λ j. j ≢ k → lane result j ≡ lane frame j) }
+{
+    let mut frame = frame;
+    frame[k] = octet;
+    frame
+}
+
+// Puts the octets of one circuit into its lane of the frames.
+fn put_column(frames: &mut [[u8; 8]; 16], k: usize, octets: &[u8])
+    requires lane { k < 8 }
+    requires sixteen { length octets.now ≡ 16 }
+    ensures own { column frames.new k ≡ octets.now }
+    ensures others { EachLane (λ j. j ≢ k → column frames.new j ≡ column frames.old j) }
+{
+    for i in 0..FRAMES {
+        frames[i] = with_octet(frames[i], k, octets[i]);
+    }
+}
+
+// The octets in one lane of the frames.
+fn column_of(frames: &[[u8; 8]; 16], k: usize) -> [u8; 16]
+    requires { k < 8 }
+    ensures { result ≡ column frames.now k }
+{
+    let mut octets = [0; FRAMES];
+    for i in 0..FRAMES {
+        octets[i] = frames[i][k];
+    }
+    octets
+}
+
+impl Bundle {
+    /// Eight encoders of a kind at reset, with octets that are 0.
+    pub fn new(law: Law, kind: CodecKind) -> Bundle
+        ensures { (result.law ≡ law) × (result.kind ≡ kind) }
+    {
+        Bundle {
+            law,
+            kind,
+            lanes: Lanes::reset(),
+            frames: [[0; 8]; FRAMES],
+        }
+    }
+
+    /// Puts the state of an encoder and its next sixteen octets into lane `k`, 0 to 7. The other lanes stay
+    /// as they are.
+    pub fn load(&mut self, k: usize, state: &State, octets: &[u8])
+        requires lane { k < 8 }
+        requires sixteen { length octets.now ≡ 16 }
+        ensures state { variables self.new.lanes k ≡ state.now }
+        ensures octets { column self.new.frames k ≡ octets.now }
+        ensures states { EachLane (λ j. j ≢ k → variables self.new.lanes j ≡ variables self.old.lanes j) }
+        ensures frames { EachLane (λ j. j ≢ k → column self.new.frames j ≡ column self.old.frames j) }
+        ensures kept { (self.new.law ≡ self.old.law) × (self.new.kind ≡ self.old.kind) }
+    {
+        self.lanes.load(k, state);
+        put_column(&mut self.frames, k, octets);
+    }
+
+    /// Codes the octets of each lane: its frames then have their words, and its state is that after them.
+    pub fn encode(&mut self)
+        ensures words { EachLane (λ k. column self.new.frames k ≡ words_by (rate_tables self.old.kind)
+            self.old.law (variables self.old.lanes k) (column self.old.frames k)) }
+        ensures states { EachLane (λ k. variables self.new.lanes k ≡ after_by (rate_tables self.old.kind)
+            (variables self.old.lanes k) (column self.new.frames k)) }
+        ensures kept { (self.new.law ≡ self.old.law) × (self.new.kind ≡ self.old.kind) }
+    {
+        match self.kind {
+            CodecKind::G711 => {}
+            CodecKind::G16 => self.lanes.encode_frames::<R16>(self.law, &mut self.frames),
+            CodecKind::G24 => self.lanes.encode_frames::<R24>(self.law, &mut self.frames),
+            CodecKind::G32 => self.lanes.encode_frames::<R32>(self.law, &mut self.frames),
+            CodecKind::G40 => self.lanes.encode_frames::<R40>(self.law, &mut self.frames),
+        }
+    }
+
+    /// The state in lane `k`, 0 to 7.
+    pub fn state(&self, k: usize) -> State
+        requires { k < 8 }
+        ensures { result ≡ variables self.now.lanes k }
+    {
+        self.lanes.store(k)
+    }
+
+    /// The octets in lane `k`, 0 to 7, or once they are coded their words.
+    pub fn octets(&self, k: usize) -> [u8; 16]
+        requires { k < 8 }
+        ensures { result ≡ column self.now.frames k }
+    {
+        column_of(&self.frames, k)
+    }
+}
