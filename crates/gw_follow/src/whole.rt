@@ -73,6 +73,7 @@ impl<R: Read> WholeRecords<R> {
     pub fn new(alloc: Global, reader: R) -> Result<Self, AllocError>
     where
         R: Drop,
+        ensures { IfOk result (λ records. records.source.reader ≡ reader) }
     {
         let held = Reader::new(alloc)?;
         Ok(WholeRecords {

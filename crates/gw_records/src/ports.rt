@@ -1,5 +1,5 @@
 //! The trait of the circuits' ports, which receive and send datagrams (`Ports`).
-ghost use Rattle.std.specs.Prelude.{◌≤◌, length, IfOk, IfSome};
+ghost use Rattle.std.specs.Prelude.{◌≡◌, ◌≤◌, length, IfOk, IfSome};
 ghost use Rattle.gw_records.specs.Ports.{PortsState, Receives, Sends, CountsFault, KeepsSends, KeepsReceives};
 
 use g704_cas::CircuitNo;
@@ -16,6 +16,12 @@ pub trait Ports {
     /// datagrams waiting at each circuit, those received, those sent, and all calls in order with their
     /// results.
     ghost tells: { Self → PortsState };
+
+    /// Learns which circuits have a datagram waiting; receives and sends nothing. It is called before the
+    /// first octet of each trunk record.
+    fn look(&mut self)
+        ensures { tells self.new ≡ tells self.old }
+    {}
 
     /// Receives one datagram of a circuit into `room` and returns its length.
     ///

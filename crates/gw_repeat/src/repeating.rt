@@ -116,6 +116,10 @@ impl<P: Ports + Drop> Repeating<P> {
 impl<P: Ports> Ports for Repeating<P> {
     ghost tells = { λ r. told (P.tells r.ports) r.send_failed r.log.calls };
 
+    fn look(&mut self) {
+        self.ports.look();
+    }
+
     #[inline]
     fn receive(&mut self, circuit: CircuitNo, room: &mut [u8]) -> Result<Option<usize>, PortFault>
         requires { 65536 ≤ length room.old }

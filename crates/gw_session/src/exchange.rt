@@ -187,8 +187,9 @@ impl SessionBuffers {
     }
 
     /// Gives octets to the gateway, each after the datagrams that wait at the circuit whose slot is sent with
-    /// it, and puts the octets to send behind those of the answer. All are recorded when it returns, mostly
-    /// in one write: the octets are cut where datagrams came.
+    /// it, and puts the octets to send behind those of the answer. The ports look for datagrams before the
+    /// first octet. All are recorded when it returns, mostly in one write: the octets are cut where datagrams
+    /// came.
     pub fn exchange_all<O: PacketPorts, K: Sink, T: Tape>(
         &mut self,
         gateway: &mut Gateway,
@@ -210,6 +211,7 @@ impl SessionBuffers {
     {
         self.recorded = 0;
         self.batch.clear();
+        packet_ports.look_for_datagrams();
         for i in 0..octets.len() {
             let heard = &octets[..i];
             self.receive_next(gateway, packet_ports, tape, heard);

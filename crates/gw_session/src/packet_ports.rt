@@ -14,6 +14,10 @@ pub trait PacketPorts {
     /// What a packet puts in front of the answer.
     ghost spells: { PacketOutput };
 
+    /// Learns which circuits have a datagram waiting, as [`Ports::look`] does.
+    fn look_for_datagrams(&mut self)
+        ensures { tells self.new ≡ tells self.old };
+
     /// Takes out the first datagram that waits at a circuit, as [`Ports::receive`] does.
     fn receive_datagram(
         &mut self,
@@ -56,6 +60,9 @@ impl PacketPorts for InRecords {
     ghost spells = { in_record };
 
     #[inline(always)]
+    fn look_for_datagrams(&mut self) {}
+
+    #[inline(always)]
     fn receive_datagram(
         &mut self,
         _circuit: CircuitNo,
@@ -83,6 +90,10 @@ impl<P: Ports> PacketPorts for P {
     ghost tells = { P.tells };
 
     ghost spells = { silent };
+
+    fn look_for_datagrams(&mut self) {
+        self.look();
+    }
 
     fn receive_datagram(
         &mut self,

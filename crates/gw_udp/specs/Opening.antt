@@ -5,12 +5,14 @@ use Rattle.std.specs.declared.io.Error.{Error}
 use Rattle.std.specs.declared.io.ErrorKind as kinds
 use Rattle.std.specs.declared.io.ErrorKind.TheVariants as errors
 use Rattle.std.specs.declared.net.socket_addr.SocketAddr.{SocketAddr}
+use Rattle.std.specs.declared.net.udp.UdpSocket.{UdpSocket}
 use Rattle.std.specs.Net.Addr.{is_ipv4}
 use Rattle.std.specs.Net.Socket.{socket_ip}
 use Rattle.gw_config.specs.declared.config.Port.{Port}
 use Rattle.gw_udp.specs.declared.source_filter.SourceFilter.{SourceFilter}
 use Rattle.gw_udp.specs.Names.{LookUp, IsAddressOf, LacksAddress}
-use Rattle.gw_udp.specs.Socket.{Bound, BindRefused}
+use Rattle.gw_udp.specs.Resting.{RestingIsBound}
+use Rattle.gw_udp.specs.Socket.{Bound, BindRefused, SystemRefusesPort}
 use Rattle.gw_udp.specs.Udp.{HasEndpoints}
 use Rattle.gw_udp.specs.declared.udp.Endpoint.{Endpoint}
 use Rattle.gw_udp.specs.declared.udp.OpenFault.{OpenFault}
@@ -67,3 +69,9 @@ abbrev pub FailsToOpen : {S : Type 0} → Bound S → BindRefused → LookUp →
 FailsToOpen is_bound refuses looks_up host senders ports faults.OutOfMemory = ⊤
 FailsToOpen is_bound refuses looks_up host senders ports (faults.Socket circuit) =
     IsFirstWithout is_bound refuses looks_up host senders ports circuit
+
+-- .. the system's, of which each rests while nothing comes
+abbrev pub LacksPorts : LookUp → List ℕ → SourceFilter → List (Option Port) → OpenFault → Type 0
+LacksPorts looks_up host senders ports fault =
+    FailsToOpen (RestingIsBound (λ (socket : UdpSocket) address. ⊤)) SystemRefusesPort looks_up host senders
+    ports fault

@@ -1,5 +1,5 @@
 -- The relations of a datagram socket.
-use Rattle.std.specs.Prelude.{ℕ, List, Option, Some, None, Result, Ok, Err}
+use Rattle.std.specs.Prelude.{⊤, ℕ, List, Option, Some, None, Result, Ok, Err}
 use Rattle.std.specs.declared.io.Error.{Error}
 use Rattle.std.specs.declared.net.socket_addr.SocketAddr.{SocketAddr}
 use Rattle.gw_records.specs.declared.ports.PortFault.{PortFault}
@@ -30,3 +30,8 @@ ReceivesAny receives old new (Err e) room = receives old new (Err e) room
 -- relates a socket before and after a send, the destination, the datagram, and the answer
 abbrev pub Sent : Type 0 → Type 1
 Sent S = S → S → SocketAddr → List ℕ → Result (Unit {0}) PortFault → Type 0
+
+-- The system refused a socket at an address with this error. Std says nothing of that, so this holds of every
+-- error; but it is unfolded only where the system is asked, so for all others it holds of errors received.
+unfoldable pub SystemRefusesPort : BindRefused
+SystemRefusesPort address error = ⊤

@@ -11,8 +11,9 @@ use std::io;
 use std::net::Net;
 use std::time::Duration;
 
-// The receives of a trunk in 1 ms: thirty circuits, eight octets each.
-const RECEIVES: u8 = 240;
+// A few more than the receives of a trunk in 1 ms (thirty circuits, eight octets each), so that a record of
+// 1 ms asks once.
+const RECEIVES: u8 = 250;
 
 // The system's readiness of sockets (epoll), which never waits here.
 #[derive(Drop)]
@@ -22,7 +23,7 @@ struct Poller {
 }
 
 /// The sockets of circuits that something has come to since they were last asked, as far as the system says
-/// so. It is asked once in 240 receives, of all circuits together.
+/// so. It is asked before each trunk record and once in 250 receives, of all circuits together.
 #[derive(Drop)]
 pub(crate) struct Readiness {
     poller: Option<Poller>,
@@ -47,9 +48,9 @@ fn note_all(events: &Events, came: &mut [bool; 30]) {
     }
 }
 
-// Notes the sockets that datagrams have come to since the last look.
+// Notes the sockets that datagrams have come to since this was last called.
 #[inline(never)]
-fn look(poller: &mut Option<Poller>, came: &mut [bool; 30]) {
+fn ask_system(poller: &mut Option<Poller>, came: &mut [bool; 30]) {
     let Some(poller) = poller else {
         return;
     };
@@ -84,14 +85,19 @@ impl Readiness {
         }
     }
 
+    /// Asks the system which sockets datagrams have come to. The next 249 receives ask it no more.
+    pub(crate) fn look(&mut self) {
+        self.receives = 0;
+        ask_system(&mut self.poller, &mut self.came);
+    }
+
     /// Whether the system has said that something came to the socket of this circuit since this was last
     /// asked.
     #[inline]
     pub(crate) fn came(&mut self, circuit: CircuitNo) -> bool {
         self.receives = self.receives.wrapping_add(1);
         if self.receives >= RECEIVES {
-            self.receives = 0;
-            look(&mut self.poller, &mut self.came);
+            self.look();
         }
         let at = usize::from(circuit.get()) - 1;
         let came = self.came[at];

@@ -3,6 +3,7 @@
 ghost use Rattle.std.specs.Prelude.{◌≡◌, ◌≤◌, ℕ, List, length, Ok, None, IfOk, IfErr, IfSome, IsTrue};
 ghost use Rattle.std.specs.Prelude.{IsFalse, OnOk, ⊤};
 ghost use Rattle.gw_udp.specs.Socket.{Bound, KeepsBound, BindRefused, Received, ReceivesAny, Sent};
+ghost use Rattle.gw_udp.specs.Socket.{SystemRefusesPort};
 
 use crate::outcome::{received, sent, was_refused};
 use gw_records::PortFault;
@@ -83,6 +84,9 @@ pub trait Socket: Drop {
 //
 // No clause says what its calls do with the system's; those of `outcome` say what follows from their answers.
 impl Socket for UdpSocket {
+    ghost refuses = { SystemRefusesPort };
+
+    #[tactic(auto, unfolding(crate::specs::Socket::SystemRefusesPort))]
     fn bind<N: Net>(net: &N, address: SocketAddr) -> io::Result<UdpSocket> {
         let socket = UdpSocket::bind(net, address)?;
         socket.set_nonblocking(true)?;

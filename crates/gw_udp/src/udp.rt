@@ -343,6 +343,10 @@ impl<S: Socket> Ports for UdpPorts<S> {
     ghost tells = { λ p.
         told p.receive_failed p.send_failed (addresses_of p.opened.value.items) p.log.calls };
 
+    fn look(&mut self) {
+        self.readiness.look();
+    }
+
     #[inline]
     fn receive(&mut self, circuit: CircuitNo, room: &mut [u8]) -> Result<Option<usize>, PortFault>
         ensures bound { IfOk result (λ got. IfSome got (λ n. n ≤ length room.new)) }

@@ -11,14 +11,14 @@ use Rattle.gw_switch.specs.declared.gateway.Gateway.{Gateway}
 use Rattle.gw_trunk.specs.Multiframes.{GoesInTime}
 use Rattle.run_trunk.specs.Serving.{Traffic}
 use Rattle.gw_command.specs.Command.{text_in}
-use Rattle.gw_program.proofs.Streams.{on_new, saved_told, with_gateway}
+use Rattle.gw_program.proofs.Streams.{on_new, saved_told, told_why, with_gateway}
 use Rattle.gw_program.specs.declared.program_fault.ProgramFault.{ProgramFault}
-use Rattle.gw_program.specs.Performing.{EndedSaved, NotBegun, HasServed, HasConfig}
+use Rattle.gw_program.specs.Performing.{EndedSaved, NotBegun, HasServed, HasConfig, LacksSession}
 use Rattle.gw_program.specs.Requests.{CommandLine, TakesAsked}
 use Rattle.gw_program.specs.Sessions.{HasGateway}
-use Rattle.run_trunk.specs.Trunks.{CarriesTrunk, LacksControl, LacksEnds, LacksSession, LacksStream, ServesTrunk}
+use Rattle.run_trunk.specs.Trunks.{CarriesTrunk, LacksControl, LacksEnds, LacksStream, ServesTrunk}
 
--- a fault is told of streams that nothing was done with, for a reason
+-- a fault is returned for a reason, and nothing was done with the streams
 pub nothing_served : (command : CommandLine) (lacks : ProgramFault → Type 0) (fault : ProgramFault)
     → LacksEnds command fault ⊎ lacks fault → ServesTrunk command lacks (Err fault)
 nothing_served command lacks fault why =
@@ -27,31 +27,19 @@ nothing_served command lacks fault why =
     (inl (record { program_fault = fault; why = why; told_is = refl; unread = refl; unwritten = refl })) refl refl refl
     refl
 
--- A trunk for which the system refuses a stream is told so.
+-- .. if the system refuses a stream
 pub no_stream : (command : CommandLine) (lacks : ProgramFault → Type 0) (told : Result Totals ProgramFault)
     → IsErrAnd told LacksStream → ServesTrunk command lacks told
 no_stream command lacks (Ok totals) why = absurd why
 no_stream command lacks (Err fault) why = nothing_served command lacks fault (inl (inl why))
 
--- So is one for which it refuses what clients connect to.
+-- .. or what clients connect to
 pub no_control : (command : CommandLine) (lacks : ProgramFault → Type 0) (path : List ℕ)
     (told : Result Totals ProgramFault) → text_in (codes "control") command ≡ Some path
     → IsErrAnd told (LacksControl path) → ServesTrunk command lacks told
 no_control command lacks path (Ok totals) named why = absurd why
 no_control command lacks path (Err fault) named why =
     nothing_served command lacks fault (inl (inr (path, named, why)))
-
--- another reason why nothing was begun is told as one of these
-told_why : {S K : Type 0} {x x' : S} {y y' : K} {why lacks : ProgramFault → Type 0} {told : Result Totals ProgramFault}
-    {s s' : SourceState} {k k' : SinkState} → ((fault : ProgramFault) → why fault → lacks fault) → (x' ≡ x → s' ≡ s)
-    → (y' ≡ y → k' ≡ k) → NotBegun x x' y y' why told → NotBegun s s' k k' lacks told
-told_why is f g n = record {
-  program_fault = n.program_fault;
-  why = is n.program_fault n.why;
-  told_is = n.told_is;
-  unread = f n.unread;
-  unwritten = g n.unwritten;
-}
 
 module _ (s s' : SourceState) (k k' : SinkState) {P T S K : Type 0} {x x' : S} {y y' : K} (reads : Config → Type 0)
     (lacks : ProgramFault → Type 0) (lacks_gateway lacks_more : Config → ProgramFault → Type 0) (command : CommandLine)

@@ -1,8 +1,6 @@
 -- What it means that the trunk that the command line names is served.
 use Rattle.std.specs.Prelude.{◌≡◌, ◌⊎◌, ℕ, List, Some, Result, codes}
 use Rattle.std.specs.declared.io.Error.{Error}
-use Rattle.std.specs.IoError.{error_kind}
-use Rattle.gw_config.specs.declared.config.Config.{Config}
 use Rattle.gw_switch.specs.declared.GatewayConfig.{GatewayConfig}
 use Rattle.gw_switch.specs.declared.gateway.Gateway.{Gateway}
 use Rattle.gw_records.specs.declared.outcome.Totals.{Totals}
@@ -19,7 +17,7 @@ use Rattle.gw_program.specs.Requests.{AsksWait, CommandLine, OnNewStreams, load_
 use Rattle.gw_program.specs.Sessions.{HasGateway, Serves}
 use Rattle.gw_program.specs.Setup.{IsConfigAt}
 use Rattle.gw_program.specs.State.{BeginsWaiting, IsSaved}
-use Rattle.gw_program.specs.Status.{fault_of_error}
+use Rattle.gw_program.specs.Status.{SaysRefused}
 use Rattle.gw_program.specs.declared.program_fault.ProgramFault.{ProgramFault}
 use Rattle.gw_program.specs.declared.program_fault.ProgramFault.TheVariants as program_faults
 
@@ -41,31 +39,19 @@ pub record HasTrunk (does : Traffic → Type 0) : Type 0 where
   pub slow_waits : ℕ
   pub goes : ∥ GoesInTime passed.went went discarded slow_waits ∥₁
 
--- a fault says that the system refused something with an error
-abbrev pub IsRefused : (Error → Type 0) → ProgramFault → ProgramFault → Type 0
-IsRefused refuses otherwise fault =
-    (error : Error) × refuses error × (fault ≡ fault_of_error (error_kind error) otherwise)
-
 -- the system refused to wait for a stream of the trunk
 abbrev pub LacksStream : ProgramFault → Type 0
-LacksStream fault = IsRefused SystemRefusesStream program_faults.Trunk fault
+LacksStream fault = SaysRefused SystemRefusesStream program_faults.Trunk fault
 
 -- the system refused the socket of clients at a path, or to wait for the trunk and for them
 abbrev pub LacksControl : List ℕ → ProgramFault → Type 0
 LacksControl path fault =
-    IsRefused (λ e. SystemRefusesDoor path e ⊎ SystemRefusesStream e) program_faults.Control fault
+    SaysRefused (λ e. SystemRefusesDoor path e ⊎ SystemRefusesStream e) program_faults.Control fault
 
 -- why a trunk has no ends: a stream is refused, or what the command names for clients
 abbrev pub LacksEnds : CommandLine → ProgramFault → Type 0
 LacksEnds command fault = LacksStream fault
     ⊎ ((path : List ℕ) × (text_in (codes "control") command ≡ Some path) × LacksControl path fault)
-
--- why a session is not begun: there is no configuration; or, for one that was read, no gateway, or no tape or
--- ports
-abbrev pub LacksSession : (ProgramFault → Type 0) → (Config → Type 0) → (Config → ProgramFault → Type 0)
-    → (Config → ProgramFault → Type 0) → ProgramFault → Type 0
-LacksSession lacks reads lacks_gateway lacks_more fault =
-    lacks fault ⊎ ((config : Config) × reads config × (lacks_gateway config fault ⊎ lacks_more config fault))
 
 -- The trunk that the command names was served with this result: it has no ends, or its session was not begun
 -- for such a reason, and nothing was read or written; or it was served by a gateway that was begun by the

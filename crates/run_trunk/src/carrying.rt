@@ -2,9 +2,9 @@
 
 ghost use Rattle.std.specs.Prelude.{◌≡◌, [], IfOk, IfErr};
 ghost use Rattle.clap.specs.Words.{subcommand_rows_of};
-ghost use Rattle.gw_program.specs.Performing.{LacksTapeOrPorts};
+ghost use Rattle.gw_program.specs.Performing.{LacksSession, LacksTapeOrPorts};
 ghost use Rattle.gw_program.specs.Requests.{TakesAsked};
-ghost use Rattle.run_trunk.specs.Trunks.{LacksControl, LacksSession, LacksStream, ServesTrunk};
+ghost use Rattle.run_trunk.specs.Trunks.{LacksControl, LacksStream, ServesTrunk};
 
 use crate::performing::perform_trunk;
 use clap::ArgMatches;

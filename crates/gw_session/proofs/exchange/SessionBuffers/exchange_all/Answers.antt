@@ -35,9 +35,10 @@ returns-in_err-sent-clause-exchanges g c =
     let p = err_from_is_err_and c.from_residual.result c.from_residual.ensures.1 in
     let waits = ap (λ (s : SessionBuffers). s.waiting.items) c.receive_next.ensures.others in
     let hears = rw waits at c.in_err-sent.ensures.hears in
+    let heard = rw c.look_for_datagrams.ensures at c.loop-i.invariant.heard in
     rw (p.1, p.2) (
       hears.0,
-      stops_after (drop (i + 1) octets) (split_at octets i c.loop-i-test.true) c.loop-i.invariant.heard.so.0
+      stops_after (drop (i + 1) octets) (split_at octets i c.loop-i-test.true) heard.so.0
           (stops_once c.receive_next.ensures.comes hears.1),
     )
 
@@ -68,5 +69,6 @@ returns-clause-at_once g c = c.loop-i.invariant.at_once
 pub returns-clause-exchanges : goal.returns-clause-exchanges
 returns-clause-exchanges g c =
     let end : c.loop-i.i ≡ length c.args.octets.now = omega (arith, c.loop-i-test.false, c.loop-i.auto.i-end) in
-    heard_all c.args.octets.now _ c.loop-i.i c.loop-i.self.recorded c.loop-i.invariant.heard end
+    let heard = rw c.look_for_datagrams.ensures at c.loop-i.invariant.heard in
+    heard_all c.args.octets.now _ c.loop-i.i c.loop-i.self.recorded heard end
     (take_rest c.args.octets.now c.loop-i.self.recorded) c.record_octets.ensures.recorded

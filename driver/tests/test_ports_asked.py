@@ -1,0 +1,154 @@
+"""A datagram that was there before a read's octets is received with them, in `e1gw serve` and `e1gw trunk`.
+
+It goes in lock step: each datagram is in its socket before the octets are written, and what is sent for
+them is read back before more is written. Expected is what `e1gw replay` does with the same octets and
+datagrams as records, each datagram before the octet that the definition receives it before."""
+from __future__ import annotations
+
+import contextlib
+import random
+import socket
+import subprocess
+import unittest
+from collections import deque
+from typing import Callable, Iterator
+
+from . import support
+from .support import SECONDS
+from .test_trunk_served import octets_in, read_all
+from e1gw.exchange import SEIZED, ServeProcess, slot_of
+from e1gw.session import CIRCUITS, FRAME, Kind, Packet, datagram_record, records_in, trunk_record
+from e1gw.testing.ports import free_ports
+
+Step = tuple[list[tuple[int, bytes]], bytes]        # datagrams of circuits, and the octets after them
+Exchanges = Callable[[bytes], bytes]                # gives octets; returns those that are sent
+CIRCUIT_IN = {slot_of(circuit): circuit for circuit in CIRCUITS}
+MOST = 4                                            # datagrams of a circuit before one octet
+PIECES = 60
+
+
+def calls_of(speech: random.Random) -> tuple[bytes, bytes]:
+    """What an exchange sends: a seizure of all circuits, then their calls."""
+    exchange = support.Exchange()
+    idle = b''.join(exchange.multiframe() for _ in range(20))
+    exchange.pairs = dict.fromkeys(CIRCUITS, SEIZED)
+    seizures = b''.join(exchange.multiframe() for _ in range(40))
+    exchange.speech = {circuit: bytearray(speech.randbytes(1600)) for circuit in CIRCUITS}
+    return idle + seizures, b''.join(exchange.multiframe() for _ in range(100))
+
+
+def session_of(seed: int) -> list[Step]:
+    """A random session: pieces of 1 to 2,048 octets, and before each some datagrams that are played soon."""
+    pick = random.Random(seed)
+    begun, calls = calls_of(pick)
+    steps: list[Step] = [([], begun)]
+    at = 0
+    for number in range(PIECES):
+        datagrams = []
+        for circuit in pick.choices(CIRCUITS, k=pick.choice((0, 1, 5, 15))):
+            for part in range(pick.choice((1, 1, 1, 6))):
+                time = 1000 + at // FRAME + pick.randrange(12) + 8 * part
+                packet = Packet(8, number, time, circuit, pick.randbytes(pick.randrange(1, 40)))
+                datagrams.append((circuit, packet.encode()))
+        length = round(2 ** pick.uniform(0, 11))
+        steps.append((datagrams, calls[at:at + length]))
+        at += length
+    return steps
+
+
+def records_of(steps: list[Step]) -> bytes:
+    """The session as records: before an octet, the datagrams of the circuit whose slot is sent with it."""
+    waiting: dict[int, deque[bytes]] = {circuit: deque() for circuit in CIRCUITS}
+    records, place = [], 0
+    for datagrams, octets in steps:
+        for circuit, datagram in datagrams:
+            waiting[circuit].append(datagram)
+        for octet in octets:
+            circuit = CIRCUIT_IN.get(place % FRAME, 0)
+            for _ in range(min(MOST, len(waiting.get(circuit, ())))):
+                records.append(datagram_record(circuit, waiting[circuit].popleft()))
+            records.append(trunk_record(bytes([octet])))
+            place += 1
+    return b''.join(records)
+
+
+def waiting_at(port: int) -> int:
+    """The octets of memory that the datagrams in a socket take."""
+    with open('/proc/net/udp', encoding='ascii') as table:
+        rows = [line.split() for line in table]
+    return sum(int(row[4].partition(':')[2], 16) for row in rows if row[1].endswith(f':{port:04X}'))
+
+
+class PortsAskedTests(support.FolderCase):
+    """Thirty incoming circuits, each with a port and a peer's socket."""
+
+    def setUp(self) -> None:
+        super().setUp()
+        self.ports = dict(zip(CIRCUITS, free_ports(len(CIRCUITS))))
+        self.peers = {circuit: socket.socket(socket.AF_INET, socket.SOCK_DGRAM) for circuit in CIRCUITS}
+        text = 'law = "A"\n'
+        for circuit, peer in self.peers.items():
+            self.addCleanup(peer.close)
+            peer.bind(('127.0.0.1', 0))
+            peer.settimeout(SECONDS)
+            text += (f'[[circuit]]\nnumber = {circuit}\nrole = "incoming"\n'
+                     f'local_port = {self.ports[circuit]}\npeer_port = {peer.getsockname()[1]}\n')
+        self.config = self.write('trunk.toml', text)
+
+    @contextlib.contextmanager
+    def serve(self) -> Iterator[Exchanges]:
+        process = ServeProcess(support.program(), self.config)
+        with process.process:
+            yield process.trunk
+            self.assertEqual(process.end(), 0)
+
+    @contextlib.contextmanager
+    def trunk(self) -> Iterator[Exchanges]:
+        here, there = socket.socketpair()
+        words = [support.program(), 'trunk', '--config', self.config]
+        with here, subprocess.Popen(words, stdin=there.fileno(), stdout=there.fileno()) as process:
+            there.close()
+            here.settimeout(SECONDS)
+
+            def exchange(octets: bytes) -> bytes:
+                here.sendall(octets)
+                return read_all(here, len(octets))
+
+            yield exchange
+            here.shutdown(socket.SHUT_WR)
+            self.assertEqual(process.wait(SECONDS), 0)
+
+    def send(self, circuit: int, datagram: bytes) -> None:
+        """Sends a datagram to a circuit, and returns once it is in the circuit's socket."""
+        port = self.ports[circuit]
+        before = waiting_at(port)
+        self.peers[circuit].sendto(datagram, ('127.0.0.1', port))
+        support.until(lambda: waiting_at(port) > before, 0.001)
+
+    def answers(self, steps: list[Step], exchange: Exchanges) -> bytes:
+        """The octets that are sent in a session."""
+        back = b''
+        for datagrams, octets in steps:
+            for circuit, datagram in datagrams:
+                self.send(circuit, datagram)
+            back += exchange(octets)
+        return back
+
+    def test_what_was_there_is_received(self) -> None:
+        for seed in range(2):
+            steps = session_of(seed)
+            wanted = support.run('replay', '--config', self.config, given=records_of(steps))
+            packets = [record for record in records_in(wanted) if record.kind == Kind.DATAGRAM]
+            played = [each for each in records_in(wanted) if each.kind == Kind.ANSWER and not each.refusal]
+            self.assertGreater(len(played), 100)
+            for served in (self.serve, self.trunk):
+                with self.subTest(seed=seed, served=served.__name__):
+                    with served() as exchange:
+                        back = self.answers(steps, exchange)
+                    sent = [self.peers[record.circuit].recv(2048) for record in packets]
+                    self.assertEqual(back, octets_in(wanted))
+                    self.assertEqual(sent, [record.body for record in packets])
+
+
+if __name__ == '__main__':
+    unittest.main()
