@@ -1,19 +1,17 @@
 -- The front of a configuration says what the whole says.
-use Rattle.std.proofs.Common.{◌≡◌, ℕ, ◌<◌, ◌≤◌, ◌++◌, List, [], length, take, nat_lt, Bool, true, false}
+use Rattle.std.proofs.Common.{◌≡◌, inl, inr, ℕ, ◌<◌, ◌≤◌, ◌++◌, List, [], length, take, nat_lt, Bool, true, false}
 use Rattle.std.proofs.Common.{Option, Some, None, Result, Err, refl, sym, ap, ◌∙◌, arith}
-use Rattle.std.specs.Prelude.{IfSome, IfErr, Ok, option_map}
+use Rattle.std.specs.Prelude.{IfSome, IfOk, IfErr, Ok, option_map}
+use Rattle.std.specs.declared.fs.File.{File}
 use Rattle.std.specs.declared.io.Error.{Error}
-use Rattle.std.specs.declared.io.ErrorKind as kinds_of
-use Rattle.std.specs.declared.io.ErrorKind.TheVariants as errors
 use Rattle.std.proofs.lemmas.Bool.{lt-ltb, ltb-true, ltb-false}
 use Rattle.std.proofs.lemmas.List.{take_all, length-take}
 use Rattle.gw_config.specs.declared.config.Config.{Config}
 use Rattle.gw_config.specs.declared.fault.FaultKind.TheVariants as kinds
 use Rattle.gw_config.specs.Octets.{meaning_of_octets, at_top}
-use Rattle.gw_program.specs.Setup.{Says, FailsToRead}
-use Rattle.gw_program.specs.Status.{fault_of_error}
+use Rattle.gw_program.specs.Files.{SystemFailsToRead, SystemOpens, SystemReads}
+use Rattle.gw_program.specs.Setup.{Says, IsMeant, IsRefusedOf, LacksConfig, LacksConfigAt, PathGives}
 use Rattle.gw_program.specs.declared.program_fault.ProgramFault.{ProgramFault}
-use Rattle.gw_program.specs.declared.program_fault.ProgramFault.TheVariants as program_faults
 
 -- what is too long is refused, whatever it is
 pub too_long : (octets : List ℕ) → nat_lt 65536 (length octets) ≡ true
@@ -45,15 +43,41 @@ said_of_all (Some octets) before items slice r empty came is said =
     ap meaning_of_octets (is ∙ came ∙ ap (λ (xs : List ℕ). xs ++ take 65537 octets) empty) ∙ meaning_of_front octets in
     rw (← front) said
 
--- where no reading failed nothing is said of one
-pub read_whole : (fails : Error → Type 0) (r : Result Config ProgramFault) → IfErr r (FailsToRead (λ _. ⊥))
-    → IfErr r (FailsToRead fails)
-read_whole fails (Ok config) h = tt
-read_whole fails (Err program_faults.File) h = absurd h.1
-read_whole fails (Err _) h = tt
+-- octets that were refused were given so
+pub refused_so : (Given Given' : List ℕ → Type 0) (r : Result Config ProgramFault)
+    → ((octets : List ℕ) → Given octets → Given' octets) → IfErr r (IsRefusedOf Given) → IfErr r (IsRefusedOf Given')
+refused_so Given Given' (Ok config) is h = tt
+refused_so Given Given' (Err fault) is h = record {
+  fault = h.fault;
+  told_is = h.told_is;
+  octets = h.octets;
+  given = is h.octets h.given;
+  fails = h.fails;
+}
 
--- what is told of a read that failed: an error of the system, or want of memory
-pub read_failed : (fails : Error → Type 0) (error : Error) (kind : kinds_of.ErrorKind) → fails error
-    → FailsToRead fails (fault_of_error kind program_faults.File)
-read_failed fails error errors.OutOfMemory p = tt
-read_failed fails error _ p = (error, p)
+-- .. and that is why there is no configuration
+pub lacks_meaning : (Refuses : Error → Type 0) (Given : List ℕ → Type 0) (r : Result Config ProgramFault)
+    → IfErr r (IsRefusedOf Given) → IfErr r (LacksConfig Refuses Given)
+lacks_meaning Refuses Given (Ok config) h = tt
+lacks_meaning Refuses Given (Err fault) h = inr h
+
+-- octets that a file gave were given at its path
+gives_at : (path : List ℕ) (file : File) → SystemOpens path file → (octets : List ℕ) → SystemReads file octets
+    → PathGives path octets
+gives_at path file opened octets reads = record { file = file; opened = opened; reads = reads }
+
+-- a configuration that a file means is meant at its path
+pub meant_at : (path : List ℕ) (file : File) (r : Result Config ProgramFault) → SystemOpens path file
+    → IfOk r (IsMeant (SystemReads file)) → IfOk r (IsMeant (PathGives path))
+meant_at path file (Ok config) opened h =
+    record { octets = h.octets; given = gives_at path file opened h.octets h.given; means = h.means }
+meant_at path file (Err fault) opened h = tt
+
+-- .. and where it has none, its path has none
+pub lacks_at : (path : List ℕ) (file : File) (r : Result Config ProgramFault) → SystemOpens path file
+    → IfErr r (LacksConfig (SystemFailsToRead file) (SystemReads file)) → IfErr r (LacksConfigAt path)
+lacks_at path file (Ok config) opened h = tt
+lacks_at path file (Err fault) opened h = elim h [
+  | inl e ↦ inl (e.0, inr (file, opened, e.1), e.2)
+  | inr n ↦ inr (refused_so _ _ (Err fault) (gives_at path file opened) n)
+]

@@ -15,13 +15,13 @@ use Rattle.gw_command.specs.declared.command.SessionKind.{SessionKind}
 use Rattle.gw_command.specs.declared.command.SessionKind.TheVariants.{Replay, Check, Serve}
 use Rattle.gw_program.specs.declared.program_fault.ProgramFault.{ProgramFault}
 use Rattle.gw_program.specs.declared.program_fault.ProgramFault.TheVariants as program_faults
-use Rattle.gw_program.specs.Performing.{EndedSaved, NotBegun, HasServed, HasConfig, by_session}
+use Rattle.gw_program.specs.Performing.{EndedSaved, NotBegun, HasServed, HasConfig, LacksMore, LacksSession, by_session}
 use Rattle.gw_program.specs.Places.{EndsAt}
 use Rattle.gw_program.specs.Sessions.{HasGateway, Runs, Serves, Checks}
 use Rattle.gw_program.specs.State.{HasBegun, BeginsWaiting, IsSaved}
 use Rattle.gw_program.specs.Requests.{AsksWait, ByGateway, CommandLine, DoesSession, EndsSession, FollowsLog}
 use Rattle.gw_program.specs.Requests.{OnNewStreams, TakesAsked, config_in, follow_in, load_in, save_in}
-use Rattle.gw_program.specs.Setup.{IsConfigAt, IsMeant, SystemGives}
+use Rattle.gw_program.specs.Setup.{IsConfigAt, IsMeant, PathGives}
 
 -- what was done on streams to which nothing had happened was done on new streams
 pub on_new : (s s' : SourceState) (k k' : SinkState) {does : SessionStreams → SessionStreams → Type 0}
@@ -36,8 +36,9 @@ on_new s s' k k' done reads given failures writes = record {
 
 -- a session is not begun for a command that names no configuration
 pub no_session : (command : CommandLine) (session : SessionKind) → config_in command ≡ None
-    → DoesSession command session (Err program_faults.Nothing)
-no_session command session none = go (follow_in command)
+    → (lacks : ProgramFault → Type 0) → lacks program_faults.Nothing
+    → DoesSession command session lacks (Err program_faults.Nothing)
+no_session command session none lacks why = go (follow_in command)
   where
     source : SourceState
     source = record { failures = 0; reads = 0; given = Some []; to_come = None }
@@ -47,15 +48,15 @@ no_session command session none = go (follow_in command)
 
     go : (o : Option (List ℕ))
         → MatchOption o
-        ((place : ℕ) × EndsSession command session (λ _. ⊤) 0 place (Err program_faults.Nothing))
-        (λ path. FollowsLog command session path (Err program_faults.Nothing))
+        ((place : ℕ) × EndsSession command session lacks (λ _. ⊤) 0 place (Err program_faults.Nothing))
+        (λ path. FollowsLog command session lacks path (Err program_faults.Nothing))
     go None = (
       0,
       on_new source source sink sink (
         tt,
         inl (record {
           program_fault = program_faults.Nothing;
-          why = tt;
+          why = why;
           told_is = refl;
           unread = refl;
           unwritten = refl;
@@ -64,17 +65,56 @@ no_session command session none = go (follow_in command)
     )
     go (Some path) = inr (refl, inl none)
 
--- why nothing was begun is left out, and what the streams are beside what they tell
-pub told_untouched : {S K : Type 0} {x x' : S} {y y' : K} {why : ProgramFault → Type 0} {told : Result Totals ProgramFault}
-    {s s' : SourceState} {k k' : SinkState} → (x' ≡ x → s' ≡ s) → (y' ≡ y → k' ≡ k) → NotBegun x x' y y' why told
-    → NotBegun s s' k k' (λ _. ⊤) told
-told_untouched f g n = record {
+-- nothing was begun for one of these reasons, so for one of more
+pub told_why : {S K : Type 0} {x x' : S} {y y' : K} {why lacks : ProgramFault → Type 0}
+    {told : Result Totals ProgramFault}
+    {s s' : SourceState} {k k' : SinkState} → ((fault : ProgramFault) → why fault → lacks fault) → (x' ≡ x → s' ≡ s)
+    → (y' ≡ y → k' ≡ k) → NotBegun x x' y y' why told → NotBegun s s' k k' lacks told
+told_why is f g n = record {
   program_fault = n.program_fault;
-  why = tt;
+  why = is n.program_fault n.why;
   told_is = n.told_is;
   unread = f n.unread;
   unwritten = g n.unwritten;
 }
+
+-- A session that ended so did, or was not begun for one of more reasons.
+ends_so : (command : CommandLine) (session : SessionKind) (lacks lacks' : ProgramFault → Type 0)
+    (Given : SourceState → Type 0) (from place : ℕ) (told : Result Totals ProgramFault)
+    → ((fault : ProgramFault) → lacks fault → lacks' fault)
+    → EndsSession command session lacks Given from place told → EndsSession command session lacks' Given from place told
+ends_so command session lacks lacks' Given from place told is e = record {
+  before = e.before;
+  after = e.after;
+  new = e.new;
+  done = (e.done.0, elim e.done.1 [ inl n ↦ inl (told_why is (λ e. e) (λ e. e) n) | inr h ↦ inr h ]);
+}
+
+-- .. on standard input or on a log
+pub session_so : (command : CommandLine) (session : SessionKind) (lacks lacks' : ProgramFault → Type 0)
+    (told : Result Totals ProgramFault) → ((fault : ProgramFault) → lacks fault → lacks' fault)
+    → DoesSession command session lacks told → DoesSession command session lacks' told
+session_so command session lacks lacks' told is = go (follow_in command)
+  where
+    go : (o : Option (List ℕ))
+        → MatchOption o ((place : ℕ) × EndsSession command session lacks (λ _. ⊤) 0 place told)
+        (λ path. FollowsLog command session lacks path told)
+        → MatchOption o ((place : ℕ) × EndsSession command session lacks' (λ _. ⊤) 0 place told)
+        (λ path. FollowsLog command session lacks' path told)
+    go None e = (e.0, ends_so command session lacks lacks' _ 0 e.0 told is e.1)
+    go (Some path) (inr n) = inr n
+    go (Some path) (inl h) = inl (record {
+      place = h.place;
+      from = h.from;
+      done = elim h.done [
+        | inl n ↦ inl n
+        | inr e ↦ inr (record {
+          place = e.place;
+          ends = ends_so command session lacks lacks' _ h.place e.place told is e.ends;
+          tells = e.tells;
+        })
+      ];
+    })
 
 -- the path that is named is told as its text
 begun_at : {X : Type 0} (f : X → List ℕ) (path : Option X) (config : GatewayConfig) (gateway : Gateway)
@@ -104,7 +144,7 @@ saved_at f (Some path) saved is = is
 pub takes_asked : {X : Type 0} (f : X → List ℕ) (command : CommandLine) (path : List ℕ) (load save : Option X)
     (wait : Option ℕ) → config_in command ≡ Some path → option_map f load ≡ load_in command
     → option_map f save ≡ save_in command → AsksWait command wait
-    → TakesAsked command (IsMeant (SystemGives path))
+    → TakesAsked command (IsMeant (PathGives path))
     (λ config gateway. BeginsWaiting config.gateway load (λ asked. asked ≡ wait) gateway)
     (λ config gateway saved. IsSaved save saved)
 takes_asked f command path load save wait named loads saves asks = record {
@@ -151,11 +191,11 @@ module _ (s s' : SourceState) (k k' : SinkState) {P T : Type 0} (reads : Config 
     (ports_tell : P → PortsState) (tape_tells : T → TapeState) {told : Result Totals ProgramFault}
   where
     -- nothing was begun on new streams
-    stopped : {why : ProgramFault → Type 0} {does : SessionStreams → SessionStreams → Gateway → Gateway → Type 0}
-        → NotBegun s s' k k' why told
+    stopped : {why all : ProgramFault → Type 0} {does : SessionStreams → SessionStreams → Gateway → Gateway → Type 0}
+        → ((fault : ProgramFault) → why fault → all fault) → NotBegun s s' k k' why told
         → s.reads ≡ 0 → s.given ≡ Some [] → s.failures ≡ 0 → k.failures ≡ 0
-        → OnNewStreams (λ a a'. Given a'.source × ByGateway a a' command told (does a a'))
-    stopped n = on_new s s' k k' (given, inl (told_untouched (λ e. e) (λ e. e) n))
+        → OnNewStreams (λ a a'. Given a'.source × ByGateway a a' command all told (does a a'))
+    stopped is n = on_new s s' k k' (given, inl (told_why is (λ e. e) (λ e. e) n))
 
     -- a session that was done on new streams
     pub session_done : (lacks_watch : ProgramFault → Type 0) (session : SessionKind) (from place : ℕ)
@@ -171,12 +211,13 @@ module _ (s s' : SourceState) (k k' : SinkState) {P T : Type 0} (reads : Config 
         EndedSaved (λ end. Serves (around s k (ports_tell ports) (tape_tells tape))
         (around s' k' (ports_tell ports') (tape_tells tape')) end gateway gateway') (saves config gateway') told))))
         → s.reads ≡ 0 → s.given ≡ Some [] → s.failures ≡ 0 → k.failures ≡ 0
-        → EndsSession command session Given from place told
-    session_done lacks_watch session from place (inl n) a b c d = stopped n a b c d
+        → EndsSession command session (LacksSession lacks reads lacks_gateway
+        (LacksMore session lacks_watch lacks_more)) Given from place told
+    session_done lacks_watch session from place (inl n) a b c d = stopped (λ fault why. inl why) n a b c d
     session_done lacks_watch Replay from place (inr h) a b c d = elim h.done [
-      | inl n ↦ stopped n a b c d
+      | inl n ↦ stopped (λ fault why. inr (h.config, h.read, inl why)) n a b c d
       | inr w ↦ elim w.done [
-        | inl n ↦ stopped n a b c d
+        | inl n ↦ stopped (λ fault why. inr (h.config, h.read, inr why)) n a b c d
         | inr e ↦ on_new s s' k k' (
           given,
           inr (with_gateway h.config w.gateway w.gateway'
@@ -186,7 +227,7 @@ module _ (s s' : SourceState) (k k' : SinkState) {P T : Type 0} (reads : Config 
       ]
     ]
     session_done lacks_watch Check from place (inr h) a b c d = elim h.done [
-      | inl n ↦ stopped n a b c d
+      | inl n ↦ stopped (λ fault why. inr (h.config, h.read, inl why)) n a b c d
       | inr w ↦ on_new s s' k k' (
         given,
         inr (with_gateway h.config w.gateway w.gateway'
@@ -195,9 +236,9 @@ module _ (s s' : SourceState) (k k' : SinkState) {P T : Type 0} (reads : Config 
       ) a b c d
     ]
     session_done lacks_watch Serve from place (inr h) a b c d = elim h.done [
-      | inl n ↦ stopped n a b c d
+      | inl n ↦ stopped (λ fault why. inr (h.config, h.read, inl why)) n a b c d
       | inr w ↦ elim w.done [
-        | inl n ↦ stopped n a b c d
+        | inl n ↦ stopped (λ fault why. inr (h.config, h.read, inr why)) n a b c d
         | inr v ↦ record {
           before = around s k (ports_tell v.ports) (tape_tells v.tape);
           after = around s' k' (ports_tell v.ports') (tape_tells v.tape');

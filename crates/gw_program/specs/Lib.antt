@@ -9,5 +9,7 @@ pub mod Setup
 pub mod Filters
 pub mod Requests
 pub mod Continuing
+pub mod Files
 pub mod Following
+pub mod Recording
 pub mod Places

@@ -54,6 +54,14 @@ pub record NotBegun {S K : Type 0} (source source' : S) (sink sink' : K) (Why : 
 abbrev pub LacksTapeOrPorts : (ProgramFault → Type 0) → (ProgramFault → Type 0) → ProgramFault → Type 0
 LacksTapeOrPorts lacks_tape lacks_ports program_fault = lacks_tape program_fault ⊎ lacks_ports program_fault
 
+-- why a session is not begun: there is no configuration; or, for one that was read, no gateway, or no tape or
+-- ports or watch
+abbrev pub LacksSession : (ProgramFault → Type 0) → (Config → Type 0) → (Config → ProgramFault → Type 0)
+    → (Config → ProgramFault → Type 0) → ProgramFault → Type 0
+LacksSession lacks reads lacks_gateway lacks_more program_fault = lacks program_fault
+    ⊎ ((config : Config) × reads config
+    × (lacks_gateway config program_fault ⊎ lacks_more config program_fault))
+
 -- this was done with ports that were opened so and a tape that was begun so
 pub record HasServed {P T : Type 0} (Opens : P → Type 0) (Begins : T → Type 0)
     (served : P → P → T → T → Type 0) : Type 0 where
@@ -70,6 +78,12 @@ abbrev pub by_session : SessionKind → Type 0 → Type 0 → Type 0 → Type 0
 by_session Replay replays checks serves = replays
 by_session Check replays checks serves = checks
 by_session Serve replays checks serves = serves
+
+-- why a session is not begun with a gateway: a replay has no watch, one that serves no tape or ports
+abbrev pub LacksMore : SessionKind → (ProgramFault → Type 0) → (Config → ProgramFault → Type 0) → Config
+    → ProgramFault → Type 0
+LacksMore session lacks_watch lacks_ends config program_fault =
+    by_session session (lacks_watch program_fault) ⊥ (lacks_ends config program_fault)
 
 -- this was done by a configuration that was read so
 pub record HasConfig (Reads : Config → Type 0) (does : Config → Type 0) : Type 0 where

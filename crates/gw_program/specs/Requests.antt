@@ -18,7 +18,7 @@ use Rattle.gw_command.specs.declared.command.SessionKind.{SessionKind}
 use Rattle.gw_program.specs.declared.program_fault.ProgramFault.{ProgramFault}
 use Rattle.gw_program.specs.declared.program_fault.ProgramFault.TheVariants as program_faults
 use Rattle.gw_program.specs.Filters.{DoesFilter, DoesFilterUntil, HasChecked, HasCheckedUntil}
-use Rattle.gw_program.specs.Following.{IsLogged, SystemIsTold, SystemLacksLog}
+use Rattle.gw_program.specs.Following.{IsLogged, LacksLog, SystemIsTold}
 use Rattle.gw_program.specs.Jobs.{Does, DoesUntil}
 use Rattle.gw_program.specs.Performing.{Ended, EndedSaved, NotBegun, HasConfig, by_session}
 use Rattle.gw_program.specs.Setup.{IsConfigAt}
@@ -129,20 +129,22 @@ pub record TakesAsked (command : CommandLine) (reads : Config → Type 0) (start
   pub saved : (config : Config) (gateway : Gateway) (saved : Result (Unit {0}) ProgramFault)
       → saves config gateway saved → IsSaved (save_in command) saved
 
--- a fault is returned, and nothing was read or written; or this was done with a gateway that was begun by the
--- configuration in the file that is named, from a state if one is named, and with the wait that is asked for
-abbrev pub ByGateway : SessionStreams → SessionStreams → CommandLine → Result Totals ProgramFault
-    → (Gateway → Gateway → Type 0) → Type 0
-ByGateway a a' command told does = NotBegun a.source a'.source a.sink a'.sink (λ _. ⊤) told
+-- a fault is returned for a reason, and nothing was read or written; or this was done with a gateway that was
+-- begun by the configuration in the file that is named, from a state if one is named, and with the wait that
+-- is asked for
+abbrev pub ByGateway : SessionStreams → SessionStreams → CommandLine → (ProgramFault → Type 0)
+    → Result Totals ProgramFault → (Gateway → Gateway → Type 0) → Type 0
+ByGateway a a' command lacks told does = NotBegun a.source a'.source a.sink a'.sink lacks told
     ⊎ HasConfig (IsConfigAt (config_in command)) (λ config.
     HasGateway (BeginsWaiting config.gateway (load_in command) (AsksWait command)) does)
 
--- The session that the command names ended with this result, and this is known of its source. A replay began
+-- The session that the command names ended with this result, or was not begun for such a reason, and this is
+-- known of its source. A replay began
 -- at the place `from`, and ended at the place `place`.
-abbrev pub EndsSession : CommandLine → SessionKind → (SourceState → Type 0) → ℕ → ℕ
+abbrev pub EndsSession : CommandLine → SessionKind → (ProgramFault → Type 0) → (SourceState → Type 0) → ℕ → ℕ
     → Result Totals ProgramFault → Type 0
-EndsSession command session Given from place told = OnNewStreams (λ a a'. Given a'.source
-    × ByGateway a a' command told
+EndsSession command session lacks Given from place told = OnNewStreams (λ a a'. Given a'.source
+    × ByGateway a a' command lacks told
     (λ gateway gateway'. by_session session
     (EndedSaved (λ end. Runs a.source a'.source a.sink a'.sink end gateway gateway'
     × EndsAt a.source a'.source gateway gateway' from place end)
@@ -161,27 +163,29 @@ IsFrom command place = SaysNumberIn 64 (codes "from") command place
 
 -- The session was given the octets of the log at this path from this octet on, and ended with this result.
 -- The place at which a replay ended was reported, if it ended well.
-pub record EndsOnLog (command : CommandLine) (session : SessionKind) (path : List ℕ) (from : ℕ)
-    (told : Result Totals ProgramFault) : Type 0 where
+pub record EndsOnLog (command : CommandLine) (session : SessionKind) (lacks : ProgramFault → Type 0)
+    (path : List ℕ) (from : ℕ) (told : Result Totals ProgramFault) : Type 0 where
   pub place : ℕ
-  pub ends : EndsSession command session (IsLogged path from) from place told
+  pub ends : EndsSession command session lacks (IsLogged path from) from place told
   pub tells : OnOk told (SystemIsTold place)
 
 -- so did the session on the log from the octet on that the command names, or the log was not opened
-pub record HasFollowed (command : CommandLine) (session : SessionKind) (path : List ℕ)
-    (told : Result Totals ProgramFault) : Type 0 where
+pub record HasFollowed (command : CommandLine) (session : SessionKind) (lacks : ProgramFault → Type 0)
+    (path : List ℕ) (told : Result Totals ProgramFault) : Type 0 where
   pub place : ℕ
   pub from : IsFrom command place
-  pub done : IsErrAnd told (SystemLacksLog path place) ⊎ EndsOnLog command session path place told
+  pub done : IsErrAnd told (LacksLog path place) ⊎ EndsOnLog command session lacks path place told
 
 -- .. or the command names no configuration or no octet, and this is returned
-abbrev pub FollowsLog : CommandLine → SessionKind → List ℕ → Result Totals ProgramFault → Type 0
-FollowsLog command session path told = HasFollowed command session path told
+abbrev pub FollowsLog : CommandLine → SessionKind → (ProgramFault → Type 0) → List ℕ
+    → Result Totals ProgramFault → Type 0
+FollowsLog command session lacks path told = HasFollowed command session lacks path told
     ⊎ ((told ≡ Err program_faults.Nothing)
     × ((config_in command ≡ None) ⊎ ((place : ℕ) → ¬ IsFrom command place)))
 
 -- the session that the command names ended with this result, on standard input or on the log that is followed
-abbrev pub DoesSession : CommandLine → SessionKind → Result Totals ProgramFault → Type 0
-DoesSession command session told = MatchOption (follow_in command)
-    ((place : ℕ) × EndsSession command session (λ _. ⊤) 0 place told)
-    (λ path. FollowsLog command session path told)
+abbrev pub DoesSession : CommandLine → SessionKind → (ProgramFault → Type 0) → Result Totals ProgramFault
+    → Type 0
+DoesSession command session lacks told = MatchOption (follow_in command)
+    ((place : ℕ) × EndsSession command session lacks (λ _. ⊤) 0 place told)
+    (λ path. FollowsLog command session lacks path told)

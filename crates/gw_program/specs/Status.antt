@@ -1,7 +1,9 @@
 -- What a failed call comes to, and the status of the program at each trouble: 1 at a fault of a session, a
 -- socket or a trunk other than want of memory and if a state is not saved, 2 if the command line, a file or
 -- the configuration is refused, 3 for want of memory.
-use Rattle.std.specs.Prelude.{ℕ}
+use Rattle.std.specs.Prelude.{◌≡◌, ℕ}
+use Rattle.std.specs.declared.io.Error.{Error}
+use Rattle.std.specs.IoError.{error_kind}
 use Rattle.std.specs.declared.io.ErrorKind as kinds
 use Rattle.std.specs.declared.io.ErrorKind.TheVariants as errors
 use Rattle.gw_config.specs.declared.fault.ConfigFault.{ConfigFault}
@@ -17,6 +19,11 @@ use Rattle.gw_program.specs.declared.program_fault.ProgramFault.TheVariants as p
 abbrev pub fault_of_error : kinds.ErrorKind → ProgramFault → ProgramFault
 fault_of_error errors.OutOfMemory otherwise = program_faults.OutOfMemory
 fault_of_error _ otherwise = otherwise
+
+-- a fault says that the system refused something with an error
+abbrev pub SaysRefused : (Error → Type 0) → ProgramFault → ProgramFault → Type 0
+SaysRefused refuses otherwise fault =
+    (error : Error) × refuses error × (fault ≡ fault_of_error (error_kind error) otherwise)
 
 -- the status at a fault of a session
 abbrev pub fault_status : RunFault → ℕ

@@ -1,6 +1,7 @@
 //! What the program does for each subcommand: speech, filters and sessions, and their reports.
 #![tactic(auto)]
 
+mod files;
 mod filters;
 mod following;
 mod jobs;

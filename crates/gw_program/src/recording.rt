@@ -1,12 +1,16 @@
 //! How the file of `--record` is opened, whether its writes wait, and when it is closed (`RecordingFile`).
 
-ghost use Rattle.std.specs.Prelude.{◌≡◌, ◌≢◌, ◌≤◌, [], length, IfOk, IfSome, IfNone, Some, None};
+ghost use Rattle.std.specs.Prelude.{◌≡◌, ◌≢◌, ◌≤◌, [], length, IfOk, IfErr, IfSome, IfNone, IsSomeAnd, Some};
+ghost use Rattle.std.specs.Prelude.{None};
+ghost use Rattle.gw_program.specs.Files.{SystemRefusesFile};
 ghost use Rattle.gw_program.specs.Performing.{IsBegun};
+ghost use Rattle.gw_program.specs.Recording.{IsNotOpened, LacksRecording, MayNotOpen, SystemLetsWait};
 
+use crate::files::file_len;
 use crate::program_fault::ProgramFault;
 use gw_records::Log;
 use gw_session::{Recorder, Sink, SinkFault, TrunkRecord};
-use std::fs::{self, File, OpenOptions};
+use std::fs::{File, OpenOptions};
 use std::io::{self, Write};
 use std::os::fd::OwnedFd;
 use std::os::unix::fs::OpenOptionsExt;
@@ -99,12 +103,18 @@ impl<W: Write + Drop, E: Write> Sink for RecordingFile<W, E> {
 pub type Tape = Option<Recorder<RecordingFile<File, Stderr>>>;
 
 // A pipe, a device or an open file of the process at the path is written to as it is.
-fn append(rt: &HostRuntime, path: &str) -> io::Result<File> {
+#[tactic(auto, unfolding(crate::specs::Files::SystemRefusesFile))]
+fn append(rt: &HostRuntime, path: &str) -> io::Result<File>
+    ensures { IfErr result (SystemRefusesFile path.now) }
+{
     OpenOptions::new().append(true).open(rt, path)
 }
 
 // Creates the file of a recording, which must not exist yet.
-fn create_new(rt: &HostRuntime, path: &str) -> io::Result<File> {
+#[tactic(auto, unfolding(crate::specs::Files::SystemRefusesFile))]
+fn create_new(rt: &HostRuntime, path: &str) -> io::Result<File>
+    ensures { IfErr result (SystemRefusesFile path.now) }
+{
     OpenOptions::new()
         .write(true)
         .create_new(true)
@@ -113,7 +123,10 @@ fn create_new(rt: &HostRuntime, path: &str) -> io::Result<File> {
 }
 
 // Empties the file of an old recording, which keeps its permissions, or creates it if it is gone.
-fn create(rt: &HostRuntime, path: &str) -> io::Result<File> {
+#[tactic(auto, unfolding(crate::specs::Files::SystemRefusesFile))]
+fn create(rt: &HostRuntime, path: &str) -> io::Result<File>
+    ensures { IfErr result (SystemRefusesFile path.now) }
+{
     OpenOptions::new()
         .write(true)
         .create(true)
@@ -122,34 +135,33 @@ fn create(rt: &HostRuntime, path: &str) -> io::Result<File> {
         .open(rt, path)
 }
 
-// Opens a file that is there: a regular one only where it may be written over, and it is emptied then.
-fn open_old(rt: &HostRuntime, recording: Recording<'_>) -> Result<File, ProgramFault> {
-    let found = fs::metadata(rt, recording.path);
-    let found = found.map_err(|error| ProgramFault::of(&error, ProgramFault::Recording))?;
-    if found.is_file() && !recording.over {
-        return Err(ProgramFault::OldRecording);
+// Opens a file that is there. A regular one is emptied; None if it may not be written over.
+fn open_old(rt: &HostRuntime, recording: Recording<'_>) -> io::Result<Option<File>>
+    ensures none { IfOk result (λ found. IfNone found
+        (MayNotOpen recording.entry.path.now recording.entry.over)) }
+    ensures err { IfErr result (SystemRefusesFile recording.entry.path.now) }
+{
+    match file_len(rt, recording.path)? {
+        Some(_) if !recording.over => Ok(None),
+        Some(_) => Ok(Some(create(rt, recording.path)?)),
+        None => Ok(Some(append(rt, recording.path)?)),
     }
-    let opened = if found.is_file() {
-        create(rt, recording.path)
-    } else {
-        append(rt, recording.path)
-    };
-    opened.map_err(|error| ProgramFault::of(&error, ProgramFault::Recording))
 }
 
-// Opens the file of a recording: a new one, or what is there already.
-fn open(rt: &HostRuntime, recording: Recording<'_>) -> Result<File, ProgramFault> {
+// Opens the file of a recording: a new one, or what is there already. None if that may not be written over.
+fn open(rt: &HostRuntime, recording: Recording<'_>) -> io::Result<Option<File>>
+    ensures none { IfOk result (λ found. IfNone found
+        (MayNotOpen recording.entry.path.now recording.entry.over)) }
+    ensures err { IfErr result (SystemRefusesFile recording.entry.path.now) }
+{
     if recording.path.starts_with("/dev/fd/") {
-        return append(rt, recording.path).map_err(|error| ProgramFault::of(
-            &error,
-            ProgramFault::Recording,
-        ));
+        return Ok(Some(append(rt, recording.path)?));
     }
     match create_new(rt, recording.path) {
-        Ok(file) => Ok(file),
+        Ok(file) => Ok(Some(file)),
         Err(error) => match error.kind() {
             io::ErrorKind::AlreadyExists => open_old(rt, recording),
-            _ => Err(ProgramFault::of(&error, ProgramFault::Recording)),
+            _ => Err(error),
         },
     }
 }
@@ -157,26 +169,40 @@ fn open(rt: &HostRuntime, recording: Recording<'_>) -> Result<File, ProgramFault
 // Has each write to a file fail that would wait. (What is set is set of all descriptors of this opening of
 // the file, so it is set through another one, by a type that can set it. What was opened by its path has no
 // others.)
-pub(crate) fn never_wait(file: &File) -> io::Result<()> {
+#[tactic(auto, unfolding(crate::specs::Recording::SystemLetsWait))]
+pub(crate) fn never_wait(file: &File) -> io::Result<()>
+    ensures { IfErr result SystemLetsWait }
+{
     let other = UnixStream::from(OwnedFd::from(file.try_clone()?));
     other.set_nonblocking(true)
 }
 
-// Opens the file of a recording, whose writes wait only if they are to.
-fn open_as_asked(rt: &HostRuntime, recording: Recording<'_>) -> Result<File, ProgramFault> {
-    let file = open(rt, recording)?;
-    if recording.waits {
-        return Ok(file);
+// Opens the file of a recording, whose writes wait only if they are to. None if the file that is there may
+// not be written over.
+fn open_as_asked(rt: &HostRuntime, recording: Recording<'_>) -> io::Result<Option<File>>
+    ensures none { IfOk result (λ found. IfNone found
+        (MayNotOpen recording.entry.path.now recording.entry.over)) }
+    ensures err { IfErr result (IsNotOpened recording.entry.path.now) }
+{
+    let Some(file) = open(rt, recording)? else {
+        return Ok(None);
+    };
+    if !recording.waits {
+        never_wait(&file)?;
     }
-    match never_wait(&file) {
-        Ok(()) => Ok(file),
-        Err(error) => Err(ProgramFault::of(&error, ProgramFault::Recording)),
-    }
+    Ok(Some(file))
 }
 
 /// Begins a recording, if requested.
+///
+/// # Errors
+///
+/// [`ProgramFault::OldRecording`] if a regular file is there that may not be written over,
+/// [`ProgramFault::Recording`] if the system refuses the file, [`ProgramFault::OutOfMemory`].
 pub fn begin(rt: &HostRuntime, recording: Option<Recording<'_>>) -> Result<Tape, ProgramFault>
-    ensures { IfOk result (λ tape. IsBegun recording.entry
+    ensures err { IfErr result (λ program_fault. IsSomeAnd recording.entry
+        (λ asked. LacksRecording asked.path.now asked.over program_fault)) }
+    ensures ok { IfOk result (λ tape. IsBegun recording.entry
         (⟦<Option<Recorder<RecordingFile<File, Stderr>>> as gw_session::Tape>⟧.tells tape)) }
 {
     let Some(recording) = recording else {
@@ -186,6 +212,9 @@ pub fn begin(rt: &HostRuntime, recording: Option<Recording<'_>>) -> Result<Tape,
     let Ok(room) = Box::new(rt.alloc(), TrunkRecord::new()) else {
         return Err(ProgramFault::OutOfMemory);
     };
-    let file = open_as_asked(rt, recording)?;
-    Ok(Some(Recorder::new(RecordingFile::new(file, rt.stderr()), room)))
+    match open_as_asked(rt, recording) {
+        Ok(Some(file)) => Ok(Some(Recorder::new(RecordingFile::new(file, rt.stderr()), room))),
+        Ok(None) => Err(ProgramFault::OldRecording),
+        Err(error) => Err(ProgramFault::of(&error, ProgramFault::Recording)),
+    }
 }

@@ -1,8 +1,9 @@
 //! How the FIFO of `--reports` is opened, between `crc4 --check` and `crc4`.
 
+use crate::files::file_len;
 use crate::program_fault::ProgramFault;
 use crate::recording::never_wait;
-use std::fs::{self, File, OpenOptions};
+use std::fs::{File, OpenOptions};
 use std::io;
 
 // Opens the file for both, so that the opening of a FIFO waits for nobody.
@@ -18,9 +19,9 @@ fn open(rt: &HostRuntime, path: &str) -> io::Result<File> {
 ///
 /// [`ProgramFault::Reports`] if it can't be opened or is a regular file, or want of memory.
 pub fn open_reports(rt: &HostRuntime, path: &str) -> Result<File, ProgramFault> {
-    let found = fs::metadata(rt, path);
+    let found = file_len(rt, path);
     let found = found.map_err(|error| ProgramFault::of(&error, ProgramFault::Reports))?;
-    if found.is_file() {
+    if found.is_some() {
         return Err(ProgramFault::Reports);
     }
     open(rt, path).map_err(|error| ProgramFault::of(&error, ProgramFault::Reports))

@@ -3,6 +3,7 @@
 ghost use Rattle.std.specs.Prelude.{ℕ, OnOk, Some, None, ⊤};
 ghost use Rattle.clap.specs.Words.{subcommand_rows_of};
 ghost use Rattle.gw_program.specs.Following.{SystemIsTold};
+ghost use Rattle.gw_program.specs.Performing.{LacksMore, LacksSession, LacksTapeOrPorts};
 ghost use Rattle.gw_program.specs.Requests.{DoesJob, RunsFilter, ChecksCrc4, DoesSession, TakesAsked};
 ghost use Rattle.gw_program.specs.Requests.{reports_path_in, EndsSession, FollowsLog};
 
@@ -129,7 +130,11 @@ fn run_on_input<Y: System>(
 ) -> Result<Totals, ProgramFault>
     requires { TakesAsked (subcommand_rows_of matches.now) (Y.reads system.now) (Y.starts system.now)
         (Y.saves system.now) }
-    ensures { (place : ℕ) × EndsSession (subcommand_rows_of matches.now) session (λ _. ⊤) 0 place result }
+    ensures { (place : ℕ) × EndsSession (subcommand_rows_of matches.now) session (LacksSession
+        (Y.lacks_config system.now) (Y.reads system.now) (Y.lacks_gateway system.now)
+        (LacksMore session (Y.lacks_watch system.now)
+        (λ config. LacksTapeOrPorts (Y.lacks_tape system.now) (Y.lacks_ports system.now config))))
+        (λ _. ⊤) 0 place result }
 {
     let mut source = FromRead::new(rt.stdin());
     let mut sink = ToWrite::new(rt.stdout());
@@ -178,7 +183,11 @@ fn run_on_log<Y: System>(
 ) -> Result<Totals, ProgramFault>
     requires { TakesAsked (subcommand_rows_of matches.now) (Y.reads system.now) (Y.starts system.now)
         (Y.saves system.now) }
-    ensures { FollowsLog (subcommand_rows_of matches.now) session path.now result }
+    ensures { FollowsLog (subcommand_rows_of matches.now) session (LacksSession
+        (Y.lacks_config system.now) (Y.reads system.now) (Y.lacks_gateway system.now)
+        (LacksMore session (Y.lacks_watch system.now)
+        (λ config. LacksTapeOrPorts (Y.lacks_tape system.now) (Y.lacks_ports system.now config))))
+        path.now result }
 {
     let Some(from) = from_of(matches) else {
         return Err(ProgramFault::Nothing);
@@ -216,7 +225,11 @@ pub fn run_session<Y: System>(
 ) -> Result<Totals, ProgramFault>
     requires { TakesAsked (subcommand_rows_of matches.now) (Y.reads system.now) (Y.starts system.now)
         (Y.saves system.now) }
-    ensures { DoesSession (subcommand_rows_of matches.now) session result }
+    ensures { DoesSession (subcommand_rows_of matches.now) session (LacksSession
+        (Y.lacks_config system.now) (Y.reads system.now) (Y.lacks_gateway system.now)
+        (LacksMore session (Y.lacks_watch system.now)
+        (λ config. LacksTapeOrPorts (Y.lacks_tape system.now) (Y.lacks_ports system.now config))))
+        result }
 {
     match follow_of(matches) {
         Some(path) => run_on_log(rt, matches, system, session, path),

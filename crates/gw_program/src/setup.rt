@@ -1,16 +1,17 @@
 //! How the file of a configuration is read: at most 65,537 octets, then `gw_config` (`read_config`).
 
-ghost use Rattle.std.specs.Prelude.{◌≡◌, ◌++◌, IfSome, IfOk, IfErr, OnOk, Option, List, ℕ, ⊤, option_map};
-ghost use Rattle.std.specs.Prelude.{take};
+ghost use Rattle.std.specs.Prelude.{◌≡◌, ◌++◌, IfSome, IfOk, IfErr, OnOk, Option, List, ℕ, option_map, take};
 ghost use Rattle.std.specs.declared.io.Error.{Error};
 ghost use Rattle.gw_config.specs.Octets.{meaning_of_octets};
-ghost use Rattle.gw_program.specs.Setup.{Says, FailsToRead, IsMeant, SystemGives};
+ghost use Rattle.gw_program.specs.Files.{SystemReads, SystemFailsToRead};
+ghost use Rattle.gw_program.specs.Setup.{Says, IsRefusedOf, LacksConfig, LacksConfigAt, IsMeant, PathGives};
 
+use crate::files::open_file;
 use crate::program_fault::ProgramFault;
 use gw_config::Config;
 use std::alloc::Global;
+use std::io;
 use std::io::Read;
-use std::{fs, io};
 
 // The most octets of the file that are read: one more than the longest configuration.
 const MOST_OCTETS: u64 = 65_537;
@@ -18,7 +19,7 @@ const MOST_OCTETS: u64 = 65_537;
 // The configuration in the octets of a file.
 fn meaning_of(alloc: Global, octets: &[u8]) -> Result<Config, ProgramFault>
     ensures says { Says result (meaning_of_octets octets.now) }
-    ensures read { IfErr result (FailsToRead (λ _. ⊥)) }
+    ensures refused { IfErr result (IsRefusedOf (λ given. given ≡ octets.now)) }
 {
     gw_config::read(alloc, octets).map_err(ProgramFault::Config)
 }
@@ -30,10 +31,10 @@ trait Text: Drop {
     ghost holds: { Self → Option (List ℕ) };
 
     /// Holds of a text and the octets that a read of it gave.
-    ghost gives: { Self → List ℕ → Type 0 } = { λ _ _. ⊤ };
+    ghost gives: { Self → List ℕ → Type 0 };
 
     /// Holds of a text and the system's error that ended its reading.
-    ghost fails: { Self → Error → Type 0 } = { λ _ _. ⊤ };
+    ghost fails: { Self → Error → Type 0 };
 
     /// Reads at most this number of octets and appends them.
     fn read_up_to(self, most: u64, octets: &mut Vec<u8>) -> io::Result<()>
@@ -49,6 +50,11 @@ trait Text: Drop {
 impl<R: Read + Drop> Text for R {
     ghost holds = { λ r. R.remaining r };
 
+    ghost gives = { SystemReads };
+
+    ghost fails = { SystemFailsToRead };
+
+    #[tactic(auto, unfolding(crate::specs::Files::SystemFailsToRead))]
     fn read_up_to(self, most: u64, octets: &mut Vec<u8>) -> io::Result<()> {
         self.take(most).read_to_end(octets)?;
         Ok(())
@@ -59,7 +65,7 @@ impl<R: Read + Drop> Text for R {
 fn config_of<T: Text>(alloc: Global, text: T) -> Result<Config, ProgramFault>
     ensures says { IfSome (T.holds text) (λ octets. Says result (meaning_of_octets octets)) }
     ensures meant { IfOk result (IsMeant (T.gives text)) }
-    ensures unread { IfErr result (FailsToRead (T.fails text)) }
+    ensures err { IfErr result (LacksConfig (T.fails text) (T.gives text)) }
 {
     let mut octets = Vec::new(alloc);
     match text.read_up_to(MOST_OCTETS, &mut octets) {
@@ -69,12 +75,17 @@ fn config_of<T: Text>(alloc: Global, text: T) -> Result<Config, ProgramFault>
 }
 
 /// The configuration in a file.
+///
+/// # Errors
+///
+/// [`ProgramFault::File`] if the system refuses the file or a read of it, [`ProgramFault::Config`] if its
+/// octets are no configuration, [`ProgramFault::OutOfMemory`].
 #[inline(never)]
-#[tactic(auto, unfolding(crate::specs::Setup::SystemGives))]
 pub fn read_config(rt: &HostRuntime, path: &str) -> Result<Config, ProgramFault>
-    ensures { IfOk result (IsMeant (SystemGives path.now)) }
+    ensures meant { IfOk result (IsMeant (PathGives path.now)) }
+    ensures err { IfErr result (LacksConfigAt path.now) }
 {
-    match fs::open(rt, path) {
+    match open_file(rt, path) {
         Ok(file) => config_of(rt.alloc(), file),
         Err(error) => Err(ProgramFault::of(&error, ProgramFault::File)),
     }

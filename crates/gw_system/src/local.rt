@@ -1,10 +1,11 @@
 //! The system of a session: this machine's files and sockets, as the command line names them.
 
-ghost use Rattle.std.specs.Prelude.{◌≡◌, IfSome, option_map, codes};
+ghost use Rattle.std.specs.Prelude.{◌≡◌, IfErr, IfSome, option_map, codes};
 ghost use Rattle.clap.specs.Words.{subcommand_rows_of};
 ghost use Rattle.gw_command.specs.Command.{text_in};
 ghost use Rattle.gw_program.specs.Requests.{load_in, save_in, AsksWait};
 ghost use Rattle.gw_system.specs.Asked.{AreSenders, IsRepeat};
+ghost use Rattle.gw_system.specs.Lacking.{SystemRefusesTeller};
 ghost use Rattle.gw_system.specs.Opening.{trouble_of_opening};
 
 use crate::asked::{recording_asked, repeat_asked, senders_asked};
@@ -21,6 +22,7 @@ use gw_switch::Gateway;
 use gw_tell::Teller;
 use gw_udp::{OpenFault, Resting, Socket, SourceFilter, UdpPorts, open_sockets};
 use std::fs::File;
+use std::io;
 use std::net::UdpSocket;
 use std::rt::Stderr;
 
@@ -32,6 +34,19 @@ fn of_opening(fault: OpenFault) -> ProgramFault
         OpenFault::Socket(circuit) => ProgramFault::Socket(circuit),
         OpenFault::OutOfMemory => ProgramFault::OutOfMemory,
     }
+}
+
+// Opens the socket of `--tell` at a path. The error is the system's, or that memory was refused.
+#[tactic(auto, unfolding(crate::specs::Lacking::SystemRefusesTeller))]
+fn open_teller(
+    rt: &HostRuntime,
+    path: &str,
+    config: &Config,
+    gateway: &Gateway,
+) -> io::Result<Teller>
+    ensures { IfErr result (SystemRefusesTeller path.now) }
+{
+    Teller::open(rt, path, config.gateway.law, gateway)
 }
 
 /// What a session or a trunk takes from this system, by the matches of the command line.
@@ -59,13 +74,15 @@ pub struct Local<'m> {
 }
 
 impl System for Local<'_> {
-    ghost use Rattle.std.specs.Prelude.{⊤, string_bytes, []};
+    ghost use Rattle.std.specs.Prelude.{IsSomeAnd, string_bytes, []};
     ghost use Rattle.gw_program.specs.Performing.{IsBegun};
-    ghost use Rattle.gw_program.specs.Setup.{IsMeant, SystemGives};
+    ghost use Rattle.gw_program.specs.Recording.{LacksRecording};
+    ghost use Rattle.gw_program.specs.Setup.{IsMeant, LacksConfigAt, PathGives};
     ghost use Rattle.gw_program.specs.State.{BeginsWaiting, LacksGateway, IsSaved, IsKept};
     ghost use Rattle.gw_udp.specs.Names.{SystemLooksUp};
     ghost use Rattle.gw_udp.specs.Udp.{HasEndpoints};
     ghost use Rattle.gw_udp.specs.Opening.{FailsToOpen as FailsToOpenPorts};
+    ghost use Rattle.gw_system.specs.Lacking.{LacksTeller};
     ghost use Rattle.gw_system.specs.Opening.{IsOfOpening};
     ghost use Rattle.gw_udp.specs.Calls.{IsFresh};
     ghost use Rattle.gw_repeat.specs.Words.{HasPacketWords};
@@ -76,9 +93,9 @@ impl System for Local<'_> {
 
     type Watch = Option<Teller>;
 
-    ghost reads = { λ s config. IsMeant (SystemGives s.path.now) config };
+    ghost reads = { λ s config. IsMeant (PathGives s.path.now) config };
 
-    ghost lacks_config = { λ _ _. ⊤ };
+    ghost lacks_config = { λ s. LacksConfigAt s.path.now };
 
     ghost starts = { λ s config gateway.
         BeginsWaiting config.gateway s.load (λ wait. wait ≡ s.wait) gateway };
@@ -90,9 +107,11 @@ impl System for Local<'_> {
     ghost keeps = { λ s config gateway place. IfSome s.checkpoint (λ path.
         IsKept path.now config.gateway gateway place) };
 
-    ghost lacks_tape = { λ _ _. ⊤ };
+    ghost lacks_tape = { λ s program_fault. IsSomeAnd s.recording (λ asked.
+        LacksRecording asked.path.now asked.over program_fault) };
 
-    ghost lacks_watch = { λ _ _. ⊤ };
+    ghost lacks_watch = { λ s program_fault. IsSomeAnd s.tell (λ path.
+        LacksTeller path.now program_fault) };
 
     ghost begins = { λ s tape. IsBegun s.recording
         (⟦<Option<Recorder<RecordingFile<File, Stderr>>> as gw_session::Tape>⟧.tells tape) };
@@ -150,7 +169,7 @@ impl System for Local<'_> {
         let Some(path) = self.tell else {
             return Ok(None);
         };
-        match Teller::open(self.rt, path, config.gateway.law, gateway) {
+        match open_teller(self.rt, path, config, gateway) {
             Ok(teller) => Ok(Some(teller)),
             Err(error) => Err(ProgramFault::of(&error, ProgramFault::Tell)),
         }

@@ -1,14 +1,28 @@
-use Rattle.std.proofs.Common.{sym}
+use Rattle.std.proofs.Common.{inl, inr, refl, sym}
 use Rattle.clap.specs.Words.{subcommand_rows_of}
-use Rattle.gw_program.proofs.Streams.{no_session, takes_asked}
+use Rattle.gw_program.proofs.Streams.{no_session, session_so, takes_asked}
+use Rattle.gw_system.proofs.Lacked.{ends_in, lacks_in, more_in, named_so}
 use Rattle.gateway_main.proofs.StandardCommands.session.Goals as goal
 
 pub returns-in_default : goal.returns-in_default
 returns-in_default c =
-    no_session (subcommand_rows_of c.args.self.now.matches.now) c.args.session
-    (sym (rw c.in_default.is at c.path_of.ensures))
+    let none = sym (rw c.in_default.is at c.path_of.ensures) in
+    no_session (subcommand_rows_of c.args.self.now.matches.now) c.args.session none _ (inl (refl, none))
 
 pub run_session-requires : goal.run_session-requires
 run_session-requires c =
     takes_asked (λ path. path.now) _ _ _ _ _ (rw c.local_of-system.ensures.path (sym c.in-Some.ensures))
     c.local_of-system.ensures.load c.local_of-system.ensures.save c.local_of-system.ensures.wait
+
+pub returns : goal.returns
+returns c =
+    let command = subcommand_rows_of c.args.self.now.matches.now in
+    let local = c.local_of-system in
+    session_so command c.args.session _ _ c.run_session.result
+    (lacks_in (λ path. path.now) command local.result.path.now local.result.load
+    (rw local.ensures.path (sym c.in-Some.ensures)) local.ensures.load _ _
+    (more_in c.args.session _ _ _ _
+    (λ fault. named_so (λ path. path.now) local.result.tell _ _ _ local.ensures.tell (λ path why. why))
+    (ends_in (λ asked. asked.path.now) (λ asked. asked.over) command local.result.recording local.ensures.recording
+    local.result.senders local.ensures.senders)))
+    c.run_session.ensures

@@ -1,0 +1,80 @@
+-- Why a session was not begun by a system that takes what the command line names.
+use Rattle.std.proofs.Common.{◌≡◌, ◌⊎◌, inl, inr, ℕ, List, Option, None, Some}
+use Rattle.std.specs.Prelude.{Bool, IsSomeAnd, codes, option_map, string_bytes}
+use Rattle.gw_config.specs.declared.config.Config.{Config}
+use Rattle.gw_switch.specs.declared.GatewayConfig.{GatewayConfig}
+use Rattle.gw_command.specs.declared.command.SessionKind.{SessionKind}
+use Rattle.gw_command.specs.declared.command.SessionKind.TheVariants.{Replay, Check, Serve}
+use Rattle.gw_command.specs.Command.{text_in}
+use Rattle.gw_udp.specs.declared.source_filter.SourceFilter.{SourceFilter}
+use Rattle.gw_udp.specs.Names.{SystemLooksUp}
+use Rattle.gw_udp.specs.Opening.{LacksPorts}
+use Rattle.gw_program.specs.Performing.{LacksMore, LacksSession, LacksTapeOrPorts}
+use Rattle.gw_program.specs.Recording.{LacksRecording}
+use Rattle.gw_program.specs.Requests.{CommandLine, load_in}
+use Rattle.gw_program.specs.Setup.{IsMeant, LacksConfigAt, PathGives}
+use Rattle.gw_program.specs.State.{LacksGateway}
+use Rattle.gw_program.specs.declared.program_fault.ProgramFault.{ProgramFault}
+use Rattle.gw_program.specs.declared.program_fault.ProgramFault.TheVariants as program_faults
+use Rattle.gw_system.specs.Asked.{AreSenders}
+use Rattle.gw_system.specs.Lacking.{LacksEndsIn, LacksIn, config_named}
+use Rattle.gw_system.specs.Opening.{IsOfOpening}
+
+-- what holds of a value that is asked for holds of the text that names it
+pub named_so : {X : Type 0} (f : X → List ℕ) (asked : Option X) (named : Option (List ℕ)) (P : X → Type 0)
+    (Q : List ℕ → Type 0) → option_map f asked ≡ named → ((x : X) → P x → Q (f x)) → IsSomeAnd asked P
+    → IsSomeAnd named Q
+named_so f None named P Q e is p = absurd p
+named_so f (Some x) named P Q e is p = rw (← e) (is x p)
+
+-- the path of a state is told as its text
+lacks_gateway_at : {X : Type 0} (f : X → List ℕ) (config : GatewayConfig) (path : Option X) (fault : ProgramFault)
+    → LacksGateway config path fault → LacksGateway config (option_map f path) fault
+lacks_gateway_at f config None fault lacks = lacks
+lacks_gateway_at f config (Some path) program_faults.OutOfMemory lacks = lacks
+lacks_gateway_at f config (Some path) program_faults.NoState lacks = lacks
+lacks_gateway_at f config (Some path) (program_faults.State fault) lacks = lacks
+lacks_gateway_at f config (Some path) _ lacks = absurd lacks
+
+-- What a system with the paths of the command lacks, the command lacks.
+pub lacks_in : {X : Type 0} (f : X → List ℕ) (command : CommandLine) (path : List ℕ) (load : Option X)
+    → config_named command ≡ Some path → option_map f load ≡ load_in command
+    → (more more' : Config → ProgramFault → Type 0)
+    → ((config : Config) (fault : ProgramFault) → more config fault → more' config fault) → (fault : ProgramFault)
+    → LacksSession (LacksConfigAt path) (IsMeant (PathGives path)) (λ config. LacksGateway config.gateway load) more
+    fault
+    → LacksIn command more' fault
+lacks_in f command path load named loads more more' is fault lacks = inr (elim lacks [
+  | inl none ↦ inl (rw named none)
+  | inr some ↦ inr (
+    some.0,
+    rw named some.1,
+    elim some.2 [
+      | inl none ↦ inl (rw (← loads) (lacks_gateway_at f some.0.gateway load fault none))
+      | inr none ↦ inr (is some.0 fault none)
+    ],
+  )
+])
+
+-- .. by the name of its session
+pub more_in : (session : SessionKind) (watch watch' : ProgramFault → Type 0)
+    (ends ends' : Config → ProgramFault → Type 0)
+    → ((fault : ProgramFault) → watch fault → watch' fault)
+    → ((config : Config) (fault : ProgramFault) → ends config fault → ends' config fault)
+    → (config : Config) (fault : ProgramFault) → LacksMore session watch ends config fault
+    → LacksMore session watch' ends' config fault
+more_in Replay watch watch' ends ends' is are config fault lacks = is fault lacks
+more_in Check watch watch' ends ends' is are config fault lacks = absurd lacks
+more_in Serve watch watch' ends ends' is are config fault lacks = are config fault lacks
+
+-- the recording and the ports that a system lacks are those of the command
+pub ends_in : {X : Type 0} (f : X → List ℕ) (over : X → Bool) (command : CommandLine) (recording : Option X)
+    → option_map f recording ≡ text_in (codes "record") command → (senders : SourceFilter)
+    → AreSenders command senders → (config : Config) (fault : ProgramFault)
+    → LacksTapeOrPorts (λ fault. IsSomeAnd recording (λ asked. LacksRecording (f asked) (over asked) fault))
+    (IsOfOpening (LacksPorts SystemLooksUp (string_bytes config.host) senders config.ports)) fault
+    → LacksEndsIn command config fault
+ends_in f over command recording named senders are config fault lacks = elim lacks [
+  | inl tape ↦ inl (named_so f recording _ _ _ named (λ asked why. (over asked, why)) tape)
+  | inr ports ↦ inr (senders, are, ports)
+]

@@ -1,0 +1,67 @@
+-- Why a session or a trunk that the command line names was not begun.
+use Rattle.std.specs.Prelude.{◌≡◌, ◌⊎◌, ⊤, Bool, List, ℕ, Option, None, IsSomeAnd, string_bytes, codes}
+use Rattle.std.specs.declared.io.Error.{Error}
+use Rattle.gw_config.specs.declared.config.Config.{Config}
+use Rattle.gw_command.specs.Command.{text_in}
+use Rattle.gw_command.specs.declared.command.SessionKind.{SessionKind}
+use Rattle.gw_udp.specs.declared.source_filter.SourceFilter.{SourceFilter}
+use Rattle.gw_udp.specs.Names.{SystemLooksUp}
+use Rattle.gw_udp.specs.Opening.{LacksPorts}
+use Rattle.gw_program.specs.Performing.{LacksMore, LacksSession, LacksTapeOrPorts}
+use Rattle.gw_program.specs.Recording.{LacksRecording}
+use Rattle.gw_program.specs.Requests.{CommandLine, load_in}
+use Rattle.gw_program.specs.Setup.{IsConfigAt, LacksConfigAt}
+use Rattle.gw_program.specs.State.{LacksGateway}
+use Rattle.gw_program.specs.Status.{SaysRefused}
+use Rattle.gw_program.specs.declared.program_fault.ProgramFault.{ProgramFault}
+use Rattle.gw_program.specs.declared.program_fault.ProgramFault.TheVariants as program_faults
+use Rattle.gw_system.specs.Asked.{AreSenders}
+use Rattle.gw_system.specs.Opening.{IsOfOpening}
+
+-- The system refused the socket of `--tell` at this path, or memory for its clients, with this error. It
+-- holds of every error, but is unfolded only where that socket is opened.
+unfoldable pub SystemRefusesTeller : List ℕ → Error → Type 0
+SystemRefusesTeller path error = ⊤
+
+-- why the socket of `--tell` at this path is not opened
+abbrev pub LacksTeller : List ℕ → ProgramFault → Type 0
+LacksTeller path fault = SaysRefused (SystemRefusesTeller path) program_faults.Tell fault
+
+-- .. where the command names one
+abbrev pub LacksTellerIn : CommandLine → ProgramFault → Type 0
+LacksTellerIn command fault = IsSomeAnd (text_in (codes "tell") command) (λ path. LacksTeller path fault)
+
+-- why the recording that the command names is not begun
+abbrev pub LacksTapeIn : CommandLine → ProgramFault → Type 0
+LacksTapeIn command fault =
+    IsSomeAnd (text_in (codes "record") command) (λ path. (over : Bool) × LacksRecording path over fault)
+
+-- why the ports of a configuration are not opened for the senders that the command names
+abbrev pub LacksPortsIn : CommandLine → Config → ProgramFault → Type 0
+LacksPortsIn command config fault = (senders : SourceFilter) × AreSenders command senders
+    × IsOfOpening (LacksPorts SystemLooksUp (string_bytes config.host) senders config.ports) fault
+
+-- why no tape is begun, or no ports are opened
+abbrev pub LacksEndsIn : CommandLine → Config → ProgramFault → Type 0
+LacksEndsIn command config = LacksTapeOrPorts (LacksTapeIn command) (LacksPortsIn command config)
+
+-- the file of the configuration that the command names
+abbrev pub config_named : CommandLine → Option (List ℕ)
+config_named command = text_in (codes "config") command
+
+-- why nothing that has a configuration is begun: the command names none, or that file has none; or there is
+-- no gateway for it, or something more is missing
+abbrev pub LacksIn : CommandLine → (Config → ProgramFault → Type 0) → ProgramFault → Type 0
+LacksIn command lacks_more fault = ((fault ≡ program_faults.Nothing) × (config_named command ≡ None))
+    ⊎ LacksSession (λ f. IsSomeAnd (config_named command) (λ path. LacksConfigAt path f))
+    (IsConfigAt (config_named command)) (λ config. LacksGateway config.gateway (load_in command)) lacks_more
+    fault
+
+-- .. no trunk
+abbrev pub LacksTrunkIn : CommandLine → ProgramFault → Type 0
+LacksTrunkIn command = LacksIn command (LacksEndsIn command)
+
+-- .. no session
+abbrev pub LacksSessionIn : CommandLine → SessionKind → ProgramFault → Type 0
+LacksSessionIn command session =
+    LacksIn command (LacksMore session (LacksTellerIn command) (LacksEndsIn command))
