@@ -3,22 +3,22 @@ from __future__ import annotations
 
 import bisect
 import functools
-import io
 import math
 import os
 import random
 import struct
 import tempfile
-from collections.abc import Callable, Iterator, Mapping
+import tomllib
+from collections.abc import Callable, Iterator
 from dataclasses import dataclass, field
-from typing import Any
 
-from .support import Exchange, run
+from .support import Exchange, program, run
 
 from e1gw.g711 import TONES, VALUES
 from e1gw.picture.facts import Facts
 from e1gw.picture.reading import SessionReading, rows_of
-from e1gw.session import Command, Kind, command_record, datagram_record, encode_record, records_in, trunk_record
+from e1gw.picture.replay import Replay
+from e1gw.session import Command, Kind, command_record, datagram_record, records_in, trunk_record
 
 IDLE, SEIZED, ACKNOWLEDGED, ANSWERED = 0b10, 0b00, 0b11, 0b01        # the pairs ab of ITU-T Q.421
 MULTIFRAME, SECOND = 512, 256_000
@@ -33,11 +33,17 @@ def rtp(sequence: int, stamp: int, ssrc: int, kind: int = 8, payload: bytes = TO
     return struct.pack('>BBHII', 0x80, kind, sequence & 0xFFFF, stamp & 0xFFFFFFFF, ssrc) + payload
 
 
-def read_session(given: bytes, answers: bytes, config: Mapping[str, Any], last: int | None = None,
-                 program: str | None = None) -> Facts:
-    """The facts of a gateway's input and its answers. The program finds the order of words of G.726."""
-    facts = Facts(rows_of(config), last)
-    SessionReading(facts, config, io.BytesIO(given), io.BytesIO(answers), program).read()
+def read_session(config: str, given: bytes, last: int | None = None) -> Facts:
+    """The facts of a session with this configuration."""
+    with tempfile.TemporaryDirectory() as folder:
+        path = os.path.join(folder, 'trunk.toml')
+        with open(path, 'w', encoding='utf-8') as file:
+            file.write(config)
+        replay = Replay(program(), path)
+    facts = Facts(rows_of(tomllib.loads(config)), last)
+    SessionReading(facts, replay, program()).read([given])
+    if word := replay.end():
+        raise AssertionError(word)
     return facts
 
 
@@ -177,20 +183,6 @@ class MadeSession:
                 yield trunk_record(bytes(octets))
 
 
-def answered(records: list[bytes], codes: list[int]) -> bytes:
-    """Answers by hand: each datagram by the next of the codes, commands by 0, octets by a trunk without an alarm."""
-    exchange, rest = Exchange(), iter(codes)
-    out = []
-    for record in records:
-        kind, circuit = record[0], record[1]
-        if kind == Kind.TRUNK:
-            out.append(trunk_record((exchange.multiframe() * 2)[:len(record) - 4]))
-        else:
-            code = next(rest) if kind == Kind.DATAGRAM else 0
-            out.append(encode_record(Kind.ANSWER, circuit, bytes([kind, code])))
-    return b''.join(out)
-
-
 # ---- a session for each trouble ----
 
 OUT: dict[str, object] = {'prefill': 320, 'local_port': 24006, 'peer_port': 24106}
@@ -225,7 +217,7 @@ def silent_peer() -> MadeSession:
 
 
 def no_rtp() -> MadeSession:
-    """STUN (RFC 5389) and keep-alives of one octet come beside the peer's datagrams."""
+    """STUN (RFC 5389) and keep-alives of one octet come among the peer's datagrams."""
     made = one_call(6)
     stun = bytes.fromhex('000100002112a442') + bytes(range(12))
     made.senders += [PictureSender(3, first, 5.7, each=0.5, datagram=octets)
@@ -413,7 +405,7 @@ def recorded(name: str) -> tuple[str, bytes]:
     return made.config(), b''.join(made.given())
 
 
-# ---- captures beside a session ----
+# ---- captures with a session ----
 
 BEGIN = 1_700_000_000           # 2023-11-14 22:13:20 UTC
 GATEWAY, PEER, ELSEWHERE = bytes([192, 0, 2, 1]), bytes([192, 0, 2, 2]), bytes([192, 0, 2, 9])

@@ -6,25 +6,22 @@ import html.parser
 import os
 import random
 import re
+import subprocess
+import sys
+import tempfile
 import unittest
-from typing import Any, Mapping
 
-from .support import program, run
+from .support import TOP, run
 
-from .picture_made import TROUBLES, MadeSession, PictureSender, answered, read_session, recorded, rtp
+from .picture_made import TROUBLES, MadeSession, PictureSender, read_session, recorded, rtp
 
-from e1gw.followed import FollowedTrunk
-from e1gw.lines import read_config
 from e1gw.picture.facts import MOST, RANK, Facts, Row, Spans
 from e1gw.picture.findings import findings
-from e1gw.picture.following import PictureFollower
 from e1gw.picture.page import MOST as MOST_OCTETS
 from e1gw.picture.page import draw, numbers
 from e1gw.picture.svg import Scale, apart, clock, duration, runs
-from e1gw.session import OCTETS_A_SECOND, Codec, DatagramRefusal, Kind, codec_record, encode_record, records_in
+from e1gw.session import OCTETS_A_SECOND, Codec, Kind, codec_record, records_in, trunk_record
 
-# The columns of `e1gw check`: number, role, state, pairs sent and recognised, sent, admitted, refused, codec, type.
-NUMBER, STATE, SENT, ADMITTED, REFUSED = 0, 2, 5, 6, 7
 # What is found in a session with each trouble.
 FOUND = {'no-datagrams': 'none', 'other-type': 'type', 'other-codec': 'words', 'slow-clock': 'clock slower',
          'fast-clock': 'clock faster', 'hold': 'source', 'jump': 'jump', 'jitter': 'late', 'stranger': 'source',
@@ -34,41 +31,22 @@ FOUND = {'no-datagrams': 'none', 'other-type': 'type', 'other-codec': 'words', '
          'not-open': 'not open', 'other-order': 'order other', 'unacknowledged': 'unacknowledged'}
 
 
-def config_of(session: MadeSession) -> dict[str, object]:
-    import tomllib
-    return tomllib.loads(session.config())
+def facts_of(session: MadeSession, last: int | None = None) -> Facts:
+    return read_session(session.config(), b''.join(session.given()), last)
 
 
-def facts_of(session: MadeSession, codes: list[int], last: int | None = None) -> Facts:
-    """What is gathered of a session whose datagrams are answered by these codes."""
-    records = list(session.given())
-    return read_session(b''.join(records), answered(records, codes), config_of(session), last)
-
-
-def page_of(given: bytes, answers: bytes, config: Mapping[str, Any]) -> str:
-    """The page of a session and its answers."""
-    return draw(read_session(given, answers, config), 'e1gw')
+def page_of(session: MadeSession) -> str:
+    return draw(facts_of(session), 'e1gw')
 
 
 @functools.cache
-def played(name: str) -> tuple[bytes, bytes, str]:
-    """A session with a trouble, what the program answers to it, and the path of its configuration."""
-    config, given = recorded(name)
-    path = os.path.join(made_folder(), 'trunk.toml')
-    with open(path, 'w', encoding='utf-8') as file:
-        file.write(config)
-    return given, run('replay', '--config', path, given=given), path
-
-
-def made_folder() -> str:
-    import tempfile
-    folder = tempfile.TemporaryDirectory()
-    unittest.addModuleCleanup(folder.cleanup)
-    return folder.name
+def made_of(name: str) -> Facts:
+    """What is gathered of a session with a trouble."""
+    return read_session(*recorded(name))
 
 
 class FactsTests(unittest.TestCase):
-    """What becomes of each datagram, by answers that are written by hand."""
+    """What becomes of each datagram."""
 
     def call(self, count: int = 40, **sender: object) -> MadeSession:
         session = MadeSession(0.4 + 0.02 * count, {3: {'prefill': 320}})
@@ -77,25 +55,19 @@ class FactsTests(unittest.TestCase):
         return session
 
     def test_counts(self) -> None:
-        cell = facts_of(self.call(), [20, 11, 0, 12, 13, 14, 16] + [0] * 33).rows[3].count()
-        self.assertEqual(cell.admitted, 34)
-        self.assertEqual({code: seen[0] for code, seen in cell.refused.items()},
+        row = Row(3)
+        for n, code in enumerate([20, 11, 0, 12, 13, 14, 16] + [0] * 33):
+            row.came(5120 * n, code, rtp(n, 160 * n, 7)[:12], 172, n)
+        self.assertEqual(row.cell.admitted, 34)
+        self.assertEqual({code: seen[0] for code, seen in row.cell.refused.items()},
                          {20: 1, 11: 1, 12: 1, 13: 1, 14: 1, 16: 1})
 
-    def test_first_is_prefill_before_its_turn(self) -> None:
-        cell = facts_of(self.call(1), [0]).rows[3].count()
-        self.assertEqual((cell.low, cell.high), (320, 320))
-
-    def test_later_datagrams_come_later_before_their_turn(self) -> None:
-        # The second to the last come 10 ms, 80 samples, after their time.
-        session = self.call(3)
-        session.senders = [PictureSender(3, 0.2, 0.21), PictureSender(3, 0.23, 0.24), PictureSender(3, 0.25, 0.26)]
-        records = list(session.given())
-        stamps = iter((0, 160, 320))
-        records = [record[:4] + rtp(0, next(stamps), 7) if record[0] == Kind.DATAGRAM else record for record in records]
-        facts = read_session(b''.join(records), answered(records, [0, 0, 0]), config_of(session))
-        cell = facts.rows[3].count()
-        self.assertEqual((cell.low, cell.high), (240, 320))
+    def test_how_early(self) -> None:
+        """The first is the prefill before its turn; the next ones come 10 ms, 80 samples, after their time."""
+        row = Row(3, prefill=320)
+        for place, stamp in ((0, 0), (7680, 160), (12800, 320)):
+            row.came(place, 0, rtp(0, stamp, 7)[:12], 172, stamp)
+        self.assertEqual((row.cell.low, row.cell.high), (240, 320))
 
     def test_lost_by_sequence_numbers(self) -> None:
         row = Row(3)
@@ -119,13 +91,13 @@ class FactsTests(unittest.TestCase):
         self.assertEqual((row.cell.counts, row.cell.refused[13][0]), ({}, 1))
 
     def test_states_by_the_signals(self) -> None:
-        facts = facts_of(self.call(), [0] * 40)
+        facts = facts_of(self.call())
         states = [state for _, state in facts.rows[3].states.items]
         self.assertEqual(states, ['fault', 'idle', 'seized', 'acked', 'answered'])
         self.assertEqual(facts.rows[3].count().counts, {'calls': 1, 'answers': 1})
 
     def test_last_part_alone(self) -> None:
-        facts = facts_of(self.call(100), [0] * 100, OCTETS_A_SECOND)
+        facts = facts_of(self.call(100), OCTETS_A_SECOND)
         self.assertEqual(facts.place - facts.start, OCTETS_A_SECOND)
         # The session ends 0.2 s behind the last datagram, so 0.8 s of datagrams are shown, 50 a second.
         self.assertAlmostEqual(facts.rows[3].count().admitted, 40, delta=2)
@@ -154,97 +126,62 @@ class FactsTests(unittest.TestCase):
         self.assertEqual(places, sorted(set(places)))
 
 
-class PictureFollowerTests(unittest.TestCase):
-    """Passing over multiframes that are alike changes nothing."""
-
-    def test_like_each_octet(self) -> None:
-        for seed in range(4):
-            rng = random.Random(seed)
-            session = MadeSession(1.6, {n: {'role': 'incoming'} for n in range(2, 31, 3)})
-            for n in range(1, 29, 4):
-                session.call(n, rng.uniform(0.05, 0.6), rng.uniform(0.7, 1.3), 0.1, rng.random() < 0.8)
-            session.events += [(rng.uniform(0, 1.5), 'pair', n, rng.randrange(4)) for n in range(1, 31, 2)]
-
-            def wrong(now: float, octets: bytearray, rng: random.Random = rng) -> None:
-                if rng.random() < 0.01:
-                    octets[rng.randrange(512)] ^= 1 << rng.randrange(8)
-                if rng.random() < 0.003:
-                    del octets[rng.randrange(512)]
-            session.change = wrong
-            self.alike([record for record in session.given() if record[0] == Kind.TRUNK], config_of(session), seed)
-
-    def alike(self, records: list[bytes], config: dict[str, object], seed: int) -> None:
-        told: tuple[list[object], list[object]] = ([], [])
-        slow, quick = FollowedTrunk(config, told[0].append), PictureFollower(config, told[1].append)
-        answers = records_in(answered(records, []))
-        waiting: list[tuple[bytes, bytes]] = []
-        for record, answer in zip(records, answers):
-            slow.trunk(record[4:], answer.body)
-            waiting.append((record[4:], answer.body))
-            if len(waiting) == 40 or record is records[-1]:
-                quick.trunk(b''.join(given for given, _ in waiting), b''.join(sent for _, sent in waiting))
-                waiting.clear()
-
-        def states(events: list[object]) -> list[object]:
-            return [event for event in events if event['event'] == 'state']     # type: ignore[index]
-        self.assertEqual(states(told[0]), states(told[1]), f'seed {seed}')
-        self.assertEqual(slow.status()['circuits'], quick.status()['circuits'], f'seed {seed}')
-        self.assertEqual(slow.losses, quick.losses)
-        self.assertEqual(slow.place, quick.place)
-
-
 class FactsBesideCheckTests(unittest.TestCase):
-    """The figures are those of `e1gw check` and of the answers of `e1gw replay`."""
+    """The figures are those of `e1gw check`."""
 
     def test_figures(self) -> None:
-        program()
         for name in TROUBLES:
-            with self.subTest(name):
-                given, answers, path = played(name)
-                facts = read_session(given, answers, read_config(path), program=program())
-                listing = [line.split() for line in run('check', '--config', path, given=given).decode().splitlines()]
-                for line in listing:
-                    row = facts.rows[int(line[NUMBER])]
+            config, given = recorded(name)
+            facts = made_of(name)
+            with self.subTest(name), tempfile.NamedTemporaryFile('w') as file:
+                file.write(config)
+                file.flush()
+                for line in run('check', '--config', file.name, given=given).decode().splitlines():
+                    number, _, state, _, _, *counts, _, _ = line.split()
+                    row = facts.rows[int(number)]
                     cell = row.count()
                     refused = sum(seen[0] for seen in cell.refused.values()) + cell.counts.get('repetitions', 0)
                     self.assertEqual([row.states.value, cell.sent, cell.admitted, refused],
-                                     [line[STATE], *(int(line[n]) for n in (SENT, ADMITTED, REFUSED))], line)
-                self.causes(facts, answers)
-
-    def causes(self, facts: Facts, answers: bytes) -> None:
-        told: dict[tuple[int, int], int] = {}
-        for record in records_in(answers):
-            if record.kind is Kind.ANSWER and record.body[0] == Kind.DATAGRAM and record.body[1]:
-                told[record.circuit, record.body[1]] = told.get((record.circuit, record.body[1]), 0) + 1
-        seen = {(row.number, code): count[0] for row in facts.rows.values()
-                for code, count in row.count().refused.items()}
-        # a repetition is answered as Repeat where nothing comes behind its time
-        seen |= {(row.number, int(DatagramRefusal.REPEAT)): again for row in facts.rows.values()
-                 if (again := row.count().counts.get('repetitions', 0))}
-        self.assertEqual(seen, told)
+                                     [state, *map(int, counts)], line)
 
     def test_each_trouble_is_found(self) -> None:
-        program()
         for name in TROUBLES:
             with self.subTest(name):
-                given, answers, path = played(name)
-                facts = read_session(given, answers, read_config(path), program=program())
-                kinds = [each.kind for each in findings(facts)]
+                kinds = [each.kind for each in findings(made_of(name))]
                 if name == 'sound':
                     self.assertEqual(kinds, [])
                 else:
                     self.assertIn(FOUND[name], kinds)
 
+    def test_records_of_any_length(self) -> None:
+        """Long ones are given in pieces of a millisecond, so nothing is drawn later."""
+        config, given = recorded('hold')
+        octets, records = bytearray(), list[bytes]()
+        for record in records_in(given):
+            if record.kind is Kind.TRUNK and len(octets) < 60_000:
+                octets += record.body
+            else:
+                records += [trunk_record(bytes(octets)), record.encode()]
+                octets.clear()
+        records.append(trunk_record(bytes(octets)))
+        whole, long = (read_session(config, given).rows[3] for given in (given, b''.join(records)))
+        self.assertEqual(whole.states.items, long.states.items)
+        self.assertEqual(whole.count().refused, long.count().refused)
+
     def test_clock_is_measured(self) -> None:
-        given, answers, path = played('slow-clock')
-        found = findings(read_session(given, answers, read_config(path), program=program()))
-        words = next(each.seen for each in found if each.kind == 'clock slower')
+        words = next(each.seen for each in findings(made_of('slow-clock')) if each.kind == 'clock slower')
         self.assertAlmostEqual(int(words.split(' ppm')[0].split()[-1]), 500, delta=10)
 
     def test_gap_is_measured(self) -> None:
-        given, answers, path = played('gap')
-        found = findings(read_session(given, answers, read_config(path), program=program()))
-        self.assertIn('come 380 ms earlier', next(each.seen for each in found if each.kind == 'gap'))
+        self.assertIn('come 380 ms earlier', next(each.seen for each in findings(made_of('gap')) if each.kind == 'gap'))
+
+
+class PicturePackageTests(unittest.TestCase):
+    def test_nothing_of_the_service_is_loaded(self) -> None:
+        code = 'import sys, e1gw.picture.main; print(*(name for name in sys.modules if name.startswith("e1gw.")))'
+        loaded = subprocess.run([sys.executable, '-B', '-c', code], cwd=os.path.join(TOP, 'driver'), check=True,
+                                stdout=subprocess.PIPE, text=True).stdout.split()
+        self.assertEqual([name for name in loaded if name.split('.')[1] in ('service', 'tie', 'told', 'testing')], [])
 
 
 class PageChecker(html.parser.HTMLParser):
@@ -292,25 +229,30 @@ def wide_of(cells: list[str], size: float, bold: bool = False) -> list[float]:
     return [max((wide(word, size, bold) for word in cell.split()), default=0.0) for cell in cells]
 
 
+@functools.cache
+def busy_page() -> str:
+    """The page of a day of thirty circuits with calls, datagrams and refused ones all the time."""
+    facts, rng = Facts(), random.Random(4)
+    for row in facts.rows.values():
+        row.codec, row.payload, row.prefill = 'g726-32', 96, 320
+        row.local, row.peer = '192.0.2.110:24002', '198.51.100.120:34002'
+    states = ('idle', 'seized', 'acked', 'answered', 'releasing')
+    for second in range(0, 86_400, 40):
+        place = second * OCTETS_A_SECOND
+        facts.turn(place)
+        for row in facts.rows.values():
+            row.state(place, states[(second // 40 + row.number) % 5])
+            row.cell.sent += 500
+            for _ in range(3):
+                row.cell.admit(rng.randrange(0, 3000))
+            row.cell.refuse(rng.choice((11, 12, 13, 14, 16, 20)), rng.randrange(-400, 3200))
+            facts.command(row.number, place, 'seize', rng.choice(('', 'not idle')))
+        facts.alarms['here', 'frame'].put(place, rng.random() < 0.5)
+    return draw(facts, 'a day')
+
+
 class PicturePageTests(unittest.TestCase):
     """The page."""
-
-    def busy(self) -> Facts:
-        """A day of thirty circuits with calls, datagrams and refused ones all the time."""
-        facts, rng = Facts(), random.Random(4)
-        states = ('idle', 'seized', 'acked', 'answered', 'releasing')
-        for second in range(0, 86_400, 40):
-            place = second * OCTETS_A_SECOND
-            facts.turn(place)
-            for row in facts.rows.values():
-                row.state(place, states[(second // 40 + row.number) % 5])
-                row.cell.sent += 500
-                for _ in range(3):
-                    row.cell.admit(rng.randrange(0, 3000))
-                row.cell.refuse(rng.choice((11, 12, 13, 14, 16, 20)), rng.randrange(-400, 3200))
-                facts.command(row.number, place, 'seize', rng.choice(('', 'not idle')))
-            facts.alarms['here', 'frame'].put(place, rng.random() < 0.5)
-        return facts
 
     def checked(self, text: str) -> str:
         checker = PageChecker()
@@ -319,7 +261,7 @@ class PicturePageTests(unittest.TestCase):
         return ' '.join(checker.words)
 
     def test_under_two_megabytes_however_long(self) -> None:
-        text = draw(self.busy(), 'a day')
+        text = busy_page()
         self.assertLess(len(text.encode()), 2_000_000)
         self.checked(text)
         self.assertLess(MOST_OCTETS, 2_000_000)
@@ -328,10 +270,9 @@ class PicturePageTests(unittest.TestCase):
         session = MadeSession(1.4, {3: {'prefill': 320, 'local_port': 24006, 'peer_port': 24106}})
         session.call(3, 0.05, 9.0)
         session.senders.append(PictureSender(3, 0.2, 1.0 - 0.001, kind=13))
-        records = list(session.given())
-        words = self.checked(page_of(b''.join(records), answered(records, [11] * 40), config_of(session)))
+        words = self.checked(page_of(session))
         self.assertIn('40 of 40 packets were discarded as PayloadType: type 13 came, the circuit has 8', words)
-        self.assertIn('0 sent, 0 received, 40 discarded', words)
+        self.assertIn('65 sent, 0 received, 40 discarded', words)      # 20 ms each from 0.1 s on, as it is acknowledged
         self.assertIn('127.0.0.1:24106', words)
 
     def test_wrong_sources_are_those_of_their_call(self) -> None:
@@ -341,10 +282,7 @@ class PicturePageTests(unittest.TestCase):
             session.call(3, begin, begin + 1, 0.1)
             session.senders.append(PictureSender(3, begin + 0.2, begin + 0.9, ssrc))
         session.senders.append(PictureSender(3, 1.75, 1.949, 0xBAD))
-        records = list(session.given())
-        codes = [12 if record[12:16] == bytes.fromhex('00000bad') else 0 for record in records
-                 if record[0] == Kind.DATAGRAM]
-        found = {each.kind: each.seen for each in findings(facts_of(session, codes))}
+        found = {each.kind: each.seen for each in findings(facts_of(session))}
         # each 20 ms from 1.750 s on, up to 1.930 s, in steps of a multiframe
         self.assertRegex(found['source'], '^10 of .* packets were discarded as WrongSource: in the call whose first '
                          r'datagram had SSRC 0000000b, 00000bad came 10 times from 1\.75[02] s to 1\.93[02] s$')
@@ -353,19 +291,16 @@ class PicturePageTests(unittest.TestCase):
         for name, words, kind in (('silent-peer', 'silence', 'silent'), ('silent-slot', 'slot: silence', 'silent'),
                                   ('other-codec', 'other length', 'unlike')):
             with self.subTest(name):
-                made = TROUBLES[name]()
-                text = page_of(b''.join(made.given()), answered(list(made.given()), [0] * 273), config_of(made))
+                text = draw(made_of(name), 'e1gw')
                 self.checked(text)
                 self.assertIn(f'<title>circuit 3: {words}</title>', text)
                 self.assertEqual(len(re.findall(f'<path [^>]*class="{kind}"', text)), 2)
 
     def test_a_codec_given_again_is_no_other_command(self) -> None:
-        session = MadeSession(1.0, {3: {'prefill': 320}})
+        config = 'law = "A"\n[[circuit]]\nnumber = 3\nprefill = 320\n'
         records = [codec_record(3, codec, payload) for codec, payload in
                    ((Codec.G711, 8), (Codec.G726_32, 96), (Codec.G726_32, 96))]
-        whole = b''.join([*session.given(), *records])
-        text = page_of(whole, answered(list(session.given()), []) + b''.join(
-            encode_record(Kind.ANSWER, 3, bytes([Kind.CODEC, 0])) for _ in records), config_of(session))
+        text = draw(read_session(config, b''.join([*MadeSession(1.0).given(), *records])), 'e1gw')
         self.assertEqual(text.count('jitter buffer resynchronised</td>'), 1)
         self.assertIn('codec g726-32 96', text)
         # two again, one change; each is one mark, and one more of each is in the key
@@ -384,11 +319,7 @@ class PicturePageTests(unittest.TestCase):
 
     def test_the_table_of_counts_is_not_cut(self) -> None:
         """On a screen of 1280 pixels, less a scroll bar and the page's margins."""
-        facts = self.busy()
-        for row in facts.rows.values():
-            row.codec, row.payload, row.prefill = 'g726-32', 96, 320
-            row.local, row.peer = '192.0.2.110:24002', '198.51.100.120:34002'
-        text = draw(facts, 'x')
+        text = busy_page()
         table = re.search(r'<table class="counts">.*?</table>', text)
         assert table
         size, right = 12, 8
@@ -416,7 +347,7 @@ class PicturePageTests(unittest.TestCase):
         self.checked(text)
 
     def test_nothing_at_all(self) -> None:
-        words = self.checked(page_of(b'', b'', {}))
+        words = self.checked(draw(read_session('law = "A"\n', b''), 'e1gw'))
         self.assertIn('No datagrams came', words)
 
     def test_times_of_the_day(self) -> None:

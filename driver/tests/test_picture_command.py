@@ -13,12 +13,12 @@ import unittest
 
 from .support import SECONDS, TOP, FolderCase, program, run
 
-from .picture_made import (BEGIN, CAPTURED, PEER, TROUBLES, MadeSession, PictureSender, answered, beside, captured,
-                           icmp, pcap, recorded, udp)
+from .picture_made import (BEGIN, CAPTURED, PEER, TROUBLES, MadeSession, PictureSender, beside, captured, icmp, pcap,
+                           recorded, udp)
 
+from e1gw.packets import BadCapture, datagrams
 from e1gw.picture.capture import reckoned
 from e1gw.picture.main import parser
-from e1gw.picture.packets import BadCapture, datagrams
 from e1gw.session import Kind, records_in, trunk_record
 
 COMMAND = os.path.join(TOP, 'driver', 'e1gw-picture')
@@ -48,19 +48,17 @@ class PictureCommandCase(FolderCase):
 
     def drawn(self, *words: str, status: int = 0, given: bytes = b'') -> tuple[str, str]:
         """Runs the command; returns the page and what it said."""
-        done = subprocess.run([COMMAND, *words], input=given, stdout=subprocess.PIPE, stderr=subprocess.PIPE,
-                              check=False, timeout=SECONDS)
+        done = subprocess.run([COMMAND, '--program', program(), *words], input=given, stdout=subprocess.PIPE,
+                              stderr=subprocess.PIPE, check=False, timeout=SECONDS)
         self.assertEqual(done.returncode, status, done.stderr.decode())
         return done.stdout.decode(), done.stderr.decode()
 
-    def small(self, codes: int = 0) -> tuple[str, str, str]:
-        """A session of a call whose twenty datagrams are all answered so: configuration, session, answers."""
+    def small(self, kind: int = 8) -> tuple[str, str]:
+        """The configuration and the session of a call with twenty datagrams of a payload type."""
         made = MadeSession(1.2, {3: {'prefill': 320}})
         made.call(3, 0.05, 1.0)
-        made.senders.append(PictureSender(3, 0.2, 0.5999))
-        records = list(made.given())
-        return (self.write('trunk.toml', made.config()), self.write('given.rec', b''.join(records)),
-                self.write('answers.rec', answered(records, [codes] * 20)))
+        made.senders.append(PictureSender(3, 0.2, 0.5999, kind=kind))
+        return self.write('trunk.toml', made.config()), self.write('given.rec', b''.join(made.given()))
 
 
 class PictureCommandTests(PictureCommandCase):
@@ -73,32 +71,32 @@ class PictureCommandTests(PictureCommandCase):
             self.assertEqual(said, '')
 
     def test_page_to_output_and_file(self) -> None:
-        config, given, answers = self.small()
-        page, said = self.drawn('--config', config, '--answers', answers, given)
+        config, given = self.small()
+        page, said = self.drawn('--config', config, given)
         self.assertEqual(said, '')
         self.assertIn('20 received, 0 discarded', page)
         path = os.path.join(self.folder, 'page.html')
-        self.drawn('--config', config, '--answers', answers, '-o', path, given)
+        self.drawn('--config', config, '-o', path, given)
         with open(path, encoding='utf-8') as file:
             self.assertEqual(file.read(), page)
 
     def test_standard_input_and_title(self) -> None:
-        config, given, answers = self.small(12)
+        config, given = self.small(0)
         with open(given, 'rb') as file:
-            page, _ = self.drawn('--config', config, '--answers', answers, '--title', 'A <b>', '-', given=file.read())
+            page, _ = self.drawn('--config', config, '--title', 'A <b>', '-', given=file.read())
         self.assertIn('0 received, 20 discarded', page)
         self.assertIn('<h1>A &lt;b&gt;</h1>', page)
 
     def test_times_in_utc(self) -> None:
-        config, given, answers = self.small()
-        page, _ = self.drawn('--config', config, '--answers', answers, '--begin', '2023-11-14T22:13:20Z', given)
+        config, given = self.small()
+        page, _ = self.drawn('--config', config, '--begin', '2023-11-14T22:13:20Z', given)
         self.assertIn('2023-11-14 22:13:20 UTC', page)
-        again, _ = self.drawn('--config', config, '--answers', answers, '--begin', str(BEGIN), given)
+        again, _ = self.drawn('--config', config, '--begin', str(BEGIN), given)
         self.assertEqual(page, again)
 
     def test_totals(self) -> None:
-        config, given, answers = self.small()
-        words = ['--config', config, '--answers', answers, '--totals']
+        config, given = self.small()
+        words = ['--config', config, '--totals']
         page, _ = self.drawn(*words, self.write('totals', 'a line\nport_faults 3\nports 9\nport_faults 7\n'), given)
         self.assertIn('7 times a socket could not send or receive', page)
         page, _ = self.drawn(*words, self.write('totals', 'dropped 1\nport_faults 0\n'), given)
@@ -106,50 +104,50 @@ class PictureCommandTests(PictureCommandCase):
         self.assertIn('no line with port_faults', self.drawn(*words, config, given, status=1)[1])
 
     def test_cut_session_is_drawn_up_to_there(self) -> None:
-        config, given, answers = self.small()
+        config, given = self.small()
         with open(given, 'r+b') as file:
             file.truncate(os.path.getsize(given) - 100)
-        page, said = self.drawn('--config', config, '--answers', answers, given)
+        page, said = self.drawn('--config', config, given)
         self.assertIn('20 received, 0 discarded', page)
         self.assertIn('what was before it is drawn', said)
         self.assertIn('what was before it is drawn', page)
 
     def test_kept_session(self) -> None:
-        config, given, answers = self.small()
+        config, given = self.small()
         folder = os.path.join(self.folder, 'kept')
         os.mkdir(folder)
         shutil.copy(given, os.path.join(folder, 'west-20231114T221320Z.e1gw'))
         about = {'config': config, 'time': BEGIN, 'place': 0, 'begins': 'start'}
         with open(os.path.join(folder, 'west-20231114T221320Z.json'), 'w', encoding='utf-8') as file:
             json.dump(about, file)
-        page, said = self.drawn('--answers', answers, folder)
+        page, said = self.drawn(folder)
         self.assertIn('2023-11-14 22:13:20 UTC', page)
         self.assertEqual(said, '')
         about['begins'] = 'middle'
         with open(os.path.join(folder, 'west-20231114T221320Z.json'), 'w', encoding='utf-8') as file:
             json.dump(about, file)
-        page, said = self.drawn('--answers', answers, folder)
+        page, said = self.drawn(folder)
         self.assertIn('begins in the middle', page)
         self.assertIn('begins in the middle', said)
 
     def test_slips_that_the_driver_noted(self) -> None:
-        config, given, answers = self.small()
+        config, given = self.small()
         front = given.removesuffix('.rec')
         about = {'config': config, 'time': BEGIN, 'place': 1000, 'begins': 'start'}
         self.write('given.json', json.dumps(about))
-        page, _ = self.drawn('--answers', answers, given)
+        page, _ = self.drawn(given)
         self.assertIn('>slips</text>', page)
         self.assertNotIn('the driver noted', page)
         self.write('given.json', json.dumps(about | {'slips': [[129000, 0.25], [257000, 0.5]]}))
-        page, _ = self.drawn('--answers', answers, given)
+        page, _ = self.drawn(given)
         self.assertIn('the driver noted 2 slips, first at 22:13:20.500: 0.750 s of the trunk were lost', page)
         self.assertIn('22:13:21.000: 0.500 s were lost', page)
         os.unlink(f'{front}.json')
-        page, _ = self.drawn('--config', config, '--answers', answers, given)
+        page, _ = self.drawn('--config', config, given)
         self.assertNotIn('>slips</text>', page)
 
     def test_kept_in_several_files(self) -> None:
-        config, given, answers = self.small()
+        config, given = self.small()
         folder = os.path.join(self.folder, 'ring')
         os.mkdir(folder)
         with open(given, 'rb') as file:
@@ -165,17 +163,17 @@ class PictureCommandTests(PictureCommandCase):
                 json.dump({'config': config, 'time': BEGIN, 'place': 0, 'begins': begins}, text)
             if begins == 'start' and shutil.which('zstd'):
                 subprocess.run(['zstd', '-q', '--rm', f'{front}.e1gw'], check=True)
-        # One that is being packed stands there twice.
+        # One that is being packed is there twice.
         with open(os.path.join(folder, 'west-20231114T221321Z.e1gw.zst'), 'wb') as file:
             file.write(b'half')
-        page, said = self.drawn('--answers', answers, folder)
+        page, said = self.drawn(folder)
         self.assertEqual(said, '')
         self.assertIn('20 received, 0 discarded', page)
 
-    def ring_of_two(self, second: dict[str, object], **first: object) -> tuple[str, str]:
-        """A ring whose second file begins 0.6 s of the trunk behind the first one: its folder, and the answers. The
+    def ring_of_two(self, second: dict[str, object], **first: object) -> str:
+        """A ring whose second file begins 0.6 s of the trunk behind the first one: its folder. The
         call on circuit 3 is seized at 0.05 s of the trunk and cleared at 1 s."""
-        config, given, answers = self.small()
+        config, given = self.small()
         with open(given, 'rb') as file:
             records = list(records_in(file.read()))
         parts: tuple[list[bytes], list[bytes]] = ([], [])
@@ -194,12 +192,12 @@ class PictureCommandTests(PictureCommandCase):
                 file.write(b''.join(part))
             with open(f'{front}.json', 'w', encoding='utf-8') as text:
                 json.dump(about, text)
-        return folder, answers
+        return folder
 
     def test_an_outage_between_two_files(self) -> None:
         """The trunk was away for 62 s: each file has its own time, and a grey gap is where no octets came."""
-        folder, answers = self.ring_of_two({'time': BEGIN + 62.6, 'monotonic': 162.6}, monotonic=100.0)
-        page, said = self.drawn('--answers', answers, folder)
+        folder = self.ring_of_two({'time': BEGIN + 62.6, 'monotonic': 162.6}, monotonic=100.0)
+        page, said = self.drawn(folder)
         self.assertEqual(said, '')
         outage = 'from 22:13:20.600 to 22:14:22.600 (62.00 s)'
         self.assertIn(f'<b>the trunk</b>no octets of the trunk came {outage}', page)
@@ -226,21 +224,21 @@ class PictureCommandTests(PictureCommandCase):
             ({'time': BEGIN - 3599.4, 'monotonic': 100.6}, {'monotonic': 100.0}, '21:13:21.000'),
             ({'time': BEGIN + 2.6}, {'slips': [[50_000, 0.9], [60_000, 0.9]]}, '22:13:23.000')]
         for second, first, clear in cases:
-            folder, answers = self.ring_of_two(second, **first)
-            page, _ = self.drawn('--answers', answers, folder)
+            folder = self.ring_of_two(second, **first)
+            page, _ = self.drawn(folder)
             self.assertIn(f'<td>{clear}</td><td>clear</td>', page)
             self.assertNotIn('class="outage"', page)
             self.assertNotIn('no octets of the trunk came', page)
 
     def test_an_outage_with_a_boot_in_it(self) -> None:
-        folder, answers = self.ring_of_two({'time': BEGIN + 62.6, 'monotonic': 30.0}, monotonic=100.0)
-        page, _ = self.drawn('--answers', answers, folder)
+        folder = self.ring_of_two({'time': BEGIN + 62.6, 'monotonic': 30.0}, monotonic=100.0)
+        page, _ = self.drawn(folder)
         self.assertIn('no octets of the trunk came from 22:13:20.600 to 22:14:22.600 (62.00 s)', page)
 
     def test_an_outage_within_a_file(self) -> None:
-        """The recorder has noted it beside the file, 0.25 s of the trunk behind the file's beginning."""
-        folder, answers = self.ring_of_two({'time': BEGIN + 0.6, 'slips': [[224_600, 90.0]]})
-        page, _ = self.drawn('--answers', answers, folder)
+        """The recorder has noted it in the file's .json, 0.25 s of the trunk behind the file's beginning."""
+        folder = self.ring_of_two({'time': BEGIN + 0.6, 'slips': [[224_600, 90.0]]})
+        page, _ = self.drawn(folder)
         self.assertIn('no octets of the trunk came from 22:13:20.850 to 22:14:50.850 (90.00 s)', page)
         self.assertIn('<td>22:14:51.000</td><td>clear</td>', page)
         self.assertNotIn('the driver noted', page)
@@ -249,7 +247,7 @@ class PictureCommandTests(PictureCommandCase):
         """On a terminal, each 10 s of the trunk; the last line is taken away. Elsewhere nothing is said."""
         records = [trunk_record(bytes(2048))] * (35 * 125)
         given, config = self.write('long.rec', b''.join(records)), self.write('trunk.toml', 'law = "A"\n')
-        words = ['--config', config, '--answers', given, '-o', os.path.join(self.folder, 'page.html'), given]
+        words = ['--config', config, '-o', os.path.join(self.folder, 'page.html'), given]
         self.assertEqual(self.drawn(*words)[1], '')
         ours, theirs = pty.openpty()
         with open(ours, 'rb', buffering=0) as terminal:
@@ -268,26 +266,22 @@ class PictureCommandTests(PictureCommandCase):
         items = {f'--{word}' for line in re.findall(r'^\.It Fl .*', described, re.M)
                  for word in re.findall(r'Fl -([a-z-]+)', line)}
         self.assertEqual(items, options)
-        with open(os.path.join(TOP, 'dist', 'completions', 'e1gw-picture.bash'), encoding='utf-8') as file:
-            offered = re.search(r"local options='([^']*)'", file.read())
-        self.assertEqual(set(offered[1].split()) if offered else None, options)
 
     def test_what_cannot_be(self) -> None:
-        config, given, answers = self.small()
+        config, given = self.small()
         nothing = os.path.join(self.folder, 'nothing')
         for words, status, said in (
                 (['--config', config], 1, 'no session and no capture was named'),
-                (['--answers', answers, given], 1, 'no configuration'),
-                (['--config', config, '--answers', answers, nothing], 1, 'No such file'),
-                (['--config', nothing, '--answers', answers, given], 1, 'No such file'),
+                ([given], 1, 'no configuration'),
+                (['--config', config, nothing], 1, 'No such file'),
+                (['--config', nothing, given], 1, 'No such file'),
                 (['--config', config, '--program', nothing, given], 1, 'No such file'),
-                (['--config', config, '--answers', config, given], 1, 'BadKind'),
                 (['--config', config, '--capture', config, given], 1, 'no local_port'),
                 (['--last', '5 parsecs', given], 2, 'is not a time such as'),
                 (['--circuits', '0-3', given], 2, '1 to 30'),
                 (['--circuits', 'x', given], 2, 'is not a list of circuits'),
                 (['--begin', 'noon', given], 2, 'is not a time such as'),
-                (['--config', config, '--answers', answers, '-o', nothing + '/x', given], 1, 'No such file')):
+                (['--config', config, '-o', nothing + '/x', given], 1, 'No such file')):
             with self.subTest(words):
                 page, line = self.drawn(*words, status=status)
                 self.assertEqual(page, '')
@@ -295,27 +289,26 @@ class PictureCommandTests(PictureCommandCase):
                 self.assertNotIn('Traceback', line)
 
     def test_closed_output(self) -> None:
-        config, given, answers = self.small()
+        config, given = self.small()
         reads, writes = os.pipe()
         os.close(reads)
-        done = subprocess.run([COMMAND, '--config', config, '--answers', answers, given], stdout=writes,
+        done = subprocess.run([COMMAND, '--program', program(), '--config', config, given], stdout=writes,
                               stderr=subprocess.PIPE, check=False)
         os.close(writes)
         self.assertEqual((done.returncode, done.stderr), (1, b''))
 
     def test_circuits_alone(self) -> None:
-        config, given, answers = self.small()
-        page, _ = self.drawn('--config', config, '--answers', answers, '--circuits', '4-6', given)
+        config, given = self.small()
+        page, _ = self.drawn('--config', config, '--circuits', '4-6', given)
         self.assertIn('0 sent, 0 received, 0 discarded', page)
 
 
 class PictureAnswersTests(PictureCommandCase):
-    """With `e1gw replay` for the answers."""
+    """What `e1gw replay` says of a session."""
 
     def test_replayed(self) -> None:
-        path = program()
         text, given = recorded('stranger')
-        page, said = self.drawn('--program', path, '--config', self.write('trunk.toml', text), '-', given=given)
+        page, said = self.drawn('--config', self.write('trunk.toml', text), '-', given=given)
         self.assertEqual(said, '')
         self.assertIn('WrongSource', page)
 
@@ -326,18 +319,17 @@ class PictureAnswersTests(PictureCommandCase):
         with open(raw, 'wb') as file:
             file.write(pair * 100)
         config = self.write('trunk.toml', 'law = "A"\n')
-        page, said = self.drawn('--program', program(), '--config', config, raw, status=1)
+        page, said = self.drawn('--config', config, raw, status=1)
         for text in (page, said):
             self.assertIn('the session failed: fault 1 BadKind', text)
             self.assertIn(f'e1gw-records --from-raw {raw}', text)
 
     def test_refused_configuration(self) -> None:
         config = self.write('trunk.toml', 'law = "A"\nhost = ""\n')
-        page, said = self.drawn('--program', program(), '--config', config, '-', status=1)
+        page, said = self.drawn('--config', config, '-', status=1)
         self.assertEqual((page, said), ('', 'e1gw-picture: config 5 OutOfRange at 0\n'))
 
     def test_what_the_documents_quote(self) -> None:
-        path = program()
         with open(os.path.join(TOP, 'docs', 'SYMPTOMS.md'), encoding='utf-8') as file:
             quotes = re.findall(r'!\[\]\(pictures/([a-z-]+)\.svg\)\n\n> ([^:]+): (.*)\n', file.read())
         self.assertEqual({name for name, _, _ in quotes}, set(TROUBLES) - {'sound'} | set(CAPTURED))
@@ -345,7 +337,7 @@ class PictureAnswersTests(PictureCommandCase):
             with self.subTest(name):
                 config, given, capture = captured(name) if name in CAPTURED else (*recorded(name), b'')
                 beside_it = ['--capture', self.write('call.pcap', capture)] if capture else []
-                page, _ = self.drawn('--program', path, '--config', self.write('trunk.toml', config), *beside_it, '-',
+                page, _ = self.drawn('--config', self.write('trunk.toml', config), *beside_it, '-',
                                      given=given)
                 entries = [re.sub('<.*?>', '', entry) for entry in re.findall('<li.*?</li>', page, re.S)]
                 wanted = who + words.replace("'", '&#x27;')
@@ -403,12 +395,11 @@ class PictureCaptureTests(PictureCommandCase):
         return self.write('trunk.toml', text), given, bare, capture
 
     def test_beside_a_session(self) -> None:
-        path = program()
         for name in ('hold', 'jump', 'jitter'):
             with self.subTest(name):
                 config, given, bare, capture = self.split(name)
-                whole, _ = self.drawn('--program', path, '--config', config, '-', given=given)
-                beside, _ = self.drawn('--program', path, '--config', config, '--capture',
+                whole, _ = self.drawn('--config', config, '-', given=given)
+                beside, _ = self.drawn('--config', config, '--capture',
                                        self.write('call.pcap', capture), '-', given=bare)
                 counts = r'(\d+) sent, (\d+) received, (\d+) discarded'
                 wanted, found = (re.findall(counts, page)[0] for page in (whole, beside))
@@ -419,18 +410,16 @@ class PictureCaptureTests(PictureCommandCase):
 
     def test_short_records(self) -> None:
         """Records of half a millisecond, as a device gives them: few octets of answers for as many pieces."""
-        path = program()
         config, _, bare, capture = self.split('hold')
         short = b''.join(trunk_record(record.body[at:at + 128]) if record.kind is Kind.TRUNK else record.encode()
                          for record in records_in(bare) for at in range(0, len(record.body), 128))
         packed = self.write('call.pcap', capture)
-        pages = [self.drawn('--program', path, '--config', config, '--capture', packed, '-', given=given)[0]
+        pages = [self.drawn('--config', config, '--capture', packed, '-', given=given)[0]
                  for given in (bare, short)]
         wanted, found = (re.findall(r'(\d+) sent, (\d+) received, (\d+) discarded', page)[0] for page in pages)
         self.assertEqual(wanted, found)
 
     def test_alone(self) -> None:
-        program()
         config, given, _, capture = self.split('hold')
         path = self.write('call.pcap', capture)
         answers = run('replay', '--config', config, given=given)
@@ -448,13 +437,12 @@ class PictureCaptureTests(PictureCommandCase):
         self.assertIn('reckoned from the capture', page)
 
     def said(self, name: str, packets: list[tuple[float, bytes]], *words: str) -> str:
-        """The page of the octets and commands of a session, beside a capture."""
+        """The page of the octets and commands of a session, with a capture."""
         config, _, bare, _ = self.split(name)
         capture = self.write('call.pcap', pcap(packets))
-        return self.drawn('--program', program(), '--config', config, '--capture', capture, *words, '-', given=bare)[0]
+        return self.drawn('--config', config, '--capture', capture, *words, '-', given=bare)[0]
 
     def test_where_datagrams_go(self) -> None:
-        program()
         packets = [(each.time, udp(each.source, each.target, each.body, (each.source_host, each.target_host)))
                    for each in datagrams(io.BytesIO(self.split('hold')[3]))]
         self.assertNotIn('are sent to', self.said('hold', packets))
@@ -467,14 +455,13 @@ class PictureCaptureTests(PictureCommandCase):
         self.assertIn('datagrams were made, and none of them is in the capture', page)
 
     def test_one_way_needs_a_begin(self) -> None:
-        program()
         config, _, bare, capture = self.split('hold')
         packets = [(each.time, udp(each.source, each.target, each.body)) for each in datagrams(io.BytesIO(capture))
                    if each.target == 24006]
         path = self.write('call.pcap', pcap(packets))
-        _, said = self.drawn('--program', program(), '--config', config, '--capture', path, '-', given=bare, status=1)
+        _, said = self.drawn('--config', config, '--capture', path, '-', given=bare, status=1)
         self.assertIn('--begin', said)
-        page, _ = self.drawn('--program', program(), '--config', config, '--capture', path, '--begin', str(BEGIN), '-',
+        page, _ = self.drawn('--config', config, '--capture', path, '--begin', str(BEGIN), '-',
                              given=bare)
         self.assertIn('WrongSource', page)
 

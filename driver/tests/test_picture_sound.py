@@ -2,17 +2,14 @@
 from __future__ import annotations
 
 import math
-import os
 import random
-import tomllib
 import unittest
 
-from .support import program, run
+from .support import FolderCase, program, run
 
-from .picture_made import BITS, TROUBLES, coded, g726, of_aal2, of_codec, packets, read_session
+from .picture_made import BITS, coded, g726, of_aal2, of_codec, packets, read_session, recorded
 
 from e1gw.g711 import OTHER, TONES, VALUES, level, power
-from e1gw.picture.facts import Facts
 from e1gw.picture.findings import findings
 from e1gw.picture.orders import Orders, reordered
 from e1gw.picture.sound import EACH, HeardSamples, ListeningTimes, heard
@@ -22,7 +19,7 @@ LAWS = ('A', 'mu')
 
 
 def listened(octets: bytes, law: str) -> HeardSamples:
-    """What is heard in packets of 20 ms that are to be of a law."""
+    """What is found in packets of 20 ms that are to be of a law."""
     seen = HeardSamples()
     for packet in packets(octets):
         seen.join(heard(packet, law))
@@ -30,29 +27,12 @@ def listened(octets: bytes, law: str) -> HeardSamples:
 
 
 def tone(law: str, hertz: float, loud: float) -> bytes:
-    """160 samples of a tone, beside the greatest value of the law."""
+    """160 samples of a tone, relative to the greatest value of the law."""
     nearest = {value: octet for octet, value in enumerate(VALUES[law])}
     values = sorted(nearest)
     top = values[-1] * loud
     wave = [top * math.sin(2 * math.pi * hertz * n / 8000 + 1) for n in range(160)]
     return bytes(nearest[min(values, key=lambda value: abs(value - sample))] for sample in wave)
-
-
-def made(name: str) -> tuple[Facts, bytes]:
-    """What is gathered of a session with a trouble, and what the program answers to it."""
-    session = TROUBLES[name]()
-    given = b''.join(session.given())
-    return of_records(session.config(), given)
-
-
-def of_records(config: str, given: bytes) -> tuple[Facts, bytes]:
-    import tempfile
-    with tempfile.TemporaryDirectory() as folder:
-        path = os.path.join(folder, 'trunk.toml')
-        with open(path, 'w', encoding='utf-8') as file:
-            file.write(config)
-        answers = run('replay', '--config', path, given=given)
-    return read_session(given, answers, tomllib.loads(config), program=program()), answers
 
 
 class LevelTests(unittest.TestCase):
@@ -80,7 +60,7 @@ class LevelTests(unittest.TestCase):
         self.assertEqual(level(power(b'\xff', 'mu'), 'mu'), -math.inf)
 
 
-class LawTests(unittest.TestCase):
+class LawTests(FolderCase):
     """Which law octets are of."""
 
     def test_speech_of_both(self) -> None:
@@ -113,20 +93,20 @@ class LawTests(unittest.TestCase):
         self.assertFalse(HeardSamples(9, other=8, own=1).is_other())
 
     def test_levels_of_the_page_are_those_of_the_session(self) -> None:
-        program()
         for name in ('other-law', 'other-law-trunk'):
-            facts, answers = made(name)
+            config, given = recorded(name)
+            answers = run('replay', '--config', self.write('trunk.toml', config), given=given)
             sent = b''.join(packet_of(record.body).payload for record in records_in(answers)
                             if record.kind is Kind.DATAGRAM)
+            facts = read_session(config, given)
             seen = facts.rows[3].count().heard['slot']
             for law, found in (('A', seen.power), ('mu', seen.under_other)):
                 self.assertAlmostEqual(10 * math.log10(found / seen.looks), level(power(sent, law), law), delta=2.5)
 
     def test_nothing_is_claimed_where_all_is_well(self) -> None:
-        program()
         for codec, bits in BITS.items():
             session = of_codec(codec, bits, False)
-            facts, _ = of_records(session.config(), b''.join(session.given()))
+            facts = read_session(session.config(), b''.join(session.given()))
             self.assertEqual(findings(facts), [])
             heard_of = facts.rows[3].count().heard
             self.assertGreater(heard_of['order'].own, 4, codec)

@@ -1,12 +1,10 @@
-"""The tie with played drivers: what is told, the connection and its certificates, and calls from end to end."""
+"""The tie with played drivers: what is reported, the connection and its certificates, and calls from end to end."""
 import asyncio
 import json
 import os
 import shutil
 import socket
 import subprocess
-import sys
-import tempfile
 import unittest
 from contextlib import suppress
 from typing import Any, Callable
@@ -17,19 +15,19 @@ from e1gw.session import CIRCUITS
 from e1gw.testing.ports import free_port
 from e1gw.tie import site as site_module
 from e1gw.tie.circuit import CircuitEnd
-from e1gw.tie.coding import Coding, Codings
-from e1gw.tie.control import AGAIN
-from e1gw.tie.kept import KeptBlocks, read
+from e1gw.tie.coding import Coding
+from e1gw.tie.kept import KeptBlocks
 from e1gw.tie.main import ANYBODY, is_loopback, parser
 from e1gw.tie.messages import (BadMessage, CircuitChange, Greeting, KeepAlive, Message, OutOfService, SiteState,
                                encode_message, message_of)
 from e1gw.tie.pairs import BadPairs, agreed, pairs_of
 from e1gw.tie.site import Site, context_of, has_name
-from e1gw.tie.strangers import Stranger, StrangerStage, Strangers, address_of
-from e1gw.tie.tie import Tie, TieOptions
+from e1gw.tie.status import StatusServer, TiePages
+from e1gw.tie.tie import AGAIN, Tie
+from e1gw.tie.trunk import LOOK
 from tests.support import SECONDS
 from tests.test_tie_circuit import CALLED
-from tests.ties import ANSWER, G726, HELD, HOLD, IDLE, SEIZED, TieCase
+from tests.ties import ANSWER, G726, HELD, IDLE, SEIZED, TieCase
 
 HERE = os.path.dirname(os.path.dirname(os.path.abspath(__file__)))
 PCMA = Coding('pcma', 8)
@@ -72,13 +70,7 @@ class TieMessageTests(unittest.TestCase):
                 message_of(line)
 
 
-class TieHelpTests(unittest.TestCase):
-    def test_help(self) -> None:
-        said = subprocess.run([os.path.join(HERE, 'e1gw-tie'), '--help'], check=True, stdout=subprocess.PIPE).stdout
-        for option in ('--control', '--listen', '--connect', '--map', '--tls', '--insecure', '--peer', '--hold',
-                       '--congestion', '--until-answer', '--state'):
-            self.assertIn(option.encode(), said)
-
+class TieOptionTests(unittest.TestCase):
     def test_refused(self) -> None:
         rows: list[list[str]] = [
             [], ['--control', 'a'], ['--control', 'a', '--listen', 'x'],
@@ -129,95 +121,6 @@ class TieAddressTests(unittest.TestCase):
             parser().parse_args('--control a --listen 127.0.0.1:1 --insecure --tls a b c'.split())
 
 
-class StrangersTests(unittest.TestCase):
-    """Who is closed where too many connect, at a peer of 10.0.0.1."""
-
-    def setUp(self) -> None:
-        self.strangers = Strangers('10.0.0.1')
-
-    def add(self, address: str, stage: StrangerStage = StrangerStage.SILENT) -> Stranger:
-        made = Stranger(address, stage)
-        self.strangers.add(made)
-        return made
-
-    @property
-    def found(self) -> list[Stranger]:
-        return self.strangers._all
-
-    def test_two_of_an_address(self) -> None:
-        """The third one of an address takes the place of its first, and of nobody else."""
-        other = self.add('10.0.0.3')
-        first, second, third = (self.add('10.0.0.2') for _ in range(3))
-        self.assertEqual(self.found, [other, second, third])
-        self.assertNotIn(first, self.found)
-
-    def test_eight_of_the_peers_address(self) -> None:
-        added = [self.add('10.0.0.1') for _ in range(9)]
-        self.assertEqual(self.found, added[1:])
-
-    def test_eight_in_all(self) -> None:
-        """The ninth takes the place of the oldest one that is not of the peer's address."""
-        mine = self.add('10.0.0.1')
-        added = [self.add(f'10.0.1.{n}') for n in range(8)]
-        self.assertEqual(self.found, [mine, *added[1:]])
-
-    def test_silent_ones_go_first(self) -> None:
-        """Who has sent something, or shown a certificate, stays while there is one that has not."""
-        shown = self.add('10.0.0.1', StrangerStage.CERTIFIED)
-        speaks = self.add('10.0.0.1', StrangerStage.SPEAKS)
-        added = [self.add('10.0.0.1') for _ in range(20)]
-        self.assertEqual(self.found, [shown, speaks, *added[-6:]])
-        more = [self.add('10.0.0.1', StrangerStage.SPEAKS) for _ in range(7)]
-        self.assertEqual(self.found, [shown, *more])
-
-    def test_pace(self) -> None:
-        """New ones wait where one that speaks is closed for them, but not where an address has one too many."""
-        silent, speaks = Stranger('10.0.0.2'), Stranger('10.0.0.2', StrangerStage.SPEAKS)
-        same, other = Stranger('10.0.0.2'), Stranger('10.0.0.3')
-        hard = [self.strangers.is_hard(*pair) for pair in ((silent, other), (speaks, same), (speaks, other))]
-        self.assertEqual(hard, [False, False, True])
-        self.strangers.peer = '10.0.0.2'
-        self.assertTrue(self.strangers.is_hard(speaks, same))
-
-    def test_addresses(self) -> None:
-        """Of IPv6 a network of 64 bits is one address, and IPv4 within IPv6 is IPv4."""
-        self.assertEqual(address_of('2001:db8::1'), address_of('2001:db8::ffff:2'))
-        self.assertNotEqual(address_of('2001:db8::1'), address_of('2001:db8:0:1::1'))
-        self.assertEqual(address_of('::ffff:192.0.2.1'), address_of('192.0.2.1'))
-        self.assertEqual(address_of('fe80::1%eth0'), address_of('fe80::2'))
-
-
-class RefusalReportTests(unittest.TestCase):
-    def test_told(self) -> None:
-        """Why nobody was let in is told once a minute for each reason, and for ten of them at most."""
-        told: list[str] = []
-        tie = Tie(TieOptions('/none', None, HOLD, False), 'run', KeptBlocks(None),
-                  lambda event, **fields: told.append(fields['why']))
-        with mock.patch('time.monotonic') as clock:
-            for clock.return_value in (0.0, 30.0, 59.0):
-                for n in range(12):
-                    tie.turned_away(f'reason {n}')
-            self.assertEqual(told, [f'reason {n}' for n in range(10)])
-            clock.return_value = 61.0
-            tie.turned_away('reason 3')
-            self.assertEqual(told[10:], ['reason 3'])
-
-
-class KeptBlocksTests(unittest.TestCase):
-    def test_file(self) -> None:
-        with tempfile.TemporaryDirectory() as folder:
-            path = os.path.join(folder, 'kept')
-            kept = KeptBlocks(path)
-            kept.put((3, 5))
-            kept.close()
-            self.assertEqual(read(path), {3, 5})
-            self.assertTrue(KeptBlocks(path).has(3))
-            with open(path, 'w', encoding='ascii') as file:
-                file.write('no list')
-            self.assertEqual(read(path), frozenset())
-            KeptBlocks(os.path.join(folder, 'none', 'kept')).put((1,))        # is not written, and ends nothing
-
-
 class TieCallTests(TieCase):
     """Calls from end to end."""
 
@@ -232,6 +135,14 @@ class TieCallTests(TieCase):
         self.assertIn('on-loss block 3', self.west.asked)
         self.assertNotIn('seize 3', self.west.asked)
 
+    async def test_event_behind_a_status(self) -> None:
+        """One that is read together with an older status is taken behind it."""
+        await self.both()
+        self.west.behind.append(lambda: self.west.send(3, SEIZED))
+        await self.until(self.at(3, State.ACKED, State.ACKED))
+        await asyncio.sleep(3 * LOOK)
+        self.assertEqual([each for each in self.east.asked if each.endswith(' 3')], ['on-loss block 3', 'seize 3'])
+
     async def test_blocked(self) -> None:
         """What the exchange blocks is blocked at the other end, and no longer than it does."""
         await self.both()
@@ -239,7 +150,7 @@ class TieCallTests(TieCase):
         await self.sends(self.east, 5, IDLE, State.IDLE)
 
     async def test_congestion(self) -> None:
-        """A seizure that is refused is told to the caller by an answer and a clear-back, and not tried again."""
+        """A refused seizure is reported to the caller by an answer and a clear-back, and not tried again."""
         await self.both()
         self.east.acknowledges = False
         self.west.send(1, SEIZED)
@@ -250,6 +161,16 @@ class TieCallTests(TieCase):
         self.assertEqual(self.east.asked.count('seize 1'), 1)
         self.assertEqual([each for each in self.west.asked if each.endswith(' 1')], ['answer 1', 'clear-back 1'])
         await self.sends(self.west, 1, IDLE, State.IDLE)
+
+    async def test_release_not_followed(self) -> None:
+        """It is a fault to the other end until the exchange follows it."""
+        await self.both()
+        await self.sends(self.west, 3, SEIZED, State.ACKED)
+        self.east.acknowledges = False
+        self.west.send(3, IDLE)
+        await self.until(self.at(3, State.BLOCKED, State.RELEASING))
+        self.assertEqual([each['circuit'] for each in self.told('east', 'stuck')], [3])
+        await self.sends(self.east, 3, IDLE, State.IDLE)
 
     async def test_caller_waits(self) -> None:
         """Where no answer may be feigned the caller gets none."""
@@ -264,7 +185,7 @@ class TieCallTests(TieCase):
         self.assertNotIn('answer 1', self.west.asked)
 
     async def test_operator_blocks(self) -> None:
-        """A block of the operator stays, also where the tie is started anew; that of a tie does not."""
+        """A block of the operator stays, also if the tie is started again; that of a tie does not."""
         await self.both()
         self.west.obey(['block', '7'])
         await asyncio.sleep(0.1)
@@ -289,6 +210,7 @@ class TieCallTests(TieCase):
         await self.both()
         self.west.send(3, SEIZED)
         await self.sends(self.west, 5, SEIZED, State.ACKED)
+        await self.named(3, 5)
         await self.kill(self.tasks[2:], self.sites[1][1])
         await self.until(lambda: bool(self.told('west', 'site gone')))
         self.assertIs(self.west.states[3], State.ACKED)
@@ -311,7 +233,7 @@ class TieCallTests(TieCase):
         await self.until(lambda: self.east.states[3] not in CALLED)
 
     async def test_why_a_call_is_cleared(self) -> None:
-        """One that the operator seizes beside the tie; one that ends at the other end; one whose other site goes."""
+        """One that the operator seizes without the tie; one that ends at the other end; one whose other site goes."""
         await self.both()
 
         async def reason(number: int) -> str:
@@ -363,11 +285,27 @@ class TieCallTests(TieCase):
         self.assertIs(self.east.states[3], State.IDLE)
 
     async def test_same_role(self) -> None:
-        """Two incoming ends cannot be joined: they are blocked, and it is told."""
+        """Two incoming ends cannot be joined: they are blocked, and it is reported."""
         self.east.roles[1] = Role.INCOMING
         await self.both()
         await self.until(self.at(1, State.BLOCKED, State.BLOCKED))
         self.assertEqual(self.told('west', 'warning')[-1]['circuits'], [1])
+
+    async def test_blocks_that_cannot_be_kept(self) -> None:
+        """A file that holds no list, and one that cannot be written, end nothing."""
+        for path in (self.folder.name, os.path.join(self.folder.name, 'none', 'kept')):
+            kept = KeptBlocks(path)
+            kept.put((1,))
+            await kept.close()
+            self.assertTrue(kept.has(1))
+        with open(os.path.join(self.folder.name, 'west.kept'), 'w', encoding='ascii') as file:
+            file.write('no list')
+        await self.both()
+        await self.sends(self.west, 3, SEIZED, State.ACKED)
+
+
+class TieConnectionTests(TieCase):
+    """Who is connected, and who is not."""
 
     async def test_strangers(self) -> None:
         """What others send to the port ends nothing and takes nothing."""
@@ -382,6 +320,156 @@ class TieCallTests(TieCase):
             writer.close()
         self.assertFalse(self.told('west', 'site gone'))
         await self.sends(self.west, 3, SEIZED, State.ACKED)
+
+    async def test_silent_site(self) -> None:
+        """A site that sends no keepalive is given up. Until then another connection of the same run takes its place,
+        and no other run does."""
+        self.run_tie(*self.tie('west'))
+        await self.until(self.listens)
+
+        async def greet(run: str) -> asyncio.StreamReader:
+            reader, writer = await asyncio.open_connection('127.0.0.1', self.port)
+            self.addCleanup(writer.close)
+            writer.write(encode_message(Greeting(run, None)))
+            self.assertIsInstance(message_of(await reader.readline()), Greeting)
+            return reader
+        first = await greet('a')
+        await self.until(lambda: len(self.told('west', 'site')) == 1)
+        self.assertEqual(await (await greet('b')).read(), b'')
+        await greet('a')
+        await self.until(lambda: len(self.told('west', 'site')) == 2)
+        await first.read()
+        await self.until(lambda: len(self.told('west', 'site gone')) == 2)
+        self.assertEqual([each['why'] for each in self.told('west', 'site gone')], ['closed', 'no keepalive'])
+        self.assertEqual([each['why'] for each in self.told('west', 'no connection')][-1], 'another one is connected')
+
+    async def test_eight_strangers(self) -> None:
+        """Of those who do not greet eight stay, for five seconds each, and none keeps the other site out."""
+        self.run_tie(*self.tie('west'))
+        await self.until(self.listens)
+        clock = asyncio.get_running_loop().time
+        began = clock()
+        lines = [await asyncio.open_connection('127.0.0.1', self.port) for _ in range(20)]
+        reads = [asyncio.create_task(reader.read()) for reader, _ in lines]
+        await self.until(lambda: sum(each.done() for each in reads) >= 12)
+        self.assertLess(clock() - began, 4.5)
+        self.assertEqual(sum(each.done() for each in reads), 12)
+        self.run_tie(*self.tie('east'))
+        await self.until(lambda: bool(self.told('east', 'site')))
+        await self.until(lambda: all(each.done() for each in reads))
+        self.assertLess(clock() - began, 7.5)
+        for _, writer in lines:
+            writer.close()
+
+    async def test_strangers_who_come_again(self) -> None:
+        """Those of another address, who are there at once when they are closed, keep the other site out neither at its
+        first connection nor later. They send what begins a record of TLS, and no more of it."""
+        made, site = self.tie('west')
+        self.run_tie(made, site)
+        await self.until(self.listens)
+        came = asyncio.Semaphore(0)
+
+        async def stranger() -> None:
+            while True:
+                with suppress(OSError):
+                    reader, writer = await asyncio.open_connection('127.0.0.1', self.port, local_addr=('127.0.0.9', 0))
+                    writer.write(b'\x16\x03\x01\x02\x00\x01')
+                    came.release()
+                    await reader.read(100_000)
+                    writer.close()
+        self.tasks += [asyncio.create_task(stranger()) for _ in range(20)]
+        for _ in range(20):
+            await came.acquire()
+        for number in (1, 2):
+            east = self.tie('east')
+            tasks = self.run_tie(*east)
+            await self.until(lambda: len(self.told('west', 'site')) == number)
+            await self.kill(tasks, east[1])
+            await self.until(lambda: len(self.told('west', 'site gone')) == number)
+        self.assertLessEqual(len(self.told('west', 'no connection')), 10)
+
+    async def test_reasons(self) -> None:
+        """Why nobody is let in is told once a minute for each reason, and for ten of them at most."""
+        _, site = self.tie('west')
+        with mock.patch.object(site_module, 'MINUTE', 0.6):
+            for n in [*range(12)] * 2:
+                site.turned_away(f'reason {n}')
+            self.assertEqual([each['why'] for each in self.told('west', 'no connection')],
+                             [f'reason {n}' for n in range(10)])
+            await asyncio.sleep(0.61)
+            site.turned_away('reason 3')
+            self.assertEqual(self.told('west', 'no connection')[10]['why'], 'reason 3')
+
+
+class TieStatusTests(TieCase):
+    """What a tie says of itself: with a call on circuit 3, one given up on circuit 1, and circuit 7 blocked."""
+
+    async def busy(self) -> None:
+        await self.both()
+        await self.sends(self.west, 3, SEIZED, State.ACKED)
+        self.east.acknowledges = False
+        self.west.send(1, SEIZED)
+        await self.until(lambda: self.east.states[1] is State.SEIZED)
+        self.east.move(1, State.RELEASING)
+        await self.until(self.at(1, State.CLEAREDBACK, State.IDLE))
+        self.west.obey(['block', '7'])
+        await self.until(lambda: self.sites[0][0].circuits[7].kept)
+
+    async def test_texts(self) -> None:
+        await self.busy()
+        now = await TiePages(self.sites[0][0]).fresh()
+        found = json.loads(now.json)
+        rows = {row['circuit']: row for row in found['circuits']}
+        self.assertEqual([found[key] for key in ('link', 'trunk', 'site', 'dark', 'far_dark', 'calls', 'given_up')],
+                         ['good', True, True, False, False, 2, 1])
+        self.assertEqual({n: rows[n]['state'] for n in (1, 3, 7)}, {1: 'clearedback', 3: 'acked', 7: 'blocked'})
+        self.assertEqual((rows[3]['role'], rows[3]['there'], rows[3]['far_state']), ('incoming', 3, 'acked'))
+        self.assertEqual([n for n in rows if rows[n]['kept']], [7])
+        self.assertEqual([n for n in rows if rows[n]['over']], [1])
+        self.assertIn('link good\nthis trunk: in service; the other site: connected, its trunk in service\n', now.table)
+        self.assertRegex(now.table, r'\n +7 +7 incoming blocked +idle +blocked by the operator\n')
+        for line in ('e1gw_tie_link{state="good"} 1', 'e1gw_tie_link{state="lost"} 0',
+                     'e1gw_tie_connected{to="site"} 1', 'e1gw_tie_out_of_service{end="other"} 0',
+                     'e1gw_tie_circuits{state="blocked"} 1', 'e1gw_tie_calls 2', 'e1gw_tie_calls_given_up_total 1',
+                     'e1gw_tie_commands_total{command="clear-back",answer="done"} 1'):
+            self.assertIn(f'{line}\n', now.metrics)
+
+    async def test_other_site_gone(self) -> None:
+        await self.both()
+        await self.kill(self.tasks[2:], self.sites[1][1])
+        await self.until(lambda: bool(self.told('west', 'link')[-1]['state'] == 'given up'))
+        now = await TiePages(self.sites[0][0]).fresh()
+        self.assertIn('e1gw_tie_link{state="given up"} 1\n', now.metrics)
+        self.assertNotIn('end="other"', now.metrics)
+        self.assertIn('the other site: not connected\n', now.table)
+
+    async def test_asked(self) -> None:
+        """At the socket, with an empty line behind each answer, and over HTTP."""
+        await self.both()
+        path, port = os.path.join(self.folder.name, 'status'), free_port()
+        await StatusServer(self.sites[0][0]).open(path, ('127.0.0.1', port))
+        reader, writer = await asyncio.open_unix_connection(path)
+        for words, front in ((b'status', b'tie of '), (b'status json', b'{"time": '), (b'metrics', b'# HELP e1gw_tie_'),
+                             (b'clear 1', b'there are status, status json and metrics\n\n')):
+            writer.write(words + b'\n')
+            self.assertTrue((await reader.readuntil(b'\n\n')).startswith(front), words)
+        writer.close()
+        for page, front in ((b'/', b'tie of '), (b'/metrics', b'# HELP e1gw_tie_link'), (b'/status', b'{"time": ')):
+            reader, writer = await asyncio.open_connection('127.0.0.1', port)
+            writer.write(b'GET ' + page + b' HTTP/1.0\r\n\r\n')
+            head, _, body = (await reader.read()).partition(b'\r\n\r\n')
+            self.assertEqual((head.split()[1], body.startswith(front)), (b'200', True), page)
+            writer.close()
+
+    def test_taken(self) -> None:
+        """Where nobody can ask, calls go on: the tie says so, and does all else."""
+        taken = socket.create_server(('127.0.0.1', 0))
+        self.addCleanup(taken.close)
+        status, error, events = TieAddressTests().said('--listen', f'127.0.0.1:{free_port()}', '--http',
+                                                       f'127.0.0.1:{taken.getsockname()[1]}')
+        self.assertEqual((status, error), (0, ''))
+        warnings = [each['about'] for each in events if each['event'] == 'warning']
+        self.assertIn('nobody can ask how it stands: ', warnings[0])
 
 
 class UntilAnswerTests(TieCase):
@@ -435,6 +523,32 @@ class UntilAnswerTests(TieCase):
         self.assertTrue(self.have(3, G726)())
         self.assertIn('law', self.told('east', 'warning')[0]['about'])
 
+    async def test_static_payload_type(self) -> None:
+        """A configured payload type that may be another codec's: both ends keep the configured codec."""
+        self.east.configure(3, Coding('g726-16', 8))
+        await self.both(until='pcma')
+        await self.until(lambda: bool(self.told('west', 'warning')))
+        await self.answered(3)
+        self.assertEqual((self.west.codecs[3], self.east.codecs[3]), (G726, Coding('g726-16', 8)))
+        self.assertIn('payload type of circuits 3 ', self.told('east', 'warning')[0]['about'])
+
+    async def test_g711_is_left_alone(self) -> None:
+        for driver in (self.west, self.east):
+            driver.configure(3, Coding('pcma', 100))
+        await self.both(until='pcma')
+        await self.until(lambda: all(self.have(n, PCMA)() for n in CIRCUITS if n != 3))
+        await self.answered(3)
+        self.assertFalse([each for each in self.west.asked + self.east.asked if each.startswith('codec 3 ')])
+
+    async def test_refused(self) -> None:
+        """A change that is refused is asked for once."""
+        self.east.refuses = True
+        await self.both(until='pcma')
+        await self.until(lambda: len(self.told('east', 'codec')) == len(CIRCUITS))
+        await asyncio.sleep(3 * LOOK)
+        self.assertEqual(self.east.asked.count('codec 3 pcma 8'), 1)
+        self.assertEqual({each['answer'] for each in self.told('east', 'codec')}, {'not now'})
+
     async def test_started_in_call(self) -> None:
         """A tie that comes again in mid-call, and was not there at the answer: the call goes on, in the right codec."""
         await self.both(until='pcma')
@@ -443,6 +557,7 @@ class UntilAnswerTests(TieCase):
             await self.sends(self.west, n, SEIZED, State.ACKED)
         self.east.send(3, ANSWER)
         await self.until(self.have(3, G726))
+        await self.named(3, 5)
         await self.kill(self.tasks[2:], self.sites[1][1])
         self.east.send(5, ANSWER)
         self.east.asked.clear()
@@ -466,7 +581,7 @@ class UntilAnswerTests(TieCase):
         await self.until(self.have(3, PCMA))
 
     async def test_driver_anew(self) -> None:
-        """A driver that comes again has the configured codecs: they are changed anew."""
+        """A driver that comes again has the configured codecs: they are changed again."""
         await self.both(until='pcma')
         await self.until(lambda: all(self.have(n, PCMA)() for n in CIRCUITS))
         await self.east.stop()
@@ -484,51 +599,13 @@ class UntilAnswerTests(TieCase):
         self.assertEqual([n for n in CIRCUITS if self.west.codecs[n] == PCMA], [3])
 
 
-class WantedCodecTests(unittest.TestCase):
-    """Which codec is wanted where, by hand."""
-
-    def codings(self, law: str = 'A', payload: int = 96, codec: str = 'g726-16') -> tuple[Codings, str | None]:
-        made = Codings('pcma')
-        why = made.begin({'law': law, 'circuits': [{'circuit': 1, 'codec': codec, 'payload': payload,
-                                                    'configured_codec': codec, 'configured_payload': payload}]})
-        return made, why
-
-    def test_states(self) -> None:
-        for state in State:
-            made, why = self.codings()
-            self.assertIsNone(why)
-            self.assertIsNone(made.wants(1, state))             # the other site was not heard yet
-            self.assertIsNone(made.heard('pcma'))
-            wanted = None if state in (State.ANSWERED, State.CLEAREDBACK) else PCMA
-            self.assertEqual(made.wants(1, state), wanted)
-
-    def test_g711_is_left_alone(self) -> None:
-        made, why = self.codings(codec='pcma', payload=100)
-        made.heard('pcma')
-        self.assertEqual((why, made.wants(1, State.IDLE)), (None, None))
-
-    def test_what_cannot_be_had(self) -> None:
-        for made, why in (self.codings('mu'), self.codings(payload=8)):
-            self.assertIsNotNone(why)
-            self.assertIsNone(made.own)
-            made.heard('pcma')
-            self.assertIsNone(made.wants(1, State.IDLE))
-
-    def test_refused(self) -> None:
-        """What the driver refuses is asked once, and again when another one was wanted in between."""
-        made, _ = self.codings()
-        made.heard('pcma')
-        made.answered(1, PCMA, False)
-        self.assertIsNone(made.wants(1, State.IDLE))
-        made.answered(1, PCMA, True)
-        self.assertEqual(made.wants(1, State.ANSWERED), G726)
-
-
 @unittest.skipUnless(shutil.which('openssl'), 'openssl makes the certificates')
 class CertificateTests(TieCase):
     """The same connection by TLS, and who is let in."""
 
-    test_call, test_strangers = TieCallTests.test_call, TieCallTests.test_strangers
+    test_call, test_strangers = TieCallTests.test_call, TieConnectionTests.test_strangers
+    test_eight_strangers = TieConnectionTests.test_eight_strangers
+    test_strangers_who_come_again = TieConnectionTests.test_strangers_who_come_again
 
     async def asyncSetUp(self) -> None:
         await super().asyncSetUp()
@@ -574,7 +651,7 @@ class CertificateTests(TieCase):
         await self.refused(peer='north')
 
     def test_any_certificate_is_told(self) -> None:
-        """Who listens without a name for the other site is told what that means, and who names one is not."""
+        """Who listens without a name for the other site reads what that means, and who names one does not."""
         files = [os.path.join(self.folder.name, each) for each in ('west.pem', 'west.key', 'ours.pem')]
         rows: list[tuple[list[str], list[str]]] = [([], [ANYBODY]), (['--peer', 'east'], [])]
         for more, told in rows:
@@ -584,52 +661,6 @@ class CertificateTests(TieCase):
 
     async def test_without_tls(self) -> None:
         await self.refused(context=None)
-
-    async def crowd(self, address: str, given: bytes = b'') -> None:
-        """A hundred strangers of an address who hold connections, and come again as soon as they are closed."""
-        words = (os.path.join(HERE, 'tests', 'crowd.py'), '127.0.0.1', str(self.port), address, '100', given.hex())
-        process = subprocess.Popen([sys.executable, '-B', *words], stdin=subprocess.PIPE, stdout=subprocess.PIPE)
-        self.addCleanup(process.wait)
-        assert process.stdin and process.stdout
-        self.addCleanup(process.stdout.close)
-        self.addCleanup(process.stdin.close)
-        await asyncio.get_running_loop().run_in_executor(None, process.stdout.readline)
-
-    async def crowded(self, address: str, given: bytes = b'') -> None:
-        """The right site gets in although strangers hold connections, and again when it has gone. They take no more
-        connections than they may."""
-        made, site = self.tie('west')
-        self.run_tie(made, site)
-        await self.until(lambda: self.answers(self.port))
-        await self.crowd(address, given)
-        most = 0
-
-        def good() -> bool:
-            nonlocal most
-            most = max(most, len(site._tasks))
-            self.assertLessEqual(len(site._strangers), 8)
-            return [each['state'] for each in self.told('west', 'link')][-1:] == ['good']
-        for _ in range(2):
-            east = self.tie('east')
-            tasks = self.run_tie(*east)
-            await self.until(good)
-            await self.kill(tasks, east[1])
-            await self.until(lambda: not good())
-        self.assertLessEqual(most, 8 + 1 + site_module.BURST)       # with those that are being closed
-        self.assertLessEqual(len(self.told('west', 'no connection')), 5)
-
-    def answers(self, port: int) -> bool:
-        with suppress(OSError), socket.create_connection(('127.0.0.1', port), 1):
-            return True
-        return False
-
-    async def test_silent_strangers(self) -> None:
-        """They come from the address of the right site."""
-        await self.crowded('127.0.0.1')
-
-    async def test_strangers_who_begin_tls(self) -> None:
-        """From another address; they send what begins a record of a handshake, and no more of it."""
-        await self.crowded('127.0.0.9', b'\x16\x03\x01\x02\x00\x01')
 
     def test_names(self) -> None:
         names: Any = {'subjectAltName': (('DNS', 'West.example'), ('IP Address', '0:0:0:0:0:0:0:1'))}

@@ -130,7 +130,7 @@ class TieCircuitWorld:
         return replace(self, links=put(self.links, side, LOST if self.links[side] is GOOD else GIVEN_UP))
 
     def forgotten(self, side: int) -> 'TieCircuitWorld':
-        """The tie of one end is started anew. The driver knows the calls of its incoming circuits."""
+        """The tie of one end is started again. The driver knows the calls of its incoming circuits."""
         circuit = self.ends()[side]
         fresh = TieCircuit(circuit.role, circuit.state, circuit.call if side == 0 else None)
         world = replace(self.broken(), asked=put(self.asked, side, None), links=put(self.links, side, LOST))
@@ -154,7 +154,7 @@ def happenings(world: TieCircuitWorld, most: int) -> Iterator[TieCircuitWorld]:
 
 
 def outside(world: TieCircuitWorld, most: int) -> Iterator[TieCircuitWorld]:
-    """What the exchanges and the connection do, in at most so many calls."""
+    """What the exchanges and the connection do, in at most this number of calls."""
     yield world.broken() if world.up else world.connected()
     if world.far.state is SEIZED:
         yield world.with_end(1, world.far.moved(RELEASING))     # not acknowledged
@@ -261,7 +261,7 @@ def everything(first: TieCircuitWorld, most: int) -> set[TieCircuitWorld]:
 
 
 def walk(chance: Random, steps: int) -> TieCircuitWorld:
-    """A world after so many things, commands taking their time and ties being started anew."""
+    """A world after a number of things, commands taking their time and ties being started again."""
     world = START
     for _ in range(steps):
         inside = [step(side) for side in (0, 1) for step in (world.line, world.ask, world.do, world.deliver,
@@ -303,14 +303,14 @@ class TieAgreementTests(unittest.TestCase):
                 self.assert_agreed(world, rest)
 
     def test_many_calls(self) -> None:
-        """The same for three calls, commands that take their time and ties that are started anew, by chance."""
+        """The same for three calls, commands that take their time and ties that are started again, by chance."""
         chance = Random(1)
         rests = [FinalState(exchange) for exchange in EXCHANGES]
         for _ in range(2000):
             self.assert_agreed(walk(chance, chance.randrange(120)), chance.choice(rests), strictly=False)
 
     def test_no_call_for_ever(self) -> None:
-        """Where the connection does not come again, no call stands and no circuit can be seized."""
+        """If the connection does not come again, no call is up and no circuit can be seized."""
         for world in anything():
             world = replace(world, links=(GIVEN_UP, GIVEN_UP))
             for _ in range(4):
@@ -374,7 +374,7 @@ class TieCommandTests(unittest.TestCase):
                 self.assertIs(circuit.wants(link), command)
 
     def test_caller_who_waits(self) -> None:
-        """Where no answer may be feigned, nothing is told before the answer; a call that was answered is ended."""
+        """If no answer may be feigned, nothing is reported before the answer; a call that was answered is ended."""
         self.assertIsNone(incoming(ACKED, called(IDLE)).wants(GOOD, waits=True))
         self.assertIs(incoming(ACKED, called(ANSWERED)).wants(GOOD, waits=True), Command.ANSWER)
         self.assertIs(incoming(ANSWERED, called(IDLE)).wants(GOOD, waits=True), Command.CLEAR_BACK)

@@ -54,9 +54,8 @@ class TieKilledWatcherTests(unittest.IsolatedAsyncioTestCase):
         self.tie = Tie(TieOptions(self.world.path('ctl'), None, LONG, False), 'run', kept,
                        lambda event, **fields: self.events.append({'event': event, **fields}))
         self.far = self.tie.site = FarSite()        # type: ignore[assignment]
-        self.tie.link.start()
-        self.follows = asyncio.create_task(self.tie.control.follow())
-        await self.until(lambda: self.tie.control.client is not None)
+        self.follows = asyncio.create_task(self.tie.follow())
+        await self.until(lambda: self.tie.trunk.is_up)
         self.hear(State.IDLE, State.IDLE)
 
     async def asyncTearDown(self) -> None:
@@ -68,7 +67,7 @@ class TieKilledWatcherTests(unittest.IsolatedAsyncioTestCase):
             await asyncio.sleep(0.01)
 
     def hear(self, one: State, two: State, call: str | None = '') -> None:
-        """The other site stands so: circuit 1 is incoming there, circuit 2 outgoing, with the call that was passed."""
+        """Of the other site: circuit 1 is incoming there, circuit 2 outgoing, with the call that was passed."""
         self.tie.heard(SiteState(False, {1: CircuitEnd(Role.INCOMING, one, 'far.1'),
                                          2: CircuitEnd(Role.OUTGOING, two, call)}))
 
@@ -109,8 +108,7 @@ class TieKilledWatcherTests(unittest.IsolatedAsyncioTestCase):
         self.begin_again(meanwhile)
         await self.until(lambda: len([event for event in self.events if event['event'] == 'trunk']) > trunks)
         for _ in range(3):      # what it does then comes before this
-            assert self.tie.control.client
-            await self.tie.control.client.ask('codec 3 pcma 8')
+            await self.tie.trunk.ask('codec 3 pcma 8')
 
     async def test_calls_stay(self) -> None:
         """Two deaths, with another shadow between them."""
@@ -123,7 +121,7 @@ class TieKilledWatcherTests(unittest.IsolatedAsyncioTestCase):
         self.assertEqual({self.tie.circuits[n].state for n in (1, 2)}, {State.ANSWERED})
 
     async def test_another_call_meanwhile(self) -> None:
-        """The exchange clears circuit 2 and seizes it again while nobody watches: that is told as another call."""
+        """The exchange clears circuit 2 and seizes it again while nobody watches: that is reported as another call."""
         name = await self.up()
 
         def seized_again() -> None:
@@ -159,7 +157,7 @@ class NamingTests(unittest.TestCase):
         self.assertEqual((self.counts(third, 'd', None, 1), third.life == first.life), (1, False))
 
     def test_no_counts(self) -> None:
-        """A shadow that tells none: each watcher names calls anew."""
+        """A shadow that tells none: each watcher gives calls new names."""
         names = [Naming(self.path), Naming(self.path)]
         for naming in names:
             naming.begin('a', None, {}, {})

@@ -5,6 +5,7 @@ import asyncio
 import itertools
 import json
 import os
+import socket
 import tempfile
 import unittest
 from contextlib import suppress
@@ -15,7 +16,6 @@ from e1gw.lines import Role, State
 from e1gw.session import CIRCUITS, Command
 from e1gw.testing.ports import free_port
 from e1gw.tie import site as site_module
-from e1gw.tie import tie as tie_module
 from e1gw.tie.coding import Coding
 from e1gw.tie.kept import KeptBlocks
 from e1gw.tie.site import Site
@@ -37,10 +37,12 @@ class StandInDriver:
         self.pairs = dict.fromkeys(CIRCUITS, IDLE)
         self.seizures = dict.fromkeys(CIRCUITS, 0)
         self.codecs = dict.fromkeys(CIRCUITS, G726)
+        self.configured = dict.fromkeys(CIRCUITS, G726)
+        self.refuses = False            # changes of codec
         self.law = 'A'
         self.alarm = self.acknowledges = False
-        self.octets = 0
         self.asked: list[str] = []
+        self.behind: list[Callable[[], None]] = []      # what happens behind a status
         self.clients: list[asyncio.StreamWriter] = []
         self.server: asyncio.AbstractServer | None = None
 
@@ -65,6 +67,8 @@ class StandInDriver:
                 if words == ['events']:
                     self.clients.append(writer)
                 writer.write(f'{self.obey(words)}\n\n'.encode())
+                if words[0] == 'status' and self.behind:
+                    self.behind.pop()()
         if writer in self.clients:
             self.clients.remove(writer)
 
@@ -86,16 +90,21 @@ class StandInDriver:
         return f'{words[0]} {n}: {answer}'
 
     def status(self) -> dict[str, Any]:
-        self.octets += 256
         none = {'frame': False, 'multiframe': False}
-        trunk = {'octets': self.octets, 'law': self.law, 'alarm': {**none, 'frame': self.alarm}, 'remote_alarm': none}
+        trunk = {'life': 'a', 'trunk_up': True, 'shadow': True, 'clock': {'stalled': False}, 'law': self.law,
+                 'alarm': {**none, 'frame': self.alarm}, 'remote_alarm': none}
         return trunk | {'circuits': [
             {'circuit': n, 'role': str(self.roles[n]), 'state': str(self.states[n]), 'seizures': self.seizures[n],
-             'codec': self.codecs[n].codec, 'payload': self.codecs[n].payload, 'configured_codec': G726.codec,
-             'configured_payload': G726.payload}
+             'codec': self.codecs[n].codec, 'payload': self.codecs[n].payload,
+             'configured_codec': self.configured[n].codec, 'configured_payload': self.configured[n].payload}
             for n in CIRCUITS]}
 
+    def configure(self, n: int, coding: Coding) -> None:
+        self.codecs[n] = self.configured[n] = coding
+
     def change(self, n: int, coding: Coding) -> str:
+        if self.refuses:
+            return f'codec {n}: not now'
         self.codecs[n] = coding
         self.tell(event='codec', circuit=n, codec=coding.codec, payload=coding.payload)
         return f'codec {n}: done'
@@ -125,12 +134,12 @@ class TieCase(unittest.IsolatedAsyncioTestCase):
     async def asyncSetUp(self) -> None:
         self.folder = tempfile.TemporaryDirectory()
         self.tasks: list[asyncio.Task[Any]] = []
+        self.opened: list[Site] = []
         self.events: dict[str, list[dict[str, Any]]] = {'west': [], 'east': []}
         self.port = 0
-        asyncio.get_running_loop().set_exception_handler(lambda *_: None)
-        clock = mock.patch.object(tie_module, 'time', LoopClock(asyncio.get_running_loop()))
-        clock.start()
-        self.addCleanup(clock.stop)
+        self.unhandled: list[dict[str, Any]] = []
+        asyncio.get_running_loop().set_exception_handler(lambda _, about: self.unhandled.append(about))
+        LoopClock(asyncio.get_running_loop())
         for name, number in {'GONE': 2.0, 'ALIVE': 0.2, 'AGAIN': 0.05}.items():
             change = mock.patch.object(site_module, name, number)
             change.start()
@@ -143,12 +152,16 @@ class TieCase(unittest.IsolatedAsyncioTestCase):
             await driver.start()
 
     async def asyncTearDown(self) -> None:
+        unhandled = [*self.unhandled]           # (while a server is closed it may be about to accept somebody)
         for task in self.tasks:
             task.cancel()
         await asyncio.gather(*self.tasks, return_exceptions=True)
+        for site in self.opened:
+            site.close()
         for driver in (self.west, self.east):
             await driver.stop()
         self.folder.cleanup()
+        self.assertEqual(unhandled, [])
 
     def tie(self, name: str, waits: bool = False, **more: Any) -> tuple[Tie, Site]:
         driver = self.west if name == 'west' else self.east
@@ -159,12 +172,12 @@ class TieCase(unittest.IsolatedAsyncioTestCase):
                    lambda event, **fields: told.append({'event': event, **fields}))
         if not self.port:
             self.port = free_port()
-        made.site = Site(('127.0.0.1', self.port), name == 'west', more.get('context'), more.get('peer'), made)
-        return made, made.site
+        site = made.site = Site(('127.0.0.1', self.port), name == 'west', more.get('context'), more.get('peer'), made)
+        self.opened.append(site)
+        return made, site
 
     def run_tie(self, made: Tie, site: Site) -> list[asyncio.Task[Any]]:
-        made.link.start()
-        tasks = [asyncio.create_task(made.control.follow()), asyncio.create_task(site.run())]
+        tasks = [asyncio.create_task(made.follow()), asyncio.create_task(site.run())]
         self.tasks += tasks
         return tasks
 
@@ -185,6 +198,12 @@ class TieCase(unittest.IsolatedAsyncioTestCase):
         await self.until(lambda: all(self.at(n, State.IDLE, State.IDLE)() for n in joined))
         self.west.asked = [each for each in self.west.asked if 'block' not in each or 'on-loss' in each]
 
+    def listens(self) -> bool:
+        """Whether somebody listens at the port of the ties."""
+        with suppress(OSError), socket.create_connection(('127.0.0.1', self.port), 1):
+            return True
+        return False
+
     def told(self, name: str, event: str) -> list[dict[str, Any]]:
         return [each for each in self.events[name] if each['event'] == event]
 
@@ -198,6 +217,11 @@ class TieCase(unittest.IsolatedAsyncioTestCase):
         """An exchange sends these bits, and both ends come into these states."""
         driver.send(n, pair)
         await self.until(self.at(n, west, east or west))
+
+    async def named(self, *circuits: int) -> None:
+        """Until the west knows that the east has these calls: one that it does not know of is seized again."""
+        calls = self.sites[0][0].circuits
+        await self.until(lambda: all(calls[n].passed == calls[n].call for n in circuits))
 
     def at(self, n: int, west: State, east: State) -> Callable[[], bool]:
         return lambda: (self.west.states[n], self.east.states[n]) == (west, east)

@@ -1,57 +1,66 @@
-"""The gateway at the start of a piece of a ring: the circuits of the state next to it."""
+"""A session that is to be drawn, and `e1gw replay` at its beginning: of a piece of a ring from the state next to it."""
 from __future__ import annotations
 
 import os
-import subprocess
+from contextlib import suppress
 from dataclasses import dataclass
 
-from ..followed import CircuitState
-from ..kept import InputError, KeptSession
-from ..lines import State
+from ..kept import InputError, KeptSession, kept
+from ..programs import program_of
 from ..session import MULTIFRAME
+from .replay import Replay
 
-COLUMNS = 10                # of the listing: number, role, state, two pairs, three counts, codec, payload type
+MIDDLE = 'the session begins in the middle; calls that were under way show as fault or blocked until they end'
+NO_CONFIG = 'no configuration: name it by --config'
 
 
-@dataclass(frozen=True)
+@dataclass
 class Begun:
-    """The place in a sent multiframe at which the piece begins, and its circuits."""
-    place: int
-    circuits: list[CircuitState]
+    """A session, what its program was started with, and the place in a sent multiframe at which it begins."""
+    session: KeptSession
+    config: str
+    program: str
+    wait: int
+    replay: Replay
+    place: int = 0
 
 
-def standing_of(line: str) -> CircuitState:
-    """A circuit by a line of the listing, or InputError."""
-    words = line.split()
-    try:
-        if len(words) != COLUMNS:
-            raise ValueError
-        recognised = None if words[4] == '--' else int(words[4], 2)
-        return CircuitState(int(words[0]), State(words[2]), int(words[3], 2), recognised, words[8], int(words[9]))
-    except ValueError:
-        raise InputError(f'e1gw check prints a line that is no circuit: {line}') from None
+def started(session: KeptSession, config: str, program: str | None, wait: int | None, state: str = '') -> Begun:
+    """A session with a new gateway, or with the one of a state."""
+    path, wait, place = program_of(program), wait or session.wait, session.place % MULTIFRAME if state else 0
+    return Begun(session, config, path, wait, Replay(path, config, state, wait), place)
 
 
-def listed(state: str, program: str, config: str) -> list[CircuitState]:
-    """The circuits of a state, as `e1gw check` lists them. InputError if it refuses the state, or begins a circuit as
-    new since it was configured otherwise."""
-    words = [program, 'check', '--config', config, '--load', state]
-    try:
-        done = subprocess.run(words, stdin=subprocess.DEVNULL, stdout=subprocess.PIPE, stderr=subprocess.PIPE,
-                              check=False)
-    except OSError as fault:
-        raise InputError(f'{program}: {fault.strerror}') from fault
-    told = done.stderr.decode(errors='replace').strip()
-    if done.returncode or told:
-        raise InputError(told.splitlines()[-1] if told else f'e1gw check: status {done.returncode}')
-    return [standing_of(line) for line in done.stdout.decode().splitlines()]
-
-
-def begun(session: KeptSession, program: str, config: str) -> tuple[Begun | None, str]:
-    """The gateway at the start of a session that begins in the middle, or why it is not known."""
+def from_state(session: KeptSession, config: str, program: str | None, wait: int | None) -> tuple[Begun | None, str]:
+    """A session that begins in the middle, with the state next to it; or why that is not used: the program refuses it,
+    or begins a circuit as new since it was configured otherwise."""
     if not session.state:
         return None, f'{os.path.basename(session.files[0])} has no state beside it'
-    try:
-        return Begun(session.place % MULTIFRAME, listed(session.state, program, config)), ''
-    except InputError as trouble:
-        return None, f'{session.state} is not used ({trouble})'
+    begun = started(session, config, program, wait, session.state)
+    why = begun.replay.said()
+    if not why:
+        return begun, ''
+    with suppress(InputError):
+        begun.replay.end()
+    return None, f'{session.state} is not used ({why})'
+
+
+def begin(path: str, last: int | None, config: str | None, program: str | None,
+          wait: int | None) -> tuple[Begun, str]:
+    """A session by its path, and a note about its beginning. The last octets of a ring may be enough. If the gateway is
+    not known where the session begins, it is a new one."""
+    notes: list[str] = []
+    asked, whole = config or '', kept(path) if path != '-' else KeptSession([path])
+    for session in (kept(path, last) if path != '-' else whole, whole):
+        asked = config or session.config or ''
+        if not asked:
+            if path != '-':
+                open(session.files[0], 'rb').close()    # a path that is wrong has no configuration either
+            raise InputError(NO_CONFIG)
+        if not session.middle:
+            return started(session, asked, program, wait), '; '.join(notes)
+        begun, why = from_state(session, asked, program, wait)
+        if begun:
+            return begun, '; '.join(notes)
+        notes += [why] * (why not in notes)
+    return started(whole, asked, program, wait), '; '.join([*notes, MIDDLE])

@@ -3,21 +3,19 @@ from __future__ import annotations
 
 import functools
 import ipaddress
-import struct
 from collections import deque
-from collections.abc import Iterable, Iterator, Mapping
+from collections.abc import Iterator, Mapping
 from statistics import median
 from typing import Any
 
-from ..kept import InputError, Source
+from ..kept import InputError
 from ..lines import law_of
+from ..packets import Datagram, datagrams
 from ..repetitions import mark_of
-from ..session import OCTETS_A_SECOND, BadPacket, Kind, encode_record, packet_of
+from ..session import OCTETS_A_SECOND, BadPacket, Kind, datagram_record, packet_of, trunk_record
 from .facts import BITS, FRAME, HEADER, MOST, WINDOW, CallStream, Facts, Row, Wire
 from .listening import SpeechListener
-from .packets import Datagram, datagrams
-from .reading import RecordStream
-from .reading import rows_of
+from .reading import HEAD, records_of, rows_of
 
 NEAR = 101                  # datagrams sent by which the capture's times are mapped to the trunk
 PACKET = 1600               # samples of a datagram at most: the first one may begin before the session
@@ -125,51 +123,35 @@ def first_begin(path: str, config: Mapping[str, Any], before: int = 0) -> float 
 def merged(octets: Iterator[bytes], path: str, config: Mapping[str, Any], facts: Facts,
            begin: float | None = None, before: int = 0) -> tuple[Iterator[bytes], float]:
     """A session with the datagrams of a capture, each at its place on the trunk, and the time of its first octet,
-    before which so many octets of the trunk were sent. The addresses are noted in the facts."""
+    behind this number of octets of the trunk. The addresses are noted in the facts."""
     if not ports(config):
         raise InputError('the configuration has no local_port, so the circuits of a capture are unknown')
     begin = first_begin(path, config, before) if begin is None else begin
     if begin is None:
         raise InputError('the capture has no datagram that the gateway sent, so the time of the session is unknown: '
                          'say it by --begin')
-    return _merged(Source(octets), arrivals(path, config, begin, facts, before)), begin
+    return _merged(octets, arrivals(path, config, begin, facts, before)), begin
 
 
-def _merged(source: Source, came: Iterable[tuple[int, int, bytes]]) -> Iterator[bytes]:
-    waiting = iter(came)
-    following = next(waiting, None)
-    place = 0
-    for kind, circuit, body in _records(source):
-        if kind == Kind.DATAGRAM:
+def _merged(octets: Iterator[bytes], came: Iterator[tuple[int, int, bytes]]) -> Iterator[bytes]:
+    following, place = next(came, None), 0
+    for record in records_of(octets):
+        if record[0] == Kind.DATAGRAM:
             continue
-        if kind != Kind.TRUNK:
-            yield encode_record(kind, circuit, body)
+        if record[0] != Kind.TRUNK:
+            yield record
             continue
-        at = 0
+        body, at = record[HEAD:], 0
         while following and following[0] < place + len(body):
             cut = max(at, following[0] - place)
             if cut > at:
-                yield encode_record(Kind.TRUNK, 0, body[at:cut])
+                yield trunk_record(body[at:cut])
             if len(following[2]) <= 65_535:
-                yield encode_record(Kind.DATAGRAM, following[1], following[2])
-            at, following = cut, next(waiting, None)
+                yield datagram_record(following[1], following[2])
+            at, following = cut, next(came, None)
         if at < len(body):
-            yield encode_record(Kind.TRUNK, 0, body[at:])
+            yield trunk_record(body[at:])
         place += len(body)
-
-
-def _records(source: Source) -> Iterator[tuple[int, int, bytes]]:
-    """The whole records of a source."""
-    stream = RecordStream(source)
-    while stream.more():
-        at, held = stream.at, stream.held
-        while at + 4 <= len(held):
-            kind, circuit, length = struct.unpack_from('>BBH', held, at)
-            if at + 4 + length > len(held):
-                break
-            yield kind, circuit, held[at + 4:at + 4 + length]
-            at += 4 + length
-        stream.at = at
 
 
 # ---- a capture alone ----

@@ -2,21 +2,20 @@
 
 Places are octets of the trunk from the session's first, 256,000 a second. There are at most MOST columns: where a
 session goes on beyond them each two become one, so the memory is the same however long it lasts. With `last` only the
-columns of so many octets are kept.
+columns of a number of octets are kept.
 """
 from __future__ import annotations
 
 import enum
 import struct
 from collections import Counter
-from collections.abc import Iterable, Iterator
+from collections.abc import Iterable, Iterator, Sequence
 from dataclasses import dataclass, field
 from typing import Any
 
-from ..followed import CircuitState
 from ..kept import Break
 from ..lines import SEIZURE_WAIT
-from ..repetitions import Repetitions
+from ..repetitions import VERSION, Repetitions
 from .sound import HeardSamples, ListeningTimes
 
 SECOND = 256_000            # octets of the trunk
@@ -84,6 +83,10 @@ class Cell:
         self.total += other.total
         self.lost += other.lost
         self.uneven += other.uneven
+        if other.refused or other.counts or other.heard:
+            self._join_rare(other)
+
+    def _join_rare(self, other: Cell) -> None:
         for code, (count, low, high) in other.refused.items():
             seen = self.refused.setdefault(code, [0, low, high])
             seen[:] = seen[0] + count, min(seen[1], low), max(seen[2], high)
@@ -241,13 +244,13 @@ class Row:
     def came(self, place: int, code: int, head: bytes, length: int, mark: int) -> None:
         """A datagram received: its first twelve octets, its length, its mark and its answer. A refused repetition
         counts separately."""
-        if self.before.is_marked(head, mark) and code:
-            self.cell.count('repetitions')
-            return
         if len(head) < 12:
             self.cell.refuse(code, None)
             return
-        _, second, sequence, stamp, ssrc = HEADER(head)
+        first, second, sequence, stamp, ssrc = HEADER(head)
+        if first >> 6 == VERSION and self.before.is_marked(sequence, ssrc, mark) and code:
+            self.cell.count('repetitions')
+            return
         stream = self.stream
         if code:
             self._refused(place, code, second & 127, stamp, ssrc)
@@ -359,15 +362,15 @@ class Facts:
         self.port_faults = 0
         self.under_way: list[int] = []      # circuits with a call at the start of the session
 
-    def began(self, place: int, circuits: Iterable[CircuitState]) -> None:
-        """The session begins at this place, in the first column, with these circuits."""
+    def began(self, place: int, alarms: Iterable[bool], lines: Iterable[Sequence[str]]) -> None:
+        """The session begins at this place, in the first column, with these alarms and lines, e1gw-tell(5)."""
         self.place = self.start = place
-        for which in self.alarms:
-            self.alarms[which] = Spans(False, (True, False))
-        for each in circuits:
-            row = self.rows[each.circuit]
-            row.states, row.codec, row.payload = Spans(str(each.state), RANK), each.codec, each.payload
-            if each.state in OPEN:
+        for which, on in zip(self.alarms, alarms):
+            self.alarms[which] = Spans(on, (True, False))
+        for circuit, _, state, *rest in lines:
+            row = self.rows[int(circuit)]
+            row.states, row.codec, row.payload = Spans(state, RANK), rest[-2], int(rest[-1])
+            if state in OPEN:
                 self.under_way.append(row.number)
 
     def turn(self, place: int) -> None:

@@ -3,6 +3,7 @@ from __future__ import annotations
 
 import math
 
+from ..raw import DOUBLE, is_frame
 from ..session import FRAME, BadPacket, packet_of
 from .facts import BITS, OPEN, Facts, Row
 from .orders import STRETCH, Orders
@@ -17,6 +18,7 @@ class SpeechListener:
     def __init__(self, facts: Facts, program: str | None = None) -> None:
         self.facts = facts
         self.most = facts.last / AGAIN if facts.last else math.inf
+        self.frame = 0                          # a place where a frame with the signal began
         self.orders = Orders(program, facts.law, lambda circuit, place, seen: facts.hear(circuit, place, 'order', seen))
 
     def came(self, row: Row, place: int, datagram: bytes) -> None:
@@ -43,13 +45,18 @@ class SpeechListener:
             if row.codec in BITS:
                 self.orders.put(row.number, place, row.codec, stretch)
 
-    def trunk(self, given: bytes, begin: int, place: int) -> None:
-        """Octets of the trunk from a place; frames begin at the octet `begin` of them, modulo 32."""
-        for row in self.facts.rows.values():
-            if row.states.value in OPEN and row.stream.slot.come(place, self.most):
-                slot = row.number if row.number < 16 else row.number + 1
-                first = (begin + slot) % FRAME
-                self.slot(row, given[first:first + LOOKED_AT * FRAME:FRAME])
+    def trunk(self, octets: bytes, place: int) -> None:
+        """Octets of the trunk up to a place: of each open path's time slot some, if frames are found in them."""
+        due = [row for row in self.facts.rows.values() if row.states.value in OPEN and place >= row.stream.slot.due]
+        before = (self.frame - place + len(octets)) % DOUBLE        # where frames began before this
+        begin = next((at for at in (before, *range(DOUBLE)) if is_frame(octets, at)), None) if due else None
+        if begin is None:
+            return
+        self.frame = place - len(octets) + begin
+        for row in due:
+            row.stream.slot.come(place, self.most)
+            first = (begin + row.number + (row.number > 15)) % FRAME
+            self.slot(row, octets[first:first + LOOKED_AT * FRAME:FRAME])
 
     def slot(self, row: Row, octets: bytes) -> None:
         """Octets of a circuit's time slot."""

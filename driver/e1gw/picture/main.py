@@ -10,13 +10,11 @@ from collections.abc import Iterator
 from typing import Any
 
 from ..faults import number
-from ..kept import InputError, KeptSession, Source, kept, octets_of, pieces
+from ..kept import InputError, KeptSession, octets_of, pieces
 from ..lines import read_config, with_wait
-from ..programs import program_of
 from ..raw import raw_words_of
-from ..session import OCTETS_A_SECOND, BadSession
-from .answers import Replayed
-from .begun import Begun, begun
+from ..session import OCTETS_A_SECOND
+from .begun import NO_CONFIG, Begun, begin
 from .capture import merged, reckoned
 from .facts import Facts
 from .page import draw
@@ -26,16 +24,13 @@ from .svg import duration
 STEP = 10 * OCTETS_A_SECOND  # of the trunk between two lines of how much is read
 UNITS = {'ms': 0.001, 's': 1.0, 'm': 60.0, 'h': 3600.0, 'd': 86400.0}
 
-MIDDLE = 'the session begins in the middle; calls that were under way show as fault or blocked until they end'
-
 ABOUT = '''Draws a session as one page of HTML without scripts or network: the trunk's alarms in both directions, the
 thirty circuits over time with their datagrams and commands, each troubled circuit's datagrams in its jitter buffer, the
 counts with their causes, and anomalies in words.
 
 SESSION is the session given to the gateway (e1gw-session(5)): a file, - for standard input, or a folder of sessions
-kept by e1gw-trunk. The answers are those of --answers, or of `e1gw replay`, which is then run. --capture takes the
-datagrams from a capture (pcap or pcapng), by the ports of the configuration; without SESSION their fate is
-estimated.'''
+kept by e1gw-trunk. What the gateway did, `e1gw replay` answers and tells. --capture takes the datagrams from a
+capture (pcap or pcapng), by the ports of the configuration; without SESSION their fate is estimated.'''
 
 
 def seconds(text: str) -> float:
@@ -83,7 +78,6 @@ def parser() -> argparse.ArgumentParser:
                                     epilog='Example: e1gw-picture --config trunk1.toml -o page.html trunk1.rec')
     words.add_argument('session', nargs='?', metavar='SESSION', help='the session given to the gateway')
     words.add_argument('--config', metavar='FILE', help='the configuration [default: that of the kept session]')
-    words.add_argument('--answers', metavar='FILE', help='the answers of the gateway [default: runs e1gw replay]')
     words.add_argument('--capture', metavar='FILE', help='a capture of the datagrams')
     words.add_argument('--totals', metavar='FILE', help='what the gateway or the journal said of its totals')
     words.add_argument('-o', '--output', metavar='PAGE', help='the page to write [default: standard output]')
@@ -152,54 +146,21 @@ def facts_of(options: argparse.Namespace, session: KeptSession, tables: dict[str
     return facts, octets
 
 
-def gathered(options: argparse.Namespace, session: KeptSession, config: str, known: Begun | None) -> tuple[Facts, str]:
-    """The facts of a session, and a word about its end. It begins with a known gateway, or a new one."""
-    wait = options.seizure_wait or session.wait
-    tables, progress = with_wait(read_config(config), wait), Progress()
-    facts, octets = facts_of(options, session, tables, known.place if known else 0, progress)
-
-    def told(place: int) -> None:
-        progress.read(place, len(session.files))
-    if options.answers:
-        with open(options.answers, 'rb') as answers:
-            reading = SessionReading(facts, tables, Source(octets), answers, options.program)
-            reading.read(told)
-        progress.end()
-        return facts, '' if reading.whole else 'it ends inside a record, or its answers do'
-    program = program_of(options.program)
-    replayed = Replayed(program, config, octets, session.state if known else '', wait)
-    fault = ''
+def gathered(options: argparse.Namespace, begun: Begun) -> tuple[Facts, str]:
+    """The facts of a session, and a word about its end."""
+    session, replay, progress = begun.session, begun.replay, Progress()
+    facts, octets = facts_of(options, session, with_wait(read_config(begun.config), begun.wait), begun.place, progress)
+    reading = SessionReading(facts, replay, begun.program, begun.place)
     try:
-        SessionReading(facts, tables, replayed.given, replayed.answered, program, known).read(told)
-    except BadSession as bad:
-        fault = str(bad)
+        reading.read(octets, lambda place: progress.read(place, len(session.files)))
     finally:
         progress.end()
-    return facts, replayed.end() or fault
+    return facts, replay.end()
 
 
 def span_of(options: argparse.Namespace) -> int | None:
     """The octets of the trunk to show, if not all."""
     return int(options.last * OCTETS_A_SECOND) if options.last else None
-
-
-def session_of(options: argparse.Namespace) -> tuple[KeptSession, Begun | None, str]:
-    """The session named, the gateway at its start, and a note about that. If the gateway is not known, the session is
-    read as if it began there."""
-    if not options.session or options.session == '-':
-        return KeptSession(['-']), None, ''
-    whole = kept(options.session)
-    told: list[str] = []
-    if options.answers or not (options.config or whole.config):
-        return whole, None, MIDDLE if whole.middle else ''
-    for session in (kept(options.session, span_of(options)), whole):
-        if not session.middle:
-            return session, None, '; '.join(told)
-        known, why = begun(session, program_of(options.program), options.config or session.config or '')
-        if known:
-            return session, known, '; '.join(told)
-        told += [why] * (why not in told)
-    return whole, None, '; '.join([*told, MIDDLE])
 
 
 def failure_of(word: str, session: KeptSession) -> str:
@@ -215,21 +176,19 @@ def drawn(options: argparse.Namespace) -> tuple[str, bool]:
     """The page asked for, and whether its session is complete."""
     if not options.session and not options.capture:
         raise InputError('no session and no capture was named')
-    session, known, middle = session_of(options)
-    config = options.config or session.config
-    if not config:
-        if session.files[0] != '-':
-            with open(session.files[0], 'rb'):      # a path that is wrong has no configuration either
-                pass
-        raise InputError('no configuration: name it by --config')
+    failure = word = middle = ''
     if options.session:
-        facts, word = gathered(options, session, config, known)
+        begun, middle = begin(options.session, span_of(options), options.config, options.program,
+                              options.seizure_wait)
+        facts, word = gathered(options, begun)
+        failure = failure_of(word, begun.session)
+    elif options.config:
+        facts = reckoned(options.capture, read_config(options.config), options.last, options.program)
     else:
-        facts, word = reckoned(options.capture, read_config(config), options.last, options.program), ''
+        raise InputError(NO_CONFIG)
     facts.port_faults = port_faults(options.totals) if options.totals else 0
     name = os.path.basename(os.path.normpath(options.session or options.capture))
     title = options.title or f'e1gw: {name if name != "-" else "a session"}'
-    failure = failure_of(word, session)
     notes = [f'{failure or word}; what was before it is drawn'] if word else []
     notes += [middle] if middle else []
     for note in notes:
@@ -250,7 +209,7 @@ def main() -> int:
     except BrokenPipeError:
         os.dup2(os.open(os.devnull, os.O_WRONLY), 1)
         return 1
-    except (InputError, BadSession, ValueError, KeyError) as trouble:
+    except (InputError, ValueError, KeyError) as trouble:
         print(f'e1gw-picture: {trouble}', file=sys.stderr)
         return 1
     except OSError as trouble:

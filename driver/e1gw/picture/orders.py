@@ -19,8 +19,8 @@ OnHeard = Callable[[int, int, HeardSamples], None]    # of a circuit, at a place
 
 
 def reordered(payload: bytes, bits: int) -> bytes:
-    """Words of so many bits, from the order of AAL2 to that of RFC 3551: eight words are as many octets as a word has
-    bits. The rest behind the last eight is left out."""
+    """Words of this number of bits, from the order of AAL2 to that of RFC 3551: eight words are as many octets as a
+    word has bits. The rest behind the last eight is left out."""
     mask, out = (1 << bits) - 1, bytearray()
     for at in range(0, len(payload) - bits + 1, bits):
         eight = int.from_bytes(payload[at:at + bits], 'big')

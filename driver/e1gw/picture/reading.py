@@ -1,23 +1,27 @@
-"""Reads a session and its answers side by side into the facts of a picture."""
+"""Reads a session, its answers and what the program reports into the facts of a picture."""
 from __future__ import annotations
 
 import re
 from collections import deque
-from typing import Any, Callable, Mapping
+from collections.abc import Callable, Iterable, Iterator, Mapping
+from typing import Any
 
-from ..lines import SEIZURE_WAIT, WAIT, Event, law_of
+from ..kept import InputError
+from ..lines import SEIZURE_WAIT, WAIT, law_of
 from ..repetitions import mark_of
-from ..session import MULTIFRAME, BadSession, Codec, Command, Fault, Kind, Readable, refusal_of
-from .begun import Begun
+from ..session import MULTIFRAME, Codec, Command, Kind, refusal_of, trunk_record
 from .facts import Facts, Row
-from .following import PictureFollower
 from .listening import SpeechListener
+from .replay import Replay
 
-PIECE = 1 << 16
-TRUNK, DATAGRAM, ANSWER = int(Kind.TRUNK), int(Kind.DATAGRAM), int(Kind.ANSWER)
-AT_LEAST = 10 * MULTIFRAME  # octets followed at once: as many samples of a time slot as are listened to
-MOST = 1 << 20              # octets
-ONES = re.compile(b'\xff{512,}')
+TRUNK, DATAGRAM = int(Kind.TRUNK), int(Kind.DATAGRAM)
+HEAD = 4                    # octets of a record before its body
+PIECE = 256                 # octets of the trunk in a record, a millisecond, as in those of e1gw-trunk
+LEAST = 10 * MULTIFRAME     # octets of the trunk that are given at once: as many as are listened to
+MOST = 25 * MULTIFRAME      # with the records among them they fit into pipes, and the reports of them into its socket
+RECORDS = 200               # at most, that are given at once
+ONES_OF_A_MULTIFRAME, ONES = b'\xff' * MULTIFRAME, re.compile(b'\xff{512,}')
+TELLS = ['e1gw', 'tell', '1']       # how the reports begin
 
 
 def rows_of(config: Mapping[str, Any]) -> dict[int, Row]:
@@ -36,243 +40,168 @@ def rows_of(config: Mapping[str, Any]) -> dict[int, Row]:
     return rows
 
 
-class EventSink:
-    """Passes a follower's events on to facts."""
-
-    def __init__(self, facts: Facts) -> None:
-        self.facts = facts
-
-    def __call__(self, event: Event) -> None:
-        facts, name, place = self.facts, event['event'], event['place']
-        if name == 'state':
-            facts.rows[event['circuit']].state(place, event['state'])
-        elif name == 'alarm':
-            facts.alarms['here', event['what']].put(place, event['on'])
-        elif name == 'remote alarm':
-            facts.alarms['there', event['what']].put(place, event['on'])
-        elif name == 'codec':
-            row = facts.rows[event['circuit']]
-            row.codec, row.payload, row.length = event['codec'], event['payload'], 0
-        elif name == 'lost':
-            facts.lost(event['what'], place)
-            facts.alarms['there', event['what']].put(place, False)
-
-
-class RecordStream:
-    """The records of a stream, in the octets held. Without a source it has what is pushed."""
-
-    def __init__(self, source: Readable | None) -> None:
-        self.source = source
-        self.held = b''
-        self.at = 0
-        self.gone = 0                   # octets before what is held
-
-    def push(self, piece: bytes) -> None:
-        """Adds octets."""
-        self.gone += self.at
-        self.held = self.held[self.at:] + piece
-        self.at = 0
-
-    def more(self) -> bool:
-        """Reads more; returns whether anything arrived."""
-        piece = self.source.read(PIECE) if self.source else b''
-        if piece:
-            self.push(piece)
-        return bool(piece)
-
-    def is_cut(self) -> bool:
-        return self.at < len(self.held)
-
-    def wrong(self, fault: Fault = Fault.BAD_KIND) -> BadSession:
-        return BadSession(fault, self.gone + self.at)
+def records_of(octets: Iterable[bytes]) -> Iterator[bytes]:
+    """The records of a session, each with its head, those of the trunk in short pieces, since a change is reported
+    behind the record in which it was. The last one may be cut."""
+    held = b''
+    for piece in octets:
+        held, at = held + piece, 0
+        end = len(held)
+        while at + HEAD <= end and (after := at + HEAD + (held[at + 2] << 8 | held[at + 3])) <= end:
+            if after - at > HEAD + PIECE and held[at] == TRUNK:
+                yield from (trunk_record(held[n:min(n + PIECE, after)]) for n in range(at + HEAD, after, PIECE))
+            else:
+                yield held[at:after]
+            at = after
+        held = held[at:]
+    if held:
+        yield held
 
 
 class SessionReading:
-    """A session while it is read. Datagrams wait until the octets before them are followed."""
+    """A session while it is read. It begins at a place of the trunk, with the gateway as reported."""
 
-    def __init__(self, facts: Facts, config: Mapping[str, Any], given: Readable | None = None,
-                 answered: Readable | None = None, program: str | None = None, begun: Begun | None = None) -> None:
-        self.facts = facts
-        facts.law = law_of(config)
+    def __init__(self, facts: Facts, replay: Replay, program: str | None = None, place: int = 0) -> None:
+        self.facts, self.replay = facts, replay
         self.listener = SpeechListener(facts, program)
-        self.told: deque[Event] = deque()
-        self.lines = PictureFollower(config, self.told.append)
-        self.tell = EventSink(facts)
-        self.given, self.answered = RecordStream(given), RecordStream(answered)
-        self.place = 0
-        self.trunk: list[bytes] = []    # octets not yet followed, from `followed`, and those sent
-        self.sends: list[bytes] = []
-        self.followed = 0
-        self.due = 0                    # the next place to follow
-        # place, circuit, code, head, length, mark
-        self.came: deque[tuple[int, int, int, bytes, int, int]] = deque()
+        self.begin = self.place = place         # of the session, of all that was answered
+        self.at = self.changed = place          # of the last report, and of the last reported change
+        self.answers = b''                      # those that were not looked at
+        self.told: list[str] = []
+        self.came: deque[bytes] = deque()       # datagrams of which nothing is reported yet
         self.sent = dict.fromkeys(facts.rows, 0)
-        self.whole = True               # both ended with a whole record
-        if begun:
-            self._begin(begun)
+        self.lines: dict[str, Callable[..., None]] = {
+            'alarms': self._alarms, 'line': self._line, 'command': self._command, 'codec': self._codec}
+        self._begin()
 
-    def _begin(self, begun: Begun) -> None:
-        """Begins with the gateway's state."""
-        self.lines.begin(begun.place, begun.circuits)
-        self.facts.began(begun.place, begun.circuits)
-        self.place = self.followed = begun.place
-        self.due = begun.place + MULTIFRAME
+    def _begin(self) -> None:
+        """The whole state, which is reported first. Nothing is reported if the program has ended."""
+        told = [line.split() for line in self.replay.told()]
+        if told and told[0][:3] != TELLS:
+            raise InputError(f'e1gw replay tells in another way: {" ".join(told[0])}')
+        self.facts.law = told[0][3] if told else self.facts.law
+        self.facts.began(self.place, [bit == '1' for words in told if words[0] == 'alarms' for bit in words[1:]],
+                         [words[1:] for words in told if words[0] == 'line'])
 
-    def read(self, reached: Callable[[int], None] = lambda place: None) -> None:
-        """Reads everything, or until one of the two ends. `reached` is called with the place after each piece.
-        BadSession for an invalid record."""
+    def read(self, octets: Iterable[bytes], reached: Callable[[int], None] = lambda place: None) -> None:
+        """Reads all, or up to a record that the program refuses. While some records are looked at, the program has the
+        next ones. `reached` is called with the place."""
+        before: list[bytes] = []
         try:
-            while self.go_on() and self.given.more():
+            for records in self._some(octets):
+                self.came += [record for record in records if record[0] == DATAGRAM]
+                self.replay.give(b''.join(records))
+                if not self._take(before):
+                    return
+                before = records
                 reached(self.place)
-            self.flush()
+            self.replay.close()
+            self._take(before)
         finally:
             self.listener.look()
-        self.whole = not (self.given.is_cut() or self.answered.is_cut())
 
-    def go_on(self) -> bool:
-        """Reads the whole records held; returns whether the answers go on."""
-        stream, at = self.given, self.given.at
-        data, end = stream.held, len(stream.held)
-        going = True
-        while at + 4 <= end:
-            kind, circuit = data[at], data[at + 1]
-            after = at + 4 + (data[at + 2] << 8 | data[at + 3])
-            if after > end:
-                break
-            if kind == TRUNK:
-                going = self._trunk(data[at:after])
-            elif kind == DATAGRAM:
-                going = self._datagram(circuit, data, at + 4, after)
-            else:
-                stream.at = at
-                going = self._command(kind, circuit, data[at + 4:after])
-            if not going:
-                break
-            at = after
-        stream.at = at
-        return going
+    def _some(self, octets: Iterable[bytes]) -> Iterator[list[bytes]]:
+        """All records, some at a time: in a long session more than in a short one."""
+        records, left = list[bytes](), LEAST
+        for record in records_of(octets):
+            records.append(record)
+            if record[0] == TRUNK:
+                left -= len(record) - HEAD
+            if left <= 0 or record[0] != TRUNK and len(records) >= RECORDS:
+                yield records
+                records, left = [], min(max(self.facts.width, LEAST), MOST)
+        yield records
 
-    def _trunk(self, record: bytes) -> bool:
-        """Octets of the trunk: the datagrams sent with them, and the octets."""
-        stream = self.answered
-        data, at = stream.held, stream.at
-        while data[at:at + 4] != record[:4]:
-            after = at + 4 + (data[at + 2] << 8 | data[at + 3]) if at + 4 <= len(data) else len(data) + 1
-            if after > len(data) and (at == len(data) or data[at] in (TRUNK, DATAGRAM)):
-                if not self._more(at):
-                    return False
-                data, at = stream.held, stream.at
-            elif data[at] == DATAGRAM and data[at + 1] in self.sent:
-                self.sent[data[at + 1]] += 1
-                at = after
-            else:
-                stream.at = at
-                raise stream.wrong()
-        while at + len(record) > len(data):
-            if not self._more(at):
-                return False
-            data, at = stream.held, stream.at
-        stream.at = at + len(record)
-        self.trunk.append(record[4:])
-        self.sends.append(data[at + 4:stream.at])
-        self.place += len(record) - 4
-        if self.place >= self.due:
-            self._follow(self.place // MULTIFRAME * MULTIFRAME)
-        return True
-
-    def _more(self, at: int) -> bool:
-        """More of the answers, from a place in those held."""
-        self.answered.at = at
-        return self.answered.more()
-
-    def _datagram(self, circuit: int, data: bytes, at: int, after: int) -> bool:
-        """A datagram received."""
-        code = self._answer(DATAGRAM)
-        if code < 0:
-            return False
-        if circuit not in self.sent:
-            raise self.given.wrong(Fault.BAD_CIRCUIT)
-        self.came.append((self.place, circuit, code, data[at:min(at + 12, after)], after - at,
-                          mark_of(data[at:after])))
-        if not code and after - at > 12:
-            row = self.facts.rows[circuit]
-            if row.stream.stretch is not None or self.place >= row.stream.came.due:
-                self.listener.came(row, self.place, data[at:after])
-        return True
-
-    def _answer(self, asked: int) -> int:
-        """The code of the next answer, or -1 without one."""
-        stream = self.answered
-        at = stream.at
-        while at + 6 > len(stream.held):
-            if not stream.more():
-                return -1
-            at = stream.at
-        data = stream.held
-        if data[at] != ANSWER or data[at + 4] != asked:
-            raise stream.wrong()
-        stream.at = at + 6
-        return data[at + 5]
-
-    def _command(self, kind: int, circuit: int, body: bytes) -> bool:
-        """A command or a change of codec."""
-        if kind not in (Kind.COMMAND, Kind.CODEC) or circuit not in self.facts.rows or not body:
-            raise self.given.wrong()
-        code = self._answer(kind)
-        if code < 0:
-            return False
-        self.flush()
-        command = Command(body[0]) if kind == Kind.COMMAND else None
-        refusal = refusal_of(kind, code)
-        words = command.word if command else f'codec {Codec(body[0]).word(self.lines.law)} {body[1]}'
-        self.facts.command(circuit, self.place, words, refusal.words if refusal else '')
-        if refusal is None and command:
-            self.lines.command(circuit, command)
-        elif refusal is None:
-            self.lines.codec(circuit, Codec(body[0]), body[1])
-        self.flush()
-        return True
-
-    def flush(self) -> None:
-        """Follows all queued octets and handles all datagrams."""
-        self._follow(self.place)
-        while self.told:
-            self._pass_on(self.told.popleft())
-        self.facts.turn(self.place)
-
-    def _follow(self, upto: int) -> None:
-        """Follows octets up to a place, then handles the datagrams before it."""
-        if self.trunk:
-            given, sends = b''.join(self.trunk), b''.join(self.sends)
-            size = upto - self.followed
-            self.lines.trunk(given[:size], sends[:size])
-            start = self.lines.frame_start()
-            if start is not None and size >= AT_LEAST:
-                self.listener.trunk(given, start - self.followed, upto)
-            for run in ONES.finditer(given, 0, size):
-                self.facts.ones.put(self.followed + run.start(), True)
-                self.facts.ones.put(self.followed + run.end(), False)
-            self.trunk, self.sends = [given[size:]], [sends[size:]]
-            self.followed = upto
-        facts, told, came = self.facts, self.told, self.came
-        rows = facts.rows
-        while came and came[0][0] <= upto:
-            place, circuit, code, head, length, mark = came.popleft()
-            while told and told[0]['place'] < place:
-                self._pass_on(told.popleft())
-            if place // facts.width != facts.column:
-                facts.turn(place)
-            rows[circuit].came(place, code, head, length, mark)
-        while told and told[0]['place'] < upto:
-            self._pass_on(told.popleft())
-        facts.turn(upto)
+    def _take(self, records: list[bytes]) -> bool:
+        """What became of records; returns whether all were answered."""
+        facts, (size, whole) = self.facts, self._answered(len(records))
+        octets = b''.join([record[HEAD:] for record in records if record[0] == TRUNK])[:size]
+        self.place += size
+        for run in ONES.finditer(octets) if ONES_OF_A_MULTIFRAME in octets else ():
+            facts.ones.put(self.place - size + run.start(), True)
+            facts.ones.put(self.place - size + run.end(), False)
+        if size >= LEAST and not facts.alarms['here', 'frame'].value:
+            self.listener.trunk(octets, self.place)
+        self._hear()
+        facts.turn(self.place)
         for circuit, count in self.sent.items():
             if count:
-                rows[circuit].cell.sent += count
+                facts.rows[circuit].cell.sent += count
                 self.sent[circuit] = 0
-        self.due = min(upto // facts.width * facts.width + max(facts.width, AT_LEAST), upto + MOST)
+        return whole
 
-    def _pass_on(self, event: Event) -> None:
-        if event['place'] >= self.facts.place:
-            self.facts.turn(event['place'])
-        self.tell(event)
+    def _answered(self, asked: int) -> tuple[int, bool]:
+        """Reads the answers to this many records, and counts the datagrams sent before them. Returns the octets of the
+        trunk among them, and whether all came."""
+        held, at, size, sent = self.answers, 0, 0, self.sent
+        end = len(held)
+        while asked:
+            if at + HEAD > end or (after := at + HEAD + (held[at + 2] << 8 | held[at + 3])) > end:
+                piece = self.replay.answers()
+                if not piece:
+                    break
+                held, at = held[at:] + piece, 0
+                end = len(held)
+                continue
+            kind = held[at]
+            if kind == DATAGRAM:
+                sent[held[at + 1]] += 1
+            else:
+                asked -= 1
+                if kind == TRUNK:
+                    size += after - at - HEAD
+            at = after
+        self.answers = held[at:]
+        return size, not asked
+
+    # ---- what the program reports ----
+
+    def _hear(self) -> None:
+        """What is reported up to the place; the lines of records behind it wait."""
+        self.told += self.replay.told()
+        rows, come = self.facts.rows, self.came.popleft
+        for n, line in enumerate(self.told):
+            if line.startswith('datagram'):         # as most are
+                record = come()
+                code, row = int(line.split(' ', 3)[2]), rows[record[1]]
+                row.came(self.at, code, record[HEAD:HEAD + 12], len(record) - HEAD, mark_of(record))
+                if not code and (row.stream.stretch is not None or self.at >= row.stream.came.due):
+                    self.listener.came(row, self.at, record[HEAD:])
+            elif not line.startswith('at'):
+                name, *words = line.split()
+                if name in self.lines:
+                    self.lines[name](*words)
+            elif (at := self.begin + int(line[3:])) <= self.place:
+                self._reach(at)
+            else:
+                del self.told[:n]
+                return
+        self.told.clear()
+
+    def _reach(self, place: int) -> None:
+        self.at, self.changed = place, max(self.begin, place - 1)       # by the last octet of a record
+        if place // self.facts.width != self.facts.column:
+            self.facts.turn(place)
+
+    def _alarms(self, *bits: str) -> None:
+        for ((where, what), spans), bit in zip(self.facts.alarms.items(), bits):
+            if where == 'here' and bit == '1' and not spans.value:
+                self.facts.lost(what, self.changed)
+            spans.put(self.changed, bit == '1')
+
+    def _line(self, circuit: str, _role: str, state: str, *rest: str) -> None:
+        row, codec, payload = self.facts.rows[int(circuit)], rest[-2], int(rest[-1])
+        if (codec, payload) != (row.codec, row.payload):
+            row.codec, row.payload, row.length = codec, payload, 0
+        row.state(self.changed, state)
+
+    def _command(self, circuit: str, command: str, code: str) -> None:
+        self._done(int(circuit), Command(int(command)).word, Kind.COMMAND, int(code))
+
+    def _codec(self, circuit: str, codec: str, payload: str, code: str) -> None:
+        self._done(int(circuit), f'codec {Codec(int(codec)).word(self.facts.law)} {payload}', Kind.CODEC, int(code))
+
+    def _done(self, circuit: int, words: str, kind: Kind, code: int) -> None:
+        """A command that was done or refused. Its changes are reported next."""
+        self.changed, refusal = self.at, refusal_of(kind, code)
+        self.facts.command(circuit, self.at, words, refusal.words if refusal else '')

@@ -14,7 +14,7 @@ Points = list[tuple[float, float]]      # place, samples before its turn
 
 @dataclass(frozen=True)
 class Step:
-    """Datagrams suddenly arrive earlier by so many samples, or later if it is negative."""
+    """Datagrams suddenly arrive earlier by this number of samples, or later if it is negative."""
     place: int
     samples: float
 
@@ -38,7 +38,7 @@ def points(row: Row, width: int) -> list[Points]:
 
 
 def _thinned(part: Points) -> Points:
-    """At most so many points, each the mean of neighbours."""
+    """At most this number of points, each the mean of neighbours."""
     each = -(-len(part) // POINTS)
     groups = [part[n:n + each] for n in range(0, len(part), each)]
     return [(sum(x for x, _ in group) / len(group), sum(y for _, y in group) / len(group)) for group in groups]

@@ -112,7 +112,7 @@ class ListeningTimes:
         self.due, self.each, self.looks = 0, each, 0
 
     def come(self, place: int, most: float) -> bool:
-        """Whether to listen at a place, if samples are to be at most so many octets apart."""
+        """Whether to listen at a place, if samples are to be at most this number of octets apart."""
         if place < self.due:
             return False
         self.looks += 1

@@ -91,7 +91,7 @@ class Scale:
 
 
 def duration(octets: float) -> str:
-    """The duration of so many octets of the trunk."""
+    """The duration of a number of octets of the trunk."""
     seconds = octets / SECOND
     if seconds < 0.9995:
         return f'{seconds * 1000:.4g} ms'

@@ -5,13 +5,14 @@ So a missed change is made later. Between the two changes each end refuses the p
 payload type, and plays silence."""
 from __future__ import annotations
 
-from typing import Any, NamedTuple
+from typing import Any, Callable, Iterable, NamedTuple
 
 from ..lines import State
+from .trunk import Tell, TrunkLink
 
 
 class Coding(NamedTuple):
-    """A codec and its RTP payload type, as the driver's `codec` takes them."""
+    """A codec and its RTP payload type, as the command `codec` takes them."""
 
     codec: str
     payload: int
@@ -23,74 +24,85 @@ LAWS = {'A': 'pcma', 'mu': 'pcmu'}
 ANSWERED = frozenset((State.ANSWERED, State.CLEAREDBACK))
 
 
-class Codings:
-    """The codec of each circuit here, and the one that it needs."""
+class CodecChanges:
+    """Gives each circuit here the codec that it needs, by one change at a time. `asked` is the codec until the answer;
+    without one codecs are left alone. `look` looks at a circuit again once a change is answered."""
 
-    def __init__(self, asked: str | None) -> None:
-        self.asked = asked                      # the codec until the answer; None: codecs are left alone
+    def __init__(self, asked: str | None, trunk: TrunkLink, tell: Tell, look: Callable[[int], None]) -> None:
         self.own: str | None = None             # the same, if the circuits here can have it; sent to the other site
-        self.changing: set[int] = set()         # circuits whose change is not yet answered
-        self._far: str | None = None
-        self._is_heard = False
+        self._asked, self._trunk, self._tell, self._look = asked, trunk, tell, look
+        self._changing: set[int] = set()        # circuits whose change is not yet answered
+        self._heard: list[str | None] = []      # the other site's codec, once it is connected
         self._configured: dict[int, Coding] = {}
         self._present: dict[int, Coding] = {}
         self._refused: dict[int, Coding] = {}
 
-    def begin(self, status: dict[str, Any]) -> str | None:
-        """Takes the driver's circuits; returns why they cannot have the codec asked for."""
-        if self.asked is None:
-            return None
+    def begin(self, status: dict[str, Any]) -> None:
+        """Takes the circuits of the trunk, and warns if they cannot have the codec asked for."""
+        if self._asked is None:
+            return
         self._refused = {}
-        self._configured = {}
+        self._configured = {row['circuit']: Coding(row['configured_codec'], row['configured_payload'])
+                            for row in status['circuits']}
         for row in status['circuits']:
-            if 'configured_codec' in row:
-                self._configured[int(row['circuit'])] = Coding(row['configured_codec'], row['configured_payload'])
-                self.stands(int(row['circuit']), row)
-        why = self._why_not(status)
-        self.own = None if why else self.asked
-        return why
+            self.stands(row)
+        fixed = [str(n) for n, coding in self._configured.items()
+                 if coding.codec != self._asked and coding.payload not in DYNAMIC]
+        self.own = None
+        if LAWS.get(status['law']) != self._asked:
+            self._warn(f'{self._asked} does not match the law of this trunk')
+        elif fixed:
+            self._warn(f'the payload type of circuits {", ".join(fixed)} is not in 96 to 127')
+        else:
+            self.own = self._asked
 
-    def _why_not(self, status: dict[str, Any]) -> str | None:
-        if not self._configured:
-            return 'the driver is an older version that does not report it'
-        if LAWS.get(status.get('law', '')) != self.asked:
-            return f'{self.asked} does not match the law of this trunk'
-        fixed = [n for n, coding in self._configured.items()
-                 if coding.codec != self.asked and coding.payload not in DYNAMIC]
-        return f'the payload type of circuits {", ".join(map(str, fixed))} is not in 96 to 127' if fixed else None
+    def _warn(self, why: str) -> None:
+        self._tell('warning', about=f'calls use their configured codec from the start: {why}')
 
-    def heard(self, far: str | None) -> str | None:
-        """Takes the other site's codec; returns why it is not this one's."""
-        is_new = not self._is_heard or far != self._far
-        self._far, self._is_heard = far, True
-        if self.own is None or far == self.own or not is_new:
-            return None
-        return f'the other site has {"no " if far is None else ""}--until-answer {far or ""}'.rstrip()
+    def heard(self, far: str | None) -> None:
+        """Takes the other site's codec, and warns if it is not this one's."""
+        if self._heard != [far]:
+            self._heard = [far]
+            if self.own and far != self.own:
+                self._warn(f'the other site has --until-answer {far}' if far else
+                           'the other site has no --until-answer')
 
-    def stands(self, n: int, row: dict[str, Any]) -> None:
-        """Takes a circuit's row of the driver's status."""
-        if n in self._configured and n not in self.changing:
-            self._present[n] = Coding(row['codec'], row['payload'])
+    def stands(self, row: dict[str, Any]) -> None:
+        """Takes a circuit's row of the status."""
+        if row['circuit'] in self._configured and row['circuit'] not in self._changing:
+            self._present[row['circuit']] = Coding(row['codec'], row['payload'])
 
-    def wants(self, n: int, state: State) -> Coding | None:
-        """The codec that a circuit needs now, if any. None before the other site is connected."""
-        if not self._is_heard or n not in self._configured or n in self.changing:
-            return None
-        configured = self._configured[n]
-        signals = self.own is not None and self.own == self._far and state not in ANSWERED
-        wanted = SIGNALLING[self.own] if self.own and signals and configured.codec != self.own else configured
-        return None if wanted in (self._present[n], self._refused.get(n)) else wanted
+    def give(self, n: int, state: State) -> None:
+        """Gives a circuit in this state the codec that it needs; none before the other site is connected. A refused
+        change is retried only when another was needed."""
+        if not self._trunk.is_up or not self._heard or n not in self._configured or n in self._changing:
+            return
+        wanted = self._configured[n]
+        if self.own and self._heard == [self.own] and state not in ANSWERED and wanted.codec != self.own:
+            wanted = SIGNALLING[self.own]
+        if wanted not in (self._present[n], self._refused.get(n)):
+            self._changing.add(n)
+            self._trunk.begin(self._change(n, wanted))
 
-    def answered(self, n: int, coding: Coding, is_done: bool) -> None:
-        """Takes the driver's answer to a change. A refused one is retried only when another is needed."""
-        if is_done:
+    async def _change(self, n: int, coding: Coding) -> None:
+        try:
+            answer = (await self._trunk.ask(f'codec {n} {coding.codec} {coding.payload}')).rpartition(': ')[2]
+        except (OSError, EOFError):
+            return
+        finally:
+            self._changing.discard(n)
+        self._tell('codec', circuit=n, codec=coding.codec, payload=coding.payload, answer=answer)
+        if answer == 'done':
             self._present[n] = coding
             self._refused.pop(n, None)
         else:
             self._refused[n] = coding
+        self._look(n)
 
-    def end(self) -> dict[int, Coding]:
-        """Ends the changes; returns the configured codec of each circuit that has another."""
+    async def leave(self, idle: Iterable[int]) -> None:
+        """Restores the configured codec of these circuits, before the end."""
         others = {n: coding for n, coding in self._configured.items() if coding != self._present[n]}
         self._configured = {}
-        return others
+        for n in idle:
+            if n in others and self._trunk.is_up:
+                await self._change(n, others[n])

@@ -1,21 +1,26 @@
 """The circuits blocked by the operator, in a file, so that a restarted tie leaves them so."""
 from __future__ import annotations
 
-import functools
+import asyncio
 import json
+from contextlib import suppress
 from typing import Iterable
 
 from ..keep import put_file
 from ..session import CIRCUITS
-from ..writers import Writer
 
 
 class KeptBlocks:
-    """A set of circuits. Without a path it is forgotten at the end; a file that cannot be written ends nothing."""
+    """A set of circuits. Without a path it is forgotten at the end; a file that is not one of ours, or that cannot be
+    written, ends nothing."""
 
     def __init__(self, path: str | None) -> None:
-        self._circuits = read(path) if path else frozenset()
-        self._writer = Writer('state', functools.partial(put_file, path)) if path else None
+        self._path, self._circuits = path, frozenset[int]()
+        self._writing: asyncio.Task[None] | None = None
+        with suppress(OSError, ValueError, TypeError):
+            if path:
+                with open(path, encoding='ascii') as file:
+                    self._circuits = frozenset(CIRCUITS) & frozenset(json.loads(file.read(4096)))
 
     def has(self, circuit: int) -> bool:
         return circuit in self._circuits
@@ -23,19 +28,17 @@ class KeptBlocks:
     def put(self, circuits: Iterable[int]) -> None:
         """Keeps these circuits and no others."""
         self._circuits = frozenset(circuits)
-        if self._writer:
-            self._writer.put(json.dumps(sorted(self._circuits)).encode() + b'\n')
+        if self._path and (self._writing is None or self._writing.done()):
+            self._writing = asyncio.create_task(self._write(self._path))
 
-    def close(self) -> None:
-        if self._writer:
-            self._writer.close()
+    async def _write(self, path: str) -> None:
+        written: frozenset[int] | None = None
+        while written != self._circuits:
+            written = self._circuits
+            with suppress(OSError):
+                await asyncio.to_thread(put_file, path, json.dumps(sorted(written)).encode() + b'\n')
 
-
-def read(path: str) -> frozenset[int]:
-    """The circuits in a file; none if it is missing or not one of ours."""
-    try:
-        with open(path, encoding='ascii') as file:
-            found = json.loads(file.read(4096))
-    except (OSError, ValueError):
-        return frozenset()
-    return frozenset(n for n in found if n in CIRCUITS) if isinstance(found, list) else frozenset()
+    async def close(self) -> None:
+        """Waits until all is written."""
+        if self._writing:
+            await self._writing

@@ -4,7 +4,6 @@ from __future__ import annotations
 import argparse
 import asyncio
 import ipaddress
-import math
 import os
 import secrets
 import signal
@@ -13,14 +12,16 @@ import sys
 from contextlib import suppress
 from typing import Any
 
-from ..events import json_line
-from ..faults import Parser, named, words_of_fault
+from ..faults import Parser, named, number, words_of_fault
+from ..service.commands import CannotListen
+from ..service.events import EventFile, json_line, lines_to
 from ..trunks import host_and_port
-from ..writers import hold_descriptors, to_descriptor
+from ..writers import hold_descriptors
 from .coding import SIGNALLING
 from .kept import KeptBlocks
 from .pairs import BadPairs, Pairs, pairs_of
 from .site import Site, context_of
+from .status import StatusServer
 from .tie import Tie, TieOptions
 
 ABOUT = '''Joins the circuits of two gateways at two sites: a seizure at one end seizes the circuit at the other, and
@@ -30,13 +31,6 @@ output. Without --tls the connection is neither secret nor authenticated. See e1
 ANYBODY = 'any certificate of the authority is accepted, because no --peer names that of the other site'
 LEAVES = 1.0                # seconds at most to restore codecs
 MOST_MAP = 100_000          # characters at most of the map's file
-
-
-def seconds(text: str) -> float:
-    number = float(text)
-    if not math.isfinite(number) or not 0 <= number <= 3600:
-        raise argparse.ArgumentTypeError('0 to 3600')
-    return number
 
 
 def place(text: str) -> tuple[str, int]:
@@ -61,12 +55,15 @@ def parser() -> argparse.ArgumentParser:
                           'machines reach, as in a tunnel')
     made.add_argument('--peer', metavar='NAME', help='with --tls, the host or address in the certificate of the other '
                       'site [default: the host of --connect; with --listen any that CA has signed]')
-    made.add_argument('--hold', type=seconds, default=2.0, metavar='SECONDS', help='how long calls are kept without '
-                      'the other end [default: 2]')
+    made.add_argument('--hold', type=number(0, 3600, float), default=2.0, metavar='SECONDS', help='how long calls '
+                      'are kept without the other end [default: 2]')
     made.add_argument('--congestion', choices=('clear-back', 'wait'), default='clear-back', help='a call that cannot '
                       'be set up is answered and cleared back, or the caller waits [default: clear-back]')
     made.add_argument('--until-answer', choices=tuple(SIGNALLING), help='calls use G.711 until they are answered, '
                       'then the configured codec; both sites need the same')
+    made.add_argument('--status', metavar='SOCKET', help='a Unix socket that answers status, status json and metrics')
+    made.add_argument('--http', type=place, metavar='HOST:PORT', help='serves /metrics (Prometheus), /status (JSON) '
+                      'and / (a table)')
     made.add_argument('--state', metavar='FILE', help='a file that keeps the circuits blocked by the operator')
     return made
 
@@ -104,28 +101,25 @@ def site_of(options: argparse.Namespace, tie: Tie) -> Site:
     return Site(options.listen or options.connect, listens, context, options.peer, tie)
 
 
-async def work(tie: Tie, site: Site) -> int:
+async def work(tie: Tie, site: Site, path: str | None, http: tuple[str, int] | None) -> int:
     """Runs until a signal asks for the end; returns the status."""
-    asked = asyncio.Event()
-    for number in (signal.SIGINT, signal.SIGTERM, signal.SIGHUP):
-        asyncio.get_running_loop().add_signal_handler(number, asked.set)
-    asyncio.get_running_loop().set_exception_handler(
-        lambda _, about: tie.turned_away(str(about.get('exception') or about.get('message'))))
-    tie.link.start()
-    tasks = [asyncio.create_task(each) for each in (tie.control.follow(), site.run(), asked.wait())]
+    try:
+        await StatusServer(tie).open(path, http)
+    except (OSError, CannotListen) as fault:
+        tie.tell('warning', about=f'nobody can ask how it stands: {words_of_fault(fault)}')
+    loop, ends, status = asyncio.get_running_loop(), asyncio.Event(), 0
+    for each in (signal.SIGINT, signal.SIGTERM, signal.SIGHUP):
+        loop.add_signal_handler(each, ends.set)
+    loop.set_exception_handler(lambda _, about: site.turned_away(str(about.get('exception') or about['message'])))
+    tasks = [asyncio.create_task(each) for each in (tie.follow(), site.run(), ends.wait())]
     done, _ = await asyncio.wait(tasks, return_when=asyncio.FIRST_COMPLETED)
     with suppress(TimeoutError):
         async with asyncio.timeout(LEAVES):
             await tie.leave()
-    status = 0
-    for task in done:
-        fault = task.exception()
-        if fault is not None:
-            print(f'e1gw-tie: {fault}', file=sys.stderr)
-            status = 1
+    for why in filter(None, (task.exception() for task in done)):
+        print(f'e1gw-tie: {why}', file=sys.stderr)
+        status = 1
     tie.tell('end', status=status)
-    for task in tasks:
-        task.cancel()
     site.close()
     return status
 
@@ -143,15 +137,14 @@ def main() -> None:
     if is_open(options):
         return refuse(f'{options.listen[0]} is not a loopback address, and without --tls whoever connects can seize '
                       'and clear circuits: give --tls, or --insecure within a tunnel')
-    writer = to_descriptor('standard output', 1)
+    lines = EventFile('standard output', lines_to(sys.stdout), lambda *_: None)
 
     def tell(event: str, **fields: Any) -> None:
-        writer.put(json_line({'event': event, **fields}))
-    kept = KeptBlocks(options.state)
+        lines.put(json_line({'event': event, **fields}))
     try:
         pairs = read_map(options.map) if options.map else None
         wanted = TieOptions(options.control, pairs, options.hold, options.congestion == 'wait', options.until_answer)
-        tie = Tie(wanted, secrets.token_hex(8), kept, tell)
+        tie = Tie(wanted, secrets.token_hex(8), KeptBlocks(options.state), tell)
         site = tie.site = site_of(options, tie)
     except (OSError, BadPairs, ValueError) as fault:
         return refuse(f'{options.map}: {fault}' if isinstance(fault, BadPairs) else words_of_fault(fault))
@@ -160,8 +153,7 @@ def main() -> None:
          connection='TLS' if options.tls else 'neither secret nor authenticated: for 127.0.0.1 or a tunnel')
     if options.listen and options.tls and not options.peer:
         tell('warning', about=ANYBODY)
-    status = asyncio.run(work(tie, site))
-    kept.close()
-    writer.close()
-    # The thread of a stuck reader is not waited for.
-    os._exit(status)
+    # (not asyncio.run: that would wait for threads which wait for a disk)
+    status = asyncio.new_event_loop().run_until_complete(work(tie, site, options.status, options.http))
+    lines.close()
+    os._exit(status)        # (nor is the thread of a reader that does not read waited for)

@@ -62,38 +62,56 @@ class KeepAlive:
 Message = Greeting | SiteState | CircuitChange | OutOfService | KeepAlive
 
 
-def _plain(message: Message) -> dict[str, Any]:
-    if isinstance(message, Greeting):
-        return {'tie': VERSION, 'run': message.run, 'pairs': message.pairs}
-    if isinstance(message, SiteState):
-        return {'all': {n: asdict(end) for n, end in message.ends.items()}, 'dark': message.out_of_service,
-                'until_answer': message.until_answer}
-    if isinstance(message, CircuitChange):
-        return {'circuit': message.circuit, 'end': asdict(message.end)}
-    return {'dark': message.out_of_service} if isinstance(message, OutOfService) else {'alive': True}
-
-
 def encode_message(message: Message) -> bytes:
     """The line of a message."""
-    return json.dumps(_plain(message)).encode() + b'\n'
+    plain: dict[str, Any] = {'alive': True}
+    match message:
+        case Greeting():
+            plain = {'tie': VERSION, 'run': message.run, 'pairs': message.pairs}
+        case SiteState():
+            plain = {'all': {n: asdict(end) for n, end in message.ends.items()}, 'dark': message.out_of_service,
+                     'until_answer': message.until_answer}
+        case CircuitChange():
+            plain = {'circuit': message.circuit, 'end': asdict(message.end)}
+        case OutOfService():
+            plain = {'dark': message.out_of_service}
+    return json.dumps(plain).encode() + b'\n'
 
 
-def _is(value: Any, kind: type, what: str) -> Any:
-    if not isinstance(value, kind):
-        raise BadMessage(f'no {what}')
+def message_of(line: bytes) -> Message:
+    """The message of a line, or BadMessage."""
+    try:
+        fields = json.loads(line)
+    except (ValueError, RecursionError):
+        raise BadMessage('no JSON') from None
+    match fields:
+        case {'tie': version} if version != VERSION:
+            raise BadMessage(f'another version of the tie, {str(version)[:20]}')
+        case {'tie': _, 'run': str(run)}:
+            return Greeting(_name(run), _pairs(fields.get('pairs')))
+        case {'all': dict(ends), 'dark': bool(dark)}:
+            codec = fields.get('until_answer')
+            return SiteState(dark, {_circuit(n): _end(end) for n, end in ends.items()},
+                             None if codec is None else _name(codec))
+        case {'circuit': circuit, 'end': end}:
+            return CircuitChange(_circuit(circuit), _end(end))
+        case {'dark': bool(dark)} if not fields.keys() & {'tie', 'all', 'circuit'}:
+            return OutOfService(dark)
+        case {'alive': _}:
+            return KeepAlive()
+    raise BadMessage('an unknown message')
+
+
+def _name(value: Any) -> str:
+    if not isinstance(value, str) or len(value) > MOST_NAME:
+        raise BadMessage('no name, or one that is too long')
     return value
 
 
-def _name(value: Any, what: str) -> str:
-    if len(_is(value, str, what)) > MOST_NAME:
-        raise BadMessage(f'{what} is too long')
-    return str(value)
-
-
 def _circuit(value: Any) -> int:
-    number = int(value) if isinstance(value, int) or isinstance(value, str) and value.isascii() and \
-        value.isdecimal() and len(value) < 4 else 0
-    if number not in CIRCUITS or isinstance(value, bool):
+    text = str(value)           # (a key of an object is a text)
+    number = int(text) if text.isascii() and text.isdecimal() and len(text) < 4 else 0
+    if number not in CIRCUITS:
         raise BadMessage('no circuit')
     return number
 
@@ -101,41 +119,18 @@ def _circuit(value: Any) -> int:
 def _pairs(value: Any) -> Pairs | None:
     if value is None:
         return None
-    pairs = {_circuit(here): _circuit(there) for here, there in _is(value, dict, 'pairs').items()}
-    if len(set(pairs.values())) != len(value):
+    pairs = {_circuit(here): _circuit(there) for here, there in value.items()} if isinstance(value, dict) else None
+    if pairs is None or len(set(pairs.values())) != len(value):
         raise BadMessage('invalid pairs')
     return pairs
 
 
 def _end(value: Any) -> CircuitEnd:
-    fields = _is(value, dict, 'end')
-    call = fields.get('call')
-    try:
-        return CircuitEnd(Role(fields.get('role')), State(fields.get('state')),
-                          None if call is None else _name(call, 'call'),
-                          _is(fields.get('over'), bool, 'over'), _name(fields.get('passed'), 'call'))
-    except ValueError:
-        raise BadMessage('not an end of a circuit') from None
-
-
-def message_of(line: bytes) -> Message:
-    """The message of a line, or BadMessage."""
-    try:
-        fields = _is(json.loads(line), dict, 'message')
-    except (ValueError, RecursionError):
-        raise BadMessage('no JSON') from None
-    if 'tie' in fields:
-        if fields['tie'] != VERSION:
-            raise BadMessage(f'another version of the tie, {str(fields["tie"])[:20]}')
-        return Greeting(_name(fields.get('run'), 'run'), _pairs(fields.get('pairs')))
-    if 'all' in fields:
-        ends = {_circuit(n): _end(end) for n, end in _is(fields['all'], dict, 'circuits').items()}
-        codec = fields.get('until_answer')
-        return SiteState(_is(fields.get('dark'), bool, 'dark'), ends, None if codec is None else _name(codec, 'codec'))
-    if 'circuit' in fields:
-        return CircuitChange(_circuit(fields['circuit']), _end(fields.get('end')))
-    if 'dark' in fields:
-        return OutOfService(_is(fields['dark'], bool, 'dark'))
-    if 'alive' in fields:
-        return KeepAlive()
-    raise BadMessage('an unknown message')
+    match value:
+        case {'role': role, 'state': state, 'over': bool(over), 'passed': passed}:
+            call = value.get('call')
+            try:
+                return CircuitEnd(Role(role), State(state), None if call is None else _name(call), over, _name(passed))
+            except ValueError:
+                pass
+    raise BadMessage('not an end of a circuit')

@@ -2,45 +2,25 @@
 from __future__ import annotations
 
 import asyncio
-import functools
 import ipaddress
 import os
-import socket
 import ssl
-from contextlib import ExitStack, suppress
-from typing import Any, Protocol
+from collections import Counter
+from typing import TYPE_CHECKING, Any
 
 from .messages import MOST, BadMessage, Greeting, KeepAlive, Message, encode_message, message_of
-from .strangers import Stranger, StrangerStage, Strangers, address_of
+
+if TYPE_CHECKING:
+    from .tie import Tie
 
 ALIVE = 0.5                 # seconds between two keepalives
 GONE = 2.0                  # seconds without one after which the connection is given up
 AGAIN = 0.25                # seconds until a connection is retried
-HANDSHAKE = 5.0             # seconds for the first octet, and for TLS
-PACE = 0.01                 # seconds between two accepts that close a connection in its handshake
-BURST = 4                   # connections accepted in that time if they close none
-BACKLOG = 128               # connections that the system queues
+HANDSHAKE = 5.0             # seconds for a connection until it has greeted
+STRANGERS = 8               # connections that have not greeted
+BACKLOG = 8                 # connections that the system queues
 MOST_WAITING = 1 << 20      # octets not yet taken by the other site
-Streams = tuple[asyncio.StreamReader, asyncio.StreamWriter]
-
-
-class SiteHooks(Protocol):
-    """The events of the connection."""
-
-    def greeting(self) -> Greeting:
-        """The greeting of this site."""
-
-    def came(self, greeting: Greeting) -> None:
-        """The other site is connected."""
-
-    def heard(self, message: Message) -> None:
-        """The other site has sent a message."""
-
-    def gone(self, why: str) -> None:
-        """The connection is lost."""
-
-    def turned_away(self, why: str) -> None:
-        """A connection was refused here or there."""
+MINUTE, MOST_REASONS = 60.0, 10     # seconds in which a reason why nobody is connected is told once, and how many are
 
 
 class SiteRefused(Exception):
@@ -75,211 +55,128 @@ def has_name(certificate: dict[str, Any] | None, name: str) -> bool:
     return wanted in found
 
 
-async def listeners_of(host: str, port: int) -> list[socket.socket]:
-    """Sockets that listen at each address of a host. OSError if one cannot be opened."""
-    found = await asyncio.get_running_loop().getaddrinfo(host, port, type=socket.SOCK_STREAM, flags=socket.AI_PASSIVE)
-    made: list[socket.socket] = []
-    try:
-        for family, kind, protocol, _, place in dict.fromkeys(found):
-            made.append(socket.socket(family, kind, protocol))
-            made[-1].setsockopt(socket.SOL_SOCKET, socket.SO_REUSEADDR, 1)
-            if family == socket.AF_INET6:
-                made[-1].setsockopt(socket.IPPROTO_IPV6, socket.IPV6_V6ONLY, 1)
-            made[-1].setblocking(False)
-            made[-1].bind(place)
-            made[-1].listen(BACKLOG)
-    except OSError:
-        for line in made:
-            line.close()
-        raise
-    return made
-
-
-def stage_of(line: socket.socket) -> StrangerStage:
-    """Whether a connection has sent anything."""
-    try:
-        line.recv(1, socket.MSG_PEEK)
-    except OSError:
-        return StrangerStage.SILENT
-    return StrangerStage.SPEAKS
-
-
-async def first_octet(line: socket.socket) -> None:
-    """Waits until a connection has sent something. TimeoutError if it is late."""
-    loop, came = asyncio.get_running_loop(), asyncio.Event()
-    loop.add_reader(line, came.set)
-    try:
-        async with asyncio.timeout(HANDSHAKE):
-            await came.wait()
-    finally:
-        loop.remove_reader(line)
-
-
-async def streams_of(line: socket.socket, context: ssl.SSLContext | None) -> Streams:
-    """The streams of an accepted connection, behind the handshake of TLS if there is a context."""
-    loop = asyncio.get_running_loop()
-    reader = asyncio.StreamReader(limit=MOST, loop=loop)
-    protocol = asyncio.StreamReaderProtocol(reader, loop=loop)
-    more: dict[str, Any] = {'ssl': context, 'ssl_handshake_timeout': HANDSHAKE} if context else {}
-    transport, _ = await loop.connect_accepted_socket(lambda: protocol, line, **more)
-    return reader, asyncio.StreamWriter(transport, protocol, reader, loop)
-
-
 class Site:
     """The other site."""
 
     def __init__(self, place: tuple[str, int], listens: bool, context: ssl.SSLContext | None, name: str | None,
-                 hooks: SiteHooks) -> None:
-        self.place, self.listens, self.context, self.name, self.hooks = place, listens, context, name, hooks
+                 tie: Tie) -> None:
+        self.place, self.listens, self.context, self.name = place, listens, context, name
+        self._tie, self._tell = tie, tie.tell
         self._writer: asyncio.StreamWriter | None = None    # the present connection
         self._run = ''                                      # the program at its other end
-        self._strangers = Strangers(address_of(name) if name else None)
-        self._tasks: set[asyncio.Task[None]] = set()        # one for each accepted connection
+        self._strangers: dict[asyncio.Task[Any], str] = {}  # the address of each, the oldest first
+        self._reasons: dict[str, float] = {}                # when each was told
 
     def send(self, message: Message) -> None:
         """Sends to the other site if it is connected. A site that does not read is given up."""
-        writer = self._writer
-        if writer is not None and not writer.is_closing():
-            if writer.transport.get_write_buffer_size() > MOST_WAITING:
-                writer.transport.abort()
+        if self._writer is not None and not self._writer.is_closing():
+            if self._writer.transport.get_write_buffer_size() > MOST_WAITING:
+                self._writer.transport.abort()
             else:
-                writer.write(encode_message(message))
+                self._writer.write(encode_message(message))
 
     def close(self) -> None:
-        """Closes the present connection."""
+        """Closes all connections."""
+        for task in self._strangers:
+            task.cancel()
         if self._writer is not None:
             self._writer.transport.abort()
+
+    def turned_away(self, why: str) -> None:
+        """Tells why nobody is connected: each reason once a minute, ten of them at most."""
+        now = asyncio.get_running_loop().time()
+        self._reasons = {each: at for each, at in self._reasons.items() if now < at + MINUTE}
+        if why not in self._reasons and len(self._reasons) < MOST_REASONS:
+            self._reasons[why] = now
+            self._tell('no connection', why=why)
 
     async def run(self) -> None:
         """Keeps the connection up for ever. OSError if it cannot listen at this place."""
         host, port = self.place
         if self.listens:
-            await self._listen(host, port)
+            server = await asyncio.start_server(self._came, host, port, limit=MOST, backlog=BACKLOG)
+            await server.serve_forever()
         more: dict[str, Any] = {'ssl': self.context, 'server_hostname': self.name or host} if self.context else {}
         while True:
             try:
                 async with asyncio.timeout(HANDSHAKE):
-                    reader, writer = await asyncio.open_connection(host, port, limit=MOST, **more)
-                await self._hold(reader, writer)
-            except (OSError, TimeoutError) as fault:
-                self.hooks.turned_away(words_of_no_connection(fault, f'{host}:{port}'))
+                    streams = await asyncio.open_connection(host, port, limit=MOST, **more)
+                await self._hold(*streams)
+            except OSError as fault:
+                self.turned_away(words_of_no_connection(fault, f'{host}:{port}'))
             await asyncio.sleep(AGAIN)
 
-    async def _listen(self, host: str, port: int) -> None:
-        with ExitStack() as ends:
-            listeners = [ends.enter_context(line) for line in await listeners_of(host, port)]
-            try:
-                async with asyncio.TaskGroup() as group:
-                    for line in listeners:
-                        group.create_task(self._accept(line))
-            finally:
-                for task in self._tasks:
-                    task.cancel()
-
-    async def _accept(self, listener: socket.socket) -> None:
-        """Accepts connections for ever, at a pace that leaves time for handshakes."""
-        spent = 0
-        while True:
-            try:
-                line, place = await asyncio.get_running_loop().sock_accept(listener)
-                spent += self._let_in(line, Stranger(address_of(place[0]), stage_of(line)))
-            except OSError as fault:
-                self.hooks.turned_away(str(fault))
-                await asyncio.sleep(AGAIN)
-            if spent >= BURST:
-                spent = 0
-                await asyncio.sleep(PACE)
-
-    def _let_in(self, line: socket.socket, stranger: Stranger) -> int:
-        """Starts a connection; returns its share of a burst."""
-        task = stranger.task = asyncio.create_task(self._accepted(line, stranger))
-        self._tasks.add(task)
-        task.add_done_callback(functools.partial(self._ended, line, stranger))
-        last = self._strangers.add(stranger)
-        if last:
-            self.hooks.turned_away('too many connections that have not greeted')
-        return BURST if last and self._strangers.is_hard(last, stranger) else 1
-
-    async def _accepted(self, line: socket.socket, stranger: Stranger) -> None:
-        """A connection from its first octet: a silent one costs only its socket."""
+    async def _came(self, reader: asyncio.StreamReader, writer: asyncio.StreamWriter) -> None:
+        """A connection that comes. For one too many the oldest of the address that has most is closed."""
+        task = asyncio.current_task()
+        assert task
+        if len(self._strangers) >= STRANGERS:
+            crowd = Counter(self._strangers.values())
+            last = max(self._strangers, key=lambda each: crowd[self._strangers[each]])
+            last.cancel()
+            del self._strangers[last]
+            self.turned_away('too many connections that have not greeted')
+        self._strangers[task] = (writer.get_extra_info('peername') or ('',))[0]
         try:
-            if stranger.stage is StrangerStage.SILENT:
-                await first_octet(line)
-                stranger.stage = StrangerStage.SPEAKS
-            stranger.has_transport = True
-            reader, writer = await streams_of(line, self.context)
-            if self.context:
-                stranger.stage = StrangerStage.CERTIFIED
-            await self._hold(reader, writer, stranger)
-        except (OSError, TimeoutError) as fault:
-            self.hooks.turned_away(str(fault) or 'it sends nothing')
+            await self._hold(reader, writer)
+        except asyncio.CancelledError:
+            pass                # (it is one too many)
+        finally:
+            self._strangers.pop(task, None)
 
-    def _ended(self, line: socket.socket, stranger: Stranger, task: asyncio.Task[None]) -> None:
-        self._tasks.discard(task)
-        self._strangers.remove(stranger)
-        if stranger.has_transport:
-            # (That closes it; and if it has not begun yet, it sees the end by this.)
-            with suppress(OSError):
-                line.shutdown(socket.SHUT_RDWR)
-        else:
-            line.close()
-
-    async def _hold(self, reader: asyncio.StreamReader, writer: asyncio.StreamWriter,
-                    stranger: Stranger | None = None) -> None:
+    async def _hold(self, reader: asyncio.StreamReader, writer: asyncio.StreamWriter) -> None:
         """Runs a connection from start to end."""
-        why = 'closed'
+        why, task = 'closed', asyncio.current_task()
         try:
-            greeting = await self._greeted(reader, writer)
-            if stranger:
-                self._strangers.remove(stranger)
-            await self._take_up(greeting, writer)
-            if stranger:
-                self._strangers.peer = stranger.address
-            why = await self._follow(reader, writer)
-        except (SiteRefused, BadMessage, OSError, TimeoutError) as fault:
-            why = str(fault) or 'no keepalive'
+            async with asyncio.timeout(HANDSHAKE):
+                greeting = await self._greeted(reader, writer)
+            if task in self._strangers:
+                del self._strangers[task]
+            self._take_up(greeting, writer)
+            while (message := await read_one(reader)) is not None and self._writer is writer:
+                self._tie.heard(message)
+        except Exception as fault:      # pylint: disable=broad-exception-caught
+            why = str(fault) or ('no keepalive' if self._writer is writer else 'it sends nothing')
             if self._writer is not writer:
-                self.hooks.turned_away(why)
+                self.turned_away(why)
         finally:
             if self._writer is writer:
-                self._writer = None
-                self.hooks.gone(why)
+                self._gone(why)
             writer.transport.abort()
 
     async def _greeted(self, reader: asyncio.StreamReader, writer: asyncio.StreamWriter) -> Greeting:
         """Exchanges greetings."""
-        if self.listens and self.context and self.name and not has_name(writer.get_extra_info('peercert'), self.name):
-            raise SiteRefused(f'its certificate is not that of {self.name}')
-        writer.write(encode_message(self.hooks.greeting()))
+        if self.listens and self.context:
+            # (Not by the server, so that those in the handshake are counted; and before an octet is read.)
+            await writer.start_tls(self.context)
+            if self.name and not has_name(writer.get_extra_info('peercert'), self.name):
+                raise SiteRefused(f'its certificate is not that of {self.name}')
+        writer.write(encode_message(self._tie.own_greeting))
         greeting = await read_one(reader)
         if not isinstance(greeting, Greeting):
             raise SiteRefused('it sends no greeting' if greeting else 'it closed the connection')
         return greeting
 
-    async def _take_up(self, greeting: Greeting, writer: asyncio.StreamWriter) -> None:
+    def _take_up(self, greeting: Greeting, writer: asyncio.StreamWriter) -> None:
         """Makes this the present connection; another one of the same run is dead and not yet closed."""
         if self._writer is not None:
             if self._run != greeting.run:
                 raise SiteRefused('another one is connected')
             self._writer.transport.abort()
-            while self._writer is not None:
-                await asyncio.sleep(0)
-        self._writer, self._run = writer, greeting.run
-        self.hooks.came(greeting)
+            self._gone('closed')
+        self._writer, self._run, self._reasons = writer, greeting.run, {}
+        self._tie.came(greeting)
+        self._sign(writer)
 
-    async def _follow(self, reader: asyncio.StreamReader, writer: asyncio.StreamWriter) -> str:
-        alive = asyncio.create_task(self._signs(writer))
-        try:
-            while (message := await read_one(reader)) is not None:
-                self.hooks.heard(message)
-            return 'closed'
-        finally:
-            alive.cancel()
+    def _gone(self, why: str) -> None:
+        self._writer = None
+        self._tie.gone(why)
 
-    async def _signs(self, writer: asyncio.StreamWriter) -> None:
-        while self._writer is writer:
-            await asyncio.sleep(ALIVE)
+    def _sign(self, writer: asyncio.StreamWriter) -> None:
+        """Sends keepalives as long as this is the present connection."""
+        if self._writer is writer:
             self.send(KeepAlive())
+            asyncio.get_running_loop().call_later(ALIVE, self._sign, writer)
 
 
 async def read_one(reader: asyncio.StreamReader) -> Message | None:

@@ -1,4 +1,4 @@
-"""One end of a tie line, between the driver of a trunk and the other site's tie."""
+"""One end of a tie line, between the e1gw-trunk here and the other site's tie."""
 from __future__ import annotations
 
 import asyncio
@@ -7,20 +7,19 @@ from collections import Counter
 from dataclasses import dataclass, replace
 from typing import Any, Callable
 
-from ..lines import IN_CALL, Role, State
+from ..lines import IN_CALL, Event, Role, State
 from ..session import Command
-from .changes import CodecChanges
 from .circuit import NO_CALL, CallNames, CircuitEnd, LinkState, TieCircuit, begun
-from .client import ControlClient, Event
-from .control import AGAIN, ControlLink, Tasks, Tell
+from .coding import CodecChanges
 from .kept import KeptBlocks
 from .messages import CircuitChange, Greeting, Message, OutOfService, SiteState
 from .pairs import Pairs, agreed
 from .site import Site
+from .trunk import Tell, TrunkLink
 
 STUCK = 2.0                 # seconds of a release that the exchange ignores
 ANSWER_LASTS = 0.1          # seconds of an answer at least, so that the exchange recognises it
-MOST_REASONS = 10           # reports a minute of why nobody is connected
+AGAIN = 0.5                 # seconds until a refused command is retried
 
 
 @dataclass(frozen=True)
@@ -34,74 +33,35 @@ class TieOptions:
     until_answer: str | None = None     # the codec of each call until it is answered
 
 
-class RefusalReports:
-    """Why nobody is connected: each reason is reported once a minute, ten of them at most."""
-
-    def __init__(self, tell: Tell) -> None:
-        self._tell, self._told = tell, dict[str, float]()       # when each was reported
-
-    def add(self, why: str) -> None:
-        now = time.monotonic()
-        self._told = {each: at for each, at in self._told.items() if now < at + 60}
-        if why not in self._told and len(self._told) < MOST_REASONS:
-            self._told[why] = now
-            self._tell('no connection', why=why)
-
-    def clear(self) -> None:
-        self._told = {}
+def is_out_of_service(status: dict[str, Any]) -> bool:
+    """Whether a trunk carries no calls: there are no octets of it, or there is an alarm."""
+    return (not status['shadow'] or not status['trunk_up'] or bool(status['clock']['stalled'])
+            or any(status['alarm'].values()) or any(status['remote_alarm'].values()))
 
 
 class LinkWatch:
     """The state of the connection between the two trunks, which is given up after some seconds without it."""
 
-    def __init__(self, hold: float, again: Callable[[], None]) -> None:
-        """`again` looks at it once more, when it may have to be given up."""
-        self.state = LinkState.LOST
-        self.hold, self._again, self._lost_at = hold, again, time.monotonic()
+    def __init__(self, hold: float, changed: Callable[[], None]) -> None:
+        self.state, self._seconds, self._changed = LinkState.LOST, hold, changed
+        self._giving_up: asyncio.TimerHandle | None = None
 
-    def start(self) -> None:
-        """Starts the time."""
-        self._lost_at = time.monotonic()
-        asyncio.get_running_loop().call_later(self.hold, self._again)
+    def hold(self) -> None:
+        """Calls are kept for some seconds without the other end."""
+        self._giving_up = asyncio.get_running_loop().call_later(self._seconds, self._set, LinkState.GIVEN_UP)
 
-    def look(self, good: bool) -> bool:
-        """Takes whether both trunks carry calls and know of each other; returns whether the state has changed."""
-        now, before = time.monotonic(), self.state
-        if not good and before is LinkState.GOOD:
-            self._lost_at = now
-            asyncio.get_running_loop().call_later(self.hold + 0.001, self._again)
-        is_over = now >= self._lost_at + self.hold
-        self.state = LinkState.GOOD if good else LinkState.GIVEN_UP if is_over else LinkState.LOST
-        return self.state is not before
+    def look(self, good: bool) -> None:
+        """Takes whether both trunks carry calls and know of each other."""
+        if good is not (self.state is LinkState.GOOD):
+            if self._giving_up:
+                self._giving_up.cancel()
+            if not good:
+                self.hold()
+            self._set(LinkState.GOOD if good else LinkState.LOST)
 
-
-class Releases:
-    """Finds releases that the exchange does not follow."""
-
-    def __init__(self, stuck: Callable[[int], None]) -> None:
-        self._stuck, self._moves = stuck, Counter[int]()        # of each circuit, how often its state has changed
-
-    def moved(self, n: int, state: State) -> None:
-        """Takes a new state of a circuit."""
-        self._moves[n] += 1
-        if state is State.RELEASING:
-            asyncio.get_running_loop().call_later(STUCK, self._look, n, self._moves[n])
-
-    def _look(self, n: int, move: int) -> None:
-        if self._moves[n] == move:
-            self._stuck(n)
-
-
-def is_out_of_service(status: dict[str, Any]) -> bool:
-    """Whether a trunk whose octets come carries no calls: it is stalled, or there is an alarm."""
-    clock = status.get('clock') or {}
-    return (not status.get('trunk_up', True) or bool(clock.get('stalled'))
-            or any(status['alarm'].values()) or any(status['remote_alarm'].values()))
-
-
-def octets_come(status: dict[str, Any], before: int) -> bool:
-    """Whether octets of the trunk come: e1gw-trunk knows it by its follower, else there are more than before."""
-    return bool(status['shadow']) if 'shadow' in status else int(status['octets']) != before
+    def _set(self, state: LinkState) -> None:
+        self.state = state
+        self._changed()
 
 
 class Tie:
@@ -109,37 +69,41 @@ class Tie:
 
     def __init__(self, options: TieOptions, run: str, kept: KeptBlocks, tell: Tell) -> None:
         self.options, self.kept, self.tell = options, kept, tell
-        self.own_greeting = Greeting(run, options.pairs)
+        self.own_greeting, self.start = Greeting(run, options.pairs), time.monotonic()
         self.site: Site | None = None
         self.circuits: dict[int, TieCircuit] = {}
         self.there = agreed(options.pairs, None)        # by a circuit here, the one there
-        self.link = LinkWatch(options.hold, self._look_at_link)
-        self.releases = Releases(self._stuck)
-        self.tasks = Tasks()
-        self.control = ControlLink(options.control, options.hold, self, tell)
-        self.codecs = CodecChanges(options.until_answer, self.control, self.tasks, tell, self._look_at_codec)
-        self.refusals = RefusalReports(tell)
-        self.calls = CallNames()
-        self._octets = -1
-        self._out_of_service = self._far_out_of_service = True
-        self._far: dict[int, CircuitEnd] | None = None         # the other site's states, by its numbers; None: unknown
+        self.link = LinkWatch(options.hold, self._link_changed)
+        self.out_of_service = self.far_out_of_service = True
+        self.trunk = TrunkLink(options.control, options.hold, self)
+        self.codecs = CodecChanges(options.until_answer, self.trunk, tell, self._look_at_codec)
+        self.done = Counter[tuple[str, str]]()          # how often which command got which answer
+        self.given_up = 0                               # calls that could not be set up, or that were lost
+        self._calls = CallNames()
+        self._timers: dict[int, asyncio.TimerHandle] = {}       # until a release is stuck
+        self.far: dict[int, CircuitEnd] | None = None           # the other site's states, by its numbers; None: unknown
         self._busy: dict[int, Command] = {}
+
+    async def follow(self) -> None:
+        """Follows the trunk here for ever."""
+        self.link.hold()
+        await self.trunk.follow()
 
     # ---- the trunk here ----
 
     def lost(self) -> None:
         self._set_out_of_service(True)
 
-    def begin(self, status: dict[str, Any], life: str) -> None:
-        """Takes all circuits from the driver, with what is remembered of their calls."""
-        self.calls.life = life
+    def begin(self, status: dict[str, Any]) -> None:
+        """Takes all circuits from the trunk, with what is remembered of their calls."""
+        self._calls.life = status['life']
         for row in status['circuits']:
-            n, role, state = int(row['circuit']), Role(row['role']), State(row['state'])
-            self.calls.seizures[n] = int(row['seizures'])
+            n, role, state = row['circuit'], Role(row['role']), State(row['state'])
+            self._calls.seizures[n] = row['seizures']
             known = self.circuits.get(n)
-            call = self.calls.latest(n) if role is Role.INCOMING else known.call if known else None
+            call = self._calls.latest(n) if role is Role.INCOMING else known.call if known else None
             self.circuits[n] = begun(known, TieCircuit(role, state, call), self.kept.has(n))
-            self.releases.moved(n, self.circuits[n].state)
+            self._moved(n)
         states = Counter(str(circuit.state) for circuit in self.circuits.values())
         self.tell('trunk', states=dict(sorted(states.items())))
         self.codecs.begin(status)
@@ -150,49 +114,46 @@ class Tie:
 
     def stands(self, status: dict[str, Any]) -> None:
         """Takes the status of the trunk, and makes up for missed events."""
-        lives = octets_come(status, self._octets)
-        self._octets = int(status['octets'])
-        self._set_out_of_service(not lives or is_out_of_service(status))
+        self._set_out_of_service(is_out_of_service(status))
         for row in status['circuits']:
-            n = int(row['circuit'])
-            circuit = self.circuits[n]
-            self.codecs.codings.stands(n, row)
+            n = row['circuit']
+            self.codecs.stands(row)
             if n not in self._busy:
-                self._missed(n, circuit, State(row['state']), int(row['seizures']))
+                circuit, state, self._calls.seizures[n] = self.circuits[n], State(row['state']), row['seizures']
+                call = self._calls.latest(n) if circuit.role is Role.INCOMING else circuit.call
+                if state is not circuit.state or call != circuit.call:
+                    self._put(n, circuit.moved(state, None if call == circuit.call else call))
             self._look_at_codec(n)
 
-    def _missed(self, n: int, circuit: TieCircuit, state: State, seizures: int) -> None:
-        """Takes a state, or another call, that no event has told."""
-        self.calls.seizures[n] = seizures
-        call = self.calls.latest(n) if circuit.role is Role.INCOMING else circuit.call
-        if state is not circuit.state or call != circuit.call:
-            self._put(n, circuit.moved(state, None if call == circuit.call else call))
-            self.releases.moved(n, self.circuits[n].state)
-
     def told(self, event: Event) -> None:
-        """Takes an event of the driver."""
-        name = event['event']
-        if name == 'state':
-            self._state(int(event['circuit']), State(event['was']), State(event['state']))
-        elif name in ('alarm', 'remote alarm') and event.get('on') or name in ('trunk lost', 'stalled'):
-            self._set_out_of_service(True)
-        elif name == 'command' and event['command'] == Command.BLOCK.word:
-            n = int(event['circuit'])
-            if self._busy.get(n) is not Command.BLOCK:
-                self._keep(n)       # also if it was refused, because this program came first
+        """Takes an event of the trunk."""
+        match event:
+            case {'event': 'state', 'circuit': n, 'was': was, 'state': state}:
+                self._state(n, State(was), State(state))
+            case {'event': 'alarm' | 'remote alarm', 'on': True} | {'event': 'trunk lost' | 'stalled'}:
+                self._set_out_of_service(True)
+            case {'event': 'command', 'circuit': n, 'command': Command.BLOCK.word}:
+                if self._busy.get(n) is not Command.BLOCK:
+                    self._keep(n)       # also if it was refused, because this program came first
 
     def _state(self, n: int, was: State, state: State) -> None:
         circuit, call = self.circuits[n], None
         if circuit.role is Role.INCOMING and state is State.ACKED and was is State.IDLE:
-            self.calls.seizures[n] += 1
-            call = self.calls.latest(n)
+            self._calls.seizures[n] += 1
+            call = self._calls.latest(n)
         if self._busy.get(n) is Command.SEIZE and state is State.SEIZED and circuit.far:
             circuit = circuit.tried(circuit.far.call or NO_CALL)
         circuit = circuit.moved(state, call)
         if state is State.BLOCKED and circuit.role is Role.INCOMING:
             circuit = replace(circuit, kept=self._busy.get(n) is not Command.BLOCK)
         self._put(n, circuit)
-        self.releases.moved(n, self.circuits[n].state)
+
+    def _moved(self, n: int) -> None:
+        """The state of a circuit has changed: a release that the exchange does not follow is found."""
+        if timer := self._timers.pop(n, None):
+            timer.cancel()
+        if self.circuits[n].state is State.RELEASING:
+            self._timers[n] = asyncio.get_running_loop().call_later(STUCK, self._stuck, n)
 
     def _stuck(self, n: int) -> None:
         self.tell('stuck', circuit=n)
@@ -210,6 +171,8 @@ class Tie:
             self.kept.put(n for n, each in self.circuits.items() if each.kept)
         if before.end() != circuit.end():
             self._send(n)
+        if before.state is not circuit.state:
+            self._moved(n)
         self._look(n)
 
     # ---- commands ----
@@ -224,43 +187,43 @@ class Tie:
     def _look(self, n: int) -> None:
         """Gives a circuit the command that it needs."""
         self._look_at_codec(n)
-        if not self.control.client or n in self._busy or n not in self.there:
+        if not self.trunk.is_up or n in self._busy or n not in self.there:
             return
         link = self._link_of(n)
         marked_over = self.circuits[n].marked_over(link)
         if marked_over is not self.circuits[n]:
+            self.given_up += 1
             self.tell('over', circuit=n, call=marked_over.call, link=link.value)
             self.circuits[n] = marked_over
             self._send(n)
         command = marked_over.wants(link, self.options.waits)
         if command is not None:
             self._busy[n] = command
-            self.tasks.begin(self._do(self.control.client, n, command, marked_over.reasons(command, link)))
+            self.trunk.begin(self._do(n, command, marked_over.reasons(command, link)))
 
     def _look_at_all(self) -> None:
         for n in list(self.circuits):
             self._look(n)
 
-    async def _do(self, client: ControlClient, n: int, command: Command, why: dict[str, str]) -> None:
-        far, began = self.circuits[n].far, time.monotonic()
+    async def _do(self, n: int, command: Command, why: dict[str, str]) -> None:
+        loop = asyncio.get_running_loop()
+        far, began = self.circuits[n].far, loop.time()
         try:
-            answer = await client.ask(f'{command.word} {n}')
+            answer = (await self.trunk.ask(f'{command.word} {n}')).rpartition(': ')[2]
         except (OSError, EOFError):
             del self._busy[n]
             return
-        done = answer.endswith('done')
-        self.tell('command', circuit=n, command=command.word, answer=answer.rpartition(': ')[2],
-                  ms=round((time.monotonic() - began) * 1000, 2), **why)
+        self.done[command.word, answer] += 1
+        self.tell('command', circuit=n, command=command.word, answer=answer,
+                  ms=round((loop.time() - began) * 1000, 2), **why)
         if command is Command.SEIZE:
             self._put(n, self.circuits[n].tried(far.call or NO_CALL if far else NO_CALL))
-        elif command is Command.BLOCK and not done:
+        elif command is Command.BLOCK and answer != 'done':
             self._keep(n)
-        if not done or command is Command.ANSWER:
-            await asyncio.sleep(ANSWER_LASTS if done else AGAIN)
+        if answer != 'done' or command is Command.ANSWER:
+            await asyncio.sleep(ANSWER_LASTS if answer == 'done' else AGAIN)
         del self._busy[n]
         self._look(n)
-
-    # ---- codecs ----
 
     def _look_at_codec(self, n: int) -> None:
         """Gives a circuit the codec that it needs."""
@@ -270,13 +233,14 @@ class Tie:
     async def leave(self) -> None:
         """Restores the configured codec of circuits without a call, before the end."""
         await self.codecs.leave(n for n, circuit in self.circuits.items() if circuit.state not in IN_CALL)
+        await self.kept.close()
 
     # ---- the link ----
 
     def _set_out_of_service(self, on: bool) -> None:
         """Notes whether the trunk here can carry calls."""
-        if on != self._out_of_service:
-            self._out_of_service = on
+        if on != self.out_of_service:
+            self.out_of_service = on
             self.tell('dark' if on else 'light')
             if self.site:
                 self.site.send(OutOfService(on))
@@ -284,54 +248,49 @@ class Tie:
 
     def _look_at_link(self) -> None:
         """Follows the state of the connection to the other end."""
-        known = self.control.client is not None and self._far is not None
-        if not self.link.look(known and not self._out_of_service and not self._far_out_of_service):
-            return
-        self.tell('link', state=self.link.state.value, site=self._far is not None, dark=self._out_of_service,
-                  far_dark=self._far_out_of_service)
+        self.link.look(self.trunk.is_up and self.far is not None and not self.out_of_service
+                       and not self.far_out_of_service)
+
+    def _link_changed(self) -> None:
+        self.tell('link', state=self.link.state.value, site=self.far is not None, dark=self.out_of_service,
+                  far_dark=self.far_out_of_service)
         self._look_at_all()
 
     # ---- the other site ----
 
-    def greeting(self) -> Greeting:
-        return self.own_greeting
-
     def came(self, greeting: Greeting) -> None:
-        self.refusals.clear()
         self.there = agreed(self.options.pairs, greeting.pairs)
         left = sorted(set(agreed(self.options.pairs, None)) - set(self.there)) if greeting.pairs else []
         self.tell('site', circuits=len(self.there), left=left)
         self._send_all()
 
     def heard(self, message: Message) -> None:
-        if isinstance(message, SiteState):
-            self._far, self._far_out_of_service = dict(message.ends), message.out_of_service
-            self.codecs.heard(message.until_answer)
-            self._join()
-            self._look_at_link()
-            self._look_at_all()
-        elif isinstance(message, CircuitChange) and self._far is not None:
-            self._far[message.circuit] = message.end
-            for here, there in self.there.items():
-                if there == message.circuit and here in self.circuits:
-                    self._put(here, self.circuits[here].heard(message.end))
-        elif isinstance(message, OutOfService):
-            self._far_out_of_service = message.out_of_service
-            self._look_at_link()
+        match message:
+            case SiteState():
+                self.far, self.far_out_of_service = dict(message.ends), message.out_of_service
+                self.codecs.heard(message.until_answer)
+                self._join()
+                self._look_at_link()
+                self._look_at_all()
+            case CircuitChange(circuit, end) if self.far is not None:
+                self.far[circuit] = end
+                for here, there in self.there.items():
+                    if there == circuit and here in self.circuits:
+                        self._put(here, self.circuits[here].heard(end))
+            case OutOfService(far_out_of_service):
+                self.far_out_of_service = far_out_of_service
+                self._look_at_link()
 
     def gone(self, why: str) -> None:
         self.tell('site gone', why=why)
-        self._far = None
+        self.far = None
         self._look_at_link()
-
-    def turned_away(self, why: str) -> None:
-        self.refusals.add(why)
 
     def _join(self) -> None:
         """Gives each circuit the other site's state of its other end."""
         alike = []
         for here, there in self.there.items():
-            end = self._far.get(there) if self._far else None
+            end = self.far.get(there) if self.far else None
             if here in self.circuits and end:
                 before = self.circuits[here]
                 self.circuits[here] = before.heard(end)
@@ -350,7 +309,7 @@ class Tie:
         """Sends the state of all circuits, once it is known."""
         if self.site and self.circuits:
             ends = {n: self.circuits[n].end() for n in self.there if n in self.circuits}
-            self.site.send(SiteState(self._out_of_service, ends, self.codecs.codings.own))
-        if self._far is not None:
+            self.site.send(SiteState(self.out_of_service, ends, self.codecs.own))
+        if self.far is not None:
             self._join()
             self._look_at_link()

@@ -9,7 +9,7 @@ from typing import BinaryIO, NamedTuple
 PCAP = {b'\xD4\xC3\xB2\xA1': ('<', 1_000_000), b'\xA1\xB2\xC3\xD4': ('>', 1_000_000),
         b'\x4D\x3C\xB2\xA1': ('<', 1_000_000_000), b'\xA1\xB2\x3C\x4D': ('>', 1_000_000_000)}
 SECTION, INTERFACE, PACKET = 0x0A0D0D0A, 1, 6
-# What stands before the IP header, by link type, and where in it the type of the packet stands, if there is one.
+# What comes before the IP header, by link type, and where in it the type of the packet is, if there is one.
 LINKS = {0: (4, None), 1: (14, 12), 12: (0, None), 101: (0, None), 113: (16, 14), 228: (0, None), 229: (0, None),
          276: (20, 0)}
 VLAN, IPV4, IPV6, UDP = (0x8100, 0x88A8), 0x0800, 0x86DD, 17
@@ -28,6 +28,10 @@ class BadCapture(ValueError):
     """A file is not a readable capture."""
 
 
+class CutCapture(BadCapture):
+    """It ends inside a packet."""
+
+
 class Datagram(NamedTuple):
     """A datagram on the network: time, ports, addresses and payload. With `answer` it was not delivered, and the answer
     says why."""
@@ -40,9 +44,9 @@ class Datagram(NamedTuple):
     answer: str = ''
 
 
-def datagrams(file: BinaryIO) -> Iterator[Datagram]:
-    """The UDP datagrams of a capture; packets that are cut, fragmented or not UDP are skipped. An end inside a packet,
-    as in a file still being written, ends it."""
+def packets(file: BinaryIO) -> Iterator[tuple[int, float, bytes | None]]:
+    """The link type, the time and the octets of each packet of a capture; None for octets of a packet that was cut.
+    CutCapture at an end inside a packet, as in a file still being written."""
     magic = file.read(4)
     if magic in PCAP:
         yield from _pcap(file, *PCAP[magic])
@@ -52,53 +56,59 @@ def datagrams(file: BinaryIO) -> Iterator[Datagram]:
         raise BadCapture('not a capture: neither pcap nor pcapng')
 
 
-def _pcap(file: BinaryIO, order: str, parts: int) -> Iterator[Datagram]:
-    head = file.read(20)
-    if len(head) < 20:
-        raise BadCapture('the capture ends in its head')
-    link = struct.unpack(order + '16xI', head)[0] & 0xFFFF
+def datagrams(file: BinaryIO) -> Iterator[Datagram]:
+    """The UDP datagrams of a capture, also of one that ends inside a packet; packets that are cut, fragmented or not
+    UDP are skipped."""
+    try:
+        for link, time, octets in packets(file):
+            found = udp_of(link, octets) if octets else None
+            if found:
+                yield Datagram(time, *found)
+    except CutCapture:
+        return
+
+
+def _read(file: BinaryIO, length: int) -> bytes:
+    if length > MOST:
+        raise BadCapture(f'a packet of {length} octets, too long for a capture')
+    if len(octets := file.read(length)) < length:
+        raise CutCapture('the capture ends inside a packet')
+    return octets
+
+
+def _pcap(file: BinaryIO, order: str, parts: int) -> Iterator[tuple[int, float, bytes | None]]:
+    link = struct.unpack(order + '16xI', _read(file, 20))[0] & 0xFFFF
+    if link not in LINKS:
+        raise BadCapture(f'packets of link type {link}')
     entry = struct.Struct(order + 'IIII')
-    while len(head := file.read(16)) == 16:
-        seconds, part, length, whole = entry.unpack(head)
-        if length > MOST:
-            raise BadCapture('the capture has a packet of more than 1 MiB')
-        octets = file.read(length)
-        if len(octets) < length:
-            return
-        found = udp_of(link, octets) if length == whole else None
-        if found:
-            yield Datagram(seconds + part / parts, *found)
+    while head := file.read(16):
+        seconds, part, length, whole = entry.unpack(head + _read(file, 16 - len(head)))
+        octets = _read(file, length)
+        yield link, seconds + part / parts, octets if length == whole else None
 
 
-def _pcapng(file: BinaryIO) -> Iterator[Datagram]:
+def _pcapng(file: BinaryIO) -> Iterator[tuple[int, float, bytes | None]]:
     """Blocks: sections, interfaces and packets; others are skipped."""
-    order, links = '<', list[tuple[int, float]]()
-    kind = SECTION
+    order, links, kind = '<', list[tuple[int, float]](), SECTION
     while True:
-        head = file.read(8 if kind == SECTION else 4)
-        if len(head) < 4:
-            return
+        head = _read(file, 8 if kind == SECTION else 4)
         if kind == SECTION:
-            order = '<' if head[4:] == b'\x4D\x3C\x2B\x1A' else '>'
-            links = []
+            order, links = '<' if head[4:] == b'\x4D\x3C\x2B\x1A' else '>', []
         length = struct.unpack(order + 'I', head[:4])[0]
-        if not 12 <= length <= MOST or length % 4:
+        if length < 8 + len(head) or length % 4:
             raise BadCapture('the capture has a block of a length that cannot be')
-        body = file.read(length - 4 - len(head))
-        if len(body) < length - 4 - len(head):
-            return
+        body = _read(file, length - 8 - len(head))
+        _read(file, 4)
         if kind == INTERFACE:
-            links.append((struct.unpack_from(order + 'H', body)[0], _resolution(order, body[8:-4])))
+            links.append((struct.unpack_from(order + 'H', body)[0], _resolution(order, body[8:])))
         elif kind == PACKET and len(body) >= 20:
             number, high, low, size, whole = struct.unpack_from(order + '5I', body)
-            if number < len(links) and size == whole:
-                found = udp_of(links[number][0], body[20:20 + size])
-                if found:
-                    yield Datagram((high << 32 | low) * links[number][1], *found)
-        word = file.read(4)
-        if len(word) < 4:
+            if number < len(links):
+                yield (links[number][0], (high << 32 | low) * links[number][1],
+                       body[20:20 + size] if size == whole else None)
+        if not (word := file.read(4)):
             return
-        kind = struct.unpack(order + 'I', word)[0]
+        kind = struct.unpack(order + 'I', word + _read(file, 4 - len(word)))[0]
 
 
 def _resolution(order: str, options: bytes) -> float:

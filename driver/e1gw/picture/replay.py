@@ -1,0 +1,121 @@
+"""`e1gw replay` of a session: its answers (e1gw-session(5)), and what it tells meanwhile (e1gw-tell(5))."""
+from __future__ import annotations
+
+import os
+import select
+import socket
+import subprocess
+import tempfile
+from contextlib import suppress
+
+from ..kept import PIECE, InputError
+from ..lines import SEIZURE_WAIT, wait_words
+from ..session import trunk_record
+
+PATIENCE = 60               # seconds in which the program answers whole records
+NOTHING = trunk_record(b'')         # changes nothing; behind it a client of --tell is let in
+
+
+class Replay:
+    """A run of the program, from a saved state if one is named. Records are written, and answers and lines read, as
+    each is ready, so neither process waits for the other."""
+
+    def __init__(self, program: str, config: str, state: str = '', wait: int = SEIZURE_WAIT) -> None:
+        self._errors, self._socket = tempfile.TemporaryFile(), socket.socket(socket.AF_UNIX)
+        self._waits, self._is_whole = b'', False        # octets to be written; no more follow
+        self._told, self._is_told = b'', False          # lines not taken yet; the last one has come
+        self._tells: list[socket.socket] = []           # the socket, while it is connected
+        with tempfile.TemporaryDirectory(prefix='e1gw-picture-') as folder:
+            path = os.path.join(folder, 'tell')
+            words = [program, 'replay', '--config', config, *(['--load', state] if state else []), *wait_words(wait),
+                     '--tell', path]
+            try:
+                self._process = subprocess.Popen(words, bufsize=0, stdin=subprocess.PIPE, stdout=subprocess.PIPE,
+                                                 stderr=self._errors)
+            except OSError as fault:
+                raise InputError(f'{program}: {fault.strerror}: name it by --program') from fault
+            assert self._process.stdin and self._process.stdout
+            self._to, self._from = self._process.stdin, self._process.stdout
+            os.set_blocking(self._to.fileno(), False)
+            self._begin(path)
+
+    def _begin(self, path: str) -> None:
+        """Connects to the socket, which is open once a record is answered, and is let in behind the next record."""
+        self.give(NOTHING)
+        if self.answers():
+            self._socket.connect(path)
+            self._socket.setblocking(False)
+            self._tells.append(self._socket)
+            self.give(NOTHING)
+            self.answers()
+
+    def give(self, octets: bytes) -> None:
+        """Octets of the session."""
+        self._waits += octets
+        self._write()
+
+    def close(self) -> None:
+        """No more octets follow."""
+        self._is_whole = True
+        self._write()
+
+    def _write(self) -> None:
+        try:
+            self._waits = self._waits[os.write(self._to.fileno(), self._waits):] if self._waits else b''
+        except BlockingIOError:
+            return
+        except BrokenPipeError:         # it has ended, and says why
+            self._waits = b''
+        if self._is_whole and not self._waits:
+            self._to.close()
+
+    def answers(self) -> bytes:
+        """More answers, empty at their end. The lines told before them have been read then."""
+        while True:
+            writes = [self._to] if self._waits else []
+            reads, writes, _ = select.select([self._from, *self._tells], writes, [], PATIENCE)
+            if not reads and not writes:
+                raise InputError(f'e1gw replay has answered nothing for {PATIENCE} s')
+            if writes:
+                self._write()
+            octets = os.read(self._from.fileno(), PIECE) if self._from in reads else None
+            self._hear()
+            if octets is not None:
+                return octets
+
+    def _hear(self) -> None:
+        """Reads the lines that have come."""
+        with suppress(BlockingIOError):
+            while self._tells:
+                octets = self._socket.recv(PIECE)
+                self._told += octets
+                if not octets:
+                    self._tells.clear()
+
+    def told(self) -> list[str]:
+        """The lines told since the last call."""
+        whole, _, self._told = self._told.rpartition(b'\n')
+        lines = whole.decode('ascii', 'replace').split('\n') if whole else []
+        self._is_told = self._is_told or lines[-1:] == ['end']
+        return lines
+
+    def said(self) -> str:
+        """The last line on its standard error so far."""
+        self._errors.seek(0)
+        return self._errors.read().decode(errors='replace').strip().rpartition('\n')[2]
+
+    def end(self) -> str:
+        """The program's message at the session's end, empty if it ended well."""
+        self.close()
+        while self.answers():
+            pass
+        self.told()
+        status, words = self._process.wait(), self.said()
+        self._from.close()
+        self._socket.close()
+        self._errors.close()
+        if status == 2:
+            raise InputError(words or 'e1gw replay: status 2')
+        if not status and not self._is_told:
+            raise InputError('e1gw replay has not told all: what it told was not read in time')
+        return words if status else ''

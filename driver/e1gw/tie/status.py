@@ -1,0 +1,129 @@
+"""How a tie stands: a table for people, JSON and the text of Prometheus for machines, at a socket and over HTTP."""
+from __future__ import annotations
+
+import asyncio
+import json
+import time
+from collections import Counter
+from contextlib import suppress
+from typing import Any
+
+from ..lines import IN_CALL
+from ..metrics import Family, family
+from ..service.commands import unix_listener
+from ..service.pages import StatusTexts, TrunkPages, WebServer
+from ..sockets import SocketTables
+from .circuit import LinkState
+from .tie import Tie
+
+SECONDS = 60.0              # for one who asks at the socket
+MODE = 0o660                # of the socket
+MOST_LINE = 4096            # octets of a line, and of a request
+HEAD = 'here there role     state       there is    remark'
+
+
+def status_of(tie: Tie) -> dict[str, Any]:
+    """All that is known, as plain values."""
+    circuits, has_site = {n: its for n, its in tie.circuits.items() if n in tie.there}, tie.far is not None
+    return {
+        'time': round(time.time(), 3), 'uptime': round(time.monotonic() - tie.start, 3), 'control': tie.options.control,
+        'link': tie.link.state.value, 'trunk': tie.trunk.is_up, 'site': has_site, 'dark': tie.out_of_service,
+        'far_dark': tie.far_out_of_service, 'calls': sum(each.state in IN_CALL for each in circuits.values()),
+        'given_up': tie.given_up,
+        'commands': [{'command': command, 'answer': answer, 'count': count}
+                     for (command, answer), count in tie.done.items()],
+        'circuits': [
+            {'circuit': n, 'there': tie.there[n], 'role': str(its.role), 'state': str(its.state),
+             'far_state': str(its.far.state) if its.far and has_site else None, 'over': its.over, 'kept': its.kept,
+             'stuck': its.stuck} for n, its in circuits.items()]}
+
+
+def _remark(row: dict[str, Any]) -> str:
+    words = {'over': 'given up', 'kept': 'blocked by the operator', 'stuck': 'release not followed'}
+    return ', '.join(text for key, text in words.items() if row[key])
+
+
+def table(status: dict[str, Any]) -> str:
+    """A tie for people."""
+    def trunk(dark: bool) -> str:
+        return 'out of service' if dark else 'in service'
+    rows = [f'{row["circuit"]:4} {row["there"]:5} {row["role"]:8} {row["state"]:11} '
+            f'{row["far_state"] or "not known":11} {_remark(row)}'.rstrip() for row in status['circuits']]
+    return '\n'.join([
+        f'tie of {status["control"]}, up {status["uptime"]:.0f} s: link {status["link"]}',
+        f'this trunk: {trunk(status["dark"]) if status["trunk"] else "not connected"}; the other site: '
+        + (f'connected, its trunk {trunk(status["far_dark"])}' if status['site'] else 'not connected'),
+        f'circuits joined {len(rows)}, calls {status["calls"]}, calls given up {status["given_up"]}', HEAD, *rows, ''])
+
+
+def exposition(status: dict[str, Any]) -> str:
+    """The metrics of a tie."""
+    ends = {'this': status['dark']} | ({'other': status['far_dark']} if status['site'] else {})
+    families: list[Family] = [
+        ('e1gw_tie_link', 'gauge', 'The connection between the two trunks: 1 for the state that it is in.',
+         [({'state': each.value}, int(each.value == status['link'])) for each in LinkState]),
+        ('e1gw_tie_connected', 'gauge', '1 where there is a connection.',
+         [({'to': other}, int(status[other])) for other in ('trunk', 'site')]),
+        ('e1gw_tie_out_of_service', 'gauge', '1 while a trunk carries no calls.',
+         [({'end': end}, int(dark)) for end, dark in ends.items()]),
+        ('e1gw_tie_circuits', 'gauge', 'Joined circuits by the state of the line here.',
+         [({'state': state}, n) for state, n in Counter(row['state'] for row in status['circuits']).items()]),
+        ('e1gw_tie_calls', 'gauge', 'Calls on joined circuits.', [({}, status['calls'])]),
+        ('e1gw_tie_calls_given_up_total', 'counter', 'Calls that could not be set up, or that were lost.',
+         [({}, status['given_up'])]),
+        ('e1gw_tie_commands_total', 'counter', 'Commands by answer.',
+         [({'command': row['command'], 'answer': row['answer']}, row['count']) for row in status['commands']]),
+        ('e1gw_tie_uptime_seconds', 'gauge', 'Seconds since the tie was started.', [({}, status['uptime'])])]
+    return ''.join(family(*each) for each in families)
+
+
+class TieTexts(StatusTexts):
+    """The texts of a status of a tie."""
+
+    def __init__(self, status: dict[str, Any]) -> None:
+        super().__init__(status, SocketTables([]))
+        self.json, self.table, self.metrics = json.dumps(status), table(status), exposition(status)
+
+
+class TiePages(TrunkPages):
+    """The texts of how a tie stands now."""
+
+    def __init__(self, tie: Tie) -> None:
+        super().__init__(lambda: status_of(tie), lambda: None, [])
+
+    async def fresh(self) -> TieTexts:
+        return TieTexts(self._status())
+
+
+class StatusServer:
+    """Answers who asks how a tie stands."""
+
+    def __init__(self, tie: Tie) -> None:
+        self._pages = TiePages(tie)
+
+    async def open(self, path: str | None, http: tuple[str, int] | None) -> None:
+        """Listens at a Unix socket, and for HTTP. OSError or CannotListen where it cannot."""
+        if path:
+            await asyncio.start_unix_server(self._came, sock=unix_listener(path, MODE, None), limit=MOST_LINE)
+        if http:
+            await asyncio.start_server(WebServer(self._pages).came, *http, limit=MOST_LINE)
+
+    async def _came(self, reader: asyncio.StreamReader, writer: asyncio.StreamWriter) -> None:
+        """A client: a line in, an answer and an empty line out."""
+        with suppress(OSError, ValueError):
+            async with asyncio.timeout(SECONDS):
+                while line := await reader.readline():
+                    writer.write(f'{await self._answer(line.split())}\n\n'.encode())
+                    await writer.drain()
+        writer.close()
+
+    async def _answer(self, words: list[bytes]) -> str:
+        now = await self._pages.fresh()
+        match words:
+            case [b'status']:
+                return now.table.rstrip('\n')
+            case [b'status', b'json']:
+                return now.json
+            case [b'metrics']:
+                return now.metrics.rstrip('\n')
+        return 'there are status, status json and metrics'

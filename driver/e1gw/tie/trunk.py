@@ -1,0 +1,128 @@
+"""The connection with e1gw-trunk here: it is kept up, commands are given, and how circuits stand is asked."""
+from __future__ import annotations
+
+import asyncio
+import json
+from collections import deque
+from typing import TYPE_CHECKING, Any, Callable, Coroutine
+
+from ..faults import words_of_fault
+from ..lines import Event
+
+if TYPE_CHECKING:
+    from .tie import Tie
+
+LOOK = 0.5                  # seconds between two looks at the trunk
+SOON = 0.1                  # seconds until a connection is retried
+MOST = 1 << 20              # octets of a line
+PATIENCE = 2.0              # seconds for an answer
+Tell = Callable[..., None]
+
+
+class TrunkLink:
+    """The connection with one e1gw-trunk at a time. Answers and events come on one stream, so in their order."""
+
+    def __init__(self, path: str, hold: float, tie: Tie) -> None:
+        self.is_up = False                              # its status is known
+        self._path, self._hold, self._tie, self._tell = path, hold, tie, tie.tell
+        self._writer: asyncio.StreamWriter | None = None
+        self._asked: deque[asyncio.Future[str]] = deque()
+        self._tasks: set[asyncio.Task[None]] = set()
+        self._why = ''                                  # why it is lost
+
+    def begin(self, work: Coroutine[Any, Any, None]) -> None:
+        """Begins to give a command. The task is held until it is done."""
+        task = asyncio.create_task(work)
+        self._tasks.add(task)
+        task.add_done_callback(self._tasks.discard)
+
+    async def follow(self) -> None:
+        """Keeps the connection up for ever."""
+        while True:
+            try:
+                await self._follow()
+            except (OSError, EOFError, ValueError, KeyError, TypeError) as fault:
+                why = words_of_fault(fault, self._path) or type(fault).__name__
+                if why != self._why:
+                    self._tell('trunk gone', why=why)
+                self._why = why
+            self._tie.lost()
+            await asyncio.sleep(SOON)
+
+    async def _follow(self) -> None:
+        reader, self._writer = await asyncio.open_unix_connection(self._path, limit=MOST)
+        reading = asyncio.create_task(self._read(reader))
+        try:
+            await self.ask('events')
+            await self._ask_on_loss()
+            while not reading.done():
+                status = json.loads(await self.ask('status json'))
+                if self.is_up:
+                    self._tie.stands(status)
+                elif status['life'] is not None:        # it knows how often each line was seized
+                    self.is_up, self._why = True, ''
+                    self._tie.begin(status)
+                await asyncio.wait((reading,), timeout=LOOK if self.is_up else SOON)
+            reading.result()
+        finally:
+            self.is_up = False
+            self._writer.close()
+            self._writer = None
+            reading.cancel()
+            await asyncio.wait((reading,))
+            reading.cancelled() or reading.exception()
+
+    async def _read(self, reader: asyncio.StreamReader) -> None:
+        """Reads until the trunk closes the connection, which is EOFError or OSError."""
+        lines: list[str] = []
+        try:
+            while octets := await reader.readline():
+                line = octets.decode(errors='replace').rstrip('\n')
+                if (event := event_of(line)) is not None:
+                    if self.is_up:
+                        self._tie.told(event)
+                elif line:
+                    lines.append(line)
+                elif self._asked:
+                    if not (answer := self._asked.popleft()).done():
+                        answer.set_result('\n'.join(lines))
+                    lines = []
+                    await asyncio.sleep(0)              # who has asked goes on before an event behind the answer
+        except ValueError:
+            raise EOFError('a line of the trunk is too long') from None
+        finally:
+            for answer in self._asked:
+                if not answer.done():
+                    answer.set_exception(EOFError('the trunk is gone'))
+            self._asked.clear()
+        raise EOFError('the trunk has closed the connection')
+
+    async def ask(self, line: str) -> str:
+        """The answer to a line. OSError or EOFError without one in time."""
+        if self._writer is None:
+            raise EOFError('the trunk is gone')
+        answer: asyncio.Future[str] = asyncio.get_running_loop().create_future()
+        self._asked.append(answer)
+        self._writer.write(f'{line}\n'.encode())
+        try:
+            async with asyncio.timeout(PATIENCE):
+                return await answer
+        except TimeoutError:
+            if self._writer:
+                self._writer.close()
+            raise EOFError('the trunk does not answer') from None
+
+    async def _ask_on_loss(self) -> None:
+        """Asks the trunk to end calls and block circuits if this program dies."""
+        answer = await self.ask(f'on-loss block {self._hold:g}')
+        if not answer.endswith('done'):
+            self._tell('warning', about='the trunk clears no calls if this program dies', answer=answer)
+
+
+def event_of(line: str) -> Event | None:
+    """The event of a line, or None if it belongs to an answer."""
+    try:
+        fields = json.loads(line) if line.startswith('{') else None
+    except ValueError:
+        return None
+    return fields if isinstance(fields, dict) and isinstance(fields.get('event'), str) else None
