@@ -1,1 +1,1 @@
-"""What stands beside the program e1gw: what keeps, watches and carries a trunk, and the other tools."""
+"""The Python programs around e1gw: what keeps, watches and carries a trunk, and the other tools."""

@@ -1,11 +1,12 @@
 """Starts a command: python3 -m e1gw NAME [WORD..], as the program e1gw-NAME does.
 
 The names are {names}."""
+import argparse
 import importlib
 import os
 import sys
 from types import ModuleType
-from typing import NoReturn
+from typing import Any, NoReturn
 
 # The module that has main(), by the command's name without e1gw-.
 COMMANDS = {
@@ -29,8 +30,24 @@ def load(name: str) -> ModuleType:
     return importlib.import_module(f'e1gw.{COMMANDS[name]}')
 
 
+def complete() -> None:
+    """Has the command's parser answer bash, which asks what a word may be, by argcomplete."""
+    try:
+        import argcomplete
+    except ImportError:
+        sys.exit('e1gw: completion needs the package python3-argcomplete')
+    parse = argparse.ArgumentParser.parse_args
+
+    def answer(parser: argparse.ArgumentParser, *words: Any) -> Any:
+        argcomplete.autocomplete(parser, always_complete_options=False)     # which ends the process
+        return parse(parser, *words)
+    setattr(argparse.ArgumentParser, 'parse_args', answer)
+
+
 def start(name: str) -> NoReturn:
     """Runs a command with the words of the command line."""
+    if '_ARGCOMPLETE' in os.environ:
+        complete()
     sys.exit(load(name).main())
 
 

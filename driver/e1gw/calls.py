@@ -73,7 +73,7 @@ class CallLog:
         self._calls[circuit] = CallRecord(circuit, seized, self._lines[circuit].unacknowledged)
 
     def begun(self) -> None:
-        """How all lines stand is known again: there may be calls that nobody has told, and counts that began anew."""
+        """The state of all lines is known again: there may be calls that nobody reported, and counts from 0."""
         for n, line in self._lines.items():
             if line.state in IN_CALL and n not in self._calls:
                 self._begin(n, None)

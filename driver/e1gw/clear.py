@@ -59,7 +59,7 @@ class Clear(Trunk):
         return out
 
     def _most_of(self, most: int) -> int:
-        """Whole frames, so many that they are no more than `most` with their slots 0 and with what is filled in."""
+        """Whole frames: at most `most` octets with their slots 0 and with what is filled in."""
         frames = most // FRAME - 2 * (self._missing > 0 or not self._slots.follows)
         return frames * SLOTS if frames > 0 else max(1, most - -(-most // FRAME))
 

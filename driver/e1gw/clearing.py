@@ -7,7 +7,7 @@ from typing import Callable
 
 @dataclass(frozen=True)
 class DisconnectPolicy:
-    """After so many seconds calls are cleared, and idle circuits blocked where that is asked too; None keeps them."""
+    """Calls are cleared after these seconds, and idle circuits blocked if that is asked too; None keeps them."""
 
     seconds: float | None = None
     blocks: bool = False
@@ -60,7 +60,7 @@ class DisconnectWatch:
 
 
 class OutageWatch:
-    """Clears the calls of a trunk that has been out of service for so many seconds; never if that is None."""
+    """Clears the calls of a trunk that has been out of service for a number of seconds; never if that is None."""
 
     def __init__(self, seconds: float | None, clear: Callable[[str], None]) -> None:
         self._seconds, self._clear = seconds, clear

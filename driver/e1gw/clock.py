@@ -1,4 +1,4 @@
-"""The trunk's time beside this machine's: stalls, gaps and the rate.
+"""The trunk's time against this machine's: stalls, gaps and the rate.
 
 An octet is behind by the time since the first one less its place at 256,000 octets a second. What it is behind by more
 than is usual is the displacement. It is measured where octets flow steadily; a slow change of it is the rate of a

@@ -47,7 +47,7 @@ class CircuitCounts:
     stream: ReceiverStatistics = field(default_factory=ReceiverStatistics)
 
     def counts(self) -> dict[str, int]:
-        """How many were sent, admitted and refused, by what is told of them."""
+        """How many were sent, admitted and refused, by the reports of them."""
         return {'sent': self.sent, 'admitted': self.admitted, **self.refused}
 
 

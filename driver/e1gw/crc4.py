@@ -38,7 +38,7 @@ class ErroredSubmultiframes:
         self._errored = self._checked = self._quiet = 0
 
     def add(self, errored: int, checked: int) -> dict[str, Any] | None:
-        """What is told with further counts."""
+        """What is reported with further counts."""
         began = not self.on and errored > 0
         if began:
             self.on, self._errored, self._checked = True, 0, 0
@@ -52,7 +52,7 @@ class ErroredSubmultiframes:
 
 
 class Crc4:
-    """What is known of a trunk's CRC-4, over all devices that are opened one after another beside one gateway."""
+    """What is known of a trunk's CRC-4, over all devices that are opened one after another for one gateway."""
 
     def __init__(self) -> None:
         self.sent = 0                           # octets that the gateway has sent
@@ -63,7 +63,7 @@ class Crc4:
         self._last, self._last_octets = dict.fromkeys(COUNTS, 0), 0     # of this device, at the last count
 
     def take(self, counts: dict[str, int], octets: int) -> list[Event]:
-        """The counts of a check that has read so many octets up to now; returns what is to be told."""
+        """The counts of a check that has read this number of octets up to now; returns what is to be reported."""
         more = {name: counts[name] - self._last[name] for name in COUNTS}
         self.checked += octets - self._last_octets
         self._last, self._last_octets = counts, octets
@@ -92,7 +92,7 @@ class Crc4:
         self._last, self._last_octets = dict.fromkeys(COUNTS, 0), 0
 
     def note(self) -> list[Any]:
-        """All of it but for errors that are told, as plain values."""
+        """All of it but for errors that were reported, as plain values."""
         return [self.checked, self.counts, self.aligned, self._last, self._last_octets]
 
     def take_up(self, note: list[Any]) -> None:

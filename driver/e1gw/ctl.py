@@ -2,9 +2,9 @@
 
 PATH is the socket of --control of e1gw-trunk, or the name of a trunk, whose socket is /run/e1gw/NAME/control.
 COMMAND is one of e1gw-trunk(1): seize N, clear N, answer N, clear-back N, block N, unblock N, codec N CODEC TYPE,
-status, status N, status json, events, on-loss, reload, quit, help. N may be several circuits: seize 1-4,7. With a PATH
-and no command, commands are read from standard input, a line each. --all gives the command to each trunk of this
-machine. Without any word there is a line for each trunk of this machine.
+status, status N, status json, events, on-loss, role, promote, demote, reload, quit, help. N may be several circuits:
+seize 1-4,7. With a PATH and no command, commands are read from standard input, a line each. --all gives the command to
+each trunk of this machine. Without any word there is a line for each trunk of this machine.
 
 Statuses: 0 all was done; 1 a trunk refused something, or does not answer; 2 the command line, or nobody listens at
 PATH.
@@ -20,8 +20,9 @@ from typing import BinaryIO
 
 from .ctl_all import SOCKETS, connected, overview, trunks_here
 from .faults import words_of_fault
+from .session import CIRCUITS
 
-ASKING = ('status', 'events', 'help')
+ASKING = ('status', 'events', 'help', 'metrics', 'role')
 SEVERAL = ('seize', 'clear', 'answer', 'clear-back', 'block', 'unblock', 'codec')
 
 
@@ -128,12 +129,34 @@ def started(asked: argparse.Namespace, parser: argparse.ArgumentParser) -> int:
     return run(path_of(asked.path), asked.command) if asked.path else overview()
 
 
+def next_words(parsed_args: argparse.Namespace, **_: object) -> list[str]:
+    """What completes the next word, for argcomplete."""
+    words, circuits = [parsed_args.path] * bool(parsed_args.path) + (parsed_args.command or []), [*map(str, CIRCUITS)]
+    if not words and not parsed_args.all:
+        return [name for name, _ in trunks_here()]
+    match words[not parsed_args.all:]:
+        case []:
+            return [*SEVERAL, 'status', 'events', 'on-loss', 'role', 'promote', 'demote', 'reload', 'quit', 'help']
+        case ['status']:
+            return ['json', *circuits]
+        case ['reload']:
+            return ['force']
+        case ['on-loss']:
+            return ['keep', 'clear', 'block']
+        case [word] if word in SEVERAL:
+            return circuits
+        case ['codec', _]:
+            return ['pcma', 'pcmu', 'g726-16', 'g726-24', 'g726-32', 'g726-40']
+    return []
+
+
 def main() -> None:
     parser = argparse.ArgumentParser(prog='e1gw-ctl', description=__doc__, usage='e1gw-ctl [PATH | --all] [COMMAND..]',
                                      formatter_class=argparse.RawDescriptionHelpFormatter)
     parser.add_argument('--all', action='store_true', help='each trunk of this machine')
-    parser.add_argument('path', metavar='PATH', nargs='?')
-    parser.add_argument('command', metavar='COMMAND', nargs='*')
+    for each in (parser.add_argument('path', metavar='PATH', nargs='?'),
+                 parser.add_argument('command', metavar='COMMAND', nargs='*')):
+        setattr(each, 'completer', next_words)
     asked = parser.parse_args()
     try:
         status = started(asked, parser)

@@ -71,7 +71,7 @@ def line_of(name: str, status: Mapping[str, Any]) -> str:
     far = [what for what, on in status['remote_alarm'].items() if on]
     alarms = f'; the other end: {", ".join(REMOTE[what] for what in far)}' if far and status['trunk_up'] else ''
     ended = [what for what, why in status['ended'].items() if why is not None]
-    told = f'; ended: {", ".join(ended)}' if ended else ''
+    told = (f'; ended: {", ".join(ended)}' if ended else '') + ('; not fed' if status.get('fed') is False else '')
     return (f'{name:12} {status["version"]:8} {since:17} {calls:5} {lost:8} {late:8}  '
             f'{state_of(status)}{alarms}{told}')
 

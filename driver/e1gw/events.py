@@ -1,8 +1,6 @@
 """Changes of a trunk in words, and which of them an operator is to read."""
 from __future__ import annotations
 
-import json
-import time
 from typing import Callable
 
 from .lines import Event
@@ -75,8 +73,3 @@ def _times(event: Event) -> str:
 def words_of(event: Event) -> str:
     """An event in words."""
     return _WORDS[event['event']](event)
-
-
-def json_line(event: Event) -> bytes:
-    """An event with the time of now, as a line of JSON."""
-    return (json.dumps({'time': round(time.time(), 6), **event}) + '\n').encode()

@@ -17,9 +17,9 @@ from .lines import SEIZURE_WAIT, WAIT
 from .writers import write_all
 
 UNITS = {'s': 1, 'm': 60, 'h': 3600, 'd': 86400}
-FILES = 12                  # into so many files the time that is kept is cut
+FILES = 12                  # the number of files into which the time that is kept is cut
 MOST_EARLIER = 3 * FILES    # files of earlier runs
-MOST_SLIPS = 1000           # that are noted beside a file
+MOST_SLIPS = 1000           # that are noted for a file
 FRESH = os.O_WRONLY | os.O_CREAT | os.O_TRUNC | os.O_CLOEXEC
 
 
@@ -42,7 +42,7 @@ def hold(octets: bytes) -> int:
 class Ring:
     """A session in files of a twelfth of the time that is kept, in a folder; the oldest are taken away.
 
-    A file is NAME-TIME.e1gw, and beside it NAME-TIME.json says the sum of the configuration, the time, the place on the
+    A file is NAME-TIME.e1gw, and NAME-TIME.json says the sum of the configuration, the time, the place on the
     trunk, whether the file begins where the session began or in the middle of it, and where octets of the trunk were
     lost: each slip's place and seconds, which the octets themselves do not show. Nothing here trusts the clock of
     the day: it may be set at any time, and tells no more than a name.
@@ -118,7 +118,7 @@ class Ring:
             self._note_slips()
 
     def _note_slips(self) -> None:
-        """Notes slips beside the file, at once: a reader sees what was noted before, or all of it."""
+        """Notes slips in the file's .json, at once: a reader sees what was noted before, or all of it."""
         noted = self._about.setdefault('slips', [])
         while self.slips:
             slip = self.slips.popleft()
@@ -127,7 +127,7 @@ class Ring:
         self._put_about()
 
     def _put_about(self) -> None:
-        """Tells beside the file what it is, at once."""
+        """Says in the file's .json what it is, at once."""
         part = f'{self._front}.json.part'
         with open(os.open(part, FRESH, 0o640), 'w', encoding='utf-8') as file:
             file.write(json.dumps(self._about) + '\n')
@@ -150,19 +150,19 @@ class Ring:
         self._drop_old(now - self._began)
 
     def _told(self, place: int, before: Sized) -> dict[str, Any]:
-        """What is told of a file that begins at a place, and of the ring behind those before it."""
+        """What is noted of a file that begins at a place, and of the ring behind those before it."""
         return {'config': os.path.abspath(self.named or self.config), 'config_sha256': self._sum,
                 'time': round(time.time(), 3), 'monotonic': round(time.monotonic(), 3), 'place': place, WAIT: self.wait,
                 'begins': 'middle' if self.state or len(before) else 'start'}
 
     def _create(self, flags: int) -> None:
-        """Opens the file, and tells beside it what it is."""
+        """Opens the file, and says in its .json what it is."""
         self._file = os.open(f'{self._front}{RECORDS}', os.O_WRONLY | os.O_CLOEXEC | flags, 0o640)
         if not os.path.lexists(f'{self._front}.json'):
             self._put_about()
 
     def _put_state(self) -> None:
-        """Puts the state of the first file beside it."""
+        """Puts the state of the first file next to it."""
         path = f'{self._front}{STATE}'
         with open(os.open(f'{path}{UNFINISHED}', FRESH, 0o640), 'wb') as file:
             file.write(self.state)
@@ -170,7 +170,7 @@ class Ring:
         self.behind.begin(path)
 
     def _drop_old(self, seconds: float) -> None:
-        """Takes away what is older than is to be kept; this ring has been writing for so many seconds."""
+        """Takes away what is older than is to be kept; `seconds` is how long this ring has been writing."""
         while len(self._own) > FILES + 1:
             _drop(self._own.popleft())
         self._earlier = deque(front for front in _fronts_in(self.folder, self.name) if front not in self._own)

@@ -1,4 +1,4 @@
-"""Sessions that were kept: a file, or a folder of a ring, what stands beside each file, and the octets."""
+"""Sessions that were kept: a file, or a folder of a ring, the .json of each file, and the octets."""
 from __future__ import annotations
 
 import json
@@ -35,7 +35,7 @@ class Break(NamedTuple):
 
 @dataclass
 class KeptSession:
-    """The files of a session, and what stands beside the first of them."""
+    """The files of a session, and the .json of the first of them."""
     files: list[str]
     config: str | None = None
     wait: int = SEIZURE_WAIT            # of a seizure, in milliseconds
@@ -48,8 +48,8 @@ class KeptSession:
 
 
 def kept(path: str, last: int | None = None) -> KeptSession:
-    """A session in one file, or what was kept in a folder. Of a folder the last so many octets of the trunk
-    are enough, if it was kept what the gateway was before them."""
+    """A session in one file, or what was kept in a folder. Of a folder the last octets of the trunk,
+    this number, are enough, if it was kept what the gateway was before them."""
     if not os.path.isdir(path):
         return _told(KeptSession([path]))
     every = {name for name in os.listdir(path) if name.endswith(ENDINGS)}
@@ -74,7 +74,7 @@ def _begun(abouts: list[dict[str, Any]]) -> list[int]:
 
 
 def _enough(files: list[str], last: int) -> int:
-    """With which of the files to begin for the last so many octets: all before it may be left out."""
+    """With which of the files to begin for this number of octets at the end: all before it may be left out."""
     end = beside(files[-1]).get('place', 0)
     found = [n for n, file in enumerate(files) if state_of(file) and beside(file).get('place', end) + last <= end]
     return found[-1] if found else 0
@@ -92,7 +92,7 @@ def state_of(path: str) -> str:
 
 
 def beside(path: str) -> dict[str, Any]:
-    """What stands beside a file that is kept."""
+    """The .json of a file that is kept."""
     return read_object(f'{front_of(path)}.json')
 
 

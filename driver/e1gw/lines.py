@@ -1,5 +1,4 @@
-"""The thirty lines and the alarms of a trunk: how they stand and what changes, in the words of the listing, whoever
-tells it: `followed` from octets of the trunk, `told` by a replay."""
+"""The thirty lines and the alarms of a trunk: how they stand and what changes, in the words of the listing."""
 from __future__ import annotations
 
 import tomllib
@@ -10,7 +9,7 @@ from typing import Any, Callable, Mapping, TypeVar
 from .session import CIRCUITS, SAMPLES_A_SECOND, Codec, Command
 
 SEIZURE_WAIT = 200          # milliseconds after which a seizure is released, if nothing else is asked for
-WAIT = 'seizure_wait'       # the name of that time beside the tables of a configuration
+WAIT = 'seizure_wait'       # the name of that time next to the tables of a configuration
 
 Event = dict[str, Any]
 Tell = Callable[[Event], None]
@@ -69,7 +68,7 @@ class Line:
     configured: tuple[str, int] = ('pcma', 8)       # the codec and payload type of the configuration
 
     def begin(self, state: State, now: float) -> None:
-        """It stands so; what was before is not known."""
+        """This is its state; what was before is not known."""
         self.state, self.since, self.opened = state, now, now if state in OPEN else None
 
     def commanded(self, command: Command) -> None:

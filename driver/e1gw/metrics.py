@@ -58,7 +58,19 @@ def _of_trunk(status: Status) -> list[Family]:
         found.append(('e1gw_connected', 'gauge', '1 where there is a connection.',
                       [({'to': other}, int(status[other])) for other in OTHERS]))
     found.append(('e1gw_trunk_octets_total', 'counter', 'Octets of the trunk.', [({}, status['octets'])]))
-    return found + _of_flow(status, clock)
+    return found + _of_pair(status) + _of_flow(status, clock)
+
+
+def _of_pair(status: Status) -> list[Family]:
+    """What is known of the other machine of a trunk, if there is one."""
+    if 'role' not in status:
+        return []
+    age = status['feed_age']
+    return [('e1gw_role', 'gauge', '1 where this machine carries the trunk, 0 where it stands by.',
+             [({}, int(status['role'] == 'active'))]),
+            ('e1gw_fed', 'gauge', '1 where the standby has what the trunk gave and took.', [({}, int(status['fed']))]),
+            ('e1gw_feed_age_seconds', 'gauge', 'Seconds since the standby had all.',
+             [({}, age)] if age is not None else [])]
 
 
 def _of_flow(status: Status, clock: Status) -> list[Family]:
@@ -164,12 +176,12 @@ def _alarms(alarms: Mapping[str, bool], words: Mapping[str, str], good: str) -> 
 
 
 def _far_end(status: Status) -> str:
-    """What the other end tells, which is heard only where this end has alignment."""
+    """What the other end reports, which is received only while this end has alignment."""
     return _alarms(status['remote_alarm'], REMOTE, 'no alarm') if state_of(status) == ALIGNED else 'not heard'
 
 
 def state_of(status: Status) -> str:
-    """How the trunk stands at this end, in a word or some."""
+    """The state of the trunk at this end, in a few words."""
     if status.get('fault'):
         return str(status['fault'])
     for other in OTHERS:
@@ -190,7 +202,7 @@ def _head(status: Status) -> list[str]:
         + _far_end(status),
         'alignment lost: ' + ', '.join(f'{what} {n}' for what, n in status['losses'].items())
         + f'; stalls {clock["stalls"]}{_slips(clock)}']
-    lines += _crc4_line(status)
+    lines += _pair_line(status) + _crc4_line(status)
     lines += [f'ended: {what}: {why}' for what, why in status['ended'].items() if why is not None]
     if status['stale']:
         lines.append('the counts of packets are not those of now')
@@ -203,6 +215,17 @@ def _slips(clock: Status) -> str:
         return ''
     rate = '' if clock['ppm'] is None else f', rate {clock["ppm"]:+.0f} ppm'
     return f', slips {clock["gaps"]} ({clock["gap_seconds"]:.1f} s){rate}'
+
+
+def _pair_line(status: Status) -> list[str]:
+    """The line of the other machine, if there is one."""
+    if 'role' not in status:
+        return []
+    whose = 'the standby is' if status['role'] == 'active' else 'standby,'
+    why = f': {status["feed_fault"]}' if status.get('feed_fault') else ''
+    others = ', '.join(map(str, status.get('differs', [])))
+    differs = f'; configured otherwise there: circuits {others}' if others else ''
+    return [f'two machines: {whose} {"fed" if status["fed"] else "not fed"}{why}{differs}']
 
 
 def _crc4_line(status: Status) -> list[str]:

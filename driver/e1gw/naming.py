@@ -1,7 +1,7 @@
 """How often each line was seized, by which calls are named: the next follower, and the next service, go on counting.
 
 A follower counts seizures since the state with which it has begun, its session. A note in memory says what has to be
-added to them, so that a service that is started anew counts as the one before it did."""
+added to them, so that a service that is started again counts as the one before it did."""
 from __future__ import annotations
 
 import json
@@ -16,7 +16,7 @@ Seizures = dict[int, int]       # by circuit
 
 
 def note_of(tell: str) -> str:
-    """The file of the note of a trunk that is told at this socket: in the unit's folder, or beside the socket."""
+    """The file of the note of a trunk reported at this socket: in the unit's folder, or next to the socket."""
     folder = os.environ.get('RUNTIME_DIRECTORY', '').partition(':')[0]
     return os.path.join(folder, 'calls.json') if folder else f'{tell}.calls'
 
@@ -74,4 +74,4 @@ class Naming:
             try:
                 put_file(self._path, text.encode())
             except OSError:
-                pass        # another service then names calls anew
+                pass        # another service then gives calls new names

@@ -17,7 +17,7 @@ def add_options(words: argparse.ArgumentParser) -> None:
 
 
 def add_control(words: argparse._ArgumentGroup) -> None:
-    """Those of control and of what is told."""
+    """Those of control and of reports."""
     words.add_argument('--control', metavar='PATH', help='a Unix socket for commands, e1gw-ctl(1)')
     words.add_argument('--control-mode', type=lambda text: int(text, 8), default=0o660, metavar='MODE',
                        help='its mode, in octal [default: 660]')

@@ -21,7 +21,7 @@ def is_trunk(octets: bytes) -> bool:
 
 
 def shifted(octets: bytes, bits: int) -> bytes:
-    """The octets that begin so many bits later."""
+    """The octets that begin a number of bits later."""
     number = int.from_bytes(octets, 'big') << bits
     return number.to_bytes(len(octets) + 1, 'big')[1:-1]
 

@@ -3,7 +3,7 @@ numbers are the status of the transport."""
 from __future__ import annotations
 
 FIRST = 'satop '            # how a line of counts begins
-# What is told: the name in the status, the count that grows, and the words. In silence the program plays by its own
+# What is reported: the name in the status, the count that grows, and the words. In silence the program plays by its own
 # clock and counts each tick; bits L and R are those of the packets that come (RFC 4553, 4.3).
 CONDITIONS = (('silent', 'ticks', 'packets missing'), ('far_fault', 'with_l', 'line fault at the far end (bit L)'),
               ('far_silent', 'with_r', 'packets missing at the far end (bit R)'))

@@ -50,7 +50,7 @@ class Search:
 
 
 class Slot16:
-    """Follows slot 16. `silent` is whether what is heard may be of other slots than it seems."""
+    """Follows slot 16. `silent` is whether received octets may be of other slots than they seem."""
 
     def __init__(self, silent: bool) -> None:
         self.silent = silent

@@ -15,7 +15,7 @@ BITS = {text: pair for pair, text in PAIRS.items()}
 
 
 class BadTelling(Exception):
-    """What is told is not understood; the words say what it is."""
+    """A report is not understood; the words say what it is."""
 
 
 class Told(TrunkState):
@@ -28,12 +28,12 @@ class Told(TrunkState):
         self.commanded: Callable[[bytes], None] = lambda record: None   # called with each C and K record that was given
         self.alarms = both(False)
         self.known = False                  # whether a whole state was ever told
-        self.live = False                   # whether what is told now are changes
+        self.live = False                   # whether changes are reported now
         self._before = 0                    # octets of the sessions before this one
         self._session: object = None
         self._is_placed = False
         self._held = ''
-        self.seizures: dict[int, int] = {}  # how often each line was seized in this session, if that is told
+        self.seizures: dict[int, int] = {}  # how often each line was seized in this session, if reported
         self._led: dict[int, State] = {}    # where commands have led lines whose state is still to be told
         self._greeting: dict[str, Callable[..., None]] = {'e1gw': self._greet}
         self._changes: dict[str, Callable[..., None]] = {
@@ -59,7 +59,7 @@ class Told(TrunkState):
         self.live, self.counts.ended = False, 'no shadow tells'
 
     def take(self, octets: bytes) -> None:
-        """Octets that are told. BadTelling where they are not understood; what stands before that was done."""
+        """Octets of reports. BadTelling if they are not understood; what comes before that was done."""
         *lines, self._held = (self._held + octets.decode('ascii', 'replace')).split('\n')
         if len(self._held) > MOST_LINE:
             raise BadTelling(f'a line of more than {MOST_LINE} octets')

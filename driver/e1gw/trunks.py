@@ -28,7 +28,7 @@ class Trunk(ABC):
 
     @abstractmethod
     def read(self, most: int) -> bytes:
-        """Octets that have come, at most so many; none where there are none now. EOFError where the trunk has ended,
+        """Octets that have come, at most this number; none if there are none now. EOFError where the trunk has ended,
         OSError where it has failed."""
 
     @abstractmethod

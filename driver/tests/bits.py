@@ -7,7 +7,7 @@ def trunk(place: int) -> int:
 
 
 def late(bits: int, place: int) -> int:
-    """The octet of the trunk that comes so many bits late."""
+    """The octet of the trunk that comes late by this number of bits."""
     before = 0xFF if place == 0 else trunk(place - 1)
     return (before << 8 | trunk(place)) >> bits & 0xFF
 

@@ -65,7 +65,7 @@ class FarEnd:
         self.out = (self.out + octets).lstrip(b'\xff')
 
     def played(self, count: int) -> bytes:
-        """The first octets that it plays, so many. (What comes before a packet, ones, is not among them.)"""
+        """The first octets that it plays, this number. (What comes before a packet, ones, is not among them.)"""
         while len(self.out) < count:
             self.take()
         return self.out[:count]

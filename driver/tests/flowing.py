@@ -1,4 +1,4 @@
-"""Calls on a trunk whose octets come by the machine's clock, for measurements: a trunk that stands still refuses
+"""Calls on a trunk whose octets come by the machine's clock, for measurements: a stalled trunk refuses
 a seizure."""
 from __future__ import annotations
 
@@ -19,7 +19,7 @@ def is_seized(world: World, n: int) -> bool:
 
 
 def up(world: World, calls: int = 30) -> None:
-    """From alignment to so many calls."""
+    """From alignment to this number of calls."""
     world.until(lambda: world.exchange.aligned and world.state(30) == 'idle')
     for n in range(1, calls + 1):
         world.until(partial(is_seized, world, n))

@@ -1,4 +1,4 @@
-"""Limits of time of the programs in Python, so long that a machine which stands still reaches none of them.
+"""Limits of time of the programs in Python, so long that a stall of the machine reaches none of them.
 
 They hold in the process of the tests, and in the commands that `start` and `watch` start. E1GW_LIMITS gives those that
 one test wants otherwise."""
@@ -18,9 +18,10 @@ LIMITS: dict[str, Any] = {
     'service.keeper.START': LONG, 'service.keeper.GRACE': LONG, 'service.follower.PATIENCE': LONG,
     'service.version.CHECK': LONG, 'service.version.LOOK_UP': LONG, 'service.status.FIRST': LONG,
     'service.status.QUIET': LONG, 'service.pages.DRAWN': LONG, 'service.reload.PATIENCE': LONG,
-    'service.recordings.FLUSH': LONG, 'service.chain.GRACE': LONG, 'service.line_process.QUICK': 0.0,
-    'service.checkpoints.PAUSE': 0.0, 'service.checkpoints.QUICK': 0.0,
-    'ctl_all.PATIENCE': LONG, 'programs.PATIENCE': LONG, 'tie.client.PATIENCE': LONG,
+    'service.feed.PATIENCE': LONG, 'service.standby.PATIENCE': LONG, 'service.pair.PATIENCE': LONG,
+    'service.standby.MOST_AGE': LONG, 'service.recordings.FLUSH': LONG, 'service.chain.GRACE': LONG,
+    'service.line_process.QUICK': 0.0, 'service.checkpoints.PAUSE': 0.0, 'service.checkpoints.QUICK': 0.0,
+    'ctl_all.PATIENCE': LONG, 'programs.PATIENCE': LONG, 'tie.trunk.PATIENCE': LONG,
     # (A process that gets what others leave gets next to nothing on a loaded machine.)
     'archive.put_last': lambda process: None}
 

@@ -10,7 +10,7 @@ from typing import Any, Callable
 from .world import World
 
 PATIENCE = 5
-EVENTS = 'codec 3 pcma 8'       # a command whose change is told
+EVENTS = 'codec 3 pcma 8'       # a command whose change is reported
 
 Ask = Callable[[], None]
 WAYS: dict[str, str] = {

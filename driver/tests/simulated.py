@@ -1,7 +1,7 @@
 """A call in simulated time: the driver's clock, counts and restarts about `e1gw replay`, whose playout is the
 gateway's.
 
-Nothing here waits for a moment to come, so a machine that stands still changes nothing."""
+Nothing here waits for a moment to come, so a stall of the machine changes nothing."""
 from __future__ import annotations
 
 import os
@@ -14,7 +14,6 @@ from typing import Callable
 from . import support
 from e1gw.clock import TICK, Clock
 from e1gw.counts import DatagramCounts
-from e1gw.followed import FollowedTrunk
 from e1gw.lines import Event
 from e1gw.restarts import Restarts
 from e1gw.session import (FRAME, MULTIFRAME, Codec, Command, Kind, Packet, Reader, Record, codec_record, command_record,
@@ -60,7 +59,7 @@ class SimulatedCall:
                                         stdout=subprocess.PIPE)
         self.events: list[Event] = []
         self.restarts: list[float] = []         # when
-        self.exchange, self.lines = support.Exchange(), FollowedTrunk(path, self.events.append)
+        self.exchange, self._place = support.Exchange(), 0
         self.clock = Clock(0.0, gap)
         self._restarts = Restarts(self._restart, self.events.append)
         self.counts = ReplayCounts(self._restarts.counted)
@@ -84,11 +83,9 @@ class SimulatedCall:
         """From alignment to a call that is answered, and half a second more."""
         self.flow(0.1)
         self._command(command_record(1, Command.SEIZE))
-        self.lines.command(1, Command.SEIZE)
         for pair in (ACKNOWLEDGED, ANSWERED):
             self.exchange.pairs[1] = pair
             self.flow(0.06)
-        assert str(self.lines.lines[1].state) == 'answered'
         self.flow(0.5)
 
     def speak(self) -> None:
@@ -124,7 +121,7 @@ class SimulatedCall:
         self._wait(seconds)
 
     def stand_still(self, seconds: float) -> None:
-        """This machine stands still. Octets and packets wait; then they are read as fast as it goes, four times."""
+        """This machine stalls. Octets and packets wait; then they are read as fast as it goes, four times."""
         self.now += seconds
         self._tick = max(self._tick, self.now)
         waiting = seconds
@@ -144,7 +141,7 @@ class SimulatedCall:
                 self.events.append({'event': finding.what, 'seconds': finding.value})
                 if finding.what in ('gap', 'ahead'):
                     self._restarts.want([1], finding.what)
-            self._restarts.look(self.now, self.lines.place, [1], self._counts)
+            self._restarts.look(self.now, self._place, [1], self._counts)
         self.now = until
 
     def _restart(self, circuits: list[int]) -> None:
@@ -162,9 +159,8 @@ class SimulatedCall:
             self.sent += 1
         self.clock.took(MULTIFRAME, self.now)
         answered = self._ask(packets + trunk_record(given), Kind.TRUNK)
-        first = (1 - self.lines.place) % FRAME
-        self.lines.trunk(given, answered)
-        self.heard += answered[first::FRAME].count(SPOKEN)
+        self.heard += answered[(1 - self._place) % FRAME::FRAME].count(SPOKEN)
+        self._place += MULTIFRAME
 
     def _command(self, record: bytes) -> None:
         self._ask(record, Kind.ANSWER)

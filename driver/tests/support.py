@@ -39,7 +39,7 @@ def until(holds: Callable[[], T | None], pause: float = 0.005) -> T:
 
 @functools.cache
 def launcher(name: str) -> str:
-    """The file that starts a command with the limits of tests. The other commands are beside it."""
+    """The file that starts a command with the limits of tests. The other commands are next to it."""
     return os.path.join(_launchers(), f'e1gw-{name}')
 
 

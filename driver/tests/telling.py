@@ -92,7 +92,7 @@ class StandInShadow(StandInListener):
 
     def row(self, circuit: int, state: str, bits: str = '10 10', counts: tuple[int, int, int] = (0, 0, 0),
             role: str = 'outgoing', codec: str = 'pcma      8') -> None:
-        """Tells that a circuit stands so."""
+        """Reports this state of a circuit."""
         self.tell(row(circuit, state, bits, counts, role, codec))
 
 

@@ -17,7 +17,7 @@ from e1gw import session
 
 
 def carried(bits: int, start: int, end: int) -> bytes:
-    """These octets of the far end's trunk, so many bits late."""
+    """These octets of the far end's trunk, late by this number of bits."""
     return bytes(late(bits, place) for place in range(start, end))
 
 
@@ -25,7 +25,7 @@ ENDED = 'the trunk cannot be read or written: e1gw align ended by signal 9'
 
 
 class LateWorld(World):
-    """A driver whose exchange is heard three bits late."""
+    """A driver whose exchange is three bits late."""
 
     last = 0xFF
 

@@ -1,4 +1,4 @@
-"""The state beside each piece of a ring: each piece replays as it was."""
+"""The state of each piece of a ring: each piece replays as it was."""
 from __future__ import annotations
 
 import os

@@ -13,10 +13,8 @@ from . import support
 from .picture_made import MadeSession, PictureSender, coded, packets
 from .support import SECONDS
 from .test_archive import RingCase, octets_in
-from e1gw.followed import CircuitState, FollowedTrunk
-from e1gw.kept import KeptSession, kept
-from e1gw.lines import State
-from e1gw.picture.begun import begun
+from e1gw.kept import kept
+from e1gw.picture.begun import begin
 from e1gw.picture.facts import Facts
 from e1gw.picture.main import gathered
 from e1gw.session import OCTETS_A_SECOND, Kind, trunk_record
@@ -53,12 +51,12 @@ class MidCallPictureTests(RingCase):
         self.keep(pieces, self.config)
         self.places = [octets_in(self.records[:whole * n // 4]) for n in range(4)]
 
-    def facts(self, session: KeptSession) -> Facts:
+    def facts(self, path: str) -> Facts:
         """What is gathered of a session."""
-        options = argparse.Namespace(capture=None, answers=None, program=self.program, begin=None, last=None,
-                                     seizure_wait=None)
-        known = begun(session, self.program, self.config)[0] if session.state else None
-        facts, word = gathered(options, session, self.config, known)
+        options = argparse.Namespace(capture=None, begin=None, last=None)
+        begun, note = begin(path, None, self.config, self.program, None)
+        self.assertEqual(note, '')
+        facts, word = gathered(options, begun)
         self.assertEqual(word, '')
         return facts
 
@@ -70,10 +68,10 @@ class MidCallPictureTests(RingCase):
         return done.stdout.decode(), done.stderr.decode()
 
     def test_a_call_that_was_up(self) -> None:
-        whole = self.facts(KeptSession([self.write('whole.rec', b''.join(self.records))]))
+        whole = self.facts(self.write('whole.rec', b''.join(self.records)))
         for number, path in enumerate(self.files('.e1gw')[1:], 1):
             place = self.places[number]
-            part, before = self.facts(kept(path)), place - place % 512
+            part, before = self.facts(path), place - place % 512
             row, same = part.rows[3], whole.rows[3]
             self.assertEqual(part.under_way, [3])
             end = part.place + before
@@ -84,7 +82,7 @@ class MidCallPictureTests(RingCase):
             self.assertEqual(row.count().refused, {})
 
     def test_the_last_piece(self) -> None:
-        part, session = self.facts(kept(self.files('.e1gw')[-1])), self.records[len(self.records) * 3 // 4:]
+        part, session = self.facts(self.files('.e1gw')[-1]), self.records[len(self.records) * 3 // 4:]
         given = b''.join(session)
         state = self.files('.state')[-1]
         listed = support.run('check', '--config', self.config, '--load', state).split(b'\n')[2].split()
@@ -149,20 +147,6 @@ class MidCallPictureTests(RingCase):
         self.assertIn('state 4 Sum at 0', said)
         self.assertNotIn('begins in the middle', said)      # it is read from its first piece on
         self.assertIn('1 connected before', page)
-
-
-class MidCallLineTests(unittest.TestCase):
-    """Following from the middle."""
-
-    def test_begins_in_the_middle(self) -> None:
-        followed = FollowedTrunk({})
-        standing = CircuitState(3, State.ANSWERED, 0, 1, 'g726-32', 96)
-        followed.begin(5 * 512 + 7, [standing])
-        status = followed.status()
-        row = status['circuits'][2]
-        self.assertEqual([row[key] for key in ('state', 'sent', 'recognised', 'codec', 'payload', 'for')],
-                         ['answered', '00', '01', 'g726-32', 96, 0])
-        self.assertEqual((status['octets'], followed.alarm()), (5 * 512 + 7, False))
 
 
 if __name__ == '__main__':

@@ -13,9 +13,9 @@ from .world import World, config_of, of_words
 from e1gw.clear import Clear, Place
 from e1gw.events import words_of
 from e1gw.exchange import ACKNOWLEDGED, ServeProcess
-from e1gw.followed import FollowedTrunk
-from e1gw.session import Command
+from e1gw.session import Command, command_record, trunk_record
 from e1gw.testing import datagrams
+from e1gw.testing.replayed import ReplayedTrunk
 from e1gw.trunks import Trunk
 
 IDLE = 0xD5
@@ -248,7 +248,7 @@ class ClearGatewayTests(support.FolderCase):
 
     def calls_through_a_loss(self, call: datagrams.UdpCalls, count: int) -> None:
         events: list[dict[str, Any]] = []
-        device, lines = ClearDevice(b''), FollowedTrunk({'law': 'A'}, events.append)
+        device, lines = ClearDevice(b''), ReplayedTrunk(self.program, self.path('wire.toml'), events.append)
         trunk = Clear(device, Place('A'))
         trunk.tell = events.append
 
@@ -257,12 +257,12 @@ class ClearGatewayTests(support.FolderCase):
             while device.left:
                 given = trunk.read(256)
                 sent = call.serve.trunk(given)
-                lines.trunk(given, sent)
+                lines.given(trunk_record(given))
                 trunk.write(sent)
         carry(self.multiframes(call, 12))
         for n in call.circuits:
             self.assertEqual(call.serve.command(n, 'seize'), 0)
-            lines.command(n, Command.SEIZE)
+            lines.given(command_record(n, Command.SEIZE))
         call.exchange.pairs.update({n: ACKNOWLEDGED for n in call.circuits})
         carry(self.multiframes(call, 24))
         self.heard(call)
@@ -278,6 +278,7 @@ class ClearGatewayTests(support.FolderCase):
         self.assertEqual(told, [('slots', 'lost'), ('lost', 'multiframe'), ('slots', 'moved'),
                                 ('aligned', 'multiframe')])
         self.assertEqual({str(line.state) for line in lines.lines.values()}, {'acked'})
+        lines.end()
 
     def heard(self, call: datagrams.UdpCalls) -> dict[int, bytes]:
         """The speech that each circuit's peer got."""

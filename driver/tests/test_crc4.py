@@ -367,7 +367,7 @@ class Crc4ServiceTests(unittest.TestCase):
 
 
 class LateCrc4World(Crc4World):
-    """Its exchange is heard three bits late."""
+    """Its exchange is three bits late."""
 
     last = 0xFF
 

@@ -44,7 +44,7 @@ class TypedCommandTests(unittest.TestCase):
                     exchange.kill()
 
     def test_a_socket_that_is_there(self) -> None:
-        """What is in the way is told, with what takes it away."""
+        """What is in the way is named, with what takes it away."""
         with tempfile.NamedTemporaryFile() as file:
             words = [sys.executable, '-B', os.path.join(support.TOP, 'examples', 'exchange'), file.name]
             done = subprocess.run(words, capture_output=True, text=True, check=False, timeout=SECONDS)

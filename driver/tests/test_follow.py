@@ -154,7 +154,7 @@ class FollowTests(support.FolderCase):
         return places
 
     def test_no_checkpoint_can_be_written(self) -> None:
-        """It is told once, and the session goes on."""
+        """It is reported once, and the session goes on."""
         octets = b''.join(trunk_record(bytes(64_000)) for _ in range(60))
         told = 0, self.replayed(octets)[0], 'cannot save the state\n'
         self.assertEqual(self.followed(self.write('log', octets), '--checkpoint', self.folder), told)

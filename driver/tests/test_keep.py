@@ -40,7 +40,7 @@ class RingTests(support.FolderCase):
         self.zstd = ''
 
     def play(self, seconds: int, steps: dict[int, float] | None = None, first: int = 0) -> None:
-        """A session of so many seconds, a line for each, while the clock of the day is set by these steps."""
+        """A session of this number of seconds, a line for each, while the clock of the day is set by these steps."""
         ring = keep.Ring(self.ring, 'we.st', self.config, KEPT, archive.FinishedPieces(zstd=self.zstd or None))
         ring.open()
         for second in range(first, first + seconds):
@@ -96,7 +96,7 @@ class RingTests(support.FolderCase):
 
     def test_a_run_begins_anew(self) -> None:
         self.play(100)
-        self.day = 0.0                      # a machine whose clock begins anew too
+        self.day = 0.0                      # a machine whose clock begins at 0 too
         self.play(30, first=1000)
         self.assertEqual(self.kept(), [*range(100 - 13 * EACH, 100), *range(1000, 1030)])
         self.play(2 * KEPT, first=2000)     # that covers all that is to be kept

@@ -19,7 +19,7 @@ import tempfile
 import threading
 import time
 import unittest
-from typing import Any
+from typing import Any, Callable
 
 from . import limits, support
 from .support import SECONDS
@@ -84,7 +84,7 @@ class RtpPeers:
         self.packets: dict[int, list[bytes]] = {circuit: [] for circuit in CIRCUITS}
 
     def config(self, **of_seven: int) -> str:
-        """Odd circuits are incoming, even ones outgoing. Circuit 7 has these keys beside."""
+        """Odd circuits are incoming, even ones outgoing. Circuit 7 has these keys too."""
         text, peer = 'law = "A"\n', self.socket.getsockname()[1]
         for port, circuit in self.circuits.items():
             keys = {'number': circuit, 'role': f'"{"incoming" if circuit % 2 else "outgoing"}"', 'local_port': port,
@@ -182,7 +182,7 @@ class KeeperCase(support.FolderCase):
         return count
 
     def take(self, count: int) -> None:
-        """Takes the answers to so many."""
+        """Takes the answers to this number of records."""
         for _ in range(count):
             back = self.device.read(MULTIFRAME)
             self.heard.append(back)
@@ -252,6 +252,48 @@ class KeeperCase(support.FolderCase):
         os.chmod(path, 0o755)
         return path
 
+    def killed(self, number: int) -> None:
+        """The program is sent a signal at any moment behind a record, and another one goes on."""
+        before = sum(len(record.body) for record in records_in(b''.join(self.given)) if record.kind is Kind.TRUNK)
+        self.send()
+        for _ in range(self.chance.randrange(0, 400)):
+            pass
+        os.kill(self.program, number)
+        said = self.goes_on()
+        self.assertIn('octets (8 ms) at most', said)
+        taken = int(said.split('behind octet ')[1].split(',')[0])
+        self.assertIn(taken, (before, before + MULTIFRAME))
+        back = self.settled()
+        self.assertIn(len(back), (0, MULTIFRAME))
+        if back:
+            self.heard.append(back)
+            self.device.exchange.hear(back)
+        elif taken == before:
+            self.given.pop()            # it was read and never known
+            self.unknown += 1
+        else:
+            self.heard.append(None)     # it was known, and its answer is lost
+
+    def settled(self) -> bytes:
+        """What has come back, once all that was sent is read and answered: a client's answer comes behind that."""
+        support.all_read(self.device.line)
+        with self.client() as line:
+            line.sendall(NO_EFFECT)
+            self.assertEqual(len(line.recv(6)), 6)
+        self.device.line.setblocking(False)
+        try:
+            return self.device.line.recv(65_536)
+        except BlockingIOError:
+            return b''
+        finally:
+            self.device.line.settimeout(SECONDS)
+
+    def under_way(self, does: Callable[[], object]) -> None:
+        """Does something while two multiframes are under way, and two more come."""
+        waiting = self.send(2)
+        does()
+        self.take(waiting + self.send(2))
+
     # ---- what must hold ----
 
     def uncut(self) -> tuple[list[bytes], dict[int, list[bytes]]]:
@@ -296,78 +338,11 @@ class KeeperCase(support.FolderCase):
         self.assertFalse(os.path.lexists(self.path('control')))
 
 
-class KeeperFailureTests(KeeperCase):
-    """What happens to the program and its shadow."""
-
-    def killed(self, number: int) -> None:
-        """The program is sent a signal at any moment behind a record, and another one goes on."""
-        before = sum(len(record.body) for record in records_in(b''.join(self.given)) if record.kind is Kind.TRUNK)
-        self.send()
-        for _ in range(self.chance.randrange(0, 400)):
-            pass
-        os.kill(self.program, number)
-        said = self.goes_on()
-        self.assertIn('octets (8 ms) at most', said)
-        taken = int(said.split('behind octet ')[1].split(',')[0])
-        self.assertIn(taken, (before, before + MULTIFRAME))
-        back = self.settled()
-        self.assertIn(len(back), (0, MULTIFRAME))
-        if back:
-            self.heard.append(back)
-            self.device.exchange.hear(back)
-        elif taken == before:
-            self.given.pop()            # it was read and never known
-            self.unknown += 1
-        else:
-            self.heard.append(None)     # it was known, and its answer is lost
-
-    def settled(self) -> bytes:
-        """What has come back, once all that was sent is read and answered: a client's answer comes behind that."""
-        support.all_read(self.device.line)
-        with self.client() as line:
-            line.sendall(NO_EFFECT)
-            self.assertEqual(len(line.recv(6)), 6)
-        self.device.line.setblocking(False)
-        try:
-            return self.device.line.recv(65_536)
-        except BlockingIOError:
-            return b''
-        finally:
-            self.device.line.settimeout(SECONDS)
-
-    def test_program_killed(self) -> None:
-        self.starts(**self.within(keeper_WITHIN=0.0))       # (else they are taken for a state that does harm)
-        self.calls()
-        for _ in range(12):
-            self.killed(signal.SIGKILL)
-            self.step(self.chance.randrange(1, 60))
-        self.as_uncut()
-        self.ends()
-
-    def test_program_ended_and_stopped(self) -> None:
-        self.starts()
-        self.calls()
-        for number in (signal.SIGTERM, signal.SIGSEGV, signal.SIGSTOP):
-            self.killed(number)
-            self.step(self.chance.randrange(1, 60))
-        self.as_uncut()
-
-    def test_shadow(self) -> None:
-        """Its death, and that it stands still, lose nothing."""
-        self.starts()
-        self.calls()
-        for number in (signal.SIGKILL, signal.SIGSTOP, signal.SIGTERM):
-            waiting = self.send(2)
-            os.kill(self.shadow, number)
-            waiting += self.send(2)
-            self.take(waiting)
-            self.assertIn('goes on', 'goes on' + self.goes_on())
-            self.step(self.chance.randrange(1, 60))
-        self.assertNotIn('at most', self.told())
-        self.as_uncut()
+class KeeperToldTests(KeeperCase):
+    """What is told beside the trunk."""
 
     def told_now(self, began: int) -> list[str]:
-        """What a new client of --tell is told first, once the shadow has acted on all multiframes of its session, which
+        """What a new client of --tell gets first, once the shadow has acted on all multiframes of its session, which
         began behind so many."""
         least = MULTIFRAME * (len(self.heard) - began)
         while True:
@@ -395,39 +370,9 @@ class KeeperFailureTests(KeeperCase):
         self.ends()
         self.assertEqual([name for name in os.listdir(self.folder) if name.startswith('tell')], [])
 
-    def test_both(self) -> None:
-        """In either order, and at once: the log has all."""
-        self.starts(**self.within(keeper_WITHIN=0.0))       # (else they are taken for a state that does harm)
-        self.calls()
-        for first, second in (('shadow', 'program'), ('program', 'shadow')) * 3:
-            pids = [getattr(self, first), getattr(self, second)]
-            for pid in pids:
-                os.kill(pid, signal.SIGKILL)
-            while self.goes_on() and self.program in pids:
-                pass
-            self.step(self.chance.randrange(1, 30))
-        self.assertNotIn('no state is known', self.told())
-        self.as_uncut()
-        self.ends()
-
 
 class KeeperHandoverTests(KeeperCase):
     """What an operator asks for."""
-
-    def test_reload(self) -> None:
-        self.starts()
-        self.calls()
-        for _ in range(3):
-            waiting, before = self.send(2), self.program
-            self.keeper.send_signal(signal.SIGHUP)
-            waiting += self.send(2)
-            self.take(waiting)
-            self.goes_on()
-            self.assertNotEqual(self.program, before)
-            self.step(self.chance.randrange(1, 60))
-        self.assertNotIn('at most', self.told())
-        self.as_uncut()
-        self.ends()
 
     def test_configurations(self) -> None:
         """One that is none and one of another law are refused with no program ended for them; of one with another
@@ -455,29 +400,6 @@ class KeeperHandoverTests(KeeperCase):
         self.assertEqual(self.told().count('begins as new'), 1)
         self.write('trunk.toml', right)
         self.as_uncut(7)
-
-    def test_keeper_replaced(self) -> None:
-        """Another service in its place holds what it held, and has a follower of its own."""
-        self.starts()
-        self.calls()
-        program = self.program
-        for _ in range(2):
-            waiting = self.send(2)
-            self.keeper.send_signal(signal.SIGUSR2)
-            self.awaits('the keeper was replaced; (?=program)')
-            self.goes_on()
-            self.assertEqual(self.program, program)
-            self.take(waiting + self.send(2))
-            self.step(20)
-        os.kill(self.shadow, signal.SIGKILL)
-        self.goes_on()
-        self.step(30)
-        self.keeper.send_signal(signal.SIGHUP)
-        self.goes_on()
-        self.step(30)
-        self.assertNotIn('at most', self.told())
-        self.as_uncut()
-        self.ends()
 
     def test_end_and_start(self) -> None:
         """Another keeper begins with the state that the first one left."""
@@ -581,7 +503,7 @@ class KeeperEndTests(KeeperCase):
         self.assertIn('--tell', self.refused('--config', self.config, *unix, '--tell', self.device.path))
 
     def test_program_that_never_answers(self) -> None:
-        """A port that is taken: the circuit and the cause are told, and the status is 1."""
+        """A port that is taken: the circuit and the cause are named, and the status is 1."""
         port = next(iter(self.peers.circuits))
         with socket.socket(socket.AF_INET, socket.SOCK_DGRAM) as taken:
             taken.bind(('127.0.0.1', port))

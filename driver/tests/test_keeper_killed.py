@@ -111,43 +111,6 @@ class RestartedKeeperCase(KeeperCase):
 class KilledKeeperTests(RestartedKeeperCase):
     """It is killed, and started again as systemd does it."""
 
-    def test_program_goes_on(self) -> None:
-        """Not an octet is lost, and the next one does all that the first one did."""
-        self.begins()
-        program = self.program
-        for _ in range(2):
-            waiting = self.send(2)
-            self.kill_keeper()
-            self.take(waiting + self.send(2))
-            self.step(20)
-            self.comes_back()
-            self.assertEqual(self.program, program)
-            self.step(20)
-        self.keeper.send_signal(signal.SIGHUP)
-        self.goes_on()
-        self.assertNotEqual(self.program, program)
-        self.step(20)
-        self.settles()
-        self.assertNotIn('at most', self.told())
-        self.dies()
-        self.step(20)
-        self.as_uncut()
-        self.leaves_nothing()
-
-    def test_program_that_dies_meanwhile(self) -> None:
-        """The state is that of the log, of which the next one has the descriptor."""
-        self.begins()
-        self.step(20)
-        self.kill_keeper()
-        self.step(20)
-        os.kill(self.program, signal.SIGKILL)
-        self.again()
-        self.awaits('the keeper was killed')
-        self.assertIn(f'behind octet {len(self.heard) * MULTIFRAME}, what it had in hand is lost', self.goes_on())
-        self.step(60)
-        self.as_uncut()
-        self.ends()
-
     def test_at_any_moment_of_a_reload(self) -> None:
         """No call ends."""
         self.begins()
@@ -164,18 +127,6 @@ class KilledKeeperTests(RestartedKeeperCase):
             self.assertIn(f'behind octet {len(self.heard) * MULTIFRAME}', self.goes_on())
             self.step(40)
             self.settles()
-        self.as_uncut()
-        self.ends()
-
-    def test_follower_that_dies_meanwhile(self) -> None:
-        """Nothing is lost, and another one follows."""
-        self.begins()
-        self.kill_keeper()
-        os.kill(self.shadow, signal.SIGKILL)
-        self.step(20)
-        self.comes_back()
-        self.step(60)
-        self.assertNotIn('at most', self.told())
         self.as_uncut()
         self.ends()
 

@@ -54,7 +54,7 @@ class ControlConnectionTests(unittest.TestCase):
         until(lambda: 'circuits are' in self.world.ask_at_once('seize 31'))
         self.world.ask(EVENTS)
         told = b''
-        while b'"command"' not in told:         # a machine that stands still has a stalled trunk told before it
+        while b'"command"' not in told:         # a stall of the machine has a stalled trunk reported before it
             self.assertTrue(piece := lines[1].recv(65536))
             told += piece
 

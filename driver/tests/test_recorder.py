@@ -1,6 +1,6 @@
 """Recordings of a trunk, in lock step: what is kept replays to what was heard, whatever ends meanwhile.
 
-A file of a ring, too, replays from the state beside it. The disk may be full: the calls go on."""
+A file of a ring, too, replays from its state. The disk may be full: the calls go on."""
 from __future__ import annotations
 
 import json
@@ -54,7 +54,7 @@ class RecorderCase(KeeperCase):
 
 class RecordedFileTests(RecorderCase):
     def test_whole_session(self) -> None:
-        """Whatever ends beside the program, nothing that was heard is lost; what is kept begins as it was."""
+        """Whatever ends besides the program, nothing that was received is lost; what is kept begins as it was."""
         self.starts('--session', self.path('kept'))
         self.calls()
         self.handed_over(None)
@@ -84,7 +84,7 @@ class RecordedFileTests(RecorderCase):
                          [record for record in records_in(b''.join(self.given)) if record.kind is Kind.COMMAND])
 
     def test_commands_are_those_that_were_given(self) -> None:
-        """Through a reload and a crash: no program beside the trunk gives any of its own."""
+        """Through a reload and a crash: no program other than the trunk's gives any of its own."""
         self.starts('--session', self.path('kept'))
         self.calls()
         self.handed_over(None)

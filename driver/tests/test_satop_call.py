@@ -24,7 +24,7 @@ class SatopCallTests(support.FolderCase):
     def setUp(self) -> None:
         super().setUp()
         west, east = (f'127.0.0.1:{port}' for port in free_ports(2))
-        # 60 ms of buffer for what the other driver stands still; with 200 ms an acknowledgement would be too late.
+        # 60 ms of buffer for stalls of the other driver; with 200 ms an acknowledgement would be too late.
         self.west = SatopEnd(self.folder, 'west', 'outgoing', f'{west},{east}', '--satop-clock', 'own',
                              '--satop-jitter', '30', '--satop-rtp', '97', '--satop-size', '512')
         self.addCleanup(self.end, self.west)

@@ -13,13 +13,13 @@ from .far_end import FarEnd
 
 SIZE = 256
 JITTER = 4                  # packets, by default
-FIRST = 65_530              # the number of the first packet, so that the numbers begin anew
+FIRST = 65_530              # the number of the first packet, so that the numbers wrap
 ONES = b'\xff' * SIZE
 SILENCE = 0.1               # seconds
 
 
 def octets(n: int, bits: int = 0, size: int = SIZE) -> bytes:
-    """Those of a packet: frames that begin so many bits late."""
+    """Those of a packet: frames that begin late by this number of bits."""
     return bytes(late(bits, place) for place in range(size * n, size * (n + 1)))
 
 
@@ -187,7 +187,7 @@ class SatopClockTests(SatopPlayedCase):
     def test_packets_that_come_too_fast(self) -> None:
         """After a second's packets, no more than a thousandth above the rate are played."""
         begun, count, silences = time.monotonic(), 1200, 1
-        while silences:         # (those of a machine that stands still, perhaps at the end)
+        while silences:         # (those of a machine that stalls, perhaps at the end)
             far, begun = self.far_end(), time.monotonic()
             for n in range(count + JITTER):
                 far.send(FIRST + n, 0, octets(n))

@@ -1,4 +1,4 @@
-"""The program that reads and sends an emulated circuit, as a trunk: a script stands in for it."""
+"""The program that reads and sends an emulated circuit, as a trunk: a script in its place."""
 import unittest
 
 from e1gw.satop_process import SatopCondition, counts_of

@@ -1,6 +1,6 @@
 """One process a trunk: what it does when something of it is killed, hangs, fails or is full, with thirty calls up.
 
-It goes in lock step, as test_keeper does; what is heard is what one uncut replay of all records gives."""
+It goes in lock step, as test_keeper does; what is received is what one uncut replay of all records gives."""
 from __future__ import annotations
 
 import contextlib
@@ -14,23 +14,27 @@ from unittest import mock
 
 from . import support
 from .support import SECONDS
-from .test_keeper import KeeperCase
+from .test_keeper import CIRCUITS, KeeperCase
 from .test_keeper_killed import RestartedKeeperCase
 from e1gw.service.log import STATE_ROOM, TrunkLog, in_memory, take_file
 from e1gw.service.version import VersionRefused, look_up, with_addresses
-from e1gw.session import encode_record, trunk_record
+from e1gw.session import MULTIFRAME, Codec, codec_record, encode_record, trunk_record
 
 END = encode_record(0x45, 0, b'')
 
 
 class ServiceSequenceTests(RestartedKeeperCase):
-    """Any sequence of what may happen to a trunk."""
+    """Any sequence of what may happen to a trunk, with multiframes under way and records of clients in between."""
 
     def program_dies(self) -> None:
-        self.dies(self.chance.choice((signal.SIGKILL, signal.SIGSTOP, signal.SIGSEGV)))
+        number = self.chance.choice((signal.SIGKILL, signal.SIGSTOP, signal.SIGSEGV, signal.SIGTERM))
+        if self.chance.randrange(2):
+            return self.dies(number)
+        self.killed(number)
 
     def follower_dies(self) -> None:
-        os.kill(self.shadow, self.chance.choice((signal.SIGKILL, signal.SIGSTOP)))
+        number = self.chance.choice((signal.SIGKILL, signal.SIGSTOP, signal.SIGTERM))
+        self.under_way(lambda: os.kill(self.shadow, number))
         self.goes_on()
 
     def both_die(self) -> None:
@@ -42,37 +46,54 @@ class ServiceSequenceTests(RestartedKeeperCase):
             pass
 
     def reloaded(self) -> None:
-        self.keeper.send_signal(signal.SIGHUP)
+        before = self.program
+        self.under_way(lambda: self.keeper.send_signal(signal.SIGHUP))
         self.goes_on()
+        self.assertNotEqual(self.program, before)
 
     def replaced(self) -> None:
-        self.keeper.send_signal(signal.SIGUSR2)
+        before = self.program
+        self.under_way(lambda: self.keeper.send_signal(signal.SIGUSR2))
         self.awaits('the keeper was replaced; (?=program)')
         self.goes_on()
+        self.assertEqual(self.program, before)
 
     def service_dies(self) -> None:
+        """It comes back alone, or with a follower or a program that died meanwhile."""
+        before, dead = self.program, self.chance.choice((None, None, self.shadow, self.program))
         self.settles()
-        self.kill_keeper()
-        self.step(self.chance.randrange(1, 20))
-        if self.chance.randrange(2):
-            return self.comes_back()
-        os.kill(self.program, signal.SIGKILL)
+        self.under_way(self.kill_keeper)
+        self.step(self.chance.randrange(20))
+        if dead:
+            os.kill(dead, signal.SIGKILL)
+        if dead != before:
+            self.comes_back()
+            return self.assertEqual(self.program, before)
         self.again()
         self.awaits('the keeper was killed')
-        self.goes_on()
+        self.assertIn(f'behind octet {len(self.heard) * MULTIFRAME}', self.goes_on())
+
+    def client_asks(self) -> None:
+        """Another codec of a circuit in a call, or what is refused."""
+        circuit, codec = self.chance.choice(CIRCUITS), self.chance.choice((*Codec,))
+        self.given.append(codec_record(circuit, codec, self.chance.choice((1, 96))))
+        with self.client() as line:
+            line.sendall(self.given[-1])
+            self.assertEqual(len(line.recv(6)), 6)
 
     def test_any_sequence(self) -> None:
         """What is heard is what an uncut replay gives, and all calls are up."""
-        events = (self.program_dies, self.follower_dies, self.both_die, self.reloaded, self.replaced, self.service_dies)
-        with mock.patch.dict(os.environ, self.within(keeper_WITHIN=0.0)):
+        events = (self.program_dies, self.follower_dies, self.both_die, self.reloaded, self.replaced, self.service_dies,
+                  self.client_asks)
+        with mock.patch.dict(os.environ, self.within(keeper_WITHIN=0.0)):   # (no death is taken for a state's harm)
             self.begins()
-            for event in self.chance.choices(events, k=30):
+            for event in (*events, *self.chance.choices(events, k=43)):
                 event()
                 self.step(self.chance.randrange(1, 30))
         self.assertNotIn('no state is known', self.told())
         self.assertNotIn('the keeper goes on', self.told())
         self.as_uncut()
-        self.ends()
+        self.leaves_nothing()
 
 
 class ServiceLogTests(KeeperCase):
@@ -110,7 +131,7 @@ class ServiceLogTests(KeeperCase):
 
 
 class ServiceFaultTests(KeeperCase):
-    """A step that fails is told, and ends no call."""
+    """A step that fails is reported, and ends no call."""
 
     def test_an_exception_in_each_look(self) -> None:
         self.starts(**self.within(checkpoints_LOG_ROOM='none'))
@@ -122,7 +143,7 @@ class ServiceFaultTests(KeeperCase):
         self.ends()
 
     def test_a_link_that_cannot_be_made(self) -> None:
-        """It is told, and one follower is started, not one for each try."""
+        """It is reported, and one follower is started, not one for each try."""
         self.starts()
         os.unlink(self.path('control'))
         os.mkdir(self.path('control'))

@@ -98,7 +98,7 @@ class LineKilledTests(RestartedKeeperCase):
 
     def test_the_line_ends(self) -> None:
         """The program ends behind what has come, and another one goes on with the device opened again. `e1gw crc4` goes
-        on over a program that is killed; the check begins anew behind another `e1gw align`."""
+        on over a program that is killed; the check begins again behind another `e1gw align`."""
         self.begins('--crc4', '--align', '--reopen')
         check, align = self.process('check'), self.process('align')
         os.kill(align, signal.SIGKILL)

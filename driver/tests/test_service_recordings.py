@@ -28,7 +28,7 @@ RECORD = MULTIFRAME / 256_000       # seconds
 class KilledRecordingTests(RestartedKeeperCase, RecorderCase):
     """The service is killed, and goes on with what it kept."""
 
-    def killed(self) -> None:
+    def service_killed(self) -> None:
         for _ in range(3):
             self.step(self.chance.randrange(1, 40))
             self.kill_keeper()
@@ -51,7 +51,7 @@ class KilledRecordingTests(RestartedKeeperCase, RecorderCase):
     def test_file(self) -> None:
         """Not one octet is missing, and none is there twice."""
         self.begins('--session', self.path('kept'))
-        self.killed()
+        self.service_killed()
         self.assertEqual(self.trunk_of(self.path('kept')), self.given_trunk())
         self.assertEqual(self.answers(self.kept_of(self.path('kept'))), self.heard_all())
 
@@ -78,7 +78,7 @@ class KilledRecordingTests(RestartedKeeperCase, RecorderCase):
     def test_ring(self) -> None:
         """The same file is written on for each program, and each replays from its state."""
         self.begins('--session', self.path('ring'), '--keep', '1h')
-        self.killed()
+        self.service_killed()
         self.assertEqual(self.trunk_of(self.path('ring')), self.given_trunk(), self.told())
         fronts = sorted(path.removesuffix('.json') for path in glob.glob(self.path('ring/*.json')))
         places = [beside(f'{front}.e1gw')['place'] for front in fronts]
@@ -128,7 +128,7 @@ class RoomTests(support.FolderCase):
 
 
 def program_of(number: int, octets: int = 0) -> Any:
-    """What stands for a program whose log a test writes."""
+    """A program whose log a test writes."""
     begun = Checkpoint(-1, 0, Counter(octets=octets))
     version = types.SimpleNamespace(program='/bin/false', config=os.open(os.devnull, os.O_RDONLY))
     return types.SimpleNamespace(number=number, version=version, log=TrunkLog(), begun=begun, checkpoint=begun,
@@ -170,7 +170,7 @@ class ServiceFlowTests(unittest.IsolatedAsyncioTestCase):
                 await self.reader.look()
 
     async def test_gaps(self) -> None:
-        """Each is as long as what was lost; who stands still, and a handover, make none."""
+        """Each is as long as what was lost; a stall, and a handover, make none."""
         await self.go(2)
         await self.go(0.25, comes=False)
         await self.go(2)
@@ -184,7 +184,7 @@ class ServiceFlowTests(unittest.IsolatedAsyncioTestCase):
         self.assertEqual((status['gaps'], status['gap_seconds']), (1, 0.25))
 
     async def test_status_and_events(self) -> None:
-        """A gap is told, counted and shown."""
+        """A gap is reported, counted and shown."""
         with tempfile.NamedTemporaryFile('w') as config:
             path = config.name
             found = watch.TrunkWatch(watch.WatchWants(config=lambda: path, name='west', tell=path, program=path), str)

@@ -36,7 +36,7 @@ def coding(law: str, circuit: int) -> PlayedCoding:
 
 
 def config_of(law: str, **of_seven: object) -> str:
-    """Thirty circuits with all codecs, half of them incoming. Circuit 7 has these keys beside."""
+    """Thirty circuits with all codecs, half of them incoming. Circuit 7 has these keys too."""
     tables = []
     for circuit in range(1, 31):
         its = coding(law, circuit)
@@ -106,7 +106,7 @@ def hostile_records(rng: random.Random, law: str, many: int) -> Iterator[bytes]:
 
 
 def pieces_of(rng: random.Random, records: list[bytes], many: int) -> list[bytes]:
-    """The records in so many pieces, cut at random places."""
+    """The records in this number of pieces, cut at random places."""
     places = sorted(rng.randrange(len(records)) for _ in range(many - 1))
     return [b''.join(records[a:b]) for a, b in zip([0, *places], [*places, len(records)])]
 
@@ -289,7 +289,7 @@ class RefusedStateTests(support.FolderCase):
         self.assertEqual(self.state[-32:], hashlib.sha256(self.state[:-32]).digest())
 
     def test_values(self) -> None:
-        """With a right check sum each octet is one that the trunk or a circuit can have, or its place is told."""
+        """With a right check sum each octet is one that the trunk or a circuit can have, or its place is named."""
         rng, faults = random.Random(5), set()
         for place in [486, *(rng.randrange(486, len(self.state) - 32) for _ in range(60))]:
             octets = bytearray(self.state[:-32])

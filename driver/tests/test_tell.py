@@ -71,7 +71,7 @@ def seizures(**counts: int) -> str:
 
 
 class TellClient:
-    """One who is told."""
+    """A client."""
 
     def __init__(self, path: str) -> None:
         self.socket = socket.socket(socket.AF_UNIX)
@@ -94,7 +94,7 @@ class TellClient:
 
 
 class TellTests(support.FolderCase):
-    """A session whose clients are told."""
+    """A session with clients."""
 
     def setUp(self) -> None:
         super().setUp()
@@ -150,7 +150,7 @@ class TellTests(support.FolderCase):
         self.assertEqual([line.split()[3] for line in client.lines() if line.startswith('line  1')][0], 'idle')
 
     def test_seizures(self) -> None:
-        """They are counted, also if nobody is told."""
+        """They are counted, also without a client."""
         self.multiframes(60)
         for _ in range(2):
             self.replay.passes(command_record(1, Command.SEIZE))

@@ -118,7 +118,7 @@ class ToldTests(unittest.TestCase):
         self.take('datagram 1 14 0 0 0')
         self.again(2, row(1, 'idle', counts=(5, 2, 8)))
         self.assertEqual(self.circuit()['datagrams'], {'sent': 5, 'admitted': 2, 'Late': 1, 'Unwatched': 7})
-        self.again(3, row(1, 'idle', counts=(1, 0, 2)))      # a gateway that began anew
+        self.again(3, row(1, 'idle', counts=(1, 0, 2)))      # a new gateway
         self.assertEqual(self.circuit()['datagrams'], {'sent': 1, 'admitted': 0, 'Unwatched': 2})
 
     def test_numbers_that_nobody_was_told_are_not_lost(self) -> None:

@@ -1,4 +1,4 @@
-"""e1gw-trunk in service: commands, what ends beside the calls without ending them, and how all of it ends."""
+"""e1gw-trunk in service: commands, what ends without ending calls, and how all of it ends."""
 from __future__ import annotations
 
 import contextlib
@@ -153,7 +153,7 @@ class TrunkCommandTests(unittest.TestCase):
 
 class TrunkSessionTests(unittest.TestCase):
     def test_commands_are_the_operators(self) -> None:
-        """No program beside the trunk gives any of its own."""
+        """No program other than the trunk's gives any of its own."""
         with World(config_of(FOUR), '--session', '@/kept') as world:
             aligned(world)
             self.assertEqual(world.ask('seize 1'), 'seize 1: done')
@@ -221,11 +221,11 @@ class TrunkSessionTests(unittest.TestCase):
 
 
 class BesideCallsTests(unittest.TestCase):
-    """What ends beside the calls; the calls go on."""
+    """Something ends; the calls go on."""
 
     def goes_on(self, world: World, what: str | None = None) -> None:
-        """A call comes up, and what has ended is told. The trunk goes on in lock step until then: what ends does so in
-        a process or a thread of its own."""
+        """A call comes up, and what has ended is reported. The trunk goes on in lock step until then: what ends does so
+        in a process or a thread of its own."""
         aligned(world)
         call(world, 1)
         world.until(lambda: not what or world.told()['ended'][what] is not None)
@@ -452,7 +452,7 @@ class RefusedOptionsTests(support.FolderCase):
 
 
 class UnitTests(support.FolderCase):
-    """What systemd is told."""
+    """What systemd gets."""
 
     def setUp(self) -> None:
         support.program()
@@ -463,7 +463,7 @@ class UnitTests(support.FolderCase):
         self.line.settimeout(SECONDS)
 
     def told(self) -> str:
-        """What is told next that is no sign of life, and no descriptor to keep."""
+        """What comes next that is no sign of life, and no descriptor to keep."""
         while (told := self.line.recv(4096).decode()).startswith(('WATCHDOG=1', 'FDSTORE')):
             pass
         return told

@@ -1,4 +1,4 @@
-"""`e1gw trunk` over a socket pair and over pipes, beside `e1gw serve` and `e1gw replay` over the same octets.
+"""`e1gw trunk` over a socket pair and over pipes, against `e1gw serve` and `e1gw replay` over the same octets.
 
 It goes in lock step: what is sent is read back before more is sent. No test waits for a moment to come."""
 from __future__ import annotations
@@ -146,7 +146,7 @@ class ServedTrunkTests(ServedTrunkCase):
     def test_output_that_takes_none_for_a_time(self) -> None:
         out, into = os.pipe()
         os.set_blocking(into, False)
-        idle = b'\xff' * 1000                        # nothing is heard, so what is sent has a period of a multiframe
+        idle = b'\xff' * 1000                        # nothing is received, so what is sent has a period of a multiframe
         words = self.serves('--totals')
         with open(out, 'rb', buffering=0) as read, subprocess.Popen(
                 words, stdin=subprocess.PIPE, stdout=into, stderr=subprocess.PIPE) as serving:
@@ -234,7 +234,7 @@ def blocks(circuits: Sequence[int]) -> bytes:
 
 
 def answers_of(client: socket.socket, count: int) -> list[tuple[int, bytes]]:
-    """The circuits and the bodies of so many answers that come to a client."""
+    """The circuits and the bodies of the answers that come to a client, this number."""
     return [(record.circuit, record.body) for record in records_in(read_all(client, count * ANSWER_LENGTH))]
 
 
@@ -253,7 +253,7 @@ class TrunkClientTests(ServedTrunkCase):
         return trunk
 
     def refused(self, circuits: Sequence[int]) -> list[tuple[int, bytes]]:
-        """Answers that these circuits are not idle: no exchange is heard."""
+        """Answers that these circuits are not idle: there is no exchange."""
         return [(circuit, bytes([Kind.COMMAND, CommandRefusal.NOT_IDLE])) for circuit in circuits]
 
     def test_each_client_gets_its_own_answers(self) -> None:
@@ -437,7 +437,7 @@ class HandedOverTrunkTests(ServedTrunkCase):
         return len(octets)
 
     def take(self, length: int) -> None:
-        """Takes so many octets that came back."""
+        """Takes this number of octets that came back."""
         back = read_all(self.here, length)
         self.back += back
         self.exchange.hear(back)

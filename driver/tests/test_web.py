@@ -21,12 +21,15 @@ from e1gw.crc4 import Crc4
 from e1gw.metrics import exposition, family
 from e1gw.service import pages as service_pages
 from e1gw.testing.ports import free_port
+from e1gw.tie import status as tie_status
+from e1gw.tie.kept import KeptBlocks
+from e1gw.tie.tie import Tie, TieOptions
 
 SAMPLE = re.compile(r'([a-z_0-9]+)(\{(?:[a-z_]+="(?:[^"\\]|\\.)*",?)*\})? (-?[0-9.e+-]+)')
 
 
 def samples(text: str) -> dict[str, float]:
-    """The samples of a text of Prometheus; each is of a family that was declared before it, and stands there once."""
+    """The samples of a text of Prometheus; each is of a family that was declared before it, and is there once."""
     found: dict[str, float] = {}
     declared: set[str] = set()
     for line in text.splitlines():
@@ -74,7 +77,7 @@ class DrawnPageTests(unittest.IsolatedAsyncioTestCase):
     """A picture that takes longer than somebody waits for it."""
 
     async def test_a_slow_picture(self) -> None:
-        """One process draws, however many ask; they are told so, and later get it."""
+        """One process draws, however many ask; they learn it, and later get the page."""
         drawn, begun = asyncio.Event(), list[tuple[object, ...]]()
 
         async def communicate() -> tuple[bytes, None]:
@@ -112,7 +115,7 @@ class WebTests(unittest.TestCase):
         aligned(world)
         call(world, 1)
         world.ask('seize 1')
-        world.step(150)         # the counts that are told are a quarter of a second old
+        world.step(150)         # reported counts are a quarter of a second old
         status = world.status()
         found = samples(self.get('/metrics'))
         counts = status['circuits'][0]['datagrams']
@@ -140,7 +143,10 @@ class WebTests(unittest.TestCase):
         for name in ('alerts.yml', 'dashboard.json'):
             with open(f'{support.TOP}/dist/package/{name}', encoding='utf-8') as file:
                 named |= set(re.findall(r'\be1gw_\w+', file.read()))
-        more = exposition(self.world.status() | {'crc4': Crc4().status()})
+        pair = {'role': 'active', 'fed': False, 'feed_age': None}
+        more = exposition(self.world.status() | {'crc4': Crc4().status()} | pair)
+        more += tie_status.exposition(tie_status.status_of(
+            Tie(TieOptions('', None, 0.0, False), '', KeptBlocks(None), print)))
         declared = set(re.findall(r'^# TYPE (\w+)', self.get('/metrics') + more, re.M)) | {
             'e1gw_trunk_rate_ppm'}
         self.assertLessEqual(named, declared)

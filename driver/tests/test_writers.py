@@ -4,7 +4,6 @@ from __future__ import annotations
 import json
 import os
 import stat
-import threading
 import time
 import unittest
 from unittest import mock
@@ -15,7 +14,6 @@ from .world import World, config_of
 from e1gw import writers
 from e1gw.service.events import EventFile, lines_to
 from e1gw.service.journal import MINUTE
-from e1gw.writers import Writer
 
 
 class WriterOpeningTests(support.FolderCase):
@@ -44,16 +42,6 @@ class WriterOpeningTests(support.FolderCase):
             self.assertEqual(reads.read(8), b'abc\ndef\n')
             file.close()
         self.assertEqual(self.ended, [])
-
-    def test_an_opening_that_never_ends(self) -> None:
-        opened, written = threading.Event(), list[bytes]()
-        writer = Writer('session', written.append, None, None, opened.wait)
-        for _ in range(1000):
-            writer.put(b'abc')
-        self.assertEqual((written, writer.waiting()), ([], 3000))
-        opened.set()
-        writer.close()
-        self.assertEqual(len(written), 1000)
 
     def test_a_trunk_whose_files_do_not_open(self) -> None:
         support.program()

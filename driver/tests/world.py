@@ -129,7 +129,7 @@ class ServedProgram:
         return stream
 
     def quit(self) -> tuple[int, str]:
-        """Ends it; its status and what stands on standard error."""
+        """Ends it; its status and what is on standard error."""
         self.ask('quit')
         return self.wait()
 
@@ -176,7 +176,7 @@ class World(ServedProgram):
                 raise
 
     def connected(self) -> None:
-        """Waits until the watcher knows how the trunk stands. It is told that at the first octets that come."""
+        """Waits until the watcher knows the state of the trunk, which it learns at the first octets that come."""
         while self.process.poll() is None:
             try:
                 if self.ask_at_once(NO_EFFECT) == NO_EFFECT_ANSWER and self.known()['shadow']:
@@ -205,7 +205,7 @@ class World(ServedProgram):
         support.until(lambda: self.ask_at_once(NO_EFFECT) == NO_EFFECT_ANSWER)
 
     def new_listener(self) -> socket.socket:
-        """The socket anew, for a driver that opens its trunk again."""
+        """Another socket, for a driver that opens its trunk again."""
         os.unlink(self.path('card'))
         return self._listener()
 
@@ -264,7 +264,7 @@ class World(ServedProgram):
                 pairs[circuit] = IDLE
 
     def until(self, holds: Callable[[], object], most: float = inf) -> None:
-        """Steps until something holds, at most so many times."""
+        """Steps until something holds, at most this number of times."""
         for number in itertools.count():
             if holds():
                 return

@@ -24,7 +24,7 @@ from .trunk import TrunkFiles
 
 AGAIN = 1.0                 # seconds after which another program is asked for again
 LOOK = 0.25                 # seconds between two looks at what the processes say
-ANEW = 0.2                  # seconds for the far end of `e1gw satop` to take its packets as a stream that begins anew
+ANEW = 0.2                  # seconds for the far end of `e1gw satop` to take its packets as a new stream
 GRACE = 1.0                 # seconds for what was sent last to go out
 ONES = b'\xff' * 2 * MULTIFRAME         # with which the far end loses frame alignment
 ENDED, BROKEN = 'the trunk has ended', 'the trunk cannot be read or written'
@@ -49,7 +49,7 @@ class CarriedTrunk(TrunkFiles):
         self._left = list[LineProcess]()            # of a service before this one whose descriptors nobody has kept
         self._why = ''                              # why the line has ended
         self.origin = 0
-        with contextlib.suppress(KeyError, TypeError, ValueError):      # (then it is opened anew)
+        with contextlib.suppress(KeyError, TypeError, ValueError):      # (then it is opened again)
             self._take_up(files, note or {})
 
     # ---- opening ----
@@ -158,7 +158,7 @@ class CarriedTrunk(TrunkFiles):
                 await self._begin_check(name)
 
     async def _begin_check(self, name: str) -> None:
-        """Behind another process octets are missing, so CRC multiframes are to be looked for anew, by the check and,
+        """Behind another process octets are missing, so CRC multiframes are to be looked for again, by the check and,
         if nothing else tells it so, by the far end. Moved by half a multiframe each submultiframe would be right, and
         E bits read where there are none."""
         await self._end_process('check', 0.0)

@@ -11,7 +11,7 @@ from typing import Sequence
 
 from .follower import PATIENCE, LogFollower
 from .log import Checkpoint, has_room
-from .program import TrunkProgram
+from .program import LoggedProgram
 from .version import ProgramVersion
 
 LOG_ROOM = 32 << 20         # octets of a log behind its last checkpoint at which another one is taken: a minute
@@ -54,8 +54,8 @@ class Checkpoints:
             raise NoRoom
         return os.path.join(self._folder, 'no-room', 'state')
 
-    def follow(self, program: TrunkProgram) -> LogFollower:
-        """Starts a follower from the last checkpoint on, which tells how the trunk stands."""
+    def follow(self, program: LoggedProgram) -> LogFollower:
+        """Starts a follower from the last checkpoint on, which reports the state of the trunk."""
         self._number += 1
         tell = f'{self._tell}.{program.number}.{self._number}' if self._tell else None
         program.follower = follower = self._started(program, program.version, tell)
@@ -71,11 +71,11 @@ class Checkpoints:
             point(self._tell, self._unnamed)
             self._unnamed = None
 
-    def _started(self, program: TrunkProgram, version: ProgramVersion, tell: str | None) -> LogFollower:
+    def _started(self, program: LoggedProgram, version: ProgramVersion, tell: str | None) -> LogFollower:
         return LogFollower(version, program.log, program.checkpoint, self.new_path(False), tell, self._words)
 
-    def look(self, program: TrunkProgram) -> None:
-        """To be called now and then: another follower in place of one that has ended, stands still or hangs."""
+    def look(self, program: LoggedProgram) -> None:
+        """To be called now and then: another follower in place of one that has ended or hangs."""
         if self._lock.locked():
             return
         now, follower = time.monotonic(), program.follower
@@ -86,7 +86,7 @@ class Checkpoints:
             program.follower = None
         if not program.follower and now >= self._due:
             its = self.follow(program).process.pid
-            logger.warning('%s: program %d goes on; shadow %d', self._why, program.process.pid, its)
+            logger.warning('%s: program %d goes on; shadow %d', self._why, program.pid, its)
         if program.follower:
             self._name(program.follower)
 
@@ -103,13 +103,13 @@ class Checkpoints:
 
     # ---- checkpoints ----
 
-    def is_due(self, program: TrunkProgram) -> bool:
+    def is_due(self, program: LoggedProgram) -> bool:
         """Whether another checkpoint is to be taken: the log has grown, and the follower has read it."""
         follower = program.follower
         return (program.log.place() - program.checkpoint.place >= LOG_ROOM and follower is not None
                 and follower.has_all())
 
-    async def take(self, program: TrunkProgram) -> None:
+    async def take(self, program: LoggedProgram) -> None:
         """A checkpoint of now: the follower ends and saves, and another one goes on. If it does not save, the
         checkpoint before stays."""
         async with self._lock:
@@ -124,7 +124,7 @@ class Checkpoints:
                 follower.close()
             self.follow(program)
 
-    async def recover(self, program: TrunkProgram, before: ProgramVersion | None) -> Checkpoint | None:
+    async def recover(self, program: LoggedProgram, before: ProgramVersion | None) -> Checkpoint | None:
         """The state behind all that a program that has ended has taken: what it has saved itself, or what a follower
         saves, if need be of the version before. None if none can be had."""
         async with self._lock:
@@ -140,7 +140,7 @@ class Checkpoints:
                 await asyncio.sleep(AGAIN * number)
             return None
 
-    def _replace(self, program: TrunkProgram, version: ProgramVersion) -> None:
+    def _replace(self, program: LoggedProgram, version: ProgramVersion) -> None:
         """Another follower for a program that has ended, which tells nobody."""
         if program.follower:
             program.follower.close()
@@ -153,7 +153,7 @@ class Checkpoints:
 
 
 def point(name: str, path: str) -> None:
-    """Has a name lead to a socket beside it from now on. If that fails it is told, and nothing ends."""
+    """Has a name lead to a socket next to it from now on. A failure is reported, and nothing ends."""
     new = f'{name}.{os.getpid()}'
     try:
         if os.path.lexists(new):

@@ -43,7 +43,7 @@ def add_line(words: argparse.ArgumentParser) -> None:
 
 
 def line_words(asked: argparse.Namespace) -> list[str | None]:
-    """What a trunk is beside a device: the same words for the same trunk."""
+    """What a trunk is besides a device: the same words for the same trunk."""
     return [asked.satop, *(name for name in ('align', 'crc4', 'clear') if getattr(asked, name))]
 
 

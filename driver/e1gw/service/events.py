@@ -1,4 +1,4 @@
-"""Changes of the trunk are told: to the journal, to a file of JSON, to standard output, and to clients that follow."""
+"""Reports changes of the trunk: to the journal, to a file of JSON, to standard output, and to clients that follow."""
 from __future__ import annotations
 
 import json
@@ -23,7 +23,7 @@ logger = logging.getLogger(__name__)
 
 
 class EventFile:
-    """A place of lines beside the calls, opened and written by a thread of its own: nothing waits for it. If it fails
+    """A place of lines, opened and written by a thread of its own: nothing waits for it. If it fails
     it ends, and `ended(name, why)` is called once, in any thread."""
 
     def __init__(self, name: str, handler: logging.Handler, ended: Callable[[str, str], None], where: str = '') -> None:

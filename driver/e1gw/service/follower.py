@@ -19,8 +19,8 @@ TOTALS = ('records', 'octets', 'datagrams', 'dropped', 'port_faults', 'discarded
 
 
 class LogFollower:
-    """A follower, which reads the log by itself. `tell` is the socket at which it tells how the trunk stands; `saves`
-    the path of its state."""
+    """A follower, which reads the log by itself. `tell` is the socket at which it reports the trunk's state; `saves`
+    the path of its own."""
 
     def __init__(self, version: ProgramVersion, log: TrunkLog, begun: Checkpoint, saves: str, tell: str | None,
                  words: Sequence[str]) -> None:
@@ -93,7 +93,7 @@ class LogFollower:
         return (done, waits), waits and (done, waits) == before
 
     def _has(self, most: int) -> bool:
-        """Whether it has read what the log has, but for so many octets at most."""
+        """Whether it has read what the log has, but for this number of octets at most."""
         return self._log.place() - self._place() <= most
 
     def has_all(self) -> bool:
@@ -130,7 +130,7 @@ def totals_in(said: str) -> Counter[str]:
 
 
 def lines_in(said: str) -> list[str]:
-    """What a program has said beside its totals."""
+    """What a program has said besides its totals."""
     return [line for line in said.splitlines() if line.split()[:1] and line.split()[0] not in (*TOTALS, 'place')]
 
 

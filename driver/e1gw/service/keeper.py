@@ -10,7 +10,7 @@ import time
 import traceback
 from collections import deque
 from dataclasses import dataclass, field
-from typing import Callable
+from typing import TYPE_CHECKING, Callable
 
 from ..explain import config_words, gateway_words
 from ..trunks import Stream
@@ -18,17 +18,21 @@ from .checkpoints import Checkpoints, NoRoom, point
 from .devices import LineOptions
 from .journal import NOTICE
 from .log import Checkpoint, in_memory
-from .program import TrunkProgram
+from .program import LoggedProgram, TrunkProgram
 from .reader import LogReader
 from .recovery import Handover, Notifier
 from .trunk import TrunkFiles, either
 from .version import ProgramVersion, VersionHistory
+
+if TYPE_CHECKING:
+    from .pair import TrunkPair
 
 START, GRACE = 10.0, 5.0    # seconds for a program to carry the trunk, and to end in order
 TICK = 0.25                 # seconds between two looks while nothing happens
 APART = 60.0                # seconds between two programs that follow for a control socket that is gone
 AGAIN = 0.1                 # seconds before a step that has failed is begun again
 DEATHS, WITHIN, MOST_PAUSE = 5, 2.0, 10.0       # deaths within seconds: the next one begins without a state
+DEMOTED = 'the other machine carries the trunk'
 LOST, ANEW = ', what it had in hand is lost: 2048 octets (8 ms) at most', '; all calls begin anew'
 
 logger = logging.getLogger(__name__)
@@ -81,10 +85,11 @@ class TrunkKeeper:
         self.number, self.status = 0, None      # type: int, int | None
         self.was_up, self.is_whole = False, True        # (whether all that was taken up to the state was sent)
         self.reader: LogReader | None = None
+        self.pair: TrunkPair | None = None      # of a trunk that two machines have
         self.ending, self.wanted = '', ''       # why no other program is to follow, or why one is
-        self._ends, self._wake = asyncio.Event(), asyncio.Event()
-        self._handover, self._notifier = handover, notifier
-        self._silent, self._due, self._deaths = time.monotonic(), 0.0, DeathCount()
+        self.ends, self.wake = asyncio.Event(), asyncio.Event()
+        self._handover, self.notifier = handover, notifier
+        self.silent, self._due, self._deaths = time.monotonic(), 0.0, DeathCount()
         self._finishing = set[asyncio.Task[None]]()
         trunk.ask = self.ask
 
@@ -94,7 +99,9 @@ class TrunkKeeper:
         """Carries the trunk until its end; returns the status."""
         while self.status is None:
             try:
-                if program := await self._begin():
+                if self.pair and not (self.pair.is_active or self.program):
+                    await self.pair.stand_by()
+                elif program := await self._begin():
                     await self._succeed(program, await self._reason(program))
             except Exception as fault:      # pylint: disable=broad-exception-caught
                 logger.error('the keeper goes on: %s', placed(fault), extra={'kind': 'fault'})
@@ -107,10 +114,11 @@ class TrunkKeeper:
     async def _begin(self) -> TrunkProgram | None:
         """The program that carries the trunk, started if there is none; None if it does not come up."""
         if not self.trunk.is_open():
-            self._notifier.tell('READY=1', 'STATUS=the trunk is not open yet')
-            await self.trunk.reopen(self._ends)
-        if not self.program and self.ending:
-            self._finish(self.ending, 0)
+            self.notifier.tell('READY=1', 'STATUS=the trunk is not open yet')
+            await self.trunk.reopen(self.ends)
+        if not self.program and (self.ending or not self.trunk.is_open()):
+            if self.ending:
+                self.finish(self.ending, 0)
             return None
         program = self.program or await self._start()
         if not program.is_up and not await program.comes_up(START) and not program.ended_well():
@@ -134,13 +142,13 @@ class TrunkKeeper:
         return program
 
     def _follow(self, program: TrunkProgram) -> None:
-        """A program is up: its follower, and what is told of it."""
+        """A program is up: its follower, and what is reported of it."""
         now, pid = time.monotonic(), program.process.pid
         shadow = self.checkpoints.follow(program).process.pid
         point(self.wants.control, program.control)
         if self.wants.state and not self.was_up and os.path.exists(self.wants.state):
             os.unlink(self.wants.state)
-        after = f' goes on after {(now - self._silent) * 1000:.0f} ms' if self.was_up else ' carries the trunk'
+        after = f' goes on after {(now - self.silent) * 1000:.0f} ms' if self.was_up else ' carries the trunk'
         logger.log(logging.WARNING if self.lost else NOTICE, '%s%s; shadow %d', self.why,
                    begun_words(program, after, self.lost), shadow)
         pass_on(program)
@@ -148,21 +156,21 @@ class TrunkKeeper:
         if program.version is self.versions.now:
             self.versions.is_up(now)
         self.note()
-        self._notifier.tell('READY=1', f'STATUS=program {pid}, shadow {shadow}')
+        self.notifier.tell('READY=1', f'STATUS=program {pid}, shadow {shadow}')
 
     async def _reason(self, program: TrunkProgram) -> str:
         """Waits until another program has to follow, and returns why; nothing if this one has ended."""
         while not program.process.over.is_set():
             if self.ending or self.wanted:
                 return self.ending or self.wanted
-            await either(TICK, program.process.over, self._wake)
-            self._wake.clear()
+            await either(TICK, program.process.over, self.wake)
+            self.wake.clear()
             if not program.process.over.is_set():
                 await self._look(program)
         return ''
 
     async def _look(self, program: TrunkProgram) -> None:
-        """Sees to what is beside the program that carries the trunk."""
+        """Sees to what runs alongside the program that carries the trunk."""
         now = time.monotonic()
         self.versions.look(now)
         if program.process.is_stopped():
@@ -173,12 +181,9 @@ class TrunkKeeper:
             await self.checkpoints.take(program)
         os.makedirs(self.wants.folder, 0o700, exist_ok=True)
         if not os.path.lexists(program.control) and now >= self._due:
-            # (another program has one, once a minute at most)
-            self._due = now + APART
+            self._due = now + APART     # (another program has one, once a minute at most)
             self.ask('the control socket is gone')
         self.note()
-
-    # ---- one after another ----
 
     async def _succeed(self, program: TrunkProgram, why: str) -> None:
         """What follows a program that has ended, or that has to end for this reason."""
@@ -191,14 +196,14 @@ class TrunkKeeper:
                                or is_well and self.trunk.has_ended(program.totals()['octets']))
         if not state:
             logger.error('the program %s: no state is known', words)
-        self._begins_with(state or Checkpoint(counted=program.checkpoint.counted))
+        self.begins_with(state or Checkpoint(counted=program.checkpoint.counted))
         pass_on(program)
         self.lost = ANEW if not state else '' if is_well else LOST
         self.is_whole = is_well
-        self._silent, self.wanted, failure = silent, '', self.trunk.failure()
+        self.silent, self.wanted, failure = silent, '', self.trunk.failure()
         if self.ending or is_over and not self.wants.reopens:
             is_good = bool(self.ending or is_well and not failure)
-            return self._finish(self.ending or failure or trunk_words(program, words), int(not is_good))
+            return self.finish(self.ending or failure or trunk_words(program, words), int(not is_good))
         if is_over:
             self.why = failure or trunk_words(program, words)
             logger.warning('%s, behind octet %d; it is opened again', self.why, self.state.counted['octets'])
@@ -214,7 +219,7 @@ class TrunkKeeper:
     async def _ask_end(self, program: TrunkProgram, why: str) -> bool:
         """Has a program end behind what it has read. Not asked if there is no room for its state: it goes on then."""
         try:
-            if not self.ending:
+            if not (self.ending or why == DEMOTED):
                 self.checkpoints.see_room()
         except NoRoom:
             logger.error('%s: no room for a state, the program goes on', why)
@@ -234,8 +239,8 @@ class TrunkKeeper:
         if pause is not None:
             logger.error('%s, %d times in a short time: the trunk begins without a state, in %g s', self.why, DEATHS,
                          pause)
-            self._begins_with(None)
-            await either(pause, self._ends)
+            self.begins_with(None)
+            await either(pause, self.ends)
 
     async def _never_up(self, program: TrunkProgram) -> None:
         """A program does not come up: it has ended, or hangs."""
@@ -244,18 +249,18 @@ class TrunkKeeper:
         words, self.is_whole = f'does not begin within {START:g} s' if hangs else program.last_words(), False
         if self.ending or not (self.was_up or self.state.state >= 0):
             explain(words, self.wants.config)
-            return self._finish(self.ending or f'the program {words}', 0 if self.ending else 1)
+            return self.finish(self.ending or f'the program {words}', 0 if self.ending else 1)
         self._retire(program)
         if self.versions.before:
             self._go_back(words)
         elif words.startswith('says: state ') or not self.was_up:
             logger.error('the program %s: the trunk begins without a state', words)
-            self._begins_with(None)
+            self.begins_with(None)
         else:
             self.why = f'the program {words}'
             await self._died()
 
-    def _begins_with(self, state: Checkpoint | None) -> None:
+    def begins_with(self, state: Checkpoint | None) -> None:
         """The next program begins with this state, or with none."""
         self.state.close()
         self.state, self.lost = state or Checkpoint(counted=self.state.counted), self.lost if state else ANEW
@@ -267,7 +272,7 @@ class TrunkKeeper:
         self._finishing.add(task)
         task.add_done_callback(self._finishing.discard)
 
-    def _finish(self, why: str, status: int) -> None:
+    def finish(self, why: str, status: int) -> None:
         """No other program follows."""
         counted = self.state.counted
         logger.log(logging.ERROR if status else logging.INFO, 'ends: %s, behind octet %d', why, counted['octets'])
@@ -276,48 +281,52 @@ class TrunkKeeper:
         status = status if is_stored(self.state.state, self.wants.state) else 1
         if self.program:
             self._retire(self.program)
-        self._notifier.tell('STOPPING=1')
+        self.notifier.tell('STOPPING=1')
         self._handover.forget()
         self.status = status
-
-    # ---- another version, and another service ----
 
     def renew(self, version: ProgramVersion) -> None:
         """A program of this version is to follow."""
         self.versions.renew(version)
         self.wanted = 'reload'
-        self._wake.set()
+        self.wake.set()
 
     def _go_back(self, words: str) -> None:
         """To the version before."""
         self.versions.go_back(refused(words, self.wants.config)).close()
-        self._notifier.tell('READY=1')
+        self.notifier.tell('READY=1')
 
     def ask(self, why: str) -> None:
         """Another program is to follow, for this reason."""
         self.wanted = self.wanted or why
-        self._wake.set()
+        self.wake.set()
 
     def end(self, why: str) -> None:
         """The end is asked for."""
         self.ending = self.ending or why
-        self._ends.set()
-        self._wake.set()
+        self.ends.set()
+        self.wake.set()
 
     def files(self) -> dict[str, int]:
         """The descriptors that the next service has to have."""
-        its = (self.reader.files() if self.reader else {}), (self.program.files() if self.program else {})
-        return self.trunk.named() | its[0] | its[1]
+        its = [each.files() for each in (self.reader, self.program) if each]
+        return {name: file for files in (self.trunk.named(), *its) for name, file in files.items()}
 
     def note(self) -> None:
         """Notes what the next service has to know if this one ends. What lies behind the checkpoint that is noted is
         given back."""
         program = self.program
         note = {'number': self.number, 'up': self.was_up, 'program': program and program.note(),
-                'trunk': self.trunk.note(), 'read': self.reader and self.reader.note()}
+                'trunk': self.trunk.note(), 'read': self.reader and self.reader.note(),
+                'active': self.pair is None or self.pair.is_active}
         if self._handover.put(note, self.files()) and program:
-            place = program.checkpoint.place
-            program.log.free(min(place, self.reader.needed(program)) if self.reader else place)
+            others = [each.needed(program) for each in (self.reader, self.pair) if each]
+            program.log.free(min(program.checkpoint.place, *others))
+
+
+def followed(keeper: TrunkKeeper) -> LoggedProgram | None:
+    """The program whose state a follower has: that of this machine, or of the other one, for which this stands by."""
+    return keeper.program or (keeper.pair.followed() if keeper.pair else None)
 
 
 def begun_words(program: TrunkProgram, after: str, lost: str) -> str:

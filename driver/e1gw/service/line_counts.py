@@ -1,4 +1,4 @@
-"""What the processes of a line count, and what is told of that."""
+"""What the processes of a line count, and what is reported of that."""
 from __future__ import annotations
 
 import json
@@ -65,11 +65,11 @@ class LineCounts:
         self.has_ended |= told.get('ended', False)
 
     def line_begins(self, octets: int) -> None:
-        """A program begins behind so many octets of the trunk: the first one, or another one, on this line."""
+        """A program begins behind this number of octets of the trunk: the first one, or another one, on this line."""
         self._began, self._is_open = (self._began if self._is_open else octets), True
 
     def check_ends(self, octets: int | None = None) -> None:
-        """A check has ended, and another one may follow. It has read so many octets, if that is known."""
+        """A check has ended, and another one may follow. It has read this number of octets, if that is known."""
         if self._crc4:
             if counts := counts_at_end(self._last):
                 self._take_crc4(counts, self._seconds * OCTETS_A_SECOND if octets is None else octets)
@@ -77,7 +77,7 @@ class LineCounts:
         self._seconds, self._last, self._began = 0, [], None
 
     def line_ends(self, octets: int | None) -> None:
-        """The line has ended, behind so many octets of the trunk, if all of them were read."""
+        """The line has ended, behind this number of octets of the trunk, if all of them were read."""
         self.check_ends(None if octets is None or self._began is None else octets - self._began)
         self.has_ended = self._is_open = False
 

@@ -44,7 +44,7 @@ class Joint:
         return os.open(f'/proc/self/fd/{self.file}', flags | os.O_CLOEXEC)
 
     def read(self, most: int) -> bytes:
-        """What nobody has read of it yet, at most so many octets."""
+        """What nobody has read of it yet, at most this number of octets."""
         return os.read(self.file, most) if waiting(self.file) else b''
 
     def close(self) -> None:

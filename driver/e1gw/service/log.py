@@ -17,7 +17,7 @@ _fallocate.argtypes = [ctypes.c_int, ctypes.c_int, ctypes.c_int64, ctypes.c_int6
 
 
 class TrunkLog:
-    """A log. `file` is its descriptor, by which a program opens it anew."""
+    """A log. `file` is its descriptor, by which a program opens it again."""
 
     def __init__(self, file: int | None = None) -> None:
         self.file = os.memfd_create('e1gw-log') if file is None else file
@@ -31,7 +31,7 @@ class TrunkLog:
         return os.pread(self.file, most, place)
 
     def boundary(self, place: int, most: int) -> int:
-        """The end of the last whole record that begins at this boundary or behind it, looking at so many octets."""
+        """The end of the last whole record that begins at this boundary or behind it, within this number of octets."""
         octets, at = self.read(place, most), 0
         while at + HEAD.size <= len(octets):
             end = at + HEAD.size + HEAD.unpack_from(octets, at)[2]

@@ -23,15 +23,38 @@ SOON = 0.001                # seconds between two tries to connect to a program 
 MOST_PATH = 107             # octets of the path of a socket
 
 
-class TrunkProgram:
-    """A program, its log, and the checkpoint from which its state can be had."""
+class LoggedProgram:
+    """A program of this machine or of another one: its log, the checkpoint from which its state can be had, and the
+    follower that has it."""
+
+    def __init__(self, number: int, version: ProgramVersion, begun: Checkpoint, log: TrunkLog, pid: int = 0) -> None:
+        self.number, self.version, self.begun, self.checkpoint, self.log = number, version, begun, begun, log
+        self.pid = pid
+        self.follower: LogFollower | None = None
+
+    def saved(self) -> Checkpoint | None:
+        """The state that it has saved at an end in order, if that is known here."""
+        return None
+
+    def reach(self, checkpoint: Checkpoint) -> None:
+        """Its state can be had from here on."""
+        before, self.checkpoint = self.checkpoint, checkpoint
+        before.close()
+
+    def hurry(self) -> None:
+        """Its follower reads all that the log has, at once."""
+        if self.follower:
+            self.follower.hurry()
+
+
+class TrunkProgram(LoggedProgram):
+    """The program that carries the trunk."""
 
     def __init__(self, number: int, version: ProgramVersion, begun: Checkpoint, control: str, saves: str,
                  log: TrunkLog, said: int) -> None:
-        self.number, self.version, self.begun, self.checkpoint = number, version, begun, begun
-        self.control, self._saves, self.log, self._said = control, saves, log, said
+        super().__init__(number, version, begun, log)
+        self.control, self._saves, self._said = control, saves, said
         self.process: Child
-        self.follower: LogFollower | None = None
         self.is_up = self.is_adopted = self._is_closed = False
         self._hello = socket.socket(socket.AF_UNIX)
         self._probe: socket.socket | None = None
@@ -55,6 +78,7 @@ class TrunkProgram:
             found.checkpoint.close()
             shutil.rmtree(os.path.dirname(saves), ignore_errors=True)
             raise
+        found.pid = found.process.pid
         return found
 
     async def comes_up(self, seconds: float) -> bool:
@@ -100,20 +124,9 @@ class TrunkProgram:
         return self.process.status == 0 or self.process.status == UNKNOWN and os.path.exists(self._saves)
 
     def saved(self) -> Checkpoint | None:
-        """The state that it has saved at an end in order."""
         if self.ended_well() and os.path.exists(self._saves):
             return Checkpoint(take_file(self._saves), 0, self.begun.counted + self.totals())
         return None
-
-    def reach(self, checkpoint: Checkpoint) -> None:
-        """Its state can be had from here on."""
-        before, self.checkpoint = self.checkpoint, checkpoint
-        before.close()
-
-    def hurry(self) -> None:
-        """Its follower reads all that the log has, at once."""
-        if self.follower:
-            self.follower.hurry()
 
     def totals(self) -> Counter[str]:
         return totals_in(text_of(self._said))
@@ -177,6 +190,7 @@ class TrunkProgram:
         if 'hello' in its:
             found._hello = socket.socket(fileno=its['hello'])
         found.process = Child(int(note['pid']), int(note['started']))
+        found.pid = found.process.pid
         found.is_up, found._told, found.is_adopted = bool(note['up']), int(note['told']), True
         return found
 

@@ -52,8 +52,8 @@ def whole_records(octets: bytes, upto: int) -> tuple[int, int]:
 
 @dataclass(frozen=True)
 class RecordingWants:
-    """What is kept: `session` is a file, or with `keep`, so many seconds, the folder of a ring. `config` is the path of
-    the configuration, for those who read it."""
+    """What is kept: `session` is a file, or with `keep`, some seconds, the folder of a ring. `config` is the path
+    of the configuration, for those who read it."""
 
     session: str
     keep: int | None

@@ -20,7 +20,7 @@ REPLACED = 'E1GW_REPLACED'
 
 
 class Notifier:
-    """Tells systemd how the service stands, if systemd listens (sd_notify(3)). Nothing here waits."""
+    """Tells systemd the state of the service, if systemd listens (sd_notify(3)). Nothing here waits."""
 
     def __init__(self) -> None:
         self._path = os.environ.get('NOTIFY_SOCKET', '').replace('@', '\0', 1)

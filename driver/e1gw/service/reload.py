@@ -8,7 +8,7 @@ import time
 
 from .. import ctl
 from ..faults import Parser, words_of_fault
-from .keeper import TrunkKeeper, refused
+from .keeper import TrunkKeeper, followed, refused
 from .log import Checkpoint
 from .recovery import Handover, Notifier
 from .version import VersionRefused, version_of_now
@@ -52,9 +52,9 @@ class ReloadRequests:
         """Has a program of the version of now follow; a line says which calls that ends."""
         keeper, wants = self._keeper, self._keeper.wants
         checkpoint = Checkpoint()
-        if keeper.program and keeper.program.follower:
-            await keeper.checkpoints.take(keeper.program)
-            its = keeper.program.checkpoint.state
+        if (program := followed(keeper)) and program.follower:
+            await keeper.checkpoints.take(program)
+            its = program.checkpoint.state
             checkpoint = Checkpoint(os.dup(its)) if its >= 0 else checkpoint
         version = None
         try:

@@ -1,4 +1,4 @@
-"""Carries an E1 trunk, and keeps it in service: one process, beside `e1gw trunk` and its follower.
+"""Carries an E1 trunk, and keeps it in service: one process, alongside `e1gw trunk` and its follower.
 
 The program carries the octets by itself, and logs all that it takes in memory. If it dies another one goes on from the
 state of that log. This process may be killed: the program goes on, and the next start takes it up.
@@ -31,9 +31,10 @@ from ..writers import hold_descriptors
 from .commands import CannotListen
 from .devices import add_line, line_of, line_words, opening_of
 from .journal import ServiceJournal
-from .keeper import GRACE, TrunkKeeper, TrunkWants
+from .keeper import GRACE, TrunkKeeper, TrunkWants, followed
 from .log import Checkpoint
-from .program import MOST_PATH, TrunkProgram
+from .pair import add_pair, feeding_of, pair_of
+from .program import MOST_PATH, LoggedProgram, TrunkProgram
 from .reader import LogReader
 from .recordings import RecordingWants
 from .recovery import Handover, Notifier, given_files, note_of
@@ -65,6 +66,7 @@ def parser() -> argparse.ArgumentParser:
     kept.add_argument('--gap', type=number(20, 10_000), default=100, metavar='MS',
                       help='lost octets of so many milliseconds restart the playout of open calls [default: 100]')
     add_calls(kept)
+    add_pair(words.add_argument_group('two machines'))
     words.add_argument('--folder', metavar='DIR', help='where its sockets are, in memory [default: '
                        'RUNTIME_DIRECTORY, or /dev/shm]')
     words.add_argument('--program-control', metavar='SOCKET', help='where the program takes records, e1gw(1)')
@@ -109,6 +111,7 @@ def wants_of(asked: argparse.Namespace) -> TrunkWants:
     """What is wanted, of a command line. ValueError if it is not one trunk, or a path is too long."""
     opens = opening_of(asked)
     recording_of(asked)
+    feeding_of(asked)
     folder = folder_of(asked)
     control = asked.program_control or os.path.join(folder, 'program')
     for path in filter(None, (control, asked.tell)):
@@ -118,7 +121,8 @@ def wants_of(asked: argparse.Namespace) -> TrunkWants:
     both = wait_words(asked.seizure_wait)
     tell = asked.tell or (os.path.join(folder, 'tell') if any(fields_of(asked)[name] for name in WATCHED) else None)
     program = os.path.abspath(program)
-    return TrunkWants(program, asked.config, asked.senders, opens, folder, control, tell, asked.state,
+    state = None if asked.standby else asked.state      # (the other machine may have gone on from it)
+    return TrunkWants(program, asked.config, asked.senders, opens, folder, control, tell, state,
                       ['--repeat', str(asked.repeat)] * (asked.repeat > 0), both, asked.reopen, asked.totals,
                       line_of(asked, program))
 
@@ -142,18 +146,20 @@ async def opened_watch(asked: argparse.Namespace, keeper: TrunkKeeper, requests:
         return 'quit: done'
 
     def hurry() -> None:
-        if keeper.program:
-            keeper.program.hurry()
+        if program := followed(keeper):
+            program.hurry()
 
     def config_path() -> str:
         return keeper.versions.now.config_path()
     version = await asyncio.to_thread(version_of, wants.program)
     fields |= {'config': config_path, 'tell': wants.tell, 'program': wants.control,
                'picture': picture_words(asked, wants.program)}
-    watch = TrunkWatch(WatchWants(**fields), ends, hurry,
-                       lambda: keeper.trunk.facts() | {'version': version})
+    watch = TrunkWatch(WatchWants(**fields), ends, hurry, lambda: keeper.trunk.facts() | {
+        'version': version, 'pair': keeper.pair.facts() if keeper.pair else {}})
+    if keeper.pair:
+        watch.roles = keeper.pair.asked
     watch.reloads, keeper.trunk.tell = requests.reload, watch.tell
-    watch.status.session = lambda path: session_of(keeper.program, path)
+    watch.status.session = lambda path: session_of(followed(keeper), path)
     if keeper.reader:
         keeper.reader.found, watch.flow = watch.flowed, keeper.reader.clock.status
     try:
@@ -172,11 +178,12 @@ def state_name(checkpoint: Checkpoint) -> str:
     return f'{zlib.crc32(os.pread(its, os.fstat(its).st_size, 0)):08x}' if its >= 0 else ''
 
 
-def session_of(program: TrunkProgram | None, path: str) -> str:
+def session_of(program: LoggedProgram | None, path: str) -> str:
     """The state with which the follower that tells at this path has begun; nothing if it is another one."""
     if not program or not program.follower or program.follower.tell != path:
         return ''
-    return state_name(program.checkpoint) or f'{program.process.pid}.{program.process.started}'
+    started = program.process.started if isinstance(program, TrunkProgram) else 0
+    return state_name(program.checkpoint) or f'{program.pid}.{started}'
 
 
 def reader_of(asked: argparse.Namespace, keeper: TrunkKeeper) -> LogReader:
@@ -222,6 +229,7 @@ async def serve(asked: argparse.Namespace, wants: TrunkWants) -> int:
             os.close(file)
             notifier.tell('FDSTOREREMOVE=1', f'FDNAME={name}')
         keeper = await first_keeper(wants, handover, notifier)
+    keeper.pair = pair_of(asked, keeper, note)
     requests = ReloadRequests(keeper, handover, notifier)
     catch_signals(keeper, requests)
     keeper.reader = reader_of(asked, keeper)
@@ -231,7 +239,10 @@ async def serve(asked: argparse.Namespace, wants: TrunkWants) -> int:
     beside = [asyncio.create_task(sign_of_life(notifier)), asyncio.create_task(keeper.reader.run())]
     if watch := await opened_watch(asked, keeper, requests, note is not None):
         beside.append(asyncio.create_task(watch.run()))
-    await open_first(keeper)
+    if keeper.pair:
+        await keeper.pair.open(note is not None)
+    if not keeper.pair or keeper.pair.is_active:
+        await open_first(keeper)
     status = await keeper.serve()
     if watch and keeper.state.state >= 0:
         watch.status.saved(state_name(keeper.state))
@@ -247,7 +258,7 @@ async def serve(asked: argparse.Namespace, wants: TrunkWants) -> int:
 
 
 def status_of(words: list[str], journal: ServiceJournal) -> int:
-    """Serves by a command line; what is wrong is told in one line."""
+    """Serves by a command line; what is wrong is said in one line."""
     if words[:1] == ['reload']:
         return ask_reload(NAME, words[1:])
     asked = parser().parse_args(words)

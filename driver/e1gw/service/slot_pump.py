@@ -1,6 +1,6 @@
 """The process between a device that keeps time slot 0 and the program: 31 octets a frame come from the one (standard
 input) and go to it (standard output), 32 to and from the other. It is given the law, whether slot 16 was found before,
-the place in two frames, a descriptor for the program, one by which it is told how many octets the programs before the
+the place in two frames, a descriptor for the program, one by which it learns how many octets the programs before the
 next one have read, and how many that is at the start.
 
 It says on standard error, line by line as JSON, what changes of slot 16, and that the device has ended."""

@@ -25,8 +25,8 @@ STATUS = 'silent', 'slots_lost', 'slots_moved'
 
 
 class SlotTrunk(CarriedTrunk):
-    """The trunk of a device that keeps slot 0. The pump counts the octets of the gateway both ways; it is told how many
-    a program has read that has died."""
+    """The trunk of a device that keeps slot 0. The pump counts the octets of the gateway both ways; it gets the
+    number that a dead program has read."""
 
     counting = 'pump'
 

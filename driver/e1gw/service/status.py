@@ -1,4 +1,4 @@
-"""How the trunk stands: what the follower of now tells (e1gw-tell(5)), and whether octets come."""
+"""The state of the trunk: what the follower of now reports (e1gw-tell(5)), and whether octets come."""
 from __future__ import annotations
 
 import asyncio
@@ -17,8 +17,8 @@ from ..session import CIRCUITS
 from ..told import BadTelling, Told
 
 AGAIN = 0.1                 # seconds between two tries to connect, and two looks
-REST, SHORT_REST = 0.05, 0.01       # between two reads of what is told; the latter if somebody follows events
-FIRST = 2.0                 # seconds before it is told that somebody was never there
+REST, SHORT_REST = 0.05, 0.01       # between two reads of reports; the latter if somebody follows events
+FIRST = 2.0                 # seconds before it is reported that somebody was never there
 PULSE = 1.0                 # seconds without a new place of the trunk after which one is asked for
 QUIET = 1.0                 # seconds after which it is missed
 
@@ -45,7 +45,7 @@ class TrunkStatus:
         self._tables = tables_of(tables)
         self._connected: dict[str, bool] = {}
         self._since = dict.fromkeys(('shadow', 'program'), time.time())
-        self._read = asyncio.Event()                    # what is told is to be read at once
+        self._read = asyncio.Event()                    # reports are to be read at once
         self._line: socket.socket | None = None
         self._session, self._before = '', None          # type: str, dict[int, int] | None
         self._moved, self._stood, self._stalls = time.monotonic(), 0.0, 0
@@ -71,11 +71,11 @@ class TrunkStatus:
         return self._line if self.lines.live else None
 
     def hurry(self) -> None:
-        """What is told is read at once."""
+        """Reports are read at once."""
         self._read.set()
 
     async def follow(self) -> None:
-        """Knows how the trunk stands, by each follower that comes."""
+        """Knows the state of the trunk, by each follower that comes."""
         while True:
             why = 'it has closed the connection'
             self._line = line = socket.socket(socket.AF_UNIX)
@@ -101,7 +101,7 @@ class TrunkStatus:
     def _take(self, octets: bytes) -> None:
         place = self.lines.place
         self.lines.take(octets)
-        if self.lines.place != place:       # (commands are told of a trunk that stands, too)
+        if self.lines.place != place:       # (commands are reported also if no octets come)
             self._moved = time.monotonic()
         self.read()
 

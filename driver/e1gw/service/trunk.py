@@ -59,8 +59,8 @@ class TrunkFiles:
                 wait = min(MOST_REOPEN, 2 * wait)
 
     async def join(self, octets: int, is_new: bool, is_well: bool) -> None:
-        """Called before a program begins, behind so many octets of the trunk: with a new gateway, or with the state of
-        one that has ended well, or not."""
+        """Called before a program begins, behind this number of octets of the trunk: with a new gateway, or with the
+        state of one that has ended well, or not."""
 
     def close(self) -> None:
         for file in {*self.both} - {-1}:
@@ -68,7 +68,7 @@ class TrunkFiles:
         self.both = -1, -1
 
     async def finish(self, octets: int | None) -> None:
-        """Closes it, after so many octets, behind what was sent last."""
+        """Closes it, after this number of octets, behind what was sent last."""
         self.close()
 
     def failure(self) -> str:
@@ -76,7 +76,7 @@ class TrunkFiles:
         return ''
 
     def note(self) -> dict[str, Any] | None:
-        """What the next service has to know of it beside its descriptors."""
+        """What the next service has to know of it besides its descriptors."""
         return None
 
     def facts(self) -> dict[str, Any]:

@@ -59,6 +59,10 @@ async def cannot_reload(_: bool) -> str:
     return 'reload: there is nobody to do it'
 
 
+async def no_pair(word: str) -> str:
+    return f'{word}: there is no other machine (--feed, --standby)'
+
+
 class TrunkWatch:
     """One trunk that is watched. `ends` is called when a client asks for its end; `hurry` so that the follower has all
     that the program has; `facts` says when the trunk was opened, and why it is not open."""
@@ -68,6 +72,7 @@ class TrunkWatch:
         self.wants, self._ends, self._facts = wants, ends, facts
         self.flow: Callable[[], dict[str, Any]] = dict      # gaps and the rate of the trunk, if they are measured
         self.reloads: Callable[[bool], Awaitable[str]] = cannot_reload
+        self.roles: Callable[[str], Awaitable[str]] = no_pair
         self._loop = asyncio.get_running_loop()
         self.ended: dict[str, str | None] = dict.fromkeys(BESIDE)
         self._restarts = Restarts(self.restart, self.tell)
@@ -168,6 +173,9 @@ class TrunkWatch:
         self._disconnects.left(client, time.monotonic())
         return True
 
+    async def role(self, word: str) -> str:
+        return await self.roles(word)
+
     async def reload(self, force: bool) -> str:
         return await self.reloads(force)
 
@@ -188,10 +196,10 @@ class TrunkWatch:
             self._calls.left()
 
     def _put_call(self, line: bytes) -> None:
-        if self._calls_out:
+        if self._calls_out and self._facts().get('pair', {}).get('role') != 'standby':
             self._calls_out.put(line.decode().rstrip('\n'))
 
-    # ---- what is told ----
+    # ---- reports ----
 
     def tell(self, event: Event) -> None:
         """Tells a change to the journal and to all who follow."""
@@ -216,11 +224,11 @@ class TrunkWatch:
         self._restarts.want(self._lines.open_circuits(), f'{finding.what} of {seconds} s')
 
     def _note(self, what: str, why: str) -> None:
-        """From any thread: something beside the calls has ended."""
+        """From any thread: something other than the calls has ended."""
         self._loop.call_soon_threadsafe(self.end_beside, what, why)
 
     def end_beside(self, what: str, why: str) -> None:
-        """Something beside the calls has ended; they go on."""
+        """Something other than the calls has ended; they go on."""
         if self.ended.get(what) is None:
             self.ended[what] = why
             self.tell({'event': 'ended', 'what': what, 'why': why})
@@ -236,7 +244,7 @@ class TrunkWatch:
             'commands': [{'command': name, 'answer': answer, 'count': n}
                          for (name, answer), n in sorted(self._done.items())]}
         status['clock'] = self.flow() | status['clock']
-        status |= facts.get('carried', {})
+        status |= facts.get('carried', {}) | facts.get('pair', {})
         for row in status['circuits']:
             row.update(self._counts.status(row['circuit']))
         return status

@@ -104,7 +104,7 @@ class UdpCalls:
         self.exchange.heard.clear()
 
     def played(self, circuit: int) -> bytes:
-        """What the circuit played since the calls are up: the octets beside idle ones."""
+        """What the circuit played since the calls are up: the octets that are not idle."""
         return bytes(octet for octet in self.exchange.heard[circuit] if octet != IDLE)
 
     def end(self, sent: int, first: str = '', faults: int = 0) -> Wrongs:
@@ -396,7 +396,7 @@ def datagram_looks() -> Iterator[tuple[str, Callable[[str, str], Wrongs]]]:
 
 
 def rows() -> Iterator[tuple[Any, ...]]:
-    """The looks: a name, its function, and what that is given beside the program and the folder."""
+    """The looks: a name, its function, and what that is given besides the program and the folder."""
     families: list[tuple[str, str, str | None]] = [('IPv4', '127.0.0.1', '127.0.0.9')]
     if has_ipv6():
         families.append(('IPv6', '::1', None))

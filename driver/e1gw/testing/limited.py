@@ -5,7 +5,7 @@ import signal
 import unittest
 from typing import Iterator
 
-SECONDS = 300               # for a whole test
+SECONDS = 900               # for a whole test
 
 
 class LimitedSuite(unittest.TestSuite):

@@ -222,7 +222,7 @@ def permissions(program: str, room: str) -> Wrongs:
 
 
 def no_file(program: str, room: str) -> Wrongs:
-    """A file that can't be opened is told before the sockets are opened."""
+    """A file that can't be opened is reported before the sockets are opened."""
     with bound('127.0.0.1') as taken:
         path = os.path.join(room, 'taken.toml')
         with open(path, 'w', encoding='ascii') as text:

@@ -14,8 +14,8 @@ A packet's time is its RTP timestamp at 8000 Hz. A stream's first packet has the
 trunk octets before it at 256,000 a second.
 
 With --back a packet's destination port gives its circuit, or --circuit names it for all packets. A packet that is not
-UDP over IPv4, is cut or fragmented, or belongs to no circuit is skipped and counted on standard error. CAPTURE is a
-pcap file (editcap -F pcap converts a pcapng file) of Ethernet, Linux cooked, loopback or plain IP packets."""
+UDP, is cut or fragmented, or belongs to no circuit is skipped and counted on standard error. CAPTURE is a pcap or
+pcapng file of Ethernet, Linux cooked, loopback or plain IP packets."""
 
 import argparse
 import heapq
@@ -25,6 +25,7 @@ import sys
 from typing import BinaryIO, Iterable, Iterator
 
 from ..faults import words_of_fault
+from ..packets import BadCapture, packets, udp_of
 from ..repetitions import Repetitions
 from ..session import (CIRCUITS, FRAME, SAMPLES_A_SECOND, BadPacket, BadSession, Kind, datagram_record, packet_of,
                        records)
@@ -35,15 +36,8 @@ PORTS = {circuit: 5000 + 2 * circuit for circuit in CIRCUITS}
 MOST = 65507  # the most octets that a UDP packet over IPv4 carries
 PLAIN_IP = 101  # LINKTYPE_RAW
 UDP = 17
-LONGEST = 262144  # octets of a captured packet, by libpcap's own bound (MAXIMUM_SNAPLEN)
 LAST = 2**32 * SAMPLES_A_SECOND - 1  # the last sample whose second a capture can tell
-# What stands before the IP header, by link type, and where in it the word for IPv4 stands, if there is one.
-LINKS = {0: (4, None), 1: (14, 12), 12: (0, None), PLAIN_IP: (0, None), 113: (16, 14), 228: (0, None), 276: (20, 0)}
-VLAN, IPV4 = (0x8100, 0x88A8), 0x0800
-
-
-class BadPcap(Exception):
-    """Why a file cannot be read."""
+NO_UDP = 0, 0, b'', 'no UDP'
 
 
 # ---- a session to a capture ----
@@ -128,62 +122,23 @@ def write_capture(packets: Iterable[tuple[int, bytes]], sink: BinaryIO) -> None:
 
 # ---- and back ----
 
-def captured(source: BinaryIO) -> Iterator[tuple[int, bytes | None]]:
-    """The link type and the octets of each packet of a pcap file; None for a packet that was cut."""
-    head = source.read(24)
-    order = {b'\xD4\xC3\xB2\xA1': '<', b'\x4D\x3C\xB2\xA1': '<', b'\xA1\xB2\xC3\xD4': '>', b'\xA1\xB2\x3C\x4D': '>'}
-    if len(head) < 24 or head[:4] not in order:
-        raise BadPcap('not a pcap file (editcap -F pcap converts a pcapng file)')
-    first = order[head[:4]]
-    link = struct.unpack(first + 'I', head[20:])[0] & 0xFFFF
-    if link not in LINKS:
-        raise BadPcap(f'packets of link type {link}')
-    while head := source.read(16):
-        if len(head) < 16:
-            raise BadPcap('the capture ends inside a packet')
-        length, whole = struct.unpack(first + 'II', head[8:])
-        if length > LONGEST:
-            raise BadPcap(f'a packet of {length} octets, too long for a capture')
-        octets = source.read(length)
-        if len(octets) < length:
-            raise BadPcap('the capture ends inside a packet')
-        yield link, octets if length == whole else None
-
-
-def udp_of(link: int, octets: bytes) -> tuple[int, bytes] | None:
-    """The target port and the body of a UDP packet over IPv4, or None."""
-    skip, word = LINKS[link]
-    while word == 12 and len(octets) >= 16 and struct.unpack('>H', octets[12:14])[0] in VLAN:
-        octets = octets[:12] + octets[16:]
-    if word is not None and octets[word:word + 2] != struct.pack('>H', IPV4):
-        return None
-    ip = octets[skip:]
-    if len(ip) < 20 or ip[0] >> 4 != 4 or ip[9] != UDP or struct.unpack('>H', ip[6:8])[0] & 0x3FFF:
-        return None
-    udp = ip[4 * (ip[0] & 15):]
-    if len(udp) < 8:
-        return None
-    port, length = struct.unpack('>HH', udp[2:6])
-    return (port, udp[8:length]) if 8 <= length <= len(udp) else None
-
-
 def write_records(source: BinaryIO, asked: int | None, sink: BinaryIO) -> None:
     """Writes a D record for each datagram of a capture."""
     circuits = {port: circuit for circuit, port in PORTS.items()}
     again = PcapRepetitions()
-    packets = passed = 0
-    for link, octets in captured(source):
-        packets += 1
-        found = udp_of(link, octets) if octets is not None else None
-        circuit = found and (asked or circuits.get(found[0]))
-        if not found or not circuit:
+    every = passed = 0
+    for link, _, octets in packets(source):
+        every += 1
+        _, port, body, *_, answer = octets and udp_of(link, octets) or NO_UDP
+        circuit = None if answer else asked or circuits.get(port)
+        if not circuit:
             passed += 1
             continue
-        again.is_one(circuit, found[1])
-        sink.write(datagram_record(circuit, found[1]))
+        again.is_one(circuit, body)
+        sink.write(datagram_record(circuit, body))
     again.tell()
     if passed:
-        print(f'{NAME}: skipped {passed} of {packets} packets', file=sys.stderr)
+        print(f'{NAME}: skipped {passed} of {every} packets', file=sys.stderr)
 
 
 def opened(file: str | None) -> BinaryIO:
@@ -220,5 +175,5 @@ def main() -> None:
         work(asked_for())
     except BrokenPipeError:
         os.dup2(os.open(os.devnull, os.O_WRONLY), 1)
-    except (BadSession, BadPcap, OSError) as trouble:
+    except (BadSession, BadCapture, OSError) as trouble:
         sys.exit(f'{NAME}: {words_of_fault(trouble)}')

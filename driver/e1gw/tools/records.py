@@ -86,7 +86,7 @@ def print_records(source: Readable, place: int) -> None:
 # ---- octets of a trunk to records ----
 
 def make_records(source: BinaryIO, size: int, reverse: bool, sink: BinaryIO) -> None:
-    """Writes T records of so many octets; the last one may be shorter."""
+    """Writes T records of this number of octets; the last one may be shorter."""
     while octets := source.read(size):
         sink.write(trunk_record(octets.translate(REVERSED) if reverse else octets))
 
@@ -99,7 +99,7 @@ def write_octets(source: Readable, sink: BinaryIO) -> None:
 
 
 def write_records(source: Readable, begin: int, end: int | None, sink: BinaryIO) -> None:
-    """Writes the records before which so many octets of the trunk stand: this number or more, and fewer than that."""
+    """Writes the records behind a number of octets of the trunk: at least the first one, and below the second."""
     place = 0
     for record in records(source):
         if begin <= place and (end is None or place < end):
@@ -173,7 +173,7 @@ def sizes(text: str) -> int:
 
 
 def times(text: str) -> int:
-    """The octets of a trunk in so many milliseconds."""
+    """The octets of a trunk in this number of milliseconds."""
     if not text.isdecimal():
         raise argparse.ArgumentTypeError('a time is a whole number of milliseconds')
     return int(text) * OCTETS_A_SECOND // 1000
