@@ -21,11 +21,11 @@ from typing import Any, Callable
 from paths import TOP
 from e1gw.clear import Clear
 from e1gw.exchange import ACKNOWLEDGED, ANSWERED, SEIZED, ServeProcess
-from e1gw.followed import FollowedTrunk
 from e1gw.lines import Alignment
 from e1gw.satop import SatopCircuit
 from e1gw.satop_process import counts_of
-from e1gw.session import Command
+from e1gw.session import Command, command_record, trunk_record
+from e1gw.testing.replayed import ReplayedTrunk
 from e1gw.trunks import Stream, Trunk
 from satop_far import PATIENCE, SIZE, Multiplexer, Network, wait_for
 from satop_real import real_time
@@ -118,7 +118,7 @@ class Lock:
         self.far = Multiplexer(FAR, NEAR, self.network, trial.bits, trial.rtp)
         circuit = SatopCircuit(jitter=trial.jitter, rtp=trial.rtp, fill=trial.fill)
         self.near = SatopEnd(program, [*(f'{host}:{port}' for host, port in (NEAR, FAR)), *circuit.words()])
-        self.serve, self.lines = ServeProcess(program, config), FollowedTrunk(config)
+        self.serve, self.lines = ServeProcess(program, config), ReplayedTrunk(program, config)
         self.exchange = self.far.exchange
         self.alarms = 0             # multiframes in which the exchange was told of an alarm
         self.played = self.given = 0    # octets that the program played, and those that it was given
@@ -140,7 +140,7 @@ class Lock:
             sent = self.serve.trunk(octets)
             self.serve.given.clear()
             self.serve.answered.clear()
-            self.lines.trunk(octets, sent)
+            self.lines.given(trunk_record(octets))
             self.near.write(sent)
             self.near.flush()
             self.played += len(octets)
@@ -226,7 +226,7 @@ class Lock:
         answer = self.serve.command(circuit, word)
         if answer:
             raise SystemExit(f'{self.trial.name}: {word} is refused with {answer}')
-        self.lines.command(circuit, Command[word.upper()])
+        self.lines.given(command_record(circuit, Command[word.upper()]))
 
     def states(self) -> list[str]:
         return [str(row['state']) for row in self.lines.status()['circuits'] if row['circuit'] in (OUT, IN)]
@@ -235,6 +235,7 @@ class Lock:
         """Ends both; returns what the program counted up to its end."""
         self._gap, self._sent_at = self.stood(), inf
         self.serve.end()
+        self.lines.end()
         with socket.socket(fileno=os.dup(self.near.fileno())) as line:
             line.shutdown(socket.SHUT_WR)
         with contextlib.suppress(OSError, EOFError):        # (it has ended)
@@ -290,7 +291,7 @@ class ClearLock(Lock):
             self.slots.given += octets[at + 1:at + 32]
         while piece := self.clear.read(256):
             sent = self.serve.trunk(piece)
-            self.lines.trunk(piece, sent)
+            self.lines.given(trunk_record(piece))
             self.clear.write(sent)
         while len(self.slots.taken) >= 31:
             slot_0 = b'\xdf' if self.places % 2 else b'\x9b'

@@ -42,17 +42,16 @@ def helped(*words: str) -> set[str]:
     return set(re.findall(r'^ +(?:-\w, )?--([\w-]+)', text.decode(), re.M))
 
 
-def synopses(lines: list[str]) -> dict[str, set[str]]:
-    """The options of each subcommand in the synopsis; those without one stand at ''."""
-    found, name = {'': set[str]()}, ''
-    for line in lines[lines.index('.Sh SYNOPSIS'):lines.index('.Sh DESCRIPTION')]:
-        if line == '.Nm':
-            name = ''
-        elif line.startswith('.Cm '):
-            name = line.split()[1]
-            found[name] = set()
-        else:
-            found[name].update(re.findall(r'(?:Fl|\|) -([\w-]+)', line))
+def options_of(lines: list[str]) -> dict[str, set[str]]:
+    """The options of each subcommand, by the headings that name it and `Not of`; those of none are at ''."""
+    found, names = {name: set[str]() for name in ['', *SUBCOMMANDS]}, list[str]()
+    for line, below in zip(lines, lines[1:]):
+        if line.startswith(('.Ss', '.Sh')):
+            names = [name for name in SUBCOMMANDS if re.match(rf'.Ss Options? of (every|.*\b{name}\b)', line)]
+            names += [''] if line.endswith(' without a subcommand') else []
+        elif item := re.match(r'\.It Fl (?:\w , )?-([\w-]+)', line):
+            for name in names:
+                found[name] |= {item[1]} if below != f'Not of {name}.' else set()
     return found
 
 
@@ -73,7 +72,7 @@ def described(lines: list[str]) -> dict[str, list[str]]:
 
 def values(lines: list[str]) -> set[str]:
     """The values that an option's lines mark as such."""
-    return {word for line in lines if line.startswith('.Cm ') for word in line[4:].split() if re.match(r'\w', word)}
+    return {word for line in lines if line.startswith('.Cm ') for word in re.findall(r'[\w-]+', line[4:])}
 
 
 def completed(*words: str) -> set[str]:
@@ -85,15 +84,14 @@ def completed(*words: str) -> set[str]:
 
 
 def compare_options(lines: list[str]) -> None:
-    """Synopsis, descriptions, completion and help name the same options."""
-    synopsis, items = synopses(lines), described(lines)
-    expect('options of the page without a subcommand', synopsis[''], helped())
+    """Descriptions, completion and help name the same options."""
+    options = options_of(lines)
+    expect('options of the page without a subcommand', options[''] | {'help'}, helped())
     expect('completion of --', completed('--'), {f'--{option}' for option in helped()})
     for name in SUBCOMMANDS:
-        options = helped(name)
-        expect(f'options of {name} on the page', synopsis[name] | {'help'}, options)
-        expect(f'completion of {name} --', completed(name, '--'), {f'--{option}' for option in options})
-    expect('options described', set(items), set().union(*synopsis.values()))
+        expect(f'options of {name} on the page', options[name], helped(name))
+        expect(f'completion of {name} --', completed(name, '--'), {f'--{option}' for option in helped(name)})
+    expect('options described', set(described(lines)), set().union(*options.values()))
     expect('completion of the first word', completed(''), set(SUBCOMMANDS) | {'help'})
     expect('completion after help', completed('help', ''), set(SUBCOMMANDS))
 
@@ -141,12 +139,9 @@ def compare_payloads() -> None:
 
 
 def compare_options_passed_over(lines: list[str]) -> None:
-    """The options that decode is said to pass over change nothing of its output, and the others stand in the page."""
-    start = lines.index('it accepts')
-    passed = {option for line in lines[start:lines.index('and passes them over, so that one set of options names a'
-                                                         ' stream at both ends.')]
-              for option in re.findall(r'Fl -(\w+)', line)}
-    expect('options that decode passes over', passed, {'ptime', 'ssrc', 'sequence', 'timestamp'})
+    """The options that decode is said to ignore change nothing of its output, and the others stand in the page."""
+    passed = {option for line in lines if line.startswith('ignores ') for option in re.findall(r'--(\w+)', line)}
+    expect('options that decode ignores', passed, {'ptime', 'ssrc', 'sequence', 'timestamp'})
     records = run('encode', given=SPEECH)[1]
     speech = run('decode', given=records)
     for option in passed:

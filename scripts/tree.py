@@ -1,13 +1,18 @@
-"""The crates, and the sources, tests and wrong bodies of each, and the modules of the driver: for scripts/crates and
-scripts/docs."""
+"""The crates, and the sources, calls, tests and wrong bodies of each, and the modules of the driver: for scripts/crates
+and scripts/docs."""
 from __future__ import annotations
 
 import ast
 import os
 import re
+from typing import Iterator
 
 TOP = os.path.dirname(os.path.dirname(os.path.realpath(__file__)))
 PORTED = {'arrayvec', 'byteorder', 'circular_buffer', 'clap', 'itoa', 'libc', 'mio', 'sha2', 'thiserror', 'toml'}
+# What has methods (of a trait all are public), and a function with its doc comment.
+OWNER = re.compile(r'(?m)^(?:pub )?(?P<kind>impl|trait)\b(?:<.*?>)? ?(?P<of>[^{\n]*? for )?(?P<name>\w+)')
+CALL = re.compile(r'(?m)^(?P<doc>(?: *///.*\n)*)(?: *#\[.*\]\n)*(?P<indent>(?: {4})?)(?P<pub>pub )?fn (?P<name>\w+)'
+                  r'(?P<head>(?s:.*?))(?:;$|\{$|^(?P=indent)\{)')
 TEST = re.compile(r'#\[test\]\n(?:#\[.*\]\n)*fn (\w+)')
 
 
@@ -75,3 +80,17 @@ def wrong_bodies_of(crate: str) -> list[str]:
     folders = [os.path.join(TOP, 'crates', crate, part) for part in ('must-fail', 'wrong-bodies')]
     return sorted(name.removesuffix('.edit') for folder in folders if os.path.isdir(folder)
                   for name in os.listdir(folder))
+
+
+def calls(path: str) -> Iterator[tuple[str, str, list[str]]]:
+    """The public functions and methods of a source that have clauses: name, sentence, and the clauses' names."""
+    text = read(path)
+    owners = list(OWNER.finditer(text))
+    for call in CALL.finditer(text):
+        before = [owner for owner in owners if owner.start() < call.start()]
+        owner = before[-1] if call['indent'] and before else None
+        named = re.findall(r'\bensures (\w+|\{)', call['head'])
+        if named and (call['pub'] or owner and (owner['of'] or owner['kind'] == 'trait')):
+            sentence = re.sub(r'\s*/// ?', ' ', call['doc']).strip().partition('  ')[0]
+            yield ((f'{owner["name"]}::' if owner else '') + call['name'], sentence,
+                   ['result' if name == '{' else name for name in named])

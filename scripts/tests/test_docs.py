@@ -11,6 +11,46 @@ import tree
 SCRIPTS = os.path.dirname(os.path.dirname(os.path.abspath(__file__)))
 LOADER = importlib.machinery.SourceFileLoader('docs', os.path.join(SCRIPTS, 'docs'))
 
+CALLS = """/// Holds of all counters.
+pub fn law()
+    ensures { HasLaw }
+{}
+
+/// A counter.
+pub struct Counter(u8);
+
+impl Counter {
+    /// Counts one more, at most 255;
+    /// none at 0.
+    ///
+    /// More of it.
+    #[inline]
+    pub fn more(
+        &mut self,
+        by: u8,
+    ) -> bool
+        requires { IsTrue by }
+        ensures { result ≡ true }
+        ensures stands { {n : ℕ} → n ≡ 0
+            → self.new ≡ self.old }
+    {
+        self.private()
+    }
+
+    fn private(&self)
+        ensures { self ≡ self }
+    {
+    }
+
+    pub fn without_a_clause(&self) {
+    }
+}
+
+trait Told {
+    fn told(&self) -> u8
+        ensures bound { result < 256 };
+}
+"""
 LIB = """//! A small crate.
 
 /// Doubles.
@@ -97,6 +137,13 @@ class Tree(unittest.TestCase):
         self.assertEqual(tree.summary('crates/small/src/lib.rt'), 'A small crate.')
         self.assertEqual(tree.tests(), {'small': ['two_and_two', 'elsewhere'], 'small_tests': []})
         self.assertEqual(tree.wrong_bodies_of('small'), ['double_is_three'])
+
+    def test_calls(self) -> None:
+        self.put('crates/small/src/counter.rt', CALLS)
+        self.assertEqual(list(tree.calls('crates/small/src/counter.rt')),
+                         [('law', 'Holds of all counters.', ['result']),
+                          ('Counter::more', 'Counts one more, at most 255; none at 0.', ['result', 'stands']),
+                          ('Told::told', '', ['bound'])])
 
     def test_links_out_of_the_package(self) -> None:
         self.put('scripts/package', 'for file in OPERATING TIE; do\n')

@@ -11,7 +11,7 @@ TOP = os.path.dirname(os.path.dirname(os.path.dirname(os.path.abspath(__file__))
 EXPLAIN = os.path.join(TOP, 'tools', 'explain')
 ONE = 'law = "A"\n[[circuit]]\nnumber = 1\n'
 
-# what is told of a text: the first line, the line in the file, and words of the explanation
+# what is said of a text: the first line, the line in the file, and words of the explanation
 FAULTS = [
     ('law = A', 'config 1 Syntax at 0', 1, 'not TOML'),
     ('law = "A"\nlaw = "A"', 'config 1 Syntax at 0', 2, 'not TOML'),

@@ -89,7 +89,7 @@ class Octets(unittest.TestCase):
 
 
 class Raw(unittest.TestCase):
-    """Octets of a trunk where a session is wanted: the command that is told makes a session of them."""
+    """Octets of a trunk where a session is wanted: the command that is named makes a session of them."""
 
     def told(self, octets: bytes) -> str:
         with tempfile.TemporaryDirectory() as folder:

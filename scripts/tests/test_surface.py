@@ -72,6 +72,15 @@ def end():
     print(LOST, file=sys.stderr)
 ''',
     'driver/e1gw/tie/site.py': "def go(self):\n    self._tell('gone', why='no light')\n",
+    'driver/e1gw/tie/status.py': '''def status_of(_):
+    return {'joints': 1}
+def exposition(status):
+    return '# TYPE joints gauge\\njoints 1\\njoints_lit{end="far"} 1\\n'
+''',
+    'driver/e1gw/tie/tie.py': 'from unittest.mock import MagicMock\nTie = TieOptions = MagicMock()\n',
+    'driver/e1gw/tie/circuit.py': 'from unittest.mock import MagicMock\nTieCircuit = MagicMock()\n',
+    'driver/e1gw/tie/kept.py': 'def KeptBlocks(_):\n    pass\n',
+    'driver/e1gw/lines.py': 'from unittest.mock import MagicMock\nRole = State = MagicMock()\n',
     'driver/e1gw/testing/made.py': "def go(self):\n    self._tell('never', why='x')\n",
     'driver/e1gw/service/watch.py': '''from unittest.mock import MagicMock
 WatchWants = MagicMock
@@ -105,7 +114,8 @@ WANTED = {
     'path': 'lamp@.service /run/lamp/%i/control', 'record': 'Kind LAMP 76',
     'status': 'circuits|circuits[].dim|circuits[].lit|transport|transport.blinks|transport.moved|transport.quiet|'
               'transport.slots|transport.trunk|transport.waiting',
-    'tell': 'at|now', 'variable': 'example.options DSCP|example.options LAMP|lamp@.service LAMP'}
+    'tell': 'at|now', 'tie': 'metric joints|metric joints_lit|metric joints_lit end=far|status joints',
+    'variable': 'example.options DSCP|example.options LAMP|lamp@.service LAMP'}
 LIST = ''.join(f'{kind} {word}\n' for kind, words in WANTED.items() for word in words.split('|'))
 
 
@@ -134,28 +144,28 @@ class Surface(unittest.TestCase):
     def test_the_whole_list(self) -> None:
         self.maxDiff = None
         self.assertEqual(self.ran(), (0, LIST))
-        self.assertEqual(self.ran('--check'), (0, '76 passed, 0 failed\n'))
+        self.assertEqual(self.ran('--check'), (0, '80 passed, 0 failed\n'))
 
     def test_what_is_gone_fails_until_the_changelog_says_so(self) -> None:
         self.write('scripts/surface.txt', LIST + 'option lamp --old\n')
         status, said = self.ran('--check')
-        self.assertEqual((status, said.splitlines()[-1]), (1, '76 passed, 1 failed'))
+        self.assertEqual((status, said.splitlines()[-1]), (1, '80 passed, 1 failed'))
         self.assertIn('gone: option lamp --old (', said)
         self.ran('--write')
         self.assertEqual(self.ran('--check')[0], 1)
         self.write('CHANGELOG.md', '* Gone: `lamp ..`.\n')
-        self.assertEqual(self.ran('--check'), (0, '77 passed, 0 failed\n'))
+        self.assertEqual(self.ran('--check'), (0, '81 passed, 0 failed\n'))
         self.write('CHANGELOG.md', '* New: x.\n* Gone: `lamp --older`, and\n  `lamp\n  --old`.\n')
-        self.assertEqual(self.ran('--check'), (0, '77 passed, 0 failed\n'))
+        self.assertEqual(self.ran('--check'), (0, '81 passed, 0 failed\n'))
         self.ran('--write')
-        self.assertEqual(self.ran('--check'), (0, '76 passed, 0 failed\n'))
+        self.assertEqual(self.ran('--check'), (0, '80 passed, 0 failed\n'))
 
     def test_what_is_new_fails_until_it_is_written(self) -> None:
         self.write('driver/e1gw/calls.py', "FIELDS = ('lit', 'by', 'watt')\n")
-        said = 'surface: new: column watt (scripts/surface --write)\n76 passed, 1 failed\n'
+        said = 'surface: new: column watt (scripts/surface --write)\n80 passed, 1 failed\n'
         self.assertEqual(self.ran('--check'), (1, said))
         self.ran('--write')
-        self.assertEqual(self.ran('--check'), (0, '77 passed, 0 failed\n'))
+        self.assertEqual(self.ran('--check'), (0, '81 passed, 0 failed\n'))
 
     def test_the_list_of_this_tree(self) -> None:
         self.assertRegex(self.ran('--check', scripts=SCRIPTS)[1], r'^\d+ passed, 0 failed\n$')
