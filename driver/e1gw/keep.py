@@ -13,6 +13,7 @@ from dataclasses import dataclass, field
 from typing import Any, Callable, Sized
 
 from .archive import RECORDS, STATE, UNFINISHED, FinishedPieces, forget
+from .kept import by_time
 from .lines import SEIZURE_WAIT, WAIT
 from .writers import write_all
 
@@ -189,10 +190,10 @@ class Ring:
 
 
 def _fronts_in(folder: str, name: str) -> list[str]:
-    """The files of a ring of this name that are there, without their endings, in the order of their names."""
+    """The files of a ring of this name that are there, without their endings, in the order of their times."""
     is_one = re.compile(rf'({re.escape(name)}-\d{{8}}T\d{{6}}Z(?:_\d+)?)\.(?:e1gw|json|state)').match
     fronts = {found[1] for each in os.listdir(folder) if (found := is_one(each))}
-    return [os.path.join(folder, front) for front in sorted(fronts)]
+    return [os.path.join(folder, front) for front in sorted(fronts, key=by_time)]
 
 
 def _fresh(front: str) -> str:

@@ -54,7 +54,8 @@ def kept(path: str, last: int | None = None) -> KeptSession:
         return _told(KeptSession([path]))
     every = {name for name in os.listdir(path) if name.endswith(ENDINGS)}
     # While one is packed both are there, and the packed one is not whole.
-    names = sorted(name for name in every if not name.endswith('.zst') or name.removesuffix('.zst') not in every)
+    names = sorted((name for name in every if not name.endswith('.zst') or name.removesuffix('.zst') not in every),
+                   key=by_time)
     trunks = {name.rpartition('-')[0] for name in names}
     if not names:
         raise InputError(f'{path} holds no session (files of NAME.e1gw)')
@@ -83,6 +84,12 @@ def _enough(files: list[str], last: int) -> int:
 def front_of(path: str) -> str:
     """The path of a file that is kept, without its ending."""
     return next((path.removesuffix(ending) for ending in ENDINGS if path.endswith(ending)), path)
+
+
+def by_time(path: str) -> tuple[str, int]:
+    """By what the files of a ring are sorted: a second one that begins within a second ends in _2."""
+    first, _, number = front_of(path).rpartition('_')
+    return (first, int(number)) if first and number.isdecimal() else (front_of(path), 1)
 
 
 def state_of(path: str) -> str:

@@ -11,7 +11,7 @@ from typing import Any, Callable
 from unittest import mock
 
 from . import support
-from e1gw import archive, keep
+from e1gw import archive, keep, kept
 
 assert support.TOP
 KEPT = 60           # seconds, in files of five
@@ -39,9 +39,10 @@ class RingTests(support.FolderCase):
             self.addCleanup(each.stop)
         self.zstd = ''
 
-    def play(self, seconds: int, steps: dict[int, float] | None = None, first: int = 0) -> None:
+    def play(self, seconds: int, steps: dict[int, float] | None = None, first: int = 0, state: bytes = b'') -> None:
         """A session of this number of seconds, a line for each, while the clock of the day is set by these steps."""
-        ring = keep.Ring(self.ring, 'we.st', self.config, KEPT, archive.FinishedPieces(zstd=self.zstd or None))
+        behind = archive.FinishedPieces(zstd=self.zstd or None)
+        ring = keep.Ring(self.ring, 'we.st', self.config, KEPT, behind, state=state)
         ring.open()
         for second in range(first, first + seconds):
             ring.places.append(second)
@@ -106,6 +107,17 @@ class RingTests(support.FolderCase):
         for run in range(100):
             self.play(1, first=run)
         self.assertEqual(self.kept(), list(range(99 - keep.MOST_EARLIER, 100)))
+
+    def test_twelve_in_a_second(self) -> None:
+        """They are read, and dropped, in the order in which they began."""
+        for run in range(12):
+            self.play(1, first=run, state=b'state')
+            self.day -= 1
+        files = kept.kept(self.ring).files
+        self.assertEqual([kept.beside(file)['place'] for file in files], [*range(12)])
+        with mock.patch.object(keep, 'MOST_EARLIER', 3):
+            self.play(1, first=12)
+        self.assertEqual(self.kept(), [9, 10, 11, 12])
 
     def test_slips_are_noted_beside_their_file(self) -> None:
         ring = keep.Ring(self.ring, 'west', self.config, KEPT, archive.FinishedPieces(zstd=None))
