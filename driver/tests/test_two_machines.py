@@ -118,7 +118,7 @@ class PairTests(PairCase):
         line.close()
         self.fed(b)
         self.as_before()
-        self.assertEqual(a.ask('role'), 'active, fed')
+        support.until(lambda: a.ask('role') == 'active, fed')
         for machine, role in ((a, 1), (b, 0)):
             metrics = exposition(json.loads(machine.ask('status json'))).splitlines()
             self.assertLessEqual({f'e1gw_role {role}', 'e1gw_fed 1', f'e1gw_trunk_up {role}'}, {*metrics})
