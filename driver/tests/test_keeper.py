@@ -107,7 +107,7 @@ class KeeperCase(support.FolderCase):
     def setUp(self) -> None:
         support.program()
         super().setUp()
-        self.chance = random.Random(self.id())
+        self.chance = support.chance_of(self)
         self.device, self.peers = KeeperDevice(self.folder), RtpPeers()
         self.addCleanup(self.device.close)
         self.addCleanup(self.peers.socket.close)

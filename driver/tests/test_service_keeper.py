@@ -86,15 +86,18 @@ class ServiceSequenceTests(RestartedKeeperCase):
         """What is heard is what an uncut replay gives, and all calls are up."""
         events = (self.program_dies, self.follower_dies, self.both_die, self.reloaded, self.replaced, self.service_dies,
                   self.client_asks)
-        with mock.patch.dict(os.environ, self.within(keeper_WITHIN=0.0)):   # (no death is taken for a state's harm)
+        done: list[str] = []
+        within = self.within(keeper_WITHIN=0.0)     # (no death is taken for a state's harm)
+        with self.subTest(done=done), mock.patch.dict(os.environ, within):
             self.begins()
             for event in (*events, *self.chance.choices(events, k=43)):
+                done.append(event.__name__)
                 event()
                 self.step(self.chance.randrange(1, 30))
-        self.assertNotIn('no state is known', self.told())
-        self.assertNotIn('the keeper goes on', self.told())
-        self.as_uncut()
-        self.leaves_nothing()
+            self.assertNotIn('no state is known', self.told())
+            self.assertNotIn('the keeper goes on', self.told())
+            self.as_uncut()
+            self.leaves_nothing()
 
 
 class ServiceLogTests(KeeperCase):
