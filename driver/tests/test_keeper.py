@@ -5,7 +5,6 @@ that another program goes on. What it hears is what one uncut replay of all reco
 from __future__ import annotations
 
 import contextlib
-import glob
 import itertools
 import os
 import random
@@ -229,21 +228,6 @@ class KeeperCase(support.FolderCase):
         """The program is sent a signal when it has answered all, and another one goes on behind that."""
         os.kill(self.program, number)
         self.assertIn(f'behind octet {len(self.heard) * MULTIFRAME}', self.goes_on())
-
-    def followers(self) -> list[str]:
-        """The processes that read the log of a program."""
-        found = []
-        for path in glob.glob('/proc/[0-9]*/cmdline'):
-            try:
-                with open(path, 'rb') as file:
-                    words = file.read().split(b'\0')
-                with open(os.path.join(os.path.dirname(path), 'stat'), encoding='ascii') as file:
-                    parent = int(file.read().rpartition(')')[2].split()[1])
-            except OSError:
-                continue
-            if b'replay' in words[1:2] and parent == self.keeper.pid:
-                found.append(path)
-        return found
 
     def other_program(self, *cases: str) -> str:
         """A program that does what these cases of a shell say, else what the program does."""

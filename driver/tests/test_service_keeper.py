@@ -16,6 +16,7 @@ from . import support
 from .support import SECONDS
 from .test_keeper import CIRCUITS, KeeperCase
 from .test_keeper_killed import RestartedKeeperCase
+from .world import children
 from e1gw.service.log import STATE_ROOM, TrunkLog, in_memory, take_file
 from e1gw.service.version import VersionRefused, look_up, with_addresses
 from e1gw.session import MULTIFRAME, Codec, codec_record, encode_record, trunk_record
@@ -155,7 +156,7 @@ class ServiceFaultTests(KeeperCase):
         self.dies()
         self.assertIn('control does not lead to the process of now: Is a directory', self.told())
         self.step(20)
-        support.until(lambda: len(self.followers()) == 1)
+        support.until(lambda: len(children(self.keeper.pid, 'replay')) == 1)
         self.keeper.terminate()
         self.assertEqual(self.keeper.wait(SECONDS), 0)
 
