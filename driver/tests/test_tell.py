@@ -231,6 +231,15 @@ class TellTests(support.FolderCase):
         self.multiframes(LOOK)
         self.assertEqual(after.lines()[0], 'e1gw tell 1 A')
 
+    def test_clients_that_leave_before_they_are_let_in(self) -> None:
+        """They cost no place."""
+        for _ in range(8):
+            self.client().socket.close()
+        self.replay.passes(trunk_record(bytes(32)))
+        client = self.client()
+        self.replay.passes(trunk_record(bytes(32)))
+        self.assertEqual(client.lines()[0], 'e1gw tell 1 A')
+
     def test_a_socket_that_is_taken(self) -> None:
         for path in (self.replay.path, self.config):
             with self.subTest(path=path):

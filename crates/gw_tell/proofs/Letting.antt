@@ -1,103 +1,74 @@
--- Clients that are accepted one after another.
-use Rattle.std.proofs.Common.{◌≡◌, ◌⊎◌, inl, inr, ◌∙◌, ℕ, List, Option, Some, None, refl, sym, append-nil, []}
-use Rattle.std.proofs.Common.{◌∷◌, zero, suc}
-use Rattle.e1_g711.specs.declared.Law.{Law}
+-- Clients that are let in one after another.
+use Rattle.std.proofs.Common.{◌≡◌, ◌⊎◌, inl, inr, ◌∙◌, ◌+◌, ◌<◌, ◌++◌, ℕ, List, None, refl, sym, ap, arith, [], ◌∷◌}
+use Rattle.std.proofs.Common.{zero, suc, length, length-append}
+use Rattle.mio.specs.declared.net.uds.stream.UnixStream.{UnixStream}
 use Rattle.gw_switch.specs.declared.gateway.Gateway.{Gateway}
-use Rattle.gw_tell.specs.declared.client.Client.{Client}
-use Rattle.gw_tell.specs.declared.gateway_status.GatewayStatus.{GatewayStatus}
+use Rattle.gw_trunk.specs.System.{SystemAccepted, SystemHasNobody}
 use Rattle.gw_tell.specs.declared.place.ClientSlot.{ClientSlot}
-use Rattle.gw_records.specs.Records.{Record}
 use Rattle.gw_tell.specs.declared.teller.Teller.{Teller}
-use Rattle.gw_tell.specs.Clients.{at, sent, AllFree, Gets, StaysOrNew, TellsChanges}
-use Rattle.gw_tell.specs.Reports.{Shows, place_after}
-use Rattle.gw_tell.specs.Seizures.{AreCounted}
-use Rattle.gw_tell.specs.Telling.{IsNew, LetsIn, TellsRecord}
+use Rattle.gw_tell.specs.Clients.{at, AllFree, AllHaveRoom, IsOpen}
+use Rattle.gw_tell.specs.Telling.{LetAllIn, LetsIn, Welcomes}
 
--- Who stays and stays, stays; and who is new and stays, is new.
-still_here : (law : Law) (place : ℕ) (told : GatewayStatus) (seized : List ℕ) (old mid new : Option Client)
-    → StaysOrNew law place told seized old mid
-    → StaysOrNew law place told seized mid new → StaysOrNew law place told seized old new
-still_here law place told seized old mid new first (inl e) = rw (sym e) at first
-still_here law place told seized old mid new first (inr is) = inr is
+-- one client was let in for each of this many connections
+abbrev pub HasLetIn : Gateway → ℕ → Teller → Teller → Type 0
+HasLetIn gateway turns first now = (streams : List UnixStream) × (length streams ≡ turns)
+    × LetAllIn gateway streams first now
 
--- Who is new and stays, is new.
-still_new : (law : Law) (place : ℕ) (told : GatewayStatus) (seized : List ℕ) (mid new : Option Client)
-    → IsNew law place told seized mid
-    → StaysOrNew law place told seized mid new → IsNew law place told seized new
-still_new law place told seized mid new first (inl e) = rw (sym e) at first
-still_new law place told seized mid new first (inr is) = inr is
+-- One more is let in.
+let-more : (gateway : Gateway) (streams : List UnixStream) (stream : UnixStream) (first before after : Teller)
+    → LetAllIn gateway streams first before → SystemAccepted before.door stream
+    → Welcomes gateway stream before after → LetAllIn gateway (streams ++ stream ∷ []) first after
+let-more gateway [] stream first before after all accepted one =
+    (after, rw all at accepted, rw all at one, refl)
+let-more gateway (s ∷ streams) stream first before after all accepted one =
+    (all.0, all.1, all.2, let-more gateway streams stream all.0 before after all.3 accepted one)
 
--- Who is at a place that was free is new.
-none_here : (law : Law) (place : ℕ) (told : GatewayStatus) (seized : List ℕ) (mid new : Option Client) → mid ≡ None
-    → StaysOrNew law place told seized mid new → IsNew law place told seized new
-none_here law place told seized mid new free (inl e) = inl (e ∙ free)
-none_here law place told seized mid new free (inr is) = inr is
+-- .. in the next turn
+pub one-let-in : (gateway : Gateway) (turns : ℕ) (stream : UnixStream) (first before after : Teller)
+    → HasLetIn gateway turns first before → SystemAccepted before.door stream
+    → Welcomes gateway stream before after → HasLetIn gateway (turns + 1) first after
+one-let-in gateway turns stream first before after (streams, count, all) accepted one = (
+  streams ++ stream ∷ [],
+  omega (arith, count, length-append streams (stream ∷ [])),
+  let-more gateway streams stream first before after all accepted one,
+)
 
--- Before the first one all stay.
-pub none_let_in : (law : Law) (place : ℕ) (gateway : Gateway) (told : GatewayStatus) (seized : List ℕ)
-    (places : List ClientSlot)
-    → LetsIn law place gateway told told seized places places
-none_let_in law place gateway told seized places = inl (refl, λ k. inl refl)
+-- Nobody is found at the door.
+pub nobody-let-in : (gateway : Gateway) (turns : ℕ) (first now : Teller) → turns < 8
+    → HasLetIn gateway turns first now → SystemHasNobody now.door → LetsIn gateway first now
+nobody-let-in gateway turns first now fewer (streams, count, all) nobody =
+    record { streams = streams; all = all; ends = inr (omega (arith, count, fewer), nobody) }
 
--- One more is accepted.
-pub one_let_in : (law : Law) (place : ℕ) (gateway : Gateway) (told told' told'' : GatewayStatus)
-    (seized : List ℕ) (places places' places'' : List ClientSlot)
-    → LetsIn law place gateway told told' seized places places'
-    → (told'' ≡ told') ⊎ (AllFree places' × Shows told'' gateway)
-    → ((k : ℕ) → StaysOrNew law place told'' seized (at places' k) (at places'' k))
-    → LetsIn law place gateway told told'' seized places places''
-one_let_in law place gateway told told' told'' seized places places' places'' before (inr free) then =
-    inr (free.1, λ k. none_here law place told'' seized (at places' k) (at places'' k) (free.0 k) (then k))
-one_let_in law place gateway told told' told'' seized places places' places'' (inl before) (inl same) then =
-    let all = rw (same, before.0) at then in
-    inl (
-      same ∙ before.0,
-      λ k. still_here law place told seized (at places k) (at places' k) (at places'' k) (before.1 k) (all k),
-    )
-one_let_in law place gateway told told' told'' seized places places' places'' (inr before) (inl same) then =
-    let all = rw same at then in
-    inr (
-      rw same before.0,
-      λ k. rw same (still_new law place told' seized (at places' k) (at places'' k) (before.1 k)
-          (all k)),
-    )
+-- All eight turns were used.
+pub all-let-in : (gateway : Gateway) (turns : ℕ) (first now : Teller) → turns ≡ 8
+    → HasLetIn gateway turns first now → LetsIn gateway first now
+all-let-in gateway turns first now full (streams, count, all) =
+    record { streams = streams; all = all; ends = inl (count ∙ full) }
 
--- Who is sent nothing stays.
-pub none_sent : (client : Option Client) → Gets client client []
-none_sent None = tt
-none_sent (Some client) = (sym (append-nil (sent client)), refl)
-
--- Eight places without a client are all free.
-pub all_free : (a b c d e f g h : ClientSlot) → a.client ≡ None → b.client ≡ None → c.client ≡ None → d.client ≡ None
-    → e.client ≡ None → f.client ≡ None → g.client ≡ None → h.client ≡ None
-    → AllFree (a ∷ b ∷ c ∷ d ∷ e ∷ f ∷ g ∷ h ∷ [])
-all_free a b c d e f g h a' b' c' d' e' f' g' h' = one
+-- Eight places that are open are all free, and all have room.
+pub all_open : {S : Type 0} {m : _} (a b c d e f g h : ClientSlot S m) → IsOpen a → IsOpen b → IsOpen c → IsOpen d
+    → IsOpen e → IsOpen f → IsOpen g → IsOpen h → AllFree (a ∷ b ∷ c ∷ d ∷ e ∷ f ∷ g ∷ h ∷ [])
+    × AllHaveRoom (a ∷ b ∷ c ∷ d ∷ e ∷ f ∷ g ∷ h ∷ [])
+all_open a b c d e f g h a' b' c' d' e' f' g' h' = (free, room)
   where
-    one : (k : ℕ) → at (a ∷ b ∷ c ∷ d ∷ e ∷ f ∷ g ∷ h ∷ []) k ≡ None
-    one zero = a'
-    one (suc zero) = b'
-    one (suc (suc zero)) = c'
-    one (suc (suc (suc zero))) = d'
-    one (suc (suc (suc (suc zero)))) = e'
-    one (suc (suc (suc (suc (suc zero))))) = f'
-    one (suc (suc (suc (suc (suc (suc zero)))))) = g'
-    one (suc (suc (suc (suc (suc (suc (suc zero))))))) = h'
-    one (suc (suc (suc (suc (suc (suc (suc (suc k)))))))) = refl
+    free : (k : ℕ) → at (a ∷ b ∷ c ∷ d ∷ e ∷ f ∷ g ∷ h ∷ []) k ≡ None
+    free zero = a'.0
+    free (suc zero) = b'.0
+    free (suc (suc zero)) = c'.0
+    free (suc (suc (suc zero))) = d'.0
+    free (suc (suc (suc (suc zero)))) = e'.0
+    free (suc (suc (suc (suc (suc zero))))) = f'.0
+    free (suc (suc (suc (suc (suc (suc zero)))))) = g'.0
+    free (suc (suc (suc (suc (suc (suc (suc zero))))))) = h'.0
+    free (suc (suc (suc (suc (suc (suc (suc (suc k)))))))) = refl
 
--- After a record a Teller that looks at no client has sent what changed, and that is all.
-pub unlooked : (t u : Teller) (place : ℕ) (r : Record) (code : ℕ) (gateway : Gateway) → u.law ≡ t.law
-    → place ≡ place_after t.place r → TellsChanges t.place r code gateway t.told u.told t.places u.places
-    → AreCounted t.seized t.told.rows u.told.rows u.seized
-    → TellsRecord t (record u { place = place }) r code gateway
-unlooked t u place r code gateway law is changes counted = record {
-  law_is = law;
-  place_is = is;
-  told = u.told;
-  between = u.places;
-  tells = changes;
-  counted = counted;
-  here = u.places;
-  listens = λ k. none_sent (at u.places k);
-  lets_in = none_let_in t.law place gateway u.told u.seized u.places;
-  others = λ _. (refl, refl);
-}
+    room : AllHaveRoom (a ∷ b ∷ c ∷ d ∷ e ∷ f ∷ g ∷ h ∷ [])
+    room zero lt = a'.1
+    room (suc zero) lt = b'.1
+    room (suc (suc zero)) lt = c'.1
+    room (suc (suc (suc zero))) lt = d'.1
+    room (suc (suc (suc (suc zero)))) lt = e'.1
+    room (suc (suc (suc (suc (suc zero))))) lt = f'.1
+    room (suc (suc (suc (suc (suc (suc zero)))))) lt = g'.1
+    room (suc (suc (suc (suc (suc (suc (suc zero))))))) lt = h'.1
+    room (suc (suc (suc (suc (suc (suc (suc (suc k)))))))) lt = absurd (omega (arith, lt))

@@ -1,14 +1,16 @@
 -- What clients are sent.
 use Rattle.std.proofs.Common.{◌≡◌, ◌≤◌, ◌<◌, ◌++◌, ◌∷◌, ℕ, List, [], length, drop, take, refl, arith, false, ◌==◌, ◌∙◌}
-use Rattle.std.proofs.Common.{ap, sym, length-append}
+use Rattle.std.proofs.Common.{◌+◌, ◌-◌, ap, sym, length-append, length-drop}
+use Rattle.std.proofs.lemmas.List.{length-take-le}
 use Rattle.std.proofs.Math.Seq.{drop-append_seam, take-append_seam}
 use Rattle.gw_switch.specs.declared.gateway.Gateway.{Gateway}
 use Rattle.gw_records.specs.Records.{Record}
-use Rattle.gw_tell.specs.declared.place.ClientSlot.{ClientSlot}
+use Rattle.gw_tell.specs.declared.teller.Teller.{Teller}
 use Rattle.gw_tell.specs.declared.gateway_status.GatewayStatus.{GatewayStatus}
 use Rattle.gw_tell.specs.Lines.{at_line}
 use Rattle.gw_tell.specs.Reports.{sent_to, last_after, Shows, Changes, IsStatusOf, place_after}
-use Rattle.gw_tell.specs.Clients.{AllAreTold, TellsChanges}
+use Rattle.gw_tell.specs.Clients.{AllAreTold}
+use Rattle.gw_tell.specs.Telling.{TellsChanges}
 use Rattle.gw_tell.proofs.Reporting.{changes_go_behind}
 
 -- Some lines are sent behind the place to a client whose last place is another.
@@ -31,14 +33,13 @@ front_is line pushed report text front a b c (lines, d) =
     )
 
 -- The clients were told what changed.
-pub tells : (place : ℕ) (r : Record) (code : ℕ) (gateway : Gateway) (was told is : GatewayStatus)
-    (places places' : List ClientSlot) (at : ℕ) (pushed report text : List ℕ) (front : ℕ)
-    → Shows is gateway → at ≡ place_after place r → pushed ≡ at_line at → front ≡ length pushed → text ≡ report
-    → Changes place r code was is told pushed report → IsStatusOf is told
-    → AllAreTold places places' at (drop front text) → TellsChanges place r code gateway was told places places'
-tells place r code gateway was told is places places' at pushed report text front shows at_is line len same changes
-    true_picture told_all =
-    let behind = changes_go_behind place r code was is told pushed report changes in
+pub tells : (t t' : Teller) (r : Record) (code : ℕ) (gateway : Gateway) (is : GatewayStatus) (at : ℕ)
+    (pushed report text : List ℕ) (front : ℕ) → Shows is gateway → at ≡ place_after t.place r
+    → pushed ≡ at_line at → front ≡ length pushed → text ≡ report
+    → Changes t.place r code t.told is t'.told pushed report → IsStatusOf is t'.told
+    → AllAreTold t.places t'.places at (drop front text) → TellsChanges t t' r code gateway
+tells t t' r code gateway is at pushed report text front shows at_is line len same changes true_picture told_all =
+    let behind = changes_go_behind t.place r code t.told is t'.told pushed report changes in
     let f = front_is (at_line at) pushed report text front line len same behind in record {
       is = is;
       shows = shows;
@@ -47,3 +48,19 @@ tells place r code gateway was told is places places' at pushed report text fron
       true_picture = true_picture;
       told_all = rw (← at_is) told_all;
     }
+
+-- A client for whom there is no more room has not taken more than 64 KiB of all that it was to get.
+pub full-then : (got waits sent octets : List ℕ) (n : ℕ) → n ≤ length octets → got ++ waits ≡ sent ++ take n octets
+    → 65536 < length waits + length (take (length octets - n) (drop n octets))
+    → 65536 + length got < length (sent ++ octets)
+full-then got waits sent octets n taken all full =
+    let rest = length-drop n octets in
+    let left = length-take-le (length octets - n) (drop n octets) (omega (arith, rest)) in omega (
+      arith,
+      ap length all,
+      length-append got waits,
+      length-append sent (take n octets),
+      length-append sent octets,
+      length-take-le n octets taken,
+      left,
+    )

@@ -1,14 +1,15 @@
 -- What a call of a Teller does (module `teller`).
-use Rattle.std.specs.Prelude.{◌≡◌, ◌⊎◌, ⊤, ℕ, List, [], Option, Some, None}
+use Rattle.std.specs.Prelude.{◌≡◌, ◌≢◌, ◌⊎◌, ◌<◌, ◌/◌, ◌++◌, ℕ, List, [], ◌∷◌, length, None}
+use Rattle.mio.specs.declared.net.uds.stream.UnixStream.{UnixStream}
 use Rattle.e1_g711.specs.declared.Law.{Law}
 use Rattle.gw_switch.specs.declared.gateway.Gateway.{Gateway}
 use Rattle.gw_records.specs.Records.{Record}
-use Rattle.gw_tell.specs.declared.client.Client.{Client}
-use Rattle.gw_tell.specs.declared.gateway_status.GatewayStatus.{GatewayStatus}
-use Rattle.gw_tell.specs.declared.place.ClientSlot.{ClientSlot}
+use Rattle.gw_trunk.specs.System.{SystemAccepted, SystemHasNobody, SystemWrote}
 use Rattle.gw_tell.specs.declared.teller.Teller.{Teller}
-use Rattle.gw_tell.specs.Clients.{at, sent, Gets, AllFree, TellsChanges, StaysOrNew, IsSeated}
-use Rattle.gw_tell.specs.Reports.{Shows, place_after, whole_state}
+use Rattle.gw_tell.specs.Clients.{at, AllAreHeard, AllAreTold, AllFree, AllTaken, OnlyAt, Seats}
+use Rattle.gw_tell.specs.declared.gateway_status.GatewayStatus.{GatewayStatus}
+use Rattle.gw_tell.specs.Lines.{at_line}
+use Rattle.gw_tell.specs.Reports.{Changes, IsStatusOf, Shows, place_after, whole_state}
 use Rattle.gw_tell.specs.Seizures.{AreCounted, no_seizures}
 
 -- a Teller that was shown nothing yet: it has no client, and what was reported last is this gateway's state
@@ -19,34 +20,75 @@ pub record HasBegun (t : Teller) (law : Law) (gateway : Gateway) : Type 0 where
   pub shows : Shows t.told gateway
   pub none_seized : t.seized ≡ no_seizures
 
--- a place has no client, or a new one that was sent the whole state
-abbrev pub IsNew : Law → ℕ → GatewayStatus → List ℕ → Option Client → Type 0
-IsNew law place told seized new = (new ≡ None) ⊎ IsSeated place (whole_state law place told seized) new
+-- a Teller sent its clients what changed with a record, after which the gateway is in this state
+pub record TellsChanges (t t' : Teller) (r : Record) (code : ℕ) (gateway : Gateway) : Type 0 where
+  pub is : GatewayStatus
+  pub shows : Shows is gateway
+  pub lines : List ℕ
+  pub changes : Changes t.place r code t.told is t'.told (at_line (place_after t.place r))
+      (at_line (place_after t.place r) ++ lines)
+  pub true_picture : IsStatusOf is t'.told
+  pub told_all : AllAreTold t.places t'.places (place_after t.place r) lines
 
--- New clients were accepted: each was sent the whole state as last reported, and those before them stay.
--- If there was none before them, that may be the gateway's present state.
-abbrev pub LetsIn : Law → ℕ → Gateway → GatewayStatus → GatewayStatus → List ℕ → List ClientSlot
-    → List ClientSlot → Type 0
-LetsIn law place gateway told told' seized places places' =
-    ((told' ≡ told) × ((k : ℕ) → StaysOrNew law place told seized (at places k) (at places' k)))
-    ⊎ (Shows told' gateway × ((k : ℕ) → IsNew law place told' seized (at places' k)))
+-- What a new client gets is what was reported last, or if there was no client the gateway's present state.
+abbrev pub IsShown : Gateway → Teller → Teller → Type 0
+IsShown gateway t t' = (AllFree t.places × Shows t'.told gateway)
+    ⊎ ((AllFree t.places → ⊥) × (t'.told ≡ t.told))
 
--- a record is not of the trunk
-abbrev pub IsOther : Record → Type 0
-IsOther (Record.Trunk octets) = ⊥
-IsOther _ = ⊤
+-- what a Teller keeps while it looks at its clients
+pub record KeepsPlace (t t' : Teller) : Type 0 where
+  pub law_is : t'.law ≡ t.law
+  pub place_is : t'.place ≡ t.place
+  pub seized_is : t'.seized ≡ t.seized
+  pub door_is : t'.door ≡ t.door
+
+-- A connection has a place that was free, and is sent the whole state; the others stay as they are.
+pub record HasPlace (gateway : Gateway) (stream : UnixStream) (t t' : Teller) : Type 0 where
+  pub place : ℕ
+  pub is_place : place < 8
+  pub was_free : at t.places place ≡ None
+  pub shown : IsShown gateway t t'
+  pub seated : Seats SystemWrote stream t.place (whole_state t.law t.place t'.told t.seized)
+      (at t'.places place)
+  pub others : OnlyAt place t.places t'.places
+  pub same : KeepsPlace t t'
+
+-- A connection is that of a new client. It is dropped if each place has a client.
+abbrev pub Welcomes : Gateway → UnixStream → Teller → Teller → Type 0
+Welcomes gateway stream t t' = (AllTaken t.places × (t' ≡ t)) ⊎ HasPlace gateway stream t t'
+
+-- connections were accepted, one after another, and each was welcomed
+abbrev pub LetAllIn : Gateway → List UnixStream → Teller → Teller → Type 0
+LetAllIn gateway [] t t' = t' ≡ t
+LetAllIn gateway (stream ∷ streams) t t' = (between : Teller) × SystemAccepted t.door stream
+    × Welcomes gateway stream t between × LetAllIn gateway streams between t'
+
+-- Connections were accepted until nobody was found at the door, or eight.
+pub record LetsIn (gateway : Gateway) (t t' : Teller) : Type 0 where
+  pub streams : List UnixStream
+  pub all : LetAllIn gateway streams t t'
+  pub ends : (length streams ≡ 8) ⊎ ((length streams < 8) × SystemHasNobody t'.door)
+
+-- clients are looked at behind a record of the trunk: behind each if there is none, else once in 2,048 octets
+abbrev pub IsLook : Record → ℕ → Teller → Type 0
+IsLook (Record.Trunk octets) before t = AllFree t.places ⊎ (before / 2048 ≢ t.place / 2048)
+IsLook _ before t = ⊥
+
+-- Those who have left are disconnected, and then new clients are let in.
+pub record Looks (gateway : Gateway) (t t' : Teller) : Type 0 where
+  pub heard : Teller
+  pub hears : AllAreHeard t.places heard.places
+  pub same : KeepsPlace t heard
+  pub told_is : heard.told ≡ t.told
+  pub lets_in : LetsIn gateway heard t'
 
 -- A Teller was shown a record, with the code of its answer and the gateway behind it. It counted seizures,
--- and wrote to its clients what changed. Behind a record of the trunk it may then have closed the connections
--- of clients that had gone, and accepted new ones.
+-- and sent its clients what changed. Then it may have looked at its clients.
 pub record TellsRecord (t t' : Teller) (r : Record) (code : ℕ) (gateway : Gateway) : Type 0 where
-  pub law_is : t'.law ≡ t.law
-  pub place_is : t'.place ≡ place_after t.place r
-  pub told : GatewayStatus
-  pub between : List ClientSlot
-  pub tells : TellsChanges t.place r code gateway t.told told t.places between
-  pub counted : AreCounted t.seized t.told.rows told.rows t'.seized
-  pub here : List ClientSlot
-  pub listens : (k : ℕ) → Gets (at between k) (at here k) []
-  pub lets_in : LetsIn t.law t'.place gateway told t'.told t'.seized here t'.places
-  pub others : IsOther r → (t'.places ≡ between) × (t'.told ≡ told)
+  pub behind : Teller
+  pub law_is : behind.law ≡ t.law
+  pub place_is : behind.place ≡ place_after t.place r
+  pub tells : TellsChanges t behind r code gateway
+  pub counted : AreCounted t.seized t.told.rows behind.told.rows behind.seized
+  pub looks : (IsLook r t.place behind × Looks gateway behind t')
+      ⊎ ((IsLook r t.place behind → ⊥) × (t' ≡ behind))

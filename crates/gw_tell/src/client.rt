@@ -1,65 +1,73 @@
 //! When a client of `--tell` gets lines, and when it is disconnected (`Client`).
 
-ghost use Rattle.std.specs.Prelude.{◌≡◌, ◌≤◌, ◌++◌, [], length, take, drop, IfOk, OnOk};
+ghost use Rattle.std.specs.Prelude.{◌≡◌, ◌≤◌, ◌++◌, ℕ, List, [], Some, length, take, drop, IfOk, OnOk, OnErr};
 ghost use Rattle.gw_tell.specs.Backlog.{waiting};
-ghost use Rattle.gw_tell.specs.Clients.{sent};
+ghost use Rattle.gw_tell.specs.Connections.{HasLeft, WriteFails};
 ghost use Rattle.gw_tell.specs.Lines.{at_line};
-ghost use Rattle.gw_tell.specs.Reports.{sent_to, last_after};
 
 use crate::backlog::Backlog;
-use gw_records::Log;
-use mio::net::UnixStream;
-use std::io::{ErrorKind, Read, Write};
+use gw_records::{AtStart, Log};
+use gw_trunk::ClientStream;
+use std::io::ErrorKind;
 
 // How much is read at once of what a client sends, which nobody looks at.
 const ROOM_LEN: usize = 256;
 
-/// A client is to be disconnected: it has gone, or 64 KiB of what it is sent wait for it.
+/// A client is to be disconnected: it has gone, or more than 64 KiB of what it is sent would wait for it.
 #[derive(Clone, Copy)]
 pub struct Away;
 
-/// A connection that is sent what changes.
+/// A connection that is sent what changes. If it is known what it had at its start, it has that and behind it
+/// the octets that it took.
 #[derive(Drop)]
-pub struct Client {
-    stream: UnixStream,
+pub struct Client<S: ClientStream> {
+    stream: S,
     /// The place of the last `at` that it got.
     pub last: u64,
+    start: AtStart<S>,
     /// The octets that it took.
     pub got: Log,
     /// What it was sent behind these, and has not taken yet.
     pub waits: Backlog,
+    ghost holds: { (before : List ℕ) → S.contents start.value ≡ Some before
+        → S.contents stream ≡ Some (before ++ got.octets) },
 }
 
-// Writes octets, if there are any, and returns how many the client takes now.
-fn write_now(stream: &mut UnixStream, got: &mut Log, octets: &[u8]) -> Result<usize, Away>
+// Writes octets, and returns how many the connection takes now.
+fn write_now<S: ClientStream>(stream: &mut S, got: &mut Log, octets: &[u8]) -> Result<usize, Away>
     ensures bound { IfOk result (λ n. n ≤ length octets.now) }
     ensures got { IfOk result (λ n. got.new.octets ≡ got.old.octets ++ take n octets.now) }
+    ensures none { OnErr result (got.new.octets ≡ got.old.octets) }
+    ensures holds { (before : List ℕ) → S.contents stream.old ≡ Some (before ++ got.old.octets)
+        → S.contents stream.new ≡ Some (before ++ got.new.octets) }
+    ensures err { OnErr result (WriteFails S.has_written stream.new) }
 {
-    if octets.is_empty() {
-        return Ok(0);
-    }
-    match stream.write(octets) {
+    match stream.write_now(octets) {
         Ok(n) => {
             got.append(octets, n);
             Ok(n)
         }
-        Err(error) => match error.kind() {
-            ErrorKind::WouldBlock | ErrorKind::Interrupted => Ok(0),
-            _ => Err(Away),
-        },
+        Err(ErrorKind::WouldBlock | ErrorKind::Interrupted) => Ok(0),
+        Err(_) => Err(Away),
     }
 }
 
-impl Client {
+impl<S: ClientStream> Client<S> {
+    ghost use Rattle.gw_tell.specs.Clients.{sent, DoesNotTake};
+    ghost use Rattle.gw_tell.specs.Reports.{sent_to, last_after};
+
     /// A client that is to get the whole state at a place, and room for what waits for it.
-    pub fn new(stream: UnixStream, place: u64, mut room: Backlog) -> Client
+    pub fn new(stream: S, place: u64, mut room: Backlog) -> Client<S>
         ensures sent { sent result ≡ [] }
         ensures last { result.last ≡ place }
+        ensures start { result.start.value ≡ stream }
     {
         room.clear();
+        let start = AtStart::of(&stream);
         Client {
             stream,
             last: place,
+            start,
             got: Log::new(),
             waits: room,
         }
@@ -71,11 +79,16 @@ impl Client {
         waits
     }
 
-    // Writes what waits, as far as the client takes it now.
+    // Writes what waits, if something does, as far as the client takes it now.
     fn flush(&mut self) -> Result<(), Away>
-        ensures sent { OnOk result (sent self.new ≡ sent self.old) }
+        ensures sent { sent self.new ≡ sent self.old }
         ensures last { self.new.last ≡ self.old.last }
+        ensures start { self.new.start ≡ self.old.start }
+        ensures err { OnErr result (WriteFails S.has_written self.new.stream) }
     {
+        if self.waits.octets().is_empty() {
+            return Ok(());
+        }
         let n = write_now(&mut self.stream, &mut self.got, self.waits.octets())?;
         self.waits.pass(n);
         Ok(())
@@ -86,18 +99,22 @@ impl Client {
         ensures bound { IfOk result (λ n. n ≤ length octets.now) }
         ensures sent { IfOk result (λ n. sent self.new ≡ sent self.old ++ take n octets.now) }
         ensures last { self.new.last ≡ self.old.last }
+        ensures start { self.new.start ≡ self.old.start }
+        ensures err { OnErr result (WriteFails S.has_written self.new.stream) }
     {
-        if !self.waits.octets().is_empty() {
+        if !self.waits.octets().is_empty() || octets.is_empty() {
             return Ok(0);
         }
         write_now(&mut self.stream, &mut self.got, octets)
     }
 
     /// Sends the client octets. What it does not take at once waits for it, behind what waits already. A
-    /// client for whom there is no room for all of them is to be disconnected.
+    /// client that cannot be written to, or for whom there is no room for all of them, is to be disconnected.
     pub fn give(&mut self, octets: &[u8]) -> Result<(), Away>
         ensures ok { OnOk result (sent self.new ≡ sent self.old ++ octets.now) }
         ensures last { self.new.last ≡ self.old.last }
+        ensures start { self.new.start ≡ self.old.start }
+        ensures err { OnErr result (DoesNotTake S.has_written self.new (sent self.old ++ octets.now)) }
     {
         self.flush()?;
         let taken = self.take_now(octets)?;
@@ -115,6 +132,9 @@ impl Client {
         ensures ok { OnOk result (sent self.new
             ≡ sent self.old ++ sent_to self.old.last place (drop front text.now)) }
         ensures last { self.new.last ≡ last_after self.old.last place (drop front text.now) }
+        ensures start { self.new.start ≡ self.old.start }
+        ensures err { OnErr result (DoesNotTake S.has_written self.new
+            (sent self.old ++ sent_to self.old.last place (drop front text.now))) }
     {
         if text.len() == front {
             return Ok(());
@@ -128,18 +148,17 @@ impl Client {
 
     /// Writes what waits for the client, and reads what it sent.
     pub fn listen(&mut self) -> Result<(), Away>
-        ensures sent { OnOk result (sent self.new ≡ sent self.old) }
+        ensures sent { sent self.new ≡ sent self.old }
         ensures last { self.new.last ≡ self.old.last }
+        ensures start { self.new.start ≡ self.old.start }
+        ensures err { OnErr result (HasLeft S.has_read S.has_written self.new.stream) }
     {
         self.flush()?;
         let mut room = [0u8; ROOM_LEN];
-        match self.stream.read(&mut room) {
+        match self.stream.read_now(&mut room) {
             Ok(0) => Err(Away),
-            Ok(_) => Ok(()),
-            Err(error) => match error.kind() {
-                ErrorKind::WouldBlock | ErrorKind::Interrupted => Ok(()),
-                _ => Err(Away),
-            },
+            Ok(_) | Err(ErrorKind::WouldBlock) => Ok(()),
+            Err(_) => Err(Away),
         }
     }
 }

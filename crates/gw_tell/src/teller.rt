@@ -1,11 +1,12 @@
 //! When clients of `--tell` are accepted, looked at and sent what changed (`Teller`).
 
-ghost use Rattle.std.specs.Prelude.{◌≡◌, ◌⊎◌, ◌<◌, ◌≤◌, ◌++◌, ℕ, [], length, take, drop, IfSome, None};
-ghost use Rattle.std.specs.Prelude.{IsTrue, IfOk};
+ghost use Rattle.std.specs.Prelude.{◌≡◌, ◌<◌, ◌≤◌, ℕ, List, true, false, length, take, drop};
+ghost use Rattle.std.specs.Prelude.{IfSome, IfNone, IfOk, None};
 ghost use Rattle.gw_records.specs.Records.{named};
+ghost use Rattle.gw_trunk.specs.System.{SystemWrote};
 ghost use Rattle.gw_tell.specs.Lines.{at_line, end_line};
-ghost use Rattle.gw_tell.specs.Clients.{AllAreTold, AllFree, Gets, at};
-ghost use Rattle.gw_tell.specs.Telling.{HasBegun, TellsRecord};
+ghost use Rattle.gw_tell.specs.Clients.{AllAreHeard, AllAreTold, AllFree, AllHaveRoom, AllTaken, at};
+ghost use Rattle.gw_tell.specs.Clients.{Gets, IsOpen};
 
 use crate::backlog::Backlog;
 use crate::gateway_status::GatewayStatus;
@@ -18,7 +19,7 @@ use e1_g711::Law;
 use gw_records::RecordHead;
 use gw_session::Watch;
 use gw_switch::Gateway;
-use gw_trunk::open_door;
+use gw_trunk::{accept, open_door};
 use mio::net::{UnixListener, UnixStream};
 use std::alloc::Global;
 use std::io;
@@ -35,7 +36,7 @@ const LOOK: u64 = 2048;
 #[derive(Drop)]
 pub struct Teller {
     door: UnixListener,
-    places: [ClientSlot; 8],
+    places: [ClientSlot<UnixStream>; 8],
     law: Law,
     // The octets of the trunk that the session has acted on.
     place: u64,
@@ -44,13 +45,15 @@ pub struct Teller {
     // How often each line was seized since the session began.
     seized: [u64; 30],
     text: Text,
+    ghost rooms: { AllHaveRoom places },
 }
 
 // Sends all clients the lines of a text.
-fn tell_all(places: &mut [ClientSlot; 8], text: &[u8], front: usize, at: u64)
+fn tell_all(places: &mut [ClientSlot<UnixStream>; 8], text: &[u8], front: usize, at: u64)
     requires front { front ≤ length text.now }
     requires line { take front text.now ≡ at_line at }
-    ensures { AllAreTold places.old places.new at (drop front text.now) }
+    ensures told { AllAreTold places.old places.new at (drop front text.now) }
+    ensures rooms { AllHaveRoom places.old → AllHaveRoom places.new }
 {
     for place in 0..MOST_CLIENTS {
         places[place].tell(text, front, at);
@@ -58,8 +61,9 @@ fn tell_all(places: &mut [ClientSlot; 8], text: &[u8], front: usize, at: u64)
 }
 
 // Whether all places for clients are free.
-fn are_free(places: &[ClientSlot; 8]) -> bool
-    ensures { IsTrue result → AllFree places.now }
+fn are_free(places: &[ClientSlot<UnixStream>; 8]) -> bool
+    ensures free { result ≡ true → AllFree places.now }
+    ensures taken { result ≡ false → AllFree places.now → ⊥ }
 {
     for place in 0..MOST_CLIENTS {
         if places[place].client.is_some() {
@@ -70,8 +74,9 @@ fn are_free(places: &[ClientSlot; 8]) -> bool
 }
 
 // The first place without a client, if there is one.
-fn free_place(places: &[ClientSlot; 8]) -> Option<usize>
-    ensures { IfSome result (λ place. (place < 8) × (at places.now place ≡ None)) }
+fn free_place(places: &[ClientSlot<UnixStream>; 8]) -> Option<usize>
+    ensures some { IfSome result (λ place. (place < 8) × (at places.now place ≡ None)) }
+    ensures none { IfNone result (AllTaken places.now) }
 {
     for place in 0..MOST_CLIENTS {
         if places[place].client.is_none() {
@@ -82,41 +87,32 @@ fn free_place(places: &[ClientSlot; 8]) -> Option<usize>
 }
 
 // Two free places, with the room of each. The error is that memory was refused.
-fn open_two(alloc: Global) -> io::Result<(ClientSlot, ClientSlot)>
-    ensures first { IfOk result (λ two. two.0.client ≡ None) }
-    ensures second { IfOk result (λ two. two.1.client ≡ None) }
+fn open_two(alloc: Global) -> io::Result<(ClientSlot<UnixStream>, ClientSlot<UnixStream>)>
+    ensures { IfOk result (λ two. IsOpen two.0 × IsOpen two.1) }
 {
     let first = ClientSlot::open(alloc)?;
     let second = ClientSlot::open(alloc)?;
     Ok((first, second))
 }
 
-// Four free places.
-fn open_four(alloc: Global) -> io::Result<(ClientSlot, ClientSlot, ClientSlot, ClientSlot)>
-    ensures first { IfOk result (λ four. four.0.client ≡ None) }
-    ensures second { IfOk result (λ four. four.1.client ≡ None) }
-    ensures third { IfOk result (λ four. four.2.client ≡ None) }
-    ensures fourth { IfOk result (λ four. four.3.client ≡ None) }
+// Eight free places.
+#[tactic(auto, using(crate::proofs::Letting::all_open))]
+fn open_places(alloc: Global) -> io::Result<[ClientSlot<UnixStream>; 8]>
+    ensures free { IfOk result AllFree }
+    ensures rooms { IfOk result AllHaveRoom }
 {
     let (a, b) = open_two(alloc)?;
     let (c, d) = open_two(alloc)?;
-    Ok((a, b, c, d))
-}
-
-// Eight free places.
-#[tactic(auto, using(crate::proofs::Letting::all_free))]
-fn open_places(alloc: Global) -> io::Result<[ClientSlot; 8]>
-    ensures { IfOk result (λ places. AllFree places) }
-{
-    let (a, b, c, d) = open_four(alloc)?;
-    let (e, f, g, h) = open_four(alloc)?;
+    let (e, f) = open_two(alloc)?;
+    let (g, h) = open_two(alloc)?;
     Ok([a, b, c, d, e, f, g, h])
 }
 
 impl Teller {
-    ghost use Rattle.gw_tell.specs.Reports.{Shows};
-    ghost use Rattle.gw_tell.specs.Clients.{TellsChanges, StaysOrNew};
-    ghost use Rattle.gw_tell.specs.Telling.{LetsIn};
+    ghost use Rattle.gw_tell.specs.Clients.{OnlyAt, Seats};
+    ghost use Rattle.gw_tell.specs.Telling.{HasBegun, IsLook, IsShown, KeepsPlace, LetsIn};
+    ghost use Rattle.gw_tell.specs.Telling.{TellsChanges, Welcomes};
+    ghost use Rattle.gw_tell.specs.Reports.{place_after, whole_state};
     ghost use Rattle.gw_tell.specs.Seizures.{AreCounted};
 
     /// Listens at a path, with no client yet, and takes the memory of all places. The error is the system's,
@@ -136,14 +132,13 @@ impl Teller {
         })
     }
 
-    // Counts seizures, and sends all clients what changed with a record.
+    // Counts seizures, sends all clients what changed with a record, and passes it on the trunk.
     #[inline(never)]
     fn tell(&mut self, head: &RecordHead, body: &[u8], code: u8, gateway: &Gateway)
-        ensures changes { TellsChanges self.old.place (named head.now body.now) code gateway.now
-            self.old.told self.new.told self.old.places self.new.places }
+        ensures changes { TellsChanges self.old self.new (named head.now body.now) code gateway.now }
         ensures counted { AreCounted self.old.seized self.old.told.rows self.new.told.rows self.new.seized }
         ensures law { self.new.law ≡ self.old.law }
-        ensures place { self.new.place ≡ self.old.place }
+        ensures place { self.new.place ≡ place_after self.old.place (named head.now body.now) }
     {
         let is = GatewayStatus::of(gateway);
         let at = place_after(self.place, head, body);
@@ -161,25 +156,30 @@ impl Teller {
             &mut self.text,
         );
         tell_all(&mut self.places, self.text.as_slice(), front, at);
+        self.place = at;
     }
 
-    // Gives a new client the whole state, if there is a place for it.
-    #[inline(never)]
-    fn welcome(&mut self, stream: UnixStream, gateway: &Gateway)
-        ensures told { (self.new.told ≡ self.old.told)
-            ⊎ (AllFree self.old.places × Shows self.new.told gateway.now) }
-        ensures law { self.new.law ≡ self.old.law }
-        ensures place { self.new.place ≡ self.old.place }
-        ensures clients { (k : ℕ) → StaysOrNew self.old.law self.old.place self.new.told
-            self.old.seized (at self.old.places k) (at self.new.places k) }
-        ensures seized { self.new.seized ≡ self.old.seized }
+    // Takes the gateway's present state for what was reported last, if there is no client.
+    fn refresh(&mut self, gateway: &Gateway)
+        ensures shown { IsShown gateway.now self.old self.new }
+        ensures same { KeepsPlace self.old self.new }
+        ensures places { self.new.places ≡ self.old.places }
     {
-        let Some(free) = free_place(&self.places) else {
-            return;
-        };
         if are_free(&self.places) {
             self.told = GatewayStatus::of(gateway);
         }
+    }
+
+    // Gives a free place to a client, and sends it the whole state.
+    fn seat_at(&mut self, free: usize, stream: UnixStream)
+        requires place { free < 8 }
+        requires free { at self.old.places free ≡ None }
+        ensures seated { Seats SystemWrote stream self.old.place (whole_state self.old.law self.old.place
+            self.old.told self.old.seized) (at self.new.places free) }
+        ensures others { OnlyAt free self.old.places self.new.places }
+        ensures same { KeepsPlace self.old self.new }
+        ensures told { self.new.told ≡ self.old.told }
+    {
         self.text.clear();
         whole_state(
             self.law,
@@ -191,35 +191,48 @@ impl Teller {
         self.places[free].seat(stream, self.place, self.text.as_slice());
     }
 
-    // Whether clients are looked at behind a record that began at this place: with each record if there is
-    // none, else each 8 ms, since a look costs two system calls.
-    fn looks_at_clients(&self, before: u64) -> bool {
-        are_free(&self.places) || before / LOOK != self.place / LOOK
+    // Gives a new client the whole state, if there is a place for it.
+    #[inline(never)]
+    fn welcome(&mut self, stream: UnixStream, gateway: &Gateway)
+        ensures { Welcomes gateway.now stream self.old self.new }
+    {
+        let Some(free) = free_place(&self.places) else {
+            return;
+        };
+        self.refresh(gateway);
+        self.seat_at(free, stream);
+    }
+
+    // Whether clients are looked at behind a record that began at this place: if it is of the trunk, each
+    // time if there is none, else each 8 ms, since a look costs two system calls.
+    fn is_look(&self, head: &RecordHead, before: u64) -> bool
+        ensures is { (body : List ℕ) → result ≡ true → IsLook (named head.now body) before self.now }
+        ensures not { (body : List ℕ) → result ≡ false
+            → IsLook (named head.now body) before self.now → ⊥ }
+    {
+        match head {
+            RecordHead::Trunk => are_free(&self.places) || before / LOOK != self.place / LOOK,
+            _ => false,
+        }
     }
 
     // Closes the connections of clients that have gone.
     fn listen(&mut self)
-        ensures clients { (k : ℕ) → Gets (at self.old.places k) (at self.new.places k) [] }
-        ensures law { self.new.law ≡ self.old.law }
-        ensures place { self.new.place ≡ self.old.place }
+        ensures heard { AllAreHeard self.old.places self.new.places }
+        ensures same { KeepsPlace self.old self.new }
         ensures told { self.new.told ≡ self.old.told }
-        ensures seized { self.new.seized ≡ self.old.seized }
     {
         for place in 0..MOST_CLIENTS {
             self.places[place].listen();
         }
     }
 
-    // Accepts connections, as many as there are places at most.
+    // Accepts the connections that wait at the door, eight at most.
     fn let_in(&mut self, gateway: &Gateway)
-        ensures lets_in { LetsIn self.old.law self.old.place gateway.now self.old.told self.new.told
-            self.old.seized self.old.places self.new.places }
-        ensures seized { self.new.seized ≡ self.old.seized }
-        ensures law { self.new.law ≡ self.old.law }
-        ensures place { self.new.place ≡ self.old.place }
+        ensures { LetsIn gateway.now self.old self.new }
     {
         for _turn in 0..MOST_CLIENTS {
-            let Ok((stream, _)) = self.door.accept() else {
+            let Some(stream) = accept(&self.door) else {
                 return;
             };
             self.welcome(stream, gateway);
@@ -228,7 +241,7 @@ impl Teller {
 
     /// Sends all clients that the session has ended.
     pub fn end(&mut self)
-        ensures { (k : ℕ) → Gets (at self.old.places k) (at self.new.places k) end_line }
+        ensures { (k : ℕ) → Gets SystemWrote (at self.old.places k) (at self.new.places k) end_line }
     {
         for place in 0..MOST_CLIENTS {
             self.places[place].give(b"end\n");
@@ -237,18 +250,16 @@ impl Teller {
 }
 
 impl Watch for Teller {
+    ghost use Rattle.gw_tell.specs.Telling.{TellsRecord};
+
     ghost shows = { λ old new r code gateway. TellsRecord old new r code gateway };
 
     fn after(&mut self, head: &RecordHead, body: &[u8], code: u8, gateway: &Gateway) {
         let before = self.place;
         self.tell(head, body, code, gateway);
-        self.place = place_after(self.place, head, body);
-        match head {
-            RecordHead::Trunk if self.looks_at_clients(before) => {
-                self.listen();
-                self.let_in(gateway);
-            }
-            _ => {}
+        if self.is_look(head, before) {
+            self.listen();
+            self.let_in(gateway);
         }
     }
 }

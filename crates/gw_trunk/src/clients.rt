@@ -204,9 +204,9 @@ fn place_for_one<S: ClientStream>(places: &[Option<Client<S>>; 8]) -> Option<usi
     found
 }
 
-// Accepts a connection that waits at a door, if one does.
+/// Accepts a connection that waits at a door, if one does.
 #[tactic(auto, unfolding(crate::specs::System::SystemHasNobody, crate::specs::System::SystemAccepted))]
-fn accept(door: &UnixListener) -> Option<UnixStream>
+pub fn accept(door: &UnixListener) -> Option<UnixStream>
     ensures some { IfSome result (SystemAccepted door.now) }
     ensures none { IfNone result (SystemHasNobody door.now) }
 {

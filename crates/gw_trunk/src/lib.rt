@@ -16,6 +16,8 @@ mod source;
 mod waiting;
 mod with_clients;
 
+pub use client_stream::ClientStream;
+pub use clients::accept;
 pub use device::{
     DeviceFault, DeviceRead, FromDevice, NoClients, ToDevice, TrunkInput, TrunkOutput,
 };

@@ -1,17 +1,15 @@
-use Rattle.gw_tell.proofs.Letting.{none_let_in, one_let_in}
-use Rattle.std.proofs.Common.{◌∙◌, refl}
+use Rattle.std.proofs.Common.{arith}
+use Rattle.gw_tell.proofs.Letting.{all-let-in, nobody-let-in, one-let-in}
 use Rattle.gw_tell.proofs.teller.Teller.let_in.Goals as goal
 
-pub loop-turn-init : goal.loop-turn-init
-loop-turn-init c = record { lets_in = none_let_in _ _ _ _ _ _; law = refl; place = refl; seized = refl }
-
 pub loop-turn-preserved : goal.loop-turn-preserved
-loop-turn-preserved c =
-    let w = c.loop-turn.invariant in
-    record {
-      lets_in = one_let_in _ _ _ _ _ _ _ _ _ _ w.lets_in c.welcome.ensures.told
-          (rw (w.law, w.place, w.seized) at c.welcome.ensures.clients);
-      law = c.welcome.ensures.law ∙ w.law;
-      place = c.welcome.ensures.place ∙ w.place;
-      seized = c.welcome.ensures.seized ∙ w.seized;
-    }
+loop-turn-preserved c = one-let-in _ c.loop-turn._turn _ _ _ _ c.loop-turn.invariant c.in-Some.ensures.some
+    c.welcome.ensures
+
+pub returns-in_default : goal.returns-in_default
+returns-in_default c = nobody-let-in _ c.loop-turn._turn _ _ c.loop-turn-test.true c.loop-turn.invariant
+    c.in_default.ensures.none
+
+pub returns : goal.returns
+returns c = all-let-in _ c.loop-turn._turn _ _ (omega (arith, c.loop-turn-test.false, c.loop-turn.auto._turn-end))
+    c.loop-turn.invariant

@@ -1,15 +1,17 @@
-use Rattle.std.proofs.Common.{◌≡◌, ◌≤◌, ◌<◌, ℕ, length, []}
-use Rattle.gw_tell.specs.Clients.{Gets, at}
+use Rattle.std.proofs.Common.{◌≡◌, ◌≤◌, ◌<◌, ℕ, length}
+use Rattle.gw_trunk.specs.System.{SystemRead, SystemWrote}
+use Rattle.gw_tell.specs.Clients.{IsHeard, at}
 use Rattle.gw_tell.proofs.teller.Teller.listen.Given as goal
 
--- the clients so far got it, and the others are as they were
+-- the clients so far were looked at, and the others are as they were
 abbrev pub invariant-loop-place : goal.invariant-loop-place
 invariant-loop-place l = record {
   count : length l.self.places ≡ 8;
-  got : (k : ℕ) → k < l.place → Gets (at l.fn.self.places k) (at l.self.places k) [];
+  heard : (k : ℕ) → k < l.place → IsHeard SystemRead SystemWrote (at l.fn.self.places k) (at l.self.places k);
   law : l.self.law ≡ l.fn.self.law;
   place : l.self.place ≡ l.fn.self.place;
-  told : l.self.told ≡ l.fn.self.told;
   seized : l.self.seized ≡ l.fn.self.seized;
+  door : l.self.door ≡ l.fn.self.door;
+  told : l.self.told ≡ l.fn.self.told;
   rest : (k : ℕ) → l.place ≤ k → at l.self.places k ≡ at l.fn.self.places k;
 }

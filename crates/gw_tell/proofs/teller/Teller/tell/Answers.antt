@@ -16,10 +16,10 @@ tell_all-requires-clause-line c = let line = at_line c.place_after-at.result in
 
 pub returns-clause-changes : goal.returns-clause-changes
 returns-clause-changes c = let line = at_line c.place_after-at.result in
-    tells _ _ _ _ _ _ _ _ _ _ _ _ _ _ c.of-is.ensures c.place_after-at.ensures
+    tells _ _ _ _ _ _ _ _ _ _ _ c.of-is.ensures c.place_after-at.ensures
     (c.push_at.ensures.line ∙ ap (λ (xs : List ℕ). xs ++ line) c.clear.ensures)
     c.len-front.ensures.value c.as_slice.ensures.value c.report.ensures.changes c.report.ensures.true_picture
-    c.tell_all.ensures
+    c.tell_all.ensures.told
 
 pub returns-clause-counted : goal.returns-clause-counted
 returns-clause-counted c = counted_alike _ _ _ _ _ c.count_seizures.ensures c.report.ensures.true_picture.rows_are
