@@ -1,12 +1,15 @@
 -- Octets and words that come after others, for a codec of any kind.
-use Rattle.std.proofs.Common.{◌≡◌, refl, ap, ◌∙◌, ℕ, Option, Some, None, List, [], ◌∷◌, ◌++◌}
+use Rattle.std.proofs.Common.{◌≡◌, ◌<◌, ◌+◌, refl, ap, ◌∙◌, ℕ, zero, suc, Option, Some, None, List, [], ◌∷◌, ◌++◌, take}
+use Rattle.std.proofs.Common.{length, arith}
+use Rattle.std.specs.Prelude.{slice_index}
+use Rattle.std.proofs.lemmas.List.{take_more}
 use Rattle.e1_g711.specs.declared.Law.{Law}
 use Rattle.g726_quant.specs.Tables.{RateTables}
-use Rattle.g726_codec.specs.Codec.{Variables, at_reset}
+use Rattle.g726_codec.specs.Codec.{Variables, at_reset, stepped}
 use Rattle.g726_codec.specs.Kinds.{rate_tables, word_by, octet_by, words_by, octets_by, after_by, enc, dec, CodecState}
 use Rattle.g726_codec.specs.Kinds.{encoder_after, decoder_after, codec_after, after_encoding, after_decoding}
 use Rattle.g726_codec.specs.declared.CodecKind.{CodecKind}
-use Rattle.g726_codec.specs.Laws.{EncodersContinue, HistoriesContinue}
+use Rattle.g726_codec.specs.Laws.{EncodersContinue, DecodersContinue, HistoriesContinue}
 use Rattle.g726_codec.proofs.Histories.{next_words, next_encoder, next_octets, next_decoder, words_more, after_more}
 use Rattle.g726_codec.proofs.Lists.{words_by_counted}
 
@@ -31,6 +34,36 @@ encoders_continue (Some r) law s = record {
   counted = words_by_counted (Some r) law s;
   one = λ octet. refl;
   none = (refl, refl);
+}
+
+-- the octet of a word among others
+octet_among : (t : Option RateTables) (law : Law) (s : Variables) (words : List ℕ) (i : ℕ) → i < length words
+    → slice_index (octets_by t law s words) i ≡ octet_by t law (after_by t s (take i words)) (slice_index words i)
+octet_among None law s [] i h = absurd (omega (arith, h))
+octet_among None law s (word ∷ words) zero h = refl
+octet_among None law s (word ∷ words) (suc i) h = octet_among None law s words i (omega (arith, h))
+octet_among (Some r) law s [] i h = absurd (omega (arith, h))
+octet_among (Some r) law s (word ∷ words) zero h = refl
+octet_among (Some r) law s (word ∷ words) (suc i) h =
+    octet_among (Some r) law (stepped r s word) words i (omega (arith, h))
+
+-- the state after a word among others
+after_among : (t : Option RateTables) (s : Variables) (words : List ℕ) (i : ℕ) → i < length words
+    → after_by t s (take (i + 1) words) ≡ after_by t (after_by t s (take i words)) (slice_index words i ∷ [])
+after_among t s words i h =
+    ap (after_by t s) (take_more words i 0 h) ∙ after_more t s (take i words) (slice_index words i ∷ [])
+
+-- no words leave a state as it is
+after_no_words : (t : Option RateTables) (s : Variables) → after_by t s [] ≡ s
+after_no_words None s = refl
+after_no_words (Some r) s = refl
+
+-- so a decoder continues what it decoded
+pub decoders_continue : (t : Option RateTables) (law : Law) (s : Variables) → DecodersContinue t law s
+decoders_continue t law s = record {
+  octets = octet_among t law s;
+  states = after_among t s;
+  none = after_no_words t s;
 }
 
 -- the octets of one word, from its octet

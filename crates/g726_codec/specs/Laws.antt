@@ -1,10 +1,12 @@
 -- Laws of the codecs.
-use Rattle.std.specs.Prelude.{ℕ, ◌≡◌, ◌<◌, ◌^◌, Option, List, [], ◌∷◌, ◌++◌, length, take, All}
+use Rattle.std.specs.Prelude.{ℕ, ◌≡◌, ◌<◌, ◌^◌, ◌+◌, Option, List, [], ◌∷◌, ◌++◌, length, take, All}
+use Rattle.std.specs.Prelude.{slice_index}
 use Rattle.e1_g711.specs.declared.Law.{Law}
 use Rattle.g726_quant.specs.Tables.{RateTables}
 use Rattle.g726_codec.specs.Codec.{Variables}
-use Rattle.g726_codec.specs.Kinds.{bits_of, rate_tables, word_by, octet_by, words_by, after_by, enc, dec}
-use Rattle.g726_codec.specs.Kinds.{encoder_after, decoder_after, codec_after, after_encoding, after_decoding}
+use Rattle.g726_codec.specs.Kinds.{bits_of, rate_tables, word_by, octet_by, words_by, octets_by, after_by}
+use Rattle.g726_codec.specs.Kinds.{enc, dec, encoder_after, decoder_after, codec_after, after_encoding}
+use Rattle.g726_codec.specs.Kinds.{after_decoding}
 use Rattle.g726_codec.specs.declared.CodecKind.{CodecKind}
 use Rattle.g726_codec.specs.declared.CodecKind.TheVariants.{G711}
 
@@ -33,6 +35,14 @@ pub record EncodersContinue (t : Option RateTables) (law : Law) (s : Variables) 
   pub counted : (octets : List ℕ) → length (words_by t law s octets) ≡ length octets
   pub one : (octet : ℕ) → words_by t law s (octet ∷ []) ≡ word_by t law s octet ∷ []
   pub none : (words_by t law s [] ≡ []) × (after_by t s [] ≡ s)
+
+-- the octet of a word among others, and the state after it, are those from the state after the words before
+pub record DecodersContinue (t : Option RateTables) (law : Law) (s : Variables) : Type 0 where
+  pub octets : (words : List ℕ) (i : ℕ) → i < length words → slice_index (octets_by t law s words) i
+      ≡ octet_by t law (after_by t s (take i words)) (slice_index words i)
+  pub states : (words : List ℕ) (i : ℕ) → i < length words → after_by t s (take (i + 1) words)
+      ≡ after_by t (after_by t s (take i words)) (slice_index words i ∷ [])
+  pub none : after_by t s [] ≡ s
 
 -- a codec that has coded gives the words of the next octet and the octets of the next word, and then is the
 -- codec after both

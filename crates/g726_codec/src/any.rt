@@ -87,6 +87,34 @@ impl Codec {
         }
     }
 
+    fn decoder(&self) -> &State
+        requires { kind_of self.now ≢ CodecKind.G711 }
+        ensures { (law : Law) → result.now ≡ (state_of law self.now).decoder }
+    {
+        match self {
+            Codec::G711 => unreachable!(),
+            Codec::G16(_, decoder) => decoder.state(),
+            Codec::G24(_, decoder) => decoder.state(),
+            Codec::G32(_, decoder) => decoder.state(),
+            Codec::G40(_, decoder) => decoder.state(),
+        }
+    }
+
+    fn replace_decoder(&mut self, state: State) -> State
+        requires { kind_of self.old ≢ CodecKind.G711 }
+        ensures before { (law : Law) → result ≡ (state_of law self.old).decoder }
+        ensures state { (law : Law) → state_of law self.new
+            ≡ record (state_of law self.old) { decoder = state } }
+    {
+        match self {
+            Codec::G711 => unreachable!(),
+            Codec::G16(_, decoder) => decoder.replace(state),
+            Codec::G24(_, decoder) => decoder.replace(state),
+            Codec::G32(_, decoder) => decoder.replace(state),
+            Codec::G40(_, decoder) => decoder.replace(state),
+        }
+    }
+
     #[inline(always)]
     fn encode(&mut self, law: Law, octet: u8) -> u8
         ensures bound { result < 2 ^ bits_of (kind_of self.old) }
@@ -203,6 +231,23 @@ impl AnyCodec {
         ensures { self.new ≡ record self.old { encoder = state } }
     {
         self.codec.set_encoder(state);
+    }
+
+    /// The decoder's state, at a rate of G.726.
+    pub fn decoder(&self) -> &State
+        requires { self.now.kind ≢ CodecKind.G711 }
+        ensures { result.now ≡ self.now.decoder }
+    {
+        self.codec.decoder()
+    }
+
+    /// Replaces the decoder's state, at a rate of G.726, and returns the one before.
+    pub fn replace_decoder(&mut self, state: State) -> State
+        requires { self.old.kind ≢ CodecKind.G711 }
+        ensures before { result ≡ self.old.decoder }
+        ensures state { self.new ≡ record self.old { decoder = state } }
+    {
+        self.codec.replace_decoder(state)
     }
 
     /// The word of the next octet, below `2^bits`.

@@ -8,6 +8,7 @@ use crate::state::{State, word_of};
 use e1_g711::{Law, compress, next_down, next_up};
 use g726_quant::{Rate, Word, order};
 use std::marker::{Model, PhantomData};
+use std::mem;
 
 /// A decoder of ITU-T G.726 at one rate.
 ///
@@ -62,6 +63,14 @@ impl<R: Rate> Decoder<R> {
         ensures { result.now ≡ self.now }
     {
         &self.state
+    }
+
+    /// Replaces its state, and returns the one before.
+    pub fn replace(&mut self, state: State) -> State
+        ensures before { result ≡ self.old }
+        ensures state { self.new ≡ state }
+    {
+        mem::replace(&mut self.state, state)
     }
 
     /// A decoder at reset (ITU-T G.726, initialization).

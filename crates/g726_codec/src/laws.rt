@@ -6,7 +6,7 @@ ghost use Rattle.e1_g711.specs.declared.Law.{Law};
 ghost use Rattle.g726_codec.specs.Codec.{Variables};
 ghost use Rattle.g726_codec.specs.Kinds.{rate_tables};
 ghost use Rattle.g726_codec.specs.declared.CodecKind.{CodecKind};
-ghost use Rattle.g726_codec.specs.Laws.{EncodersContinue, HistoriesContinue, EachWordFits};
+ghost use Rattle.g726_codec.specs.Laws.{EncodersContinue, DecodersContinue, HistoriesContinue, EachWordFits};
 
 /// There is one word for each octet and one octet for each word.
 pub fn words_are_counted()
@@ -31,6 +31,12 @@ pub fn codecs_continue()
     ensures histories { (law : Law) (kind : CodecKind) (octets words : List ℕ)
         → HistoriesContinue law kind octets words }
     ensures fit { EachWordFits }
+{}
+
+/// A decoder's state after a list of words, and each octet of it, is that after the words before.
+pub fn decoders_continue()
+    ensures { (kind : CodecKind) (law : Law) (s : Variables)
+        → DecodersContinue (rate_tables kind) law s }
 {}
 
 /// No octets give no words, and no words give no octets.

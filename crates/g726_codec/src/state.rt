@@ -76,7 +76,8 @@ impl State {
         }
     }
 
-    pub(crate) fn reset() -> State
+    /// The state at reset (ITU-T G.726, initialization).
+    pub fn reset() -> State
         ensures { result ≡ at_reset }
     {
         State {

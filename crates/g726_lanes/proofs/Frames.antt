@@ -1,8 +1,10 @@
 -- Frames of eight circuits that are coded one after another, by the octets and words of one circuit.
 use Rattle.std.proofs.Common.{◌≡◌, ◌<◌, ◌+◌, ◌++◌, ◌∷◌, ◌∙◌, ℕ, suc, List, [], length, take, drop, get_or, arith}
-use Rattle.std.proofs.Common.{slice_set, refl, sym, ap}
+use Rattle.std.proofs.Common.{slice_set, refl, sym, ap, ◌^◌, All, replicate}
+use Rattle.std.proofs.lemmas.Nat.{pow_pos}
+use Rattle.std.proofs.lemmas.List.Elements.{All-replicate}
 use Rattle.std.proofs.Math.Seq.{take-suc, take-suc-set}
-use Rattle.std.proofs.lemmas.List.{map-set, length-map, get_or-map, length-set, set-get_or}
+use Rattle.std.proofs.lemmas.List.{get_or-replicate, map-set, length-map, get_or-map, length-set, set-get_or}
 use Rattle.e1_g711.specs.declared.Law.{Law}
 use Rattle.g726_quant.specs.Tables.{RateTables}
 use Rattle.g726_codec.specs.Codec.{Variables, sync}
@@ -67,3 +69,10 @@ decoded_one_more r law first s s' old now i octet so within octet_is moved =
       octets = rw (now_more, old_more, octets, ← so.octets, ← so.state, ← octet_is) refl;
       state = rw (old_more, state_after_more r first (take i old) (get_or now i 0 ∷ []), ← so.state) moved;
     }
+
+-- numbers that are 0 are words of each number of bits
+pub zeros-fit : (bits k : ℕ) → k < 8
+    → All (λ word. word < 2 ^ bits) (column (replicate 16 (replicate 8 0)) k)
+zeros-fit bits k h =
+    let zero-is : lane (replicate 8 0) k ≡ 0 = get_or-replicate 8 k 0 0 h in
+    All-replicate (λ word. word < 2 ^ bits) 16 (lane (replicate 8 0) k) (rw zero-is (pow_pos bits))

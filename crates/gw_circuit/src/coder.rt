@@ -1,13 +1,14 @@
 //! A codec with the packet that it fills, whose last octets may wait to be coded (`Coder`).
 
-ghost use Rattle.std.specs.Prelude.{◌≡◌, ◌≢◌, ◌≤◌, ◌<◌, ◌^◌, ◌+◌, ◌++◌, ◌∷◌, [], length, take, true};
+ghost use Rattle.std.specs.Prelude.{◌≡◌, ◌≢◌, ◌≤◌, ◌<◌, ◌^◌, ◌+◌, ◌++◌, ◌∷◌, [], length, take, true, All};
 ghost use Rattle.g726_codec.specs.Kinds.{bits_of, rate_tables, octet_by, codec_after, after_decoding};
-ghost use Rattle.g726_lanes.specs.Lanes.{column, EachLane};
+ghost use Rattle.g726_lanes.specs.Lanes.{column, AllFit, EachLane};
 ghost use Rattle.g726_lanes.specs.States.{variables};
+ghost use Rattle.gw_circuit.specs.Ahead.{IsDecoderInLane, IsDecodedInLane};
 ghost use Rattle.gw_circuit.specs.Coder.{next_word, with_word, empty_packet, as_coded};
 ghost use Rattle.gw_circuit.specs.Coder.{IsInLane, IsCodedInLane};
 
-use crate::codec::decode;
+use crate::ahead::AheadCodec;
 use arrayvec::ArrayVec;
 use e1_g711::Law;
 use g726_codec::{AnyCodec, CodecKind};
@@ -21,7 +22,7 @@ use std::mem;
 // Contracts see the codec and the words as if nothing waited.
 #[derive(Drop)]
 pub(crate) struct Coder {
-    codec: AnyCodec,
+    codec: AheadCodec,
     // words, and behind them the octets that wait
     packet: ArrayVec<u8, 240>,
     // how many words there are
@@ -42,7 +43,7 @@ impl Model for Coder {
 }
 
 // Codes what is behind this many words.
-fn code_rest(codec: &mut AnyCodec, packet: &mut ArrayVec<u8, 240>, coded: u8)
+fn code_rest(codec: &mut AheadCodec, packet: &mut ArrayVec<u8, 240>, coded: u8)
     requires { coded ≤ length packet.old.items }
     ensures { record { codec = codec.new; packet = packet.new.items }
         ≡ as_coded codec.old packet.old.items coded }
@@ -66,7 +67,7 @@ impl Coder {
     {
         g726_codec::laws::codecs_continue();
         Coder {
-            codec: AnyCodec::new(law, kind),
+            codec: AheadCodec::new(AnyCodec::new(law, kind)),
             packet: ArrayVec::new(),
             coded: 0,
         }
@@ -79,7 +80,7 @@ impl Coder {
         g726_codec::laws::codecs_continue();
         let coded = packet.len() as u8;
         Coder {
-            codec,
+            codec: AheadCodec::new(codec),
             packet,
             coded,
         }
@@ -193,7 +194,7 @@ impl Coder {
     {
         let mut codec = self.codec.copy();
         let mut packet = copy_of(&self.packet);
-        code_rest(&mut codec, &mut packet, self.coded);
+        codec.encode_all(&mut packet.as_mut_slice()[usize::from(self.coded)..]);
         (codec, packet)
     }
 
@@ -207,7 +208,36 @@ impl Coder {
             ≡ octet_by (rate_tables kind) self.old.codec.law self.old.codec.decoder word }
         ensures state { self.new ≡ record self.old { codec = after_decoding self.old.codec (word ∷ []) } }
     {
-        decode(&mut self.codec, kind, word)
+        self.codec.decode(kind, word)
+    }
+
+    // Whether a decoder of G.726 is not ahead.
+    #[inline(always)]
+    pub(crate) fn has_played_all(&self) -> bool {
+        self.codec.has_played_all()
+    }
+
+    // Puts the decoder and these words into lane `k`, 0 to 7, and returns true, if it is one of the bundle's
+    // kind and law that is not ahead.
+    pub(crate) fn load_words(&self, k: usize, words: &[u8; 16], bundle: &mut Bundle) -> bool
+        requires lane { k < 8 }
+        requires words { All (λ word. word < 2 ^ bits_of self.now.codec.kind) words.now }
+        ensures loaded { result ≡ true → IsDecoderInLane self.now.codec bundle.new k }
+        ensures fit { AllFit bundle.old.kind bundle.old.frames → AllFit bundle.old.kind bundle.new.frames }
+        ensures states { EachLane (λ j. j ≢ k
+            → variables bundle.new.lanes j ≡ variables bundle.old.lanes j) }
+        ensures kept { (bundle.new.law ≡ bundle.old.law) × (bundle.new.kind ≡ bundle.old.kind) }
+    {
+        self.codec.load_words(k, words, bundle)
+    }
+
+    // Keeps the words that were decoded in lane `k`, 0 to 7, with their octets.
+    pub(crate) fn keep_octets(&mut self, k: usize, bundle: &Bundle)
+        requires lane { k < 8 }
+        requires decoded { IsDecodedInLane self.old.codec bundle.now k }
+        ensures { self.new ≡ self.old }
+    {
+        self.codec.keep_octets(k, bundle);
     }
 }
 

@@ -1,8 +1,8 @@
 //! One telephone circuit: its status, and why a datagram is dropped or a codec command refused.
 #![tactic(auto)]
 
+mod ahead;
 mod circuit;
-mod codec;
 mod coder;
 mod config;
 pub mod laws;

@@ -1,10 +1,12 @@
-//! What a circuit's encoder has still to code, coded by itself or in a lane beside other circuits.
+//! What a circuit's encoder has still to code, and what its decoder can decode before it is due, in a lane
+//! beside other circuits.
 //!
-//! Contracts see a circuit as if nothing waited: nothing here changes it.
+//! Contracts see a circuit as if nothing waited and nothing were decoded early: nothing here changes it.
 
 ghost use Rattle.std.specs.Prelude.{◌≡◌, ◌≢◌, ◌<◌, true};
-ghost use Rattle.g726_lanes.specs.Lanes.{column, EachLane};
+ghost use Rattle.g726_lanes.specs.Lanes.{column, AllFit, EachLane};
 ghost use Rattle.g726_lanes.specs.States.{variables};
+ghost use Rattle.gw_circuit.specs.Ahead.{IsDecoderInLane, IsDecodedInLane};
 ghost use Rattle.gw_circuit.specs.Coder.{IsInLane, IsCodedInLane};
 
 use crate::circuit::Circuit;
@@ -17,8 +19,10 @@ impl Circuit {
         self.speech.coder.waits()
     }
 
-    /// A bundle for encoders of the circuit's law and kind.
-    pub fn bundle(&self) -> Bundle {
+    /// A bundle for encoders or decoders of the circuit's law and kind.
+    pub fn bundle(&self) -> Bundle
+        ensures { AllFit result.kind result.frames }
+    {
         Bundle::new(self.law, self.speech.kind())
     }
 
@@ -49,5 +53,33 @@ impl Circuit {
         ensures { self.new ≡ self.old }
     {
         self.speech.coder.store_lane(k, bundle);
+    }
+
+    /// Whether words of G.726 are at hand to be decoded before they are due.
+    #[inline(always)]
+    pub fn has_words(&self) -> bool {
+        self.speech.has_words()
+    }
+
+    /// Puts the decoder, and the words that are due next, into lane `k`, 0 to 7, and returns true, if sixteen
+    /// words are at hand for a decoder of the bundle's kind and law that is not ahead.
+    pub fn load_words(&self, k: usize, bundle: &mut Bundle) -> bool
+        requires { k < 8 }
+        ensures loaded { result ≡ true → IsDecoderInLane self.now.speech.coder.codec bundle.new k }
+        ensures fit { AllFit bundle.old.kind bundle.old.frames → AllFit bundle.old.kind bundle.new.frames }
+        ensures states { EachLane (λ j. j ≢ k
+            → variables bundle.new.lanes j ≡ variables bundle.old.lanes j) }
+        ensures kept { (bundle.new.law ≡ bundle.old.law) × (bundle.new.kind ≡ bundle.old.kind) }
+    {
+        self.speech.load_words(k, bundle)
+    }
+
+    /// Keeps the words that were decoded in lane `k`, 0 to 7, with their octets, until they are due.
+    pub fn keep_octets(&mut self, k: usize, bundle: &Bundle)
+        requires lane { k < 8 }
+        requires decoded { IsDecodedInLane self.old.speech.coder.codec bundle.now k }
+        ensures { self.new ≡ self.old }
+    {
+        self.speech.coder.keep_octets(k, bundle);
     }
 }

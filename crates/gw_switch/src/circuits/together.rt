@@ -1,4 +1,4 @@
-//! The octets that wait in circuits with G.726, coded by up to eight at once.
+//! The octets that wait in circuits with G.726, coded by up to eight at once, and when words are decoded.
 //!
 //! Contracts see a circuit as if nothing waited: nothing here changes it.
 
@@ -7,20 +7,23 @@ use arrayvec::ArrayVec;
 use g726_lanes::Bundle;
 
 // With fewer circuits one after the other costs less.
-const FEWEST: usize = 3;
+pub(super) const FEWEST: usize = 3;
 
-const LANES: usize = 8;
+pub(super) const LANES: usize = 8;
 
 impl Circuits {
     ghost use Rattle.std.specs.Prelude.{◌≡◌, ◌<◌};
     ghost use Rattle.gw_switch.specs.Together.{AreLoaded, AreCoded};
 
-    /// Codes what waits in frame 0 of each multiframe: at most sixteen octets of a circuit.
+    /// Codes what waits in frame 0 of each multiframe, at most sixteen octets of a circuit, and decodes in
+    /// frame 8, so that no octet waits for both.
     pub(crate) fn work_together(&mut self, frame: u8)
         ensures { self.new ≡ self.old }
     {
-        if frame == 0 {
-            self.code_all();
+        match frame {
+            0 => self.code_all(),
+            8 => self.decode_all(),
+            _ => {}
         }
     }
 

@@ -1,0 +1,24 @@
+-- Circuits that are opened one after another.
+use Rattle.std.proofs.Common.{◌≡◌, ◌<◌, ◌+◌, ℕ, List, [], ◌∷◌, ◌++◌, length, slice_index_or, inl, inr, arith}
+use Rattle.std.proofs.Math.Seq.{get_or-append_seam}
+use Rattle.std.proofs.lemmas.Bool.{cases_eq}
+use Rattle.std.proofs.lemmas.List.{get_or_append_left}
+use Rattle.e1_g711.specs.declared.Law.{Law}
+use Rattle.gw_circuit.specs.declared.config.CircuitConfig.{CircuitConfig}
+use Rattle.gw_circuit.specs.Standing.{HasHistory}
+use Rattle.gw_switch.specs.declared.circuits.BoxedCircuit.{BoxedCircuit}
+
+-- with a circuit more that is opened, one more is
+pub one-more-open : (items : List BoxedCircuit) (configs : List CircuitConfig) (law : Law) (new : BoxedCircuit)
+    (config : CircuitConfig) (n : ℕ) → length items ≡ n
+    → ((e : CircuitConfig) → slice_index_or configs n e ≡ config)
+    → ((i : ℕ) (d : BoxedCircuit) (e : CircuitConfig) → i < n
+    → HasHistory (slice_index_or items i d).circuit law (slice_index_or configs i e) [])
+    → HasHistory new.circuit law config []
+    → (i : ℕ) (d : BoxedCircuit) (e : CircuitConfig) → i < n + 1
+    → HasHistory (slice_index_or (items ++ new ∷ []) i d).circuit law (slice_index_or configs i e) []
+one-more-open items configs law new config n many is before now i d e h = elim (cases_eq i n) [
+  | inl same ↦ rw (same, is e, ← many, get_or-append_seam items new [] d) now
+  | inr other ↦ rw (get_or_append_left items (new ∷ []) d i (omega (arith, h, other, many)))
+      (before i d e (omega (arith, h, other)))
+]

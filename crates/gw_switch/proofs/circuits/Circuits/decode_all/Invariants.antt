@@ -1,0 +1,6 @@
+use Rattle.std.proofs.Common.{◌≡◌}
+use Rattle.gw_switch.proofs.circuits.Circuits.decode_all.Given as goal
+
+-- nothing is changed
+abbrev pub invariant-loop-number : goal.invariant-loop-number
+invariant-loop-number l = l.self ≡ l.initial.self

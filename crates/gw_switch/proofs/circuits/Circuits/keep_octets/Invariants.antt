@@ -1,0 +1,6 @@
+use Rattle.std.proofs.Common.{◌≡◌}
+use Rattle.gw_switch.proofs.circuits.Circuits.keep_octets.Given as goal
+
+-- nothing is changed
+abbrev pub invariant-loop-k : goal.invariant-loop-k
+invariant-loop-k l = l.self ≡ l.initial.self

@@ -1,0 +1,68 @@
+-- The answers to takes before which there is no offer.
+use Rattle.std.proofs.Common.{◌≡◌, ◌+◌, ◌<◌, ℕ, zero, suc, List, [], ◌∷◌, Option, Some, None, refl, sym, ap, ◌∙◌}
+use Rattle.std.proofs.Common.{arith, fold, replicate, All, IfSome, IfNone, length, slice_get, slice_index_or}
+use Rattle.std.specs.Prelude.{slice_index}
+use Rattle.std.specs.Option.{option_flatten}
+use Rattle.std.proofs.lemmas.List.Sums.{fold-append}
+use Rattle.std.proofs.lemmas.List.Elements.{All-from_get_or}
+use Rattle.rtp_playout.specs.declared.playout.Playout.{Playout}
+use Rattle.rtp_playout.specs.Calls.{PlayoutCall, Takes}
+use Rattle.rtp_playout.specs.Due.{PlacedOffer, PlayoutState, at_first, word_due, after_call, due, take_answer}
+use Rattle.rtp_playout.specs.Due.{later_answer}
+use Rattle.rtp_playout.specs.Standing.{HasHistory, IsBelow}
+use Rattle.rtp_playout.proofs.Keeping.{keeps-of}
+
+-- the word that is due after takes is that of a later place
+after-takes : (prefill : ℕ) (placed : List PlacedOffer) (now k : ℕ)
+    → (let t = fold (after_call prefill) (record { placed = placed; now = now }) (replicate k Takes) in
+    word_due t.placed t.now) ≡ word_due placed (now + k)
+after-takes prefill placed now zero = let e : now ≡ now + 0 = omega arith in ap (word_due placed) e
+after-takes prefill [] now (suc k) = after-takes prefill [] now k
+after-takes prefill (p ∷ placed) now (suc k) =
+    let e : now + 1 + k ≡ now + suc k = omega arith in
+    after-takes prefill (p ∷ placed) (now + 1) k ∙ ap (word_due (p ∷ placed)) e
+
+-- so the answer is what the later place holds
+pub later-held : (playout : Playout) (prefill : ℕ) (calls : List PlayoutCall) (k : ℕ)
+    → HasHistory playout prefill calls
+    → later_answer prefill calls k ≡ slice_index_or playout.window.items k None
+unfolding later_answer take_answer due
+later-held playout prefill calls k h =
+    let s = fold (after_call prefill) at_first calls in
+    let whole = fold-append (after_call prefill) at_first calls (replicate k Takes) in
+    ap (λ (t : PlayoutState). word_due t.placed t.now) whole ∙ after-takes prefill s.placed s.now k
+    ∙ sym ((keeps-of playout prefill calls h).held k)
+
+-- what is got of a place, as what it holds
+pub got-is-held : (items : List (Option ℕ)) (i : ℕ) → option_flatten (slice_get items i) ≡ slice_index_or items i None
+got-is-held [] i = refl
+got-is-held (x ∷ items) zero = refl
+got-is-held (x ∷ items) (suc i) = got-is-held items i
+
+-- the words of the first places are the next answers
+pub words-later : (playout : Playout) (prefill : ℕ) (calls : List PlayoutCall) → HasHistory playout prefill calls
+    → (result : Option (List ℕ)) → IfSome result (λ words. (k : ℕ) → k < 16
+    → slice_index_or playout.window.items k None ≡ Some (slice_index words k))
+    → IfSome result (λ words. (k : ℕ) → k < 16 → later_answer prefill calls k ≡ Some (slice_index words k))
+words-later playout prefill calls h None held = tt
+words-later playout prefill calls h (Some words) held =
+    λ k within. later-held playout prefill calls k h ∙ held k within
+
+-- if one of them holds nothing, so does its take
+pub none-later : (playout : Playout) (prefill : ℕ) (calls : List PlayoutCall) → HasHistory playout prefill calls
+    → (result : Option (List ℕ))
+    → IfNone result ((k : ℕ) × (k < 16) × (slice_index_or playout.window.items k None ≡ None))
+    → IfNone result ((k : ℕ) × (k < 16) × (later_answer prefill calls k ≡ None))
+none-later playout prefill calls h None (k, within, none) =
+    (k, within, later-held playout prefill calls k h ∙ none)
+none-later playout prefill calls h (Some words) none = tt
+
+-- each of these words is below a bound, if the queued ones are
+pub words-below : (playout : Playout) (bound : ℕ) → IsBelow bound playout → (result : Option (List ℕ))
+    → IfSome result (λ words. (k : ℕ) → k < 16
+    → slice_index_or playout.window.items k None ≡ Some (slice_index words k))
+    → IfSome result (λ words. length words ≡ 16) → IfSome result (λ words. All (λ word. word < bound) words)
+words-below playout bound below None held sixteen = tt
+words-below playout bound below (Some words) held sixteen =
+    All-from_get_or (λ word. word < bound) words 0
+    (λ i within. below.each i (slice_index words i) (held i (omega (arith, within, sixteen))))
