@@ -7,6 +7,7 @@ import array
 import fcntl
 import os
 import random
+import resource
 import signal
 import socket
 import subprocess
@@ -22,6 +23,7 @@ from .support import SECONDS
 from e1gw.exchange import ACKNOWLEDGED, ANSWERED, IDLE, SEIZED
 from e1gw.session import Codec, Command, CommandRefusal, Kind, codec_record, command_record, encode_record, records_in
 from e1gw.session import trunk_record
+from e1gw.testing.ports import free_port
 
 CONFIG = 'law = "A"\n' + ''.join(f'[[circuit]]\nnumber = {c}\nrole = "incoming"\n' for c in range(1, 31))
 SLOW = 'output slow: discarding whole multiframes'
@@ -411,6 +413,35 @@ class TrunkClientTests(ServedTrunkCase):
         self.assertNotIn('/dev/full', [os.readlink(os.path.join(descriptors, n)) for n in os.listdir(descriptors)])
         self.assertEqual(len(trunk.passes(bytes(2048))), 2048)
         self.assertEqual(trunk.ends(), (0, ''))
+
+
+class LoggedTrunkTests(ServedTrunkCase):
+    """What has left a program that dies in an append."""
+
+    def test_no_packet_of_what_the_log_lacks(self) -> None:
+        with socket.socket(socket.AF_INET, socket.SOCK_DGRAM) as peer:
+            peer.bind(('127.0.0.1', 0))
+            peer.settimeout(SECONDS)
+            ports = f'ptime = 1\nlocal_port = {free_port()}\npeer_port = {peer.getsockname()[1]}\n'
+            self.write('trunk.toml', CONFIG.replace('number = 1\n', f'number = 1\n{ports}'))
+            with TrunkProcess(self.serves('--record', self.recording), '') as trunk:
+                exchange = support.Exchange()
+                for turn in range(60):
+                    if turn == 20:
+                        exchange.pairs[1] = SEIZED
+                    exchange.hear(trunk.passes(exchange.multiframe()))
+                self.assertEqual(exchange.signals[1], ACKNOWLEDGED)
+                most = os.path.getsize(self.recording)
+                resource.prlimit(trunk.serving.pid, resource.RLIMIT_FSIZE, (most, most))
+                trunk.here.sendall(exchange.multiframe())
+                self.assertEqual(trunk.ended()[0], -signal.SIGXFSZ)
+            with open(self.recording, 'rb') as file:
+                replayed = support.run('replay', '--config', self.config, given=file.read())
+            logged = [record.body for record in records_in(replayed) if record.kind is Kind.DATAGRAM]
+            self.assertGreater(len(logged), 10)
+            self.assertEqual([peer.recv(2048) for _ in logged], logged)
+            peer.setblocking(False)
+            self.assertRaises(BlockingIOError, peer.recv, 2048)
 
 
 class HandedOverTrunkTests(ServedTrunkCase):
