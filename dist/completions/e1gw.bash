@@ -23,7 +23,7 @@ _e1gw_options() {
     serve)
       echo '--config --load --save --record --record-over --repeat --seizure-wait --senders --totals --help' ;;
     trunk)
-      echo '--config --load --save --control --record --record-over --repeat --seizure-wait --senders' \
+      echo '--config --load --save --control --end --record --record-over --repeat --seizure-wait --senders' \
         '--totals --help' ;;
     satop) echo '--size --jitter --rtp --fill --clock --help' ;;
     '') echo '--help --version' ;;
@@ -45,7 +45,8 @@ _e1gw() {
     --law | --codec | --ptime | --senders | --fill | --clock)
       mapfile -t COMPREPLY < <(compgen -W "$(_e1gw_values "$prev")" -- "$cur")
       return ;;
-    --payload | --ssrc | --sequence | --timestamp | --repeat | --seizure-wait | --size | --jitter | --rtp | --from)
+    --payload | --ssrc | --sequence | --timestamp | --repeat | --seizure-wait | --size | --jitter | --rtp | \
+      --from | --end)
       return ;;
     --config | --load | --save | --checkpoint | --follow | --control | --record | --reports | --tell)
       compopt -o filenames 2> /dev/null

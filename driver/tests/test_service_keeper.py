@@ -19,9 +19,8 @@ from .test_keeper_killed import RestartedKeeperCase
 from .world import children
 from e1gw.service.log import STATE_ROOM, TrunkLog, in_memory, take_file
 from e1gw.service.version import VersionRefused, look_up, with_addresses
-from e1gw.session import MULTIFRAME, Codec, codec_record, encode_record, trunk_record
+from e1gw.session import MULTIFRAME, Codec, codec_record, trunk_record
 
-END = encode_record(0x45, 0, b'')
 HANGS = 5.0                 # seconds, which no program takes that does not hang, on a machine that stalls
 
 
@@ -197,12 +196,18 @@ class ServiceFaultTests(KeeperCase):
         self.ends()
 
     def test_end_that_was_not_asked_for(self) -> None:
-        """A client's record that ends the session is a death: another program goes on."""
+        """A client cannot ask for it: its record E closes its connection alone. What others ask for is a death."""
         self.starts()
         self.calls()
         with self.client() as line:
-            line.sendall(END)
-            self.goes_on()
+            line.sendall(b'E\0\0\0')
+            self.assertEqual(line.recv(1), b'')
+        self.step(20)
+        with open(f'/proc/{self.program}/cmdline', 'rb') as file:
+            words = file.read().decode().split('\0')
+        with open(f'/proc/{self.program}/fd/{words[words.index("--end") + 1]}', 'wb') as end:
+            end.write(b'\n')
+        self.goes_on()
         self.step(20)
         self.assertNotIn('at most', self.told())
         self.as_uncut()

@@ -21,15 +21,13 @@ from typing import Iterator, Sequence
 from . import support
 from .support import SECONDS
 from e1gw.exchange import ACKNOWLEDGED, ANSWERED, IDLE, SEIZED
-from e1gw.session import Codec, Command, CommandRefusal, Kind, codec_record, command_record, encode_record, records_in
-from e1gw.session import trunk_record
+from e1gw.session import Codec, Command, CommandRefusal, Kind, codec_record, command_record, records_in, trunk_record
 from e1gw.testing.ports import free_port
 
 CONFIG = 'law = "A"\n' + ''.join(f'[[circuit]]\nnumber = {c}\nrole = "incoming"\n' for c in range(1, 31))
 SLOW = 'output slow: discarding whole multiframes'
 MULTIFRAME = 512
 PIPE = 65_536               # the octets that a pipe of Linux holds
-END = encode_record(0x45, 0, b'')   # asks for the end of the session
 ANSWER_LENGTH = 6
 
 
@@ -283,7 +281,7 @@ class TrunkClientTests(ServedTrunkCase):
 
     def test_rubbish_ends_its_own_connection(self) -> None:
         trunk = self.trunk()
-        for rubbish in (b'help\n', trunk_record(b'ab'), command_record(31, Command.BLOCK), END[:2] + b'xx'):
+        for rubbish in (b'help\n', trunk_record(b'ab'), command_record(31, Command.BLOCK), b'E\0\0\0'):
             with self.subTest(rubbish=rubbish), trunk.client() as good, trunk.client() as bad:
                 bad.sendall(rubbish)
                 self.assertEqual(self.closed(bad), b'')
@@ -372,18 +370,33 @@ class TrunkClientTests(ServedTrunkCase):
             for circuit in (3, 4):
                 self.blocked(client, circuit)
             self.assertEqual(len(trunk.passes(bytes(5000))), 5000)
-            client.sendall(END)
-            self.assertEqual(trunk.ended(), (0, ''))
+            self.assertEqual(trunk.ends(), (0, ''))
 
-    def test_end_here(self) -> None:
-        trunk = self.trunk('--totals')
-        with trunk.client() as client:
-            client.sendall(blocks([7]) + END)
-            self.assertEqual(answers_of(client, 1), self.refused([7]))
-            status, told = trunk.ended()
-        self.assertEqual(status, 0)
-        self.assertIn('octets 64\n', told)
-        self.assertEqual(len(self.trunk().passes(bytes(512))), 512)
+    def test_end_that_a_descriptor_asks_for(self) -> None:
+        """It is closed, or octets come of it; the trunk waits for octets, or its reads wait."""
+        for closes in (True, False):
+            for waits in (True, False):
+                with self.subTest(closes=closes, waits=waits):
+                    near, far = socket.socketpair()
+                    with far:
+                        trunk = self.trunk('--totals', '--end', str(far.fileno()), passed=(far.fileno(),), waits=waits)
+                    with near, trunk.client() as client:
+                        client.sendall(blocks([7]))
+                        self.assertEqual(answers_of(client, 1), self.refused([7]))
+                        if closes:
+                            near.close()
+                        else:
+                            near.sendall(b'\n')
+                        status, told = trunk.ended()
+                    self.assertEqual(status, 0)
+                    self.assertIn('octets 64\n', told)
+
+    def test_end_that_cannot_be_waited_for(self) -> None:
+        with open(self.config, 'rb') as file:
+            for number in (file.fileno(), 65_535):
+                words = self.serves('--control', self.control, '--end', str(number))
+                with TrunkProcess(words, self.control, (file.fileno(),)) as trunk:
+                    self.assertEqual(trunk.ended(), (1, 'cannot wait for the trunk\n'))
 
     def test_a_socket_that_is_taken(self) -> None:
         self.trunk()
@@ -445,7 +458,7 @@ class LoggedTrunkTests(ServedTrunkCase):
 
 
 class HandedOverTrunkTests(ServedTrunkCase):
-    """A trunk whose program ends at a client's word, and goes on in another one on the same device."""
+    """A trunk whose program ends because it is asked to, and goes on in another one on the same device."""
 
     def setUp(self) -> None:
         super().setUp()
@@ -482,8 +495,11 @@ class HandedOverTrunkTests(ServedTrunkCase):
 
     def serve_once(self, load: bool, waiting: int, command: Command | None) -> int:
         """One program, up to its end, which comes while octets wait. Returns how many."""
-        words = self.serves('--control', self.control, '--save', self.state, *(['--load', self.state] if load else []))
-        serving = subprocess.Popen(words, stdin=self.there.fileno(), stdout=self.there.fileno())
+        reads, end = os.pipe()
+        words = self.serves('--control', self.control, '--end', str(reads), '--save', self.state,
+                            *(['--load', self.state] if load else []))
+        serving = subprocess.Popen(words, stdin=self.there.fileno(), stdout=self.there.fileno(), pass_fds=(reads,))
+        os.close(reads)
         self.addCleanup(serving.wait)
         self.addCleanup(serving.kill)
         self.take(waiting)
@@ -494,7 +510,7 @@ class HandedOverTrunkTests(ServedTrunkCase):
             client.connect(self.control)
             if command:
                 self.commands(client, command)
-            client.sendall(END)
+            os.close(end)
             waiting = self.send(3)
             self.assertEqual(serving.wait(SECONDS), 0)
         return waiting

@@ -333,6 +333,16 @@ pub fn control_of<'m>(matches: &'m ArgMatches<'_>) -> Option<&'m str>
     text_of(matches, "control")
 }
 
+/// The descriptor that asks for the end of a trunk, the first one, if the matches name one.
+pub fn end_of(matches: &ArgMatches<'_>) -> Option<u16>
+    ensures found { IfSome result (SaysNumberIn 16 (codes "end") (subcommand_rows_of matches.now)) }
+    ensures none { IfNone result ((n : ℕ)
+        → ¬ SaysNumberIn 16 (codes "end") (subcommand_rows_of matches.now) n) }
+{
+    let (_, options) = matches.subcommand()?;
+    options.get_one("end")
+}
+
 /// The path of the socket whose clients are sent the state of the trunk, the first one, if the matches name
 /// one.
 pub fn tell_of<'m>(matches: &'m ArgMatches<'_>) -> Option<&'m str>

@@ -122,7 +122,11 @@ const SEIZURE_WAIT_TEXT: &str =
      [default: 200, or that of the state]";
 
 const CONTROL_TEXT: &str =
-    "Unix socket at which clients connect, who give C, K and E records\nand get R records";
+    "Unix socket at which clients connect, who give C and K records\nand get R records";
+
+const END_TEXT: &str =
+    "With --control: descriptor, 0 to 65535, of a pipe or a socket; when\nit is closed at its other end, or \
+     has octets, the trunk ends";
 
 const TELL_TEXT: &str =
     "Unix socket at which clients are told how the trunk stands and\nwhat changes";
@@ -166,6 +170,7 @@ enum OptionName {
     Repeat,
     SeizureWait,
     Control,
+    End,
     Tell,
     Checkpoint,
     Follow,
@@ -248,6 +253,7 @@ const OF_TRUNK: &[OptionName] = &[
     OptionName::Repeat,
     OptionName::SeizureWait,
     OptionName::Control,
+    OptionName::End,
 ];
 
 // The options of an emulated circuit.
@@ -459,6 +465,13 @@ fn control_option<'a>(alloc: Global) -> Arg<'a> {
     option(alloc, "control", CONTROL_TEXT).value_name("SOCKET")
 }
 
+// The descriptor that asks for the end of a trunk.
+fn end_option<'a>(alloc: Global) -> Arg<'a> {
+    option(alloc, "end", END_TEXT)
+        .value_name("FD")
+        .value_parser(value_parser!(u16))
+}
+
 // The socket whose clients are sent the state of the trunk.
 fn tell_option<'a>(alloc: Global) -> Arg<'a> {
     option(alloc, "tell", TELL_TEXT).value_name("SOCKET")
@@ -554,6 +567,7 @@ fn declared<'a>(alloc: Global, option: OptionName) -> Arg<'a> {
         OptionName::Repeat => repeat_option(alloc),
         OptionName::SeizureWait => seizure_wait_option(alloc),
         OptionName::Control => control_option(alloc),
+        OptionName::End => end_option(alloc),
         OptionName::Tell => tell_option(alloc),
         OptionName::Checkpoint => checkpoint_option(alloc),
         OptionName::Follow => follow_option(alloc),

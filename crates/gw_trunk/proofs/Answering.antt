@@ -3,7 +3,7 @@ use Rattle.std.proofs.Common.{◌≡◌, ◌+◌, ◌<◌, ◌++◌, ◌∷◌, 
 use Rattle.std.proofs.Common.{refl, ap, sym, length-append}
 use Rattle.mio.specs.declared.net.uds.stream.UnixStream.{UnixStream}
 use Rattle.gw_trunk.specs.declared.clients.Clients.{Clients}
-use Rattle.gw_trunk.specs.Clients.{AnswersKnock, FindsNobody, HasNew, LetAllIn, LetsIn}
+use Rattle.gw_trunk.specs.Clients.{AnswersKnock, FindsNobody, LetAllIn, LetsIn}
 
 -- Nobody knocks, and nothing was done; or a connection was accepted in each turn so far.
 abbrev pub IsAnswering : ℕ → Clients → Clients → Type 0

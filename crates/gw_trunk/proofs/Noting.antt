@@ -6,7 +6,7 @@ use Rattle.std.proofs.lemmas.List.{map-append}
 use Rattle.mio.specs.declared.event.event.Event.{Event}
 use Rattle.mio.specs.Event.{event_token, is_read_closed}
 use Rattle.gw_trunk.specs.declared.client.Client.{Client}
-use Rattle.gw_trunk.specs.Clients.{AreWoken, IsWoken, IsWokenAt, at, comes, leaves}
+use Rattle.gw_trunk.specs.Clients.{AreWoken, IsWokenAt, at, comes}
 
 -- one of three is
 or-turned : (a b c : Bool) → (a || (b || c)) ≡ (b || (a || c))

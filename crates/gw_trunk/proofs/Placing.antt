@@ -4,8 +4,8 @@ use Rattle.std.proofs.Common.{List, [], ◌⊎◌, Option, Some, None, length, t
 use Rattle.std.specs.List.{list_all}
 use Rattle.gw_trunk.specs.declared.client.Client.{Client}
 use Rattle.gw_trunk.specs.declared.client.ClientPoll.{ClientPoll}
-use Rattle.gw_trunk.specs.declared.client.ClientPoll.TheVariants.{Command, Nothing, End, Gone}
-use Rattle.gw_trunk.specs.Clients.{Stays, GaveOne, Replies, GaveNone, GaveNothing, at, is_quiet, place_at}
+use Rattle.gw_trunk.specs.declared.client.ClientPoll.TheVariants.{Command, Nothing, Gone}
+use Rattle.gw_trunk.specs.Clients.{Stays, GaveOne, Replies, GaveNone, GaveNothing, at, is_quiet}
 
 -- An end that was read is read.
 left-once : (ended q r ended' : Bool) → q ≡ (false || ended) → ended' ≡ ended → r ≡ (q || ended')
@@ -54,7 +54,6 @@ pub replies-then : {S : Type 0} {m : _} (reply : ClientPoll) (p q r : Client S m
     → r.ended ≡ q.ended → Replies reply q r room → Replies reply p r room
 replies-then (Command n) p q r room a read b = (b.0, gave-then p q r (take n room) a read b.1)
 replies-then Nothing p q r room a read b = (stays-then p q r a (inl read) b.0, b.1)
-replies-then End p q r room a read b = (stays-then p q r a (inl read) b.0, b.1)
 replies-then Gone p q r room a read b = (stays-then p q r a (inl read) b.0, b.1)
 
 -- Eight turns reach each place.

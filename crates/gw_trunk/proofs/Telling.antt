@@ -1,13 +1,12 @@
 -- What is told of a read of the trunk, and of clients that were asked.
 use Rattle.std.proofs.Common.{◌≡◌, ◌<◌, ◌≤◌, ℕ, zero, suc, true, false, List, ◌⊎◌, inl, inr}
-use Rattle.std.proofs.Common.{Result, Ok, Err, refl, arith}
+use Rattle.std.proofs.Common.{Ok, Err, refl, arith}
 use Rattle.std.proofs.lemmas.Bool.Decides.{nat_tests}
 use Rattle.std.specs.declared.io.ErrorKind.{ErrorKind}
 use Rattle.gw_trunk.specs.declared.client.ClientPoll.{ClientPoll}
-use Rattle.gw_trunk.specs.declared.client.ClientPoll.TheVariants.{Command, Nothing, End, Gone}
+use Rattle.gw_trunk.specs.declared.client.ClientPoll.TheVariants.{Command, Nothing, Gone}
 use Rattle.gw_trunk.specs.declared.clients.Clients.{Clients}
 use Rattle.gw_trunk.specs.declared.device.DeviceFault.{DeviceFault}
-use Rattle.gw_trunk.specs.declared.device.DeviceRead.{DeviceRead}
 use Rattle.gw_trunk.specs.declared.device.DeviceRead.TheVariants.{Octets, NoneNow, Ended}
 use Rattle.gw_trunk.specs.Clients.{Asks}
 use Rattle.gw_trunk.specs.Device.{ReadResult, is_for_later}
@@ -50,4 +49,3 @@ pub nothing-asked : (poll : ClientPoll) (clients clients' : Clients) (room : Lis
 nothing-asked Nothing clients clients' room a none = a
 nothing-asked Gone clients clients' room a none = absurd a
 nothing-asked (Command n) clients clients' room a none = elim none [ inl e ↦ cc | inr e ↦ cc ]
-nothing-asked End clients clients' room a none = elim none [ inl e ↦ cc | inr e ↦ cc ]

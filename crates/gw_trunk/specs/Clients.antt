@@ -12,7 +12,7 @@ use Rattle.mio.specs.Events.{items}
 use Rattle.mio.specs.Interest.{is_readable}
 use Rattle.mio.specs.declared.interest.Interest.{Interest}
 use Rattle.gw_trunk.specs.declared.client.ClientPoll.{ClientPoll}
-use Rattle.gw_trunk.specs.declared.client.ClientPoll.TheVariants.{Command, Nothing, End, Gone}
+use Rattle.gw_trunk.specs.declared.client.ClientPoll.TheVariants.{Command, Nothing, Gone}
 use Rattle.gw_trunk.specs.declared.client.Client.{Client}
 use Rattle.gw_trunk.specs.declared.clients.Clients.{Clients}
 use Rattle.gw_trunk.specs.Device.{GaveBehind, passed_count, is_broken_pipe}
@@ -32,10 +32,6 @@ IsOpen octets = (ending : RecordsEnd) × (end_of client_kinds octets ≡ Some en
 abbrev pub BeginsNone : List ℕ → Type 0
 BeginsNone octets = (ending : RecordsEnd) × (end_of client_kinds octets ≡ Some ending)
     × (is_open ending ≡ false)
-
--- octets begin with the record that asks for the end
-abbrev pub AsksEnd : List ℕ → Type 0
-AsksEnd octets = take 4 octets ≡ 0x45 ∷ 0 ∷ 0 ∷ 0 ∷ []
 
 -- a client gave nothing more and got nothing more; it has left too if its end was read
 pub record Stays {S : Type 0} {m : _} (client client' : Client S m) : Type 0 where
@@ -63,17 +59,16 @@ pub record HasNothing {S : Type 0} {m : _} (client : Client S m) : Type 0 where
   pub room : length client.held.items < 64
 
 -- A client is to be disconnected: what is held of it is no whole record, and its end was read or 64 octets
--- are held; or it begins with none, nor asks for the end. (Or there is no room for a record.)
+-- are held; or it begins with none. (Or there is no room for a record.)
 abbrev pub MayGo : {S : Type 0} {m : _} → ℕ → Client S m → Type 0
 MayGo room client = (IsOpen client.held.items × ((client.ended ≡ true) ⊎ (length client.held.items ≡ 64)))
-    ⊎ ((BeginsNone client.held.items × (¬ AsksEnd client.held.items)) ⊎ (room < 64))
+    ⊎ (BeginsNone client.held.items ⊎ (room < 64))
 
 -- What a client did that was asked: it gave a record, which stands at the front of a room; or it gave none
--- and has nothing that is whole; or it asks for the end; or it is to be disconnected.
+-- and has nothing that is whole; or it is to be disconnected.
 abbrev pub Replies : {S : Type 0} {m : _} → ClientPoll → Client S m → Client S m → List ℕ → Type 0
 Replies (Command n) client client' room = (n ≤ length room) × GaveOne client client' (take n room)
 Replies Nothing client client' room = Stays client client' × HasNothing client'
-Replies End client client' room = Stays client client' × AsksEnd client'.held.items
 Replies Gone client client' room = Stays client client' × MayGo (length room) client'
 
 -- something may have come from a client if it is woken, and it has left if so it is said; all else is as it
@@ -103,11 +98,6 @@ GaveNone room (Some client) (Some client') = Stays client client' × HasNothing 
 abbrev pub GaveAt : {S : Type 0} {m : _} → Option (Client S m) → Option (Client S m) → List ℕ → Type 0
 GaveAt (Some client) (Some client') octets = GaveOne client client' octets
 GaveAt _ _ octets = ⊥
-
--- the client at a place asks for the end
-abbrev pub AsksEndAt : {S : Type 0} {m : _} → Option (Client S m) → Option (Client S m) → Type 0
-AsksEndAt (Some client) (Some client') = Stays client client' × AsksEnd client'.held.items
-AsksEndAt _ _ = ⊥
 
 -- A client got as much of an answer as a write to it took, and gave nothing more. It has hung up if the write
 -- says so.
@@ -145,7 +135,6 @@ is_quiet (Some client) = not client.ready
 abbrev pub Answers : {S : Type 0} {m : _} → ClientPoll → Option (Client S m) → Option (Client S m) → List ℕ
     → Type 0
 Answers (Command n) place place' room = (n ≤ length room) × GaveAt place place' (take n room)
-Answers End place place' room = AsksEndAt place place'
 Answers _ place place' room = GaveNone (length room) place place'
 
 -- the client at a place
@@ -200,8 +189,8 @@ pub record HasTurned {S : Type 0} {m : _} (first room : ℕ) (places places' : L
   pub others : OnlyAt place between places'
 
 -- What clients did that were asked in turn, from the place on that is next: one gave a record, to which the
--- answer is for it, and those behind it are asked first the next time; or none has anything; or one asks for
--- the end. One that is to be disconnected is, and that ends nothing.
+-- answer is for it, and those behind it are asked first the next time; or none has anything. One that is to
+-- be disconnected is, and that ends nothing.
 abbrev pub Asks : ClientPoll → Clients → Clients → List ℕ → Type 0
 Asks (Command n) clients clients' room = (n ≤ length room) × ((place : ℕ)
     × (clients' ≡ record clients { places = clients'.places; asker = Some place; next = place + 1 })
@@ -209,8 +198,6 @@ Asks (Command n) clients clients' room = (n ≤ length room) × ((place : ℕ)
     (λ client client'. GaveAt client client' (take n room)))
 Asks Nothing clients clients' room = (clients' ≡ record clients { places = clients'.places })
     × GaveNothing clients.next 8 (length room) clients.places clients'.places
-Asks End clients clients' room = (clients' ≡ record clients { places = clients'.places }) × ((place : ℕ)
-    × HasTurned clients.next (length room) clients.places clients'.places place AsksEndAt)
 Asks Gone clients clients' room = ⊥
 
 -- events have one of this token, or one of it that says that the other end has left
@@ -233,18 +220,20 @@ abbrev pub AreWoken : {S : Type 0} {m : _} → List Event → List (Option (Clie
 AreWoken events places places' = (k : ℕ) → k < 8
     → IsWokenAt (comes (k + 2) events) (leaves (k + 2) events) (at places k) (at places' k)
 
--- The system was asked for events, for a time at most, and they are noted: those of the trunk, of the door
--- and of clients.
+-- The system was asked for events, for a time at most, and they are noted: those of the trunk, of the door,
+-- of what asks for the end, and of clients.
 pub record Looks (limit : Option ℕ) (clients clients' : Clients) : Type 0 where
   pub reported : SystemReports clients'.poll limit (items clients'.events)
   pub octets_is : clients'.octets ≡ (comes 0 (items clients'.events) || clients.octets)
   pub knocks_is : clients'.knocks ≡ (comes 1 (items clients'.events) || clients.knocks)
+  pub ends_is : clients'.ends ≡ (comes 10 (items clients'.events) || clients.ends)
   pub woken : AreWoken (items clients'.events) clients.places clients'.places
   pub same : clients' ≡ record clients {
     poll = clients'.poll;
     events = clients'.events;
     octets = clients'.octets;
     knocks = clients'.knocks;
+    ends = clients'.ends;
     places = clients'.places;
   }
 
@@ -358,6 +347,7 @@ pub record AreOpened (descriptor : ℤ) (door : UnixListener) (answers : UnixStr
   pub nobody : (k : ℕ) → k < 8 → at clients.places k ≡ None
   pub unread : (clients.octets ≡ false) × (clients.is_drained ≡ false)
   pub knocks : clients.knocks ≡ true
+  pub goes_on : clients.ends ≡ false
   pub unasked : clients.asker ≡ None
   pub next_is : clients.next ≡ 0
   pub came_is : clients.came ≡ 0

@@ -1,5 +1,5 @@
 -- What a trunk with clients does in a read, for a command and in a wait (module `with_clients`).
-use Rattle.std.specs.Prelude.{◌≡◌, ◌⊎◌, ◌||◌, ◌&&◌, ◌++◌, ℕ, Bool, true, false, List, length, take, nat_lt, ⊤}
+use Rattle.std.specs.Prelude.{◌≡◌, ◌⊎◌, ◌||◌, ◌&&◌, ◌++◌, ℕ, Bool, true, false, List, take, nat_lt}
 use Rattle.std.specs.Prelude.{if◌then◌else◌, zero, suc, Option, Some, None, Result, Ok, Err}
 use Rattle.std.specs.declared.io.ErrorKind.{ErrorKind}
 use Rattle.gw_trunk.specs.declared.client.ClientPoll.{ClientPoll}
@@ -44,22 +44,25 @@ pub record ReadsInTurn {R : Type 0} {m : _} (has_read : R → Result ℕ ErrorKi
   pub reads : ReadsTrunk has_read d d' answered room told
   pub asked_end : d'.end_asked ≡ d.end_asked
 
--- what is told of clients that were asked: a record, or none; nothing comes any more if one asks for the end
+-- what is told of clients that were asked: a record, or none
 abbrev pub Tells : {R : Type 0} {m : _} → ClientPoll → WithClients R m → WithClients R m → Option ℕ → List ℕ
     → Type 0
 Tells (polls.Command n) d d' told room = (told ≡ Some n) × (d'.ended ≡ false)
     × (d'.asked.octets ≡ d.asked.octets ++ take n room)
 Tells polls.Nothing d d' told room = (told ≡ None) × (d'.ended ≡ false)
-Tells polls.End d d' told room = (told ≡ None) × (d'.ended ≡ true) × (d'.end_asked ≡ true)
 Tells polls.Gone d d' told room = ⊥
 
--- Nothing comes any more. Or the door was answered, and the clients were asked in turn.
+-- Nothing comes any more. Or the door was answered; nothing comes any more if the end is asked for, else the
+-- clients were asked in turn.
 abbrev pub AsksClients : {R : Type 0} {m : _} → WithClients R m → WithClients R m → Clients
     → Option ℕ → List ℕ → Type 0
 AsksClients d d' answered told room =
     ((d.ended ≡ true) × (d'.ended ≡ true) × (told ≡ None) × (d'.clients ≡ answered))
-    ⊎ ((d.ended ≡ false) × ((opened : Clients) × (asked : ClientPoll) × ServesDoor answered opened
-    × Asks asked opened d'.clients room × Tells asked d d' told room))
+    ⊎ ((d.ended ≡ false) × ((opened : Clients) × ServesDoor answered opened
+    × (((opened.ends ≡ true) × (told ≡ None) × (d'.ended ≡ true) × (d'.end_asked ≡ true)
+    × (d'.clients ≡ opened))
+    ⊎ ((opened.ends ≡ false) × ((asked : ClientPoll) × Asks asked opened d'.clients room
+    × Tells asked d d' told room)))))
 
 -- For a command the answer to the last record of a client is given before the clients are asked.
 pub record CommandsInTurn {R : Type 0} {m : _} (d d' : WithClients R m) (told : Option ℕ)

@@ -22,9 +22,6 @@ const KINDS: AcceptedKinds = AcceptedKinds {
     codecs: true,
 };
 
-// The record that asks for the end of the session: its kind, no circuit, no body.
-const END: [u8; 4] = [0x45, 0, 0, 0];
-
 /// A client is to be disconnected: it does not take its answer.
 #[derive(Clone, Copy)]
 pub struct Away;
@@ -36,8 +33,6 @@ pub enum ClientPoll {
     Command(usize),
     /// It has nothing that is whole.
     Nothing,
-    /// It asks for the end of the session.
-    End,
     /// It is to be disconnected.
     Gone,
 }
@@ -228,7 +223,6 @@ impl<S: ClientStream> Client<S> {
                 ClientPoll::Command(first.len)
             }
             Err(RecordsEnd::End | RecordsEnd::Truncated) => self.nothing(room),
-            Err(_) if held.starts_with(&END) => ClientPoll::End,
             Err(_) => ClientPoll::Gone,
         }
     }

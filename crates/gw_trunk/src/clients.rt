@@ -1,11 +1,12 @@
 //! Clients that give commands: accepted, asked in turn, disconnected; whether the trunk can be read now.
 
 ghost use Rattle.std.specs.Prelude.{◌≡◌, ◌==◌, ◌||◌, ◌&&◌, ◌-◌, ◌+◌, ◌<◌, ◌≤◌, ℕ, true, false, length};
-ghost use Rattle.std.specs.Prelude.{IfSome, IfNone, IfOk, IfErr, Some, None, option_map};
+ghost use Rattle.std.specs.Prelude.{IfSome, IfNone, IfOk, IfErr, Some, None, is_ok, option_map};
 ghost use Rattle.std.specs.List.{list_all};
 ghost use Rattle.std.specs.Duration.{as_nanos};
 ghost use Rattle.mio.specs.Events.{items};
 ghost use Rattle.gw_trunk.specs.System.{SystemAccepted, SystemHasNobody, SystemRefusesStream};
+ghost use Rattle.gw_trunk.specs.System.{SystemWatches};
 ghost use Rattle.gw_trunk.specs.Clients.{Answers, AnswersKnock, AreAllKnown, AreOpened, AreWoken, Asks};
 ghost use Rattle.gw_trunk.specs.Clients.{CanRead, FindsNobody, Gets, GetsRead, GivesAnswer, IsWokenAt};
 ghost use Rattle.gw_trunk.specs.Clients.{Looks, LooksAnew, LooksForOctets, MakesRoom, OnlyAt, ServesDoor};
@@ -36,6 +37,8 @@ const DOOR: usize = 1;
 
 const FIRST_CLIENT: usize = 2;
 
+const END: usize = 10;
+
 /// The clients of a Unix socket, and what all is waited for by.
 #[derive(Drop)]
 pub struct Clients {
@@ -50,6 +53,8 @@ pub struct Clients {
     is_drained: bool,
     door: UnixListener,
     knocks: bool,
+    // Whether the end is asked for.
+    pub ends: bool,
     pub places: [Option<Client<UnixStream>>; 8],
     // What the answers come from.
     answers: LoggedReader<UnixStream>,
@@ -134,10 +139,12 @@ fn note<S: ClientStream>(
     has_left: bool,
     octets: &mut bool,
     knocks: &mut bool,
+    ends: &mut bool,
     places: &mut [Option<Client<S>>; 8],
 )
     ensures octets { octets.new ≡ (token == 0 || octets.old) }
     ensures knocks { knocks.new ≡ (token == 1 || knocks.old) }
+    ensures ends { ends.new ≡ (token == 10 || ends.old) }
     ensures woken { (k : ℕ) → k < 8
         → IsWokenAt (token == k + 2) (token == k + 2 && has_left) (at places.old k) (at places.new k) }
 {
@@ -147,20 +154,25 @@ fn note<S: ClientStream>(
     if token == DOOR {
         *knocks = true;
     }
+    if token == END {
+        *ends = true;
+    }
     if token >= FIRST_CLIENT && token - FIRST_CLIENT < MOST_CLIENTS {
         wake_one(&mut places[token - FIRST_CLIENT], has_left);
     }
 }
 
-// Notes events for the trunk, the door and clients, by their tokens.
+// Notes events for the trunk, the door, the end and clients, by their tokens.
 fn note_all<S: ClientStream>(
     events: &Events,
     octets: &mut bool,
     knocks: &mut bool,
+    ends: &mut bool,
     places: &mut [Option<Client<S>>; 8],
 )
     ensures octets { octets.new ≡ (comes 0 (items events.now) || octets.old) }
     ensures knocks { knocks.new ≡ (comes 1 (items events.now) || knocks.old) }
+    ensures ends { ends.new ≡ (comes 10 (items events.now) || ends.old) }
     ensures woken { AreWoken (items events.now) places.old places.new }
 {
     for event in events.iter() {
@@ -169,6 +181,7 @@ fn note_all<S: ClientStream>(
             event.is_read_closed(),
             octets,
             knocks,
+            ends,
             places,
         );
     }
@@ -229,7 +242,7 @@ impl Clients {
         ensures err { IfErr result SystemRefusesStream }
     {
         let (poll, events) = open_poll(rt, 16)?;
-        let is_waited_for = watch_descriptor(&poll, descriptor, TRUNK, Interest::READABLE);
+        let is_waited_for = watch_descriptor(&poll, descriptor, TRUNK, Interest::READABLE).is_ok();
         watch(&poll, &mut door, DOOR)?;
         Ok(Clients {
             poll,
@@ -240,6 +253,7 @@ impl Clients {
             is_drained: false,
             door,
             knocks: true,
+            ends: false,
             places: [None, None, None, None, None, None, None, None],
             answers: LoggedReader::new(answers),
             asker: None,
@@ -248,7 +262,16 @@ impl Clients {
         })
     }
 
-    // Notes the events of trunk, door and clients; waits for them as long as it is asked to.
+    /// Has the system report what comes of a descriptor, its end too: that asks for the end. The error is the
+    /// system's.
+    pub fn watch_end(&self, descriptor: i32) -> io::Result<()>
+        ensures watched { SystemWatches self.now.poll descriptor 10 (is_ok result) }
+        ensures err { IfErr result SystemRefusesStream }
+    {
+        watch_descriptor(&self.poll, descriptor, END, Interest::READABLE)
+    }
+
+    // Notes the events of trunk, door, end and clients; waits for them as long as it is asked to.
     fn look(&mut self, limit: Option<Duration>)
         ensures { Looks (option_map as_nanos limit) self.old self.new }
     {
@@ -257,6 +280,7 @@ impl Clients {
             &self.events,
             &mut self.octets,
             &mut self.knocks,
+            &mut self.ends,
             &mut self.places,
         );
     }
@@ -401,7 +425,6 @@ impl Clients {
                     self.next = place + 1;
                     return ClientPoll::Command(n);
                 }
-                ClientPoll::End => return ClientPoll::End,
                 ClientPoll::Nothing | ClientPoll::Gone => {}
             }
         }

@@ -32,14 +32,20 @@ pub fn watch<S: Source>(poll: &Poll, source: &mut S, token: usize) -> io::Result
     registry.register(source, Token(token), Interest::READABLE)
 }
 
-/// Has the system report what comes of a descriptor under this token, and returns whether it agrees.
-#[tactic(auto, unfolding(crate::specs::System::SystemWatches))]
-pub fn watch_descriptor(poll: &Poll, descriptor: i32, token: usize, interest: Interest) -> bool
-    ensures { SystemWatches poll.now descriptor token result }
+/// Has the system report what comes of a descriptor under this token. The error is the system's.
+#[tactic(auto, unfolding(crate::specs::System::SystemRefusesStream, crate::specs::System::SystemWatches))]
+pub fn watch_descriptor(
+    poll: &Poll,
+    descriptor: i32,
+    token: usize,
+    interest: Interest,
+) -> io::Result<()>
+    ensures watched { SystemWatches poll.now descriptor token (is_ok result) }
+    ensures err { IfErr result SystemRefusesStream }
 {
     let registry = poll.registry();
     let source = &mut SourceFd(&descriptor);
-    registry.register(source, Token(token), interest).is_ok()
+    registry.register(source, Token(token), interest)
 }
 
 /// Has the system report anew what came of a descriptor before, and returns whether it agrees.

@@ -1,13 +1,14 @@
 //! A trunk with clients: when it is read, when a client is asked, and what ends it (`WithClients`).
 
 ghost use Rattle.std.specs.Prelude.{◌≡◌, ◌⊎◌, ◌||◌, ◌&&◌, ℕ, List, [], length, true, false, IfOk, IfErr};
-ghost use Rattle.std.specs.Prelude.{Some, Err};
+ghost use Rattle.std.specs.Prelude.{Some, Err, is_ok};
 ghost use Rattle.std.specs.Io.KnownBytes.{IsAtEnd};
 ghost use Rattle.std.specs.List.{list_all};
 ghost use Rattle.gw_trunk.specs.Clients.{is_quiet};
 ghost use Rattle.gw_trunk.specs.Clients.{AreOpened};
 ghost use Rattle.gw_trunk.specs.Device.{HasFailed};
 ghost use Rattle.gw_trunk.specs.System.{SystemListens, SystemPairs, SystemRefusesDoor, SystemRefusesStream};
+ghost use Rattle.gw_trunk.specs.System.{SystemWatches};
 
 use crate::client::ClientPoll;
 use crate::clients::Clients;
@@ -24,9 +25,8 @@ use std::os::fd::AsRawFd;
 /// have come, so one that waits for them keeps no client from being asked.
 ///
 /// A client gives C and K records, and the answer to a record goes to the client who gave it: it comes from
-/// the other end of `answers`. The record of kind `E`, of circuit 0 and without a body, asks for the end:
-/// nothing comes any more then. A client that goes, sends something else, or does not take an answer at once
-/// loses its connection, and nothing else happens.
+/// the other end of `answers`. A client that goes, sends something else, or does not take an answer at once
+/// loses its connection, and nothing else happens. Once the end is asked for nothing comes any more.
 #[derive(Drop)]
 pub struct WithClients<R: DeviceReader> {
     reader: LoggedReader<R>,
@@ -35,7 +35,7 @@ pub struct WithClients<R: DeviceReader> {
     turn: bool,
     // Whether the last read of the trunk found none, or the one before took all.
     empty: bool,
-    // Whether nothing will come any more, and whether a client asked for that.
+    // Whether nothing will come any more, and whether that was asked for.
     ended: bool,
     end_asked: bool,
     asked: Log,
@@ -72,6 +72,15 @@ impl<R: DeviceReader + Drop> WithClients<R> {
             asked: Log::new(),
             waits: Log::new(),
         })
+    }
+
+    /// Has a descriptor ask for the end, when anything comes of it or it is closed at its other end. The
+    /// error is the system's.
+    pub fn end_by(&self, descriptor: i32) -> io::Result<()>
+        ensures watched { SystemWatches self.now.clients.poll descriptor 10 (is_ok result) }
+        ensures err { IfErr result SystemRefusesStream }
+    {
+        self.clients.watch_end(descriptor)
     }
 }
 
@@ -175,16 +184,16 @@ impl<R: DeviceReader> TrunkInput for WithClients<R> {
             return None;
         }
         self.clients.let_in();
+        if self.clients.ends {
+            self.ended = true;
+            self.end_asked = true;
+            return None;
+        }
         match self.clients.ask(room) {
             ClientPoll::Command(n) => {
                 self.turn = false;
                 self.asked.append(room, n);
                 Some(n)
-            }
-            ClientPoll::End => {
-                self.ended = true;
-                self.end_asked = true;
-                None
             }
             ClientPoll::Nothing | ClientPoll::Gone => None,
         }

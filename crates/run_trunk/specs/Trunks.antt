@@ -1,5 +1,5 @@
 -- What it means that the trunk that the command line names is served.
-use Rattle.std.specs.Prelude.{◌≡◌, ◌⊎◌, ℕ, List, Some, Result, codes}
+use Rattle.std.specs.Prelude.{◌≡◌, ◌⊎◌, ℕ, pos, List, true, Some, Result, codes}
 use Rattle.std.specs.declared.io.Error.{Error}
 use Rattle.gw_switch.specs.declared.GatewayConfig.{GatewayConfig}
 use Rattle.gw_switch.specs.declared.gateway.Gateway.{Gateway}
@@ -8,9 +8,9 @@ use Rattle.gw_records.specs.declared.outcome.RunFault.{RunFault}
 use Rattle.gw_switch.specs.Events.{Event}
 use Rattle.gw_switch.specs.Standing.{HasHistory}
 use Rattle.gw_session.specs.Serve.{SessionStreams}
-use Rattle.gw_command.specs.Command.{text_in}
+use Rattle.gw_command.specs.Command.{SaysNumberIn, text_in}
 use Rattle.gw_trunk.specs.Multiframes.{GoesInTime}
-use Rattle.gw_trunk.specs.System.{SystemRefusesDoor, SystemRefusesStream}
+use Rattle.gw_trunk.specs.System.{SystemRefusesDoor, SystemRefusesStream, SystemWatches}
 use Rattle.run_trunk.specs.Serving.{Carried, Traffic}
 use Rattle.gw_program.specs.Performing.{EndedSaved, HasConfig, NotBegun}
 use Rattle.gw_program.specs.Requests.{AsksWait, CommandLine, OnNewStreams, load_in, save_in}
@@ -39,7 +39,7 @@ pub record HasTrunk (does : Traffic → Type 0) : Type 0 where
   pub slow_waits : ℕ
   pub goes : ∥ GoesInTime passed.went went discarded slow_waits ∥₁
 
--- the system refused to wait for a stream of the trunk
+-- the system refused to wait for a stream of the trunk, or for the descriptor that asks for its end
 abbrev pub LacksStream : ProgramFault → Type 0
 LacksStream fault = SaysRefused SystemRefusesStream program_faults.Trunk fault
 
@@ -47,6 +47,11 @@ LacksStream fault = SaysRefused SystemRefusesStream program_faults.Trunk fault
 abbrev pub LacksControl : List ℕ → ProgramFault → Type 0
 LacksControl path fault =
     SaysRefused (λ e. SystemRefusesDoor path e ⊎ SystemRefusesStream e) program_faults.Control fault
+
+-- the system reports what comes of the descriptor that the command names for the end, if it names one
+abbrev pub IsEndedBy : {P : Type 0} → CommandLine → P → Type 0
+IsEndedBy command poll = (descriptor : ℕ) → SaysNumberIn 16 (codes "end") command descriptor
+    → SystemWatches poll (pos descriptor) 10 true
 
 -- why a trunk has no ends: a stream is refused, or what the command names for clients
 abbrev pub LacksEnds : CommandLine → ProgramFault → Type 0

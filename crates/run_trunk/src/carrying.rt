@@ -1,14 +1,14 @@
 //! How the trunk that the command line asks for is opened and served (`serve`).
 
-ghost use Rattle.std.specs.Prelude.{◌≡◌, [], IfOk, IfErr};
+ghost use Rattle.std.specs.Prelude.{◌≡◌, [], IfOk, IfErr, OnOk};
 ghost use Rattle.clap.specs.Words.{subcommand_rows_of};
 ghost use Rattle.gw_program.specs.Performing.{LacksSession, LacksTapeOrPorts};
 ghost use Rattle.gw_program.specs.Requests.{TakesAsked};
-ghost use Rattle.run_trunk.specs.Trunks.{LacksControl, LacksStream, ServesTrunk};
+ghost use Rattle.run_trunk.specs.Trunks.{IsEndedBy, LacksControl, LacksStream, ServesTrunk};
 
 use crate::performing::perform_trunk;
 use clap::ArgMatches;
-use gw_command::{control_of, wants_totals};
+use gw_command::{control_of, end_of, wants_totals};
 use gw_program::{ProgramFault, System, print_discarded};
 use gw_session::Totals;
 use gw_trunk::{
@@ -62,6 +62,20 @@ fn open_control(
     }
 }
 
+// Has the descriptor that the matches name for it, if they name one, ask for the end of the trunk.
+fn end_as_asked(matches: &ArgMatches<'_>, incoming: &WithClients<Stdin>) -> Result<(), ProgramFault>
+    ensures ok { OnOk result (IsEndedBy (subcommand_rows_of matches.now) incoming.now.clients.poll) }
+    ensures err { IfErr result LacksStream }
+{
+    let Some(descriptor) = end_of(matches) else {
+        return Ok(());
+    };
+    match incoming.end_by(i32::from(descriptor)) {
+        Ok(()) => Ok(()),
+        Err(error) => Err(ProgramFault::of(&error, ProgramFault::Trunk)),
+    }
+}
+
 // The ends of a trunk in service.
 #[derive(Drop)]
 struct TrunkEnds<I: TrunkInput, O: TrunkOutput, A: TrunkOutput> {
@@ -101,12 +115,14 @@ fn carry<Y: System, I: TrunkInput + Drop, O: TrunkOutput + Drop, A: TrunkOutput 
 }
 
 /// Serves the trunk whose octets come from standard input and go to standard output, with what the system
-/// takes for the command line, and the clients of a Unix socket if the matches name one.
+/// takes for the command line, and the clients of a Unix socket if the matches name one. It ends with the
+/// trunk, or as the descriptor asks that they name.
 ///
 /// # Errors
 ///
 /// [`ProgramFault::Control`] if the socket of clients can't be opened, [`ProgramFault::Trunk`] if a stream of
-/// the trunk can't be waited for, what the system lacks, or [`ProgramFault::Session`] if the trunk fails.
+/// the trunk or the descriptor can't be waited for, what the system lacks, or [`ProgramFault::Session`] if
+/// the trunk fails.
 pub fn serve<Y: System>(
     rt: &HostRuntime,
     matches: &ArgMatches<'_>,
@@ -127,6 +143,7 @@ pub fn serve<Y: System>(
         return carry(rt, matches, system, ends);
     };
     let (incoming, answers) = open_control(rt, path)?;
+    end_as_asked(matches, &incoming)?;
     let outgoing = open_stdout(rt)?;
     let ends = TrunkEnds {
         incoming,

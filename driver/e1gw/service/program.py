@@ -10,13 +10,11 @@ from collections import Counter
 from contextlib import suppress
 from typing import Any, Sequence
 
-from ..session import encode_record
 from .follower import LogFollower, last_words, lines_in, totals_in
 from .log import Checkpoint, TrunkLog, take_file
 from .process import UNKNOWN, Child, start, text_of
 from .version import ProgramVersion
 
-END = encode_record(0x45, 0, b'')       # asks for the end of the session
 # No record that a client may give: the program closes the connection, which says that it runs, and logs nothing.
 NO_RECORD = bytes(4)
 SOON = 0.001                # seconds between two tries to connect to a program that begins
@@ -56,8 +54,9 @@ class TrunkProgram(LoggedProgram):
         self.control, self._saves, self._said = control, saves, said
         self.process: Child
         self.is_up = self.is_adopted = self._is_closed = False
-        self._hello = socket.socket(socket.AF_UNIX)
-        self._probe: socket.socket | None = None
+        # What asks it to end, and the number of that in the program. (One of an earlier version may have none.)
+        self._end = self._end_there = -1
+        self._hello, self._probe = socket.socket(socket.AF_UNIX), socket.socket(socket.AF_UNIX)
         self._told = 0                          # lines that were told
 
     @classmethod
@@ -68,11 +67,12 @@ class TrunkProgram(LoggedProgram):
             os.unlink(control)
         found = cls(number, version, begun.at_begin(), control, saves, TrunkLog(), os.memfd_create('e1gw-words'))
         try:
+            found._end = found._end_there = end_pipe()
             found.process = start(
                 version.program, version.executable(),
-                ['trunk', '--config', version.config_path(), '--control', control, '--record',
+                ['trunk', '--config', version.config_path(), '--control', control, '--end', str(found._end), '--record',
                  f'/dev/fd/{found.log.file}', '--save', saves, '--totals', *words, *begun.words()],
-                (*trunk, found._said), [found.log.file, *version.files(), *begun.files()])
+                (*trunk, found._said), [found.log.file, found._end, *version.files(), *begun.files()])
         except OSError:
             found._close_files()
             found.checkpoint.close()
@@ -92,30 +92,27 @@ class TrunkProgram(LoggedProgram):
 
     def _answers(self) -> bool:
         """Whether it has closed a connection that gave no record. One that ends closes the one before that, too."""
-        try:
-            self._connect()
-            if self._probe is None:
-                self._probe = connected(self.control)
+        if not is_open(self._hello):
+            self._hang_up()
+            try:
+                self._hello, self._probe = connected(self.control), connected(self.control)
                 self._probe.send(NO_RECORD)
-        except OSError:
-            return False
+            except OSError:
+                return False
         if is_open(self._probe):
             return False
-        self._probe.close()
-        self._probe = None
-        return is_open(self._hello)
+        is_up = is_open(self._hello)
+        self._hang_up()
+        return is_up
 
-    def _connect(self) -> None:
-        """Sees to the connection by which it is asked to end."""
-        if not is_open(self._hello):
-            self._hello.close()
-            self._hello = connected(self.control)
+    def _hang_up(self) -> None:
+        self._hello.close()
+        self._probe.close()
 
     def ask_end(self) -> None:
         """Asks it to end behind what it has read."""
         try:
-            self._connect()
-            self._hello.send(END)
+            os.write(self._end, b'\n')
         except OSError:
             self.process.signal(signal.SIGKILL)
 
@@ -155,14 +152,14 @@ class TrunkProgram(LoggedProgram):
     def _close_files(self) -> None:
         self.log.close()
         os.close(self._said)
-        self._hello.close()
-        if self._probe:
-            self._probe.close()
+        if self._end >= 0:
+            os.close(self._end)
+        self._hang_up()
 
     # ---- for the service that comes after this one ----
 
     def _files(self) -> dict[str, int]:
-        its = {'log': self.log.file, 'words': self._said, 'hello': self._hello.fileno(), 'program': self.version.file,
+        its = {'log': self.log.file, 'words': self._said, 'end': self._end, 'program': self.version.file,
                'config': self.version.config, 'state': self.checkpoint.state}
         return {what: file for what, file in its.items() if file >= 0}
 
@@ -176,7 +173,7 @@ class TrunkProgram(LoggedProgram):
         return {'files': files, 'number': self.number, 'pid': self.process.pid, 'started': self.process.started,
                 'program': self.version.program, 'senders': self.version.senders, 'control': self.control,
                 'saves': self._saves, 'place': its.place, 'counted': its.counted, 'begun': self.begun.counted,
-                'up': self.is_up, 'told': self._told}
+                'end': self._end_there, 'up': self.is_up, 'told': self._told}
 
     @classmethod
     def of_note(cls, note: dict[str, Any], files: dict[str, int]) -> TrunkProgram:
@@ -187,12 +184,22 @@ class TrunkProgram(LoggedProgram):
         found = cls(number, version, Checkpoint(-1, 0, Counter(note['begun'])), str(note['control']),
                     str(note['saves']), TrunkLog(its['log']), its['words'])
         found.checkpoint = Checkpoint(its.get('state', -1), int(note['place']), Counter(note['counted']))
-        if 'hello' in its:
-            found._hello = socket.socket(fileno=its['hello'])
+        found._end, found._end_there = its.get('end', -1), int(note.get('end', -1))
         found.process = Child(int(note['pid']), int(note['started']))
         found.pid = found.process.pid
         found.is_up, found._told, found.is_adopted = bool(note['up']), int(note['told']), True
         return found
+
+
+def end_pipe() -> int:
+    """A pipe through which a program is asked to end, as one descriptor that is written and read: a program that has
+    it goes on if all others who have it die."""
+    ends = os.pipe()
+    try:
+        return os.open(f'/dev/fd/{ends[0]}', os.O_RDWR | os.O_CLOEXEC)
+    finally:
+        for end in ends:
+            os.close(end)
 
 
 def connected(path: str) -> socket.socket:

@@ -17,7 +17,7 @@ from .journal import NOTICE
 from .keeper import ANEW, GRACE, TrunkKeeper, TrunkWants, loaded
 from .log import Checkpoint, take_file
 from .process import Child, start_of, text_of
-from .program import END, TrunkProgram, connected
+from .program import TrunkProgram, connected
 from .recovery import REPLACED, Handover, Notifier
 from .slot_trunk import before_signal, trunk_of
 from .version import version_of_now
@@ -137,8 +137,10 @@ async def state_left(note: dict[str, Any]) -> Checkpoint | None:
     if not process.over.is_set():
         with suppress(OSError):
             said = os.open(f'/proc/{process.pid}/fd/2', os.O_RDONLY)
-        with suppress(OSError), connected(note['control']) as line:
-            line.send(END)
+        with suppress(OSError):
+            end = os.open(f"/proc/{process.pid}/fd/{note.get('end')}", os.O_WRONLY)
+            os.write(end, b'\n')
+            os.close(end)
             await process.ends_within(GRACE)
         await process.kill()
     try:

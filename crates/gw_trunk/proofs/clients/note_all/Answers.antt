@@ -11,6 +11,8 @@ loop-event-preserved g c =
           c.loop-event.invariant.octets;
       knocks = comes-more 1 before event _ _ _ (rw (c.token.ensures) at c.note.ensures.knocks)
           c.loop-event.invariant.knocks;
+      ends = comes-more 10 before event _ _ _ (rw (c.token.ensures) at c.note.ensures.ends)
+          c.loop-event.invariant.ends;
       woken = woken-more before event _ _ _ c.loop-event.invariant.woken
           (rw (c.token.ensures, c.is_read_closed.ensures) at c.note.ensures.woken);
     })

@@ -8,5 +8,6 @@ invariant-loop-event g l =
     let events = map (λ e. e.now) l.yielded in record {
       octets : l.octets ≡ (comes 0 events || l.initial.octets);
       knocks : l.knocks ≡ (comes 1 events || l.initial.knocks);
+      ends : l.ends ≡ (comes 10 events || l.initial.ends);
       woken : AreWoken events l.initial.places l.places;
     }

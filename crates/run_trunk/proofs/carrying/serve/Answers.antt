@@ -12,5 +12,8 @@ pub returns-in_err-incoming : goal.returns-in_err-incoming
 returns-in_err-incoming g c =
     no_control _ _ _ c.from_residual-in_err-incoming.result (sym c.in-Some.ensures) (search rules)
 
+pub returns-in_err-end_as_asked : goal.returns-in_err-end_as_asked
+returns-in_err-end_as_asked g c = no_stream _ _ c.from_residual-in_err-end_as_asked.result (search rules)
+
 pub returns-in_err-outgoing : goal.returns-in_err-outgoing
 returns-in_err-outgoing g c = no_stream _ _ c.from_residual-in_err-outgoing.result (search rules)

@@ -10,6 +10,16 @@ returns-then-self-clause-commands g c = record {
   asks = inl (c.if-self.true, c.if-self.true, refl, refl);
 }
 
+pub returns-then-self-2-clause-commands : goal.returns-then-self-2-clause-commands
+returns-then-self-2-clause-commands g c = record {
+  answered = c.give_answer.new.self;
+  gives = c.give_answer.ensures;
+  asks = inr (
+    c.if-self.false,
+    (c.let_in.new.self, c.let_in.ensures, inl (c.if-self-2.true, refl, refl, refl, refl)),
+  );
+}
+
 pub returns-in-Command-clause-commands : goal.returns-in-Command-clause-commands
 returns-in-Command-clause-commands g c = record {
   answered = c.give_answer.new.self;
@@ -18,26 +28,11 @@ returns-in-Command-clause-commands g c = record {
     c.if-self.false,
     (
       c.let_in.new.self,
-      polls.Command c.in-Command.n,
       c.let_in.ensures,
-      c.in-Command.ensures.asks,
-      (refl, c.if-self.false, c.append.ensures),
-    ),
-  );
-}
-
-pub returns-in-End-clause-commands : goal.returns-in-End-clause-commands
-returns-in-End-clause-commands g c = record {
-  answered = c.give_answer.new.self;
-  gives = c.give_answer.ensures;
-  asks = inr (
-    c.if-self.false,
-    (
-      c.let_in.new.self,
-      polls.End,
-      c.let_in.ensures,
-      c.in-End.ensures.asks,
-      (refl, refl, refl),
+      inr (
+        c.if-self-2.false,
+        (polls.Command c.in-Command.n, c.in-Command.ensures.asks, (refl, c.if-self.false, c.append.ensures)),
+      ),
     ),
   );
 }
@@ -50,10 +45,11 @@ returns-in-Nothing-clause-commands g c = record {
     c.if-self.false,
     (
       c.let_in.new.self,
-      polls.Nothing,
       c.let_in.ensures,
-      nothing-asked c.ask.result _ _ _ c.ask.ensures.asks c.in-Nothing.is,
-      (refl, c.if-self.false),
+      inr (
+        c.if-self-2.false,
+        (polls.Nothing, nothing-asked c.ask.result _ _ _ c.ask.ensures.asks c.in-Nothing.is, (refl, c.if-self.false)),
+      ),
     ),
   );
 }
