@@ -1,11 +1,11 @@
 -- Sessions that go on from a saved state.
-use Rattle.std.proofs.Common.{◌≡◌, ◌++◌, List, refl}
+use Rattle.std.proofs.Common.{◌++◌, List, refl}
 use Rattle.gw_switch.specs.declared.GatewayConfig.{GatewayConfig}
 use Rattle.gw_switch.specs.declared.gateway.Gateway.{Gateway}
 use Rattle.gw_switch.specs.Events.{Event}
 use Rattle.gw_switch.specs.Standing.{HasHistory}
 use Rattle.gw_session.specs.Answers.{events}
-use Rattle.gw_session.specs.Laws.{CutByHistory, HasRun, Run}
+use Rattle.gw_session.specs.Laws.{CutByHistory}
 use Rattle.gw_session.specs.Serve.{events_through}
 use Rattle.gw_session.specs.ServeLaws.{ServingIsCutAnywhere}
 use Rattle.gw_state.specs.declared.loading.Loaded.{Loaded}

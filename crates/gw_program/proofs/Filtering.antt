@@ -1,5 +1,5 @@
 -- How filters end on new streams, and what is told.
-use Rattle.std.proofs.Common.{◌≡◌, inl, inr, ℕ, List, [], Option, None, Some, Result, Ok, Err, refl, sym, ◌∙◌}
+use Rattle.std.proofs.Common.{◌≡◌, inl, inr, ℕ, List, [], Option, None, Some, Result, Ok, Err, refl, sym}
 use Rattle.std.proofs.lemmas.Option.{none-some}
 use Rattle.std.specs.Prelude.{◌≢◌, IfOk, IfErr, MatchResult}
 use Rattle.gw_records.specs.declared.outcome.Totals.{Totals}
@@ -9,7 +9,7 @@ use Rattle.gw_command.specs.declared.command.Filter.{Filter}
 use Rattle.gw_program.specs.declared.program_fault.ProgramFault.{ProgramFault}
 use Rattle.gw_program.specs.Filters.{DoesFilter, DoesFilterUntil, HasChecked, HasCheckedUntil}
 use Rattle.gw_program.specs.Performing.{Ended, told_as}
-use Rattle.gw_program.specs.Requests.{OnNewStreams, RunsFilter, ChecksCrc4}
+use Rattle.gw_program.specs.Requests.{RunsFilter, ChecksCrc4}
 use Rattle.gw_program.proofs.Streams.{on_new}
 
 -- How something ended, and what is told of it.

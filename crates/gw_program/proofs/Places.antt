@@ -1,6 +1,6 @@
 -- At which place a replay ends.
-use Rattle.std.proofs.Common.{◌≡◌, ◌+◌, ◌<◌, ◌^◌, ℕ, List, [], ◌∷◌, ◌++◌, length, length-append, refl, arith, map}
-use Rattle.std.proofs.Common.{Result, Ok, Err, append-nil, sym}
+use Rattle.std.proofs.Common.{◌≡◌, ◌+◌, ◌<◌, ◌^◌, ℕ, List, [], ◌∷◌, length, length-append, refl, arith, map}
+use Rattle.std.proofs.Common.{Result, Ok, Err, append-nil}
 use Rattle.std.specs.Prelude.{flat_map, MatchResult}
 use Rattle.gw_records.specs.Records.{Record, spelled, Reads, end_of}
 use Rattle.gw_records.specs.Streams.{SourceState, SinkState, at_most}
@@ -11,13 +11,12 @@ use Rattle.gw_records.specs.declared.outcome.Totals.{Totals}
 use Rattle.gw_records.specs.declared.records.RecordsEnd.{RecordsEnd}
 use Rattle.gw_records.specs.declared.records.RecordsEnd.TheVariants as endings
 use Rattle.gw_records.proofs.Writes.{GivesOctets-none}
-use Rattle.gw_session.specs.Answers.{events, events_of}
+use Rattle.gw_session.specs.Answers.{events_of}
 use Rattle.gw_session.specs.Running.{all_kinds, RunsThrough, RunsAll, RunsUntil}
 use Rattle.gw_session.specs.Serve.{SessionStreams}
 use Rattle.gw_session.specs.Watch as watches
 use Rattle.gw_session.specs.Watch.{Look, Watched, RunsWatched, shown_in}
 use Rattle.gw_switch.specs.declared.gateway.Gateway.{Gateway}
-use Rattle.gw_switch.specs.Events.{Event}
 use Rattle.gw_program.specs.Places.{StandsBehind, EndsAt}
 
 -- no octets are no records

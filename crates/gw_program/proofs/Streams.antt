@@ -15,13 +15,13 @@ use Rattle.gw_command.specs.declared.command.SessionKind.{SessionKind}
 use Rattle.gw_command.specs.declared.command.SessionKind.TheVariants.{Replay, Check, Serve}
 use Rattle.gw_program.specs.declared.program_fault.ProgramFault.{ProgramFault}
 use Rattle.gw_program.specs.declared.program_fault.ProgramFault.TheVariants as program_faults
-use Rattle.gw_program.specs.Performing.{EndedSaved, NotBegun, HasServed, HasConfig, LacksMore, LacksSession, by_session}
-use Rattle.gw_program.specs.Places.{EndsAt}
-use Rattle.gw_program.specs.Sessions.{HasGateway, Runs, Serves, Checks}
-use Rattle.gw_program.specs.State.{HasBegun, BeginsWaiting, IsSaved}
-use Rattle.gw_program.specs.Requests.{AsksWait, ByGateway, CommandLine, DoesSession, EndsSession, FollowsLog}
-use Rattle.gw_program.specs.Requests.{OnNewStreams, TakesAsked, config_in, follow_in, load_in, save_in}
-use Rattle.gw_program.specs.Setup.{IsConfigAt, IsMeant, PathGives}
+use Rattle.gw_program.specs.Performing.{EndedSaved, NotBegun, RunsSession, Performed, LacksSession, SystemFiles}
+use Rattle.gw_program.specs.Performing.Performed.{Lacked, Done}
+use Rattle.gw_program.specs.Performing.{WithEnds}
+use Rattle.gw_program.specs.State.{HasBegun, BeginsWaiting, IsSaved, LacksGateway}
+use Rattle.gw_program.specs.Requests.{AsksWait, CommandLine, DoesSession, EndsSession, FollowsLog}
+use Rattle.gw_program.specs.Requests.{OnNewStreams, TakesAsked, config_in, files_in, follow_in, load_in, save_in}
+use Rattle.gw_program.specs.Setup.{IsMeant, LacksConfigAt, PathGives}
 
 -- what was done on streams to which nothing had happened was done on new streams
 pub on_new : (s s' : SourceState) (k k' : SinkState) {does : SessionStreams → SessionStreams → Type 0}
@@ -54,29 +54,34 @@ no_session command session none lacks why = go (follow_in command)
       0,
       on_new source source sink sink (
         tt,
-        inl (record {
+        Lacked (record {
           program_fault = program_faults.Nothing;
           why = why;
           told_is = refl;
-          unread = refl;
-          unwritten = refl;
+          untouched = refl;
         }),
       ) refl refl refl refl,
     )
     go (Some path) = inr (refl, inl none)
 
 -- nothing was begun for one of these reasons, so for one of more
-pub told_why : {S K : Type 0} {x x' : S} {y y' : K} {why lacks : ProgramFault → Type 0}
-    {told : Result Totals ProgramFault}
-    {s s' : SourceState} {k k' : SinkState} → ((fault : ProgramFault) → why fault → lacks fault) → (x' ≡ x → s' ≡ s)
-    → (y' ≡ y → k' ≡ k) → NotBegun x x' y y' why told → NotBegun s s' k k' lacks told
-told_why is f g n = record {
+pub told_why : {X Z : Type 0} {x x' : X} {z z' : Z} {why lacks : ProgramFault → Type 0}
+    {told : Result Totals ProgramFault} → ((fault : ProgramFault) → why fault → lacks fault) → (x' ≡ x → z' ≡ z)
+    → NotBegun x x' why told → NotBegun z z' lacks told
+told_why is f n = record {
   program_fault = n.program_fault;
   why = is n.program_fault n.why;
   told_is = n.told_is;
-  unread = f n.unread;
-  unwritten = g n.unwritten;
+  untouched = f n.untouched;
 }
+
+-- .. so for what is done with a configuration and a gateway
+pub performed_so : {X : Type 0} {x x' : X} {files : SystemFiles} {lacks lacks' : ProgramFault → Type 0}
+    {does : Config → Gateway → Gateway → Type 0} {told : Result Totals ProgramFault}
+    → ((fault : ProgramFault) → lacks fault → lacks' fault)
+    → Performed x x' files lacks does told → Performed x x' files lacks' does told
+performed_so is (Lacked n) = Lacked (told_why is (λ e. e) n)
+performed_so is (Done config read gateway gateway' begun done) = Done config read gateway gateway' begun done
 
 -- A session that ended so did, or was not begun for one of more reasons.
 ends_so : (command : CommandLine) (session : SessionKind) (lacks lacks' : ProgramFault → Type 0)
@@ -87,7 +92,7 @@ ends_so command session lacks lacks' Given from place told is e = record {
   before = e.before;
   after = e.after;
   new = e.new;
-  done = (e.done.0, elim e.done.1 [ inl n ↦ inl (told_why is (λ e. e) (λ e. e) n) | inr h ↦ inr h ]);
+  done = (e.done.0, performed_so is e.done.1);
 }
 
 -- .. on standard input or on a log
@@ -140,38 +145,58 @@ saved_at : {X : Type 0} (f : X → List ℕ) (path : Option X) (saved : Result (
 saved_at f None saved is = is
 saved_at f (Some path) saved is = is
 
+-- the path of a state is told as its text
+lacks_gateway_at : {X : Type 0} (f : X → List ℕ) (config : GatewayConfig) (path : Option X) (fault : ProgramFault)
+    → LacksGateway config path fault → LacksGateway config (option_map f path) fault
+lacks_gateway_at f config None fault lacks = lacks
+lacks_gateway_at f config (Some path) program_faults.OutOfMemory lacks = lacks
+lacks_gateway_at f config (Some path) program_faults.NoState lacks = lacks
+lacks_gateway_at f config (Some path) (program_faults.State fault) lacks = lacks
+lacks_gateway_at f config (Some path) _ lacks = absurd lacks
+
 -- A system whose paths and wait are those of the command takes what the command names.
 pub takes_asked : {X : Type 0} (f : X → List ℕ) (command : CommandLine) (path : List ℕ) (load save : Option X)
     (wait : Option ℕ) → config_in command ≡ Some path → option_map f load ≡ load_in command
     → option_map f save ≡ save_in command → AsksWait command wait
-    → TakesAsked command (IsMeant (PathGives path))
-    (λ config gateway. BeginsWaiting config.gateway load (λ asked. asked ≡ wait) gateway)
-    (λ config gateway saved. IsSaved save saved)
+    → TakesAsked command (record {
+      reads = IsMeant (PathGives path);
+      lacks_config = LacksConfigAt path;
+      starts = λ config. BeginsWaiting config.gateway load (λ asked. asked ≡ wait);
+      lacks_gateway = λ config. LacksGateway config.gateway load;
+      saves = λ config gateway. IsSaved save;
+    })
 takes_asked f command path load save wait named loads saves asks = record {
   read = λ config meant. rw named meant;
+  unread = λ fault lacks. rw named lacks;
   begun = λ config gateway begun. rw (← loads) (waiting_at f load wait (AsksWait command) config.gateway gateway asks
       begun);
+  unbegun = λ config fault lacks. rw (← loads) (lacks_gateway_at f config.gateway load fault lacks);
   saved = λ config gateway saved is. rw (← saves) (saved_at f save saved is);
 }
 
--- this was done with a gateway that was begun so
-pub with_gateway : {command : CommandLine} {does : Gateway → Gateway → Type 0} (config : Config)
-    (gateway gateway' : Gateway)
-    → IsConfigAt (config_in command) config
-    → BeginsWaiting config.gateway (load_in command) (AsksWait command) gateway → does gateway gateway'
-    → HasConfig (IsConfigAt (config_in command)) (λ config.
-    HasGateway (BeginsWaiting config.gateway (load_in command) (AsksWait command)) does)
-with_gateway config gateway gateway' read begun done = record {
-  config = config;
-  read = read;
-  done = record { gateway = gateway; gateway' = gateway'; begun = begun; done = done };
-}
+-- What a system that takes what the command names lacks for a session, the command lacks.
+pub lacks_asked : {command : CommandLine} {files : SystemFiles} → TakesAsked command files
+    → (more : Config → ProgramFault → Type 0) (fault : ProgramFault) → LacksSession files more fault
+    → LacksSession (files_in command) more fault
+lacks_asked takes more fault (inl none) = inl (takes.unread fault none)
+lacks_asked takes more fault (inr (config, read, inl none)) =
+    inr (config, takes.read config read, inl (takes.unbegun config fault none))
+lacks_asked takes more fault (inr (config, read, inr (gateway, begun, none))) =
+    inr (config, takes.read config read, inr (gateway, takes.begun config gateway begun, none))
+
+-- .. and of what is missing beside a gateway more is said
+pub lacks_so : (files : SystemFiles) (more more' : Config → ProgramFault → Type 0)
+    → ((config : Config) (fault : ProgramFault) → more config fault → more' config fault)
+    → (fault : ProgramFault) → LacksSession files more fault → LacksSession files more' fault
+lacks_so files more more' is fault (inl none) = inl none
+lacks_so files more more' is fault (inr (config, read, inl none)) = inr (config, read, inl none)
+lacks_so files more more' is fault (inr (config, read, inr (gateway, begun, none))) =
+    inr (config, read, inr (gateway, begun, is config fault none))
 
 -- how the state was saved is told of its path
-pub saved_told : {command : CommandLine} {reads : Config → Type 0} {starts : Config → Gateway → Type 0}
-    {saves : Config → Gateway → Result (Unit {0}) ProgramFault → Type 0} → TakesAsked command reads starts saves
+pub saved_told : {command : CommandLine} {files : SystemFiles} → TakesAsked command files
     → {ends : Result Totals RunFault → Type 0} {told : Result Totals ProgramFault} (config : Config) (gateway : Gateway)
-    → EndedSaved ends (saves config gateway) told → EndedSaved ends (IsSaved (save_in command)) told
+    → EndedSaved ends (files.saves config gateway) told → EndedSaved ends (IsSaved (save_in command)) told
 saved_told takes config gateway e = record {
   end = e.end;
   done = e.done;
@@ -182,73 +207,59 @@ saved_told takes config gateway e = record {
   };
 }
 
-module _ (s s' : SourceState) (k k' : SinkState) {P T : Type 0} (reads : Config → Type 0) (lacks : ProgramFault
-    → Type 0)
-    (lacks_gateway lacks_more : Config → ProgramFault → Type 0) (command : CommandLine)
-    (starts : Config → Gateway → Type 0) (saves : Config → Gateway → Result (Unit {0}) ProgramFault → Type 0)
-    (takes : TakesAsked command reads starts saves) (Given : SourceState → Type 0) (given : Given s')
-    (opens : Config → P → Type 0) (begins : T → Type 0)
-    (ports_tell : P → PortsState) (tape_tells : T → TapeState) {told : Result Totals ProgramFault}
-  where
-    -- nothing was begun on new streams
-    stopped : {why all : ProgramFault → Type 0} {does : SessionStreams → SessionStreams → Gateway → Gateway → Type 0}
-        → ((fault : ProgramFault) → why fault → all fault) → NotBegun s s' k k' why told
-        → s.reads ≡ 0 → s.given ≡ Some [] → s.failures ≡ 0 → k.failures ≡ 0
-        → OnNewStreams (λ a a'. Given a'.source × ByGateway a a' command all told (does a a'))
-    stopped is n = on_new s s' k k' (given, inl (told_why is (λ e. e) (λ e. e) n))
+module _ {X : Type 0} {x x' : X} {files : SystemFiles} {told : Result Totals ProgramFault} where
+  -- a session that has no gateway for its configuration
+  pub no_gateway : {lacks_more : Config → ProgramFault → Type 0} {does : Config → Gateway → Gateway → Type 0}
+      (config : Config) → files.reads config → NotBegun x x' (files.lacks_gateway config) told
+      → Performed x x' files (LacksSession files lacks_more) does told
+  no_gateway config read n = Lacked (told_why (λ fault why. inr (config, read, inl why)) (λ e. e) n)
 
-    -- a session that was done on new streams
-    pub session_done : (lacks_watch : ProgramFault → Type 0) (session : SessionKind) (from place : ℕ)
-        → NotBegun s s' k k' lacks told
-        ⊎ HasConfig reads (λ config. NotBegun s s' k k' (lacks_gateway config) told
-        ⊎ HasGateway (starts config) (λ gateway gateway'. by_session session
-        (NotBegun s s' k k' lacks_watch told
-        ⊎ EndedSaved (λ end. Runs s s' k k' end gateway gateway' × EndsAt s s' gateway gateway' from place end)
-        (saves config gateway') told)
-        (EndedSaved (λ end. Checks s s' k k' end gateway gateway') (saves config gateway') told)
-        (NotBegun s s' k k' (lacks_more config) told
-        ⊎ HasServed (opens config) begins (λ ports ports' tape tape'.
-        EndedSaved (λ end. Serves (around s k (ports_tell ports) (tape_tells tape))
-        (around s' k' (ports_tell ports') (tape_tells tape')) end gateway gateway') (saves config gateway') told))))
+  -- .. that has one, and was not begun for want of something more, or did this
+  pub with_gateway : {lacks_more : Config → ProgramFault → Type 0} {does : Config → Gateway → Gateway → Type 0}
+      (config : Config) → files.reads config → (gateway gateway' : Gateway) → files.starts config gateway
+      → NotBegun x x' (lacks_more config) told ⊎ does config gateway gateway'
+      → Performed x x' files (LacksSession files lacks_more) does told
+  with_gateway config read gateway gateway' begun (inl n) =
+      Lacked (told_why (λ fault why. inr (config, read, inr (gateway, begun, why))) (λ e. e) n)
+  with_gateway config read gateway gateway' begun (inr done) = Done config read gateway gateway' begun done
+
+module _ {s s' : SourceState} {k k' : SinkState} {X P T : Type 0} {x x' : X} {files : SystemFiles}
+    {command : CommandLine} (takes : TakesAsked command files) {lacks_more : Config → ProgramFault → Type 0}
+    (opens : Config → P → Type 0) (begins : T → Type 0) (ports_tell : P → PortsState) (tape_tells : T → TapeState)
+    {told : Result Totals ProgramFault}
+  where
+    -- a session on new streams, of a source of which this is known, took what the command names
+    pub session_done : (session : SessionKind) (from place : ℕ) (Given : SourceState → Type 0) → Given s'
+        → Performed x x' files (LacksSession files lacks_more) (λ config gateway gateway'.
+        WithEnds session (opens config) begins ports_tell tape_tells (λ ports ports' tape tape'.
+        EndedSaved (RunsSession session (around s k ports tape) (around s' k' ports' tape') gateway gateway' from place)
+        (files.saves config gateway') told)) told
+        → (x' ≡ x → around s' k' no_ports no_tape ≡ around s k no_ports no_tape)
         → s.reads ≡ 0 → s.given ≡ Some [] → s.failures ≡ 0 → k.failures ≡ 0
-        → EndsSession command session (LacksSession lacks reads lacks_gateway
-        (LacksMore session lacks_watch lacks_more)) Given from place told
-    session_done lacks_watch session from place (inl n) a b c d = stopped (λ fault why. inl why) n a b c d
-    session_done lacks_watch Replay from place (inr h) a b c d = elim h.done [
-      | inl n ↦ stopped (λ fault why. inr (h.config, h.read, inl why)) n a b c d
-      | inr w ↦ elim w.done [
-        | inl n ↦ stopped (λ fault why. inr (h.config, h.read, inr why)) n a b c d
-        | inr e ↦ on_new s s' k k' (
+        → EndsSession command session (LacksSession (files_in command) lacks_more) Given from place told
+    session_done session from place Given given (Lacked n) f a b c d = on_new s s' k k' (
+      given,
+      Lacked (told_why (lacks_asked takes lacks_more) f n),
+    ) a b c d
+    session_done Replay from place Given given (Done config read gateway gateway' begun done) f a b c d =
+        on_new s s' k k' (
           given,
-          inr (with_gateway h.config w.gateway w.gateway'
-              (takes.read h.config h.read) (takes.begun h.config w.gateway w.begun)
-              (saved_told takes h.config w.gateway' e)),
+          Done config (takes.read config read) gateway gateway' (takes.begun config gateway begun)
+              (saved_told takes config gateway' done),
         ) a b c d
-      ]
-    ]
-    session_done lacks_watch Check from place (inr h) a b c d = elim h.done [
-      | inl n ↦ stopped (λ fault why. inr (h.config, h.read, inl why)) n a b c d
-      | inr w ↦ on_new s s' k k' (
+    session_done Check from place Given given (Done config read gateway gateway' begun done) f a b c d =
+        on_new s s' k k' (
+          given,
+          Done config (takes.read config read) gateway gateway' (takes.begun config gateway begun)
+              (saved_told takes config gateway' done),
+        ) a b c d
+    session_done Serve from place Given given (Done config read gateway gateway' begun v) f a b c d = record {
+      before = around s k (ports_tell v.ports) (tape_tells v.tape);
+      after = around s' k' (ports_tell v.ports') (tape_tells v.tape');
+      new = record { unread = a; no_octet = b; no_failed_read = c; no_failed_write = d };
+      done = (
         given,
-        inr (with_gateway h.config w.gateway w.gateway'
-            (takes.read h.config h.read) (takes.begun h.config w.gateway w.begun)
-            (saved_told takes h.config w.gateway' w.done)),
-      ) a b c d
-    ]
-    session_done lacks_watch Serve from place (inr h) a b c d = elim h.done [
-      | inl n ↦ stopped (λ fault why. inr (h.config, h.read, inl why)) n a b c d
-      | inr w ↦ elim w.done [
-        | inl n ↦ stopped (λ fault why. inr (h.config, h.read, inr why)) n a b c d
-        | inr v ↦ record {
-          before = around s k (ports_tell v.ports) (tape_tells v.tape);
-          after = around s' k' (ports_tell v.ports') (tape_tells v.tape');
-          new = record { unread = a; no_octet = b; no_failed_read = c; no_failed_write = d };
-          done = (
-            given,
-            inr (with_gateway h.config w.gateway w.gateway'
-                (takes.read h.config h.read) (takes.begun h.config w.gateway w.begun)
-                (saved_told takes h.config w.gateway' v.done)),
-          );
-        }
-      ]
-    ]
+        Done config (takes.read config read) gateway gateway' (takes.begun config gateway begun)
+            (saved_told takes config gateway' v.done),
+      );
+    }

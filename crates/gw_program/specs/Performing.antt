@@ -1,13 +1,19 @@
 -- What a command does on its streams, and its result (module `performing`).
-use Rattle.std.specs.Prelude.{◌≡◌, ◌⊎◌, false, [], Option, Some, None, Result, Ok, Err}
+use Rattle.std.specs.Prelude.{◌≡◌, ◌⊎◌, ℕ, false, [], Option, Some, None, Result, Ok, Err}
 use Rattle.gw_config.specs.declared.config.Config.{Config}
 use Rattle.gw_records.specs.declared.outcome.Totals.{Totals}
 use Rattle.gw_records.specs.declared.outcome.RunFault.{RunFault}
+use Rattle.gw_records.specs.Ports.{PortsState}
+use Rattle.gw_session.specs.PacketPorts.{no_ports}
+use Rattle.gw_session.specs.Serve.{SessionStreams}
 use Rattle.gw_session.specs.Tape.{TapeState, no_tape}
+use Rattle.gw_switch.specs.declared.gateway.Gateway.{Gateway}
 use Rattle.gw_command.specs.declared.command.SessionKind.{SessionKind}
 use Rattle.gw_command.specs.declared.command.SessionKind.TheVariants.{Replay, Check, Serve}
 use Rattle.gw_program.specs.declared.program_fault.ProgramFault.{ProgramFault}
 use Rattle.gw_program.specs.declared.program_fault.ProgramFault.TheVariants as program_faults
+use Rattle.gw_program.specs.Places.{EndsAt}
+use Rattle.gw_program.specs.Sessions.{Runs, Serves, Checks}
 
 -- the result of a job or a session
 abbrev pub told_as : Result Totals RunFault → Result Totals ProgramFault
@@ -41,26 +47,42 @@ pub record EndedSaved (ends : Result Totals RunFault → Type 0) (Saves : Result
   pub done : ends end
   pub tells : IsTold Saves end told
 
--- a fault is returned for a reason, and nothing was read or written
-pub record NotBegun {S K : Type 0} (source source' : S) (sink sink' : K) (Why : ProgramFault → Type 0)
+-- a fault is returned for a reason, and nothing was read or written: the streams are as before
+pub record NotBegun {X : Type 0} (streams streams' : X) (Why : ProgramFault → Type 0)
     (told : Result Totals ProgramFault) : Type 0 where
   pub program_fault : ProgramFault
   pub why : Why program_fault
   pub told_is : told ≡ Err program_fault
-  pub unread : source' ≡ source
-  pub unwritten : sink' ≡ sink
+  pub untouched : streams' ≡ streams
 
 -- no tape was begun, or no ports were opened
 abbrev pub LacksTapeOrPorts : (ProgramFault → Type 0) → (ProgramFault → Type 0) → ProgramFault → Type 0
 LacksTapeOrPorts lacks_tape lacks_ports program_fault = lacks_tape program_fault ⊎ lacks_ports program_fault
 
--- why a session is not begun: there is no configuration; or, for one that was read, no gateway, or no tape or
--- ports or watch
-abbrev pub LacksSession : (ProgramFault → Type 0) → (Config → Type 0) → (Config → ProgramFault → Type 0)
-    → (Config → ProgramFault → Type 0) → ProgramFault → Type 0
-LacksSession lacks reads lacks_gateway lacks_more program_fault = lacks program_fault
-    ⊎ ((config : Config) × reads config
-    × (lacks_gateway config program_fault ⊎ lacks_more config program_fault))
+-- The files of a system: what it reads of a configuration, or why it lacks one; the gateways that sessions of
+-- a configuration begin with, or why there is none; and how it saves the state of a gateway.
+pub record SystemFiles : Type 1 where
+  pub reads : Config → Type 0
+  pub lacks_config : ProgramFault → Type 0
+  pub starts : Config → Gateway → Type 0
+  pub lacks_gateway : Config → ProgramFault → Type 0
+  pub saves : Config → Gateway → Result (Unit {0}) ProgramFault → Type 0
+
+-- why a session is not begun: there is no configuration; or no gateway for one that was read; or with both
+-- something more is missing
+abbrev pub LacksSession : SystemFiles → (Config → ProgramFault → Type 0) → ProgramFault → Type 0
+LacksSession files lacks_more fault = files.lacks_config fault ⊎ ((config : Config) × files.reads config
+    × (files.lacks_gateway config fault
+    ⊎ ((gateway : Gateway) × files.starts config gateway × lacks_more config fault)))
+
+-- How a session of a system ended: it was not begun for such a reason, and nothing was read or written; or
+-- this was done with a configuration that was read and a gateway that began with it.
+pub data Performed {X : Type 0} (streams streams' : X) (files : SystemFiles) (Lacks : ProgramFault → Type 0)
+    (does : Config → Gateway → Gateway → Type 0) (told : Result Totals ProgramFault) : Type 0 where
+  Lacked : (lacked : NotBegun streams streams' Lacks told) → Performed streams streams' files Lacks does told
+  Done : (config : Config) → (read : files.reads config) → (gateway gateway' : Gateway)
+      → (begun : files.starts config gateway) → (done : does config gateway gateway')
+      → Performed streams streams' files Lacks does told
 
 -- this was done with ports that were opened so and a tape that was begun so
 pub record HasServed {P T : Type 0} (Opens : P → Type 0) (Begins : T → Type 0)
@@ -73,7 +95,14 @@ pub record HasServed {P T : Type 0} (Opens : P → Type 0) (Begins : T → Type 
   pub begun : Begins tape
   pub done : served ports ports' tape tape'
 
--- what a session does, by its name
+-- this was done with the ports and the tape of a system by a session that serves, and with none by another
+abbrev pub WithEnds : {P T : Type 0} → SessionKind → (P → Type 0) → (T → Type 0) → (P → PortsState)
+    → (T → TapeState) → (PortsState → PortsState → TapeState → TapeState → Type 0) → Type 0
+WithEnds Serve Opens Begins ports_tell tape_tells does = HasServed Opens Begins (λ ports ports' tape tape'.
+    does (ports_tell ports) (ports_tell ports') (tape_tells tape) (tape_tells tape'))
+WithEnds session Opens Begins ports_tell tape_tells does = does no_ports no_ports no_tape no_tape
+
+-- what a session does, by its kind
 abbrev pub by_session : SessionKind → Type 0 → Type 0 → Type 0 → Type 0
 by_session Replay replays checks serves = replays
 by_session Check replays checks serves = checks
@@ -85,11 +114,16 @@ abbrev pub LacksMore : SessionKind → (ProgramFault → Type 0) → (Config →
 LacksMore session lacks_watch lacks_ends config program_fault =
     by_session session (lacks_watch program_fault) ⊥ (lacks_ends config program_fault)
 
--- this was done by a configuration that was read so
-pub record HasConfig (Reads : Config → Type 0) (does : Config → Type 0) : Type 0 where
-  pub config : Config
-  pub read : Reads config
-  pub done : does config
+-- A session of this kind ended so on these streams with a gateway. A replay began at the place `from`, and
+-- ended at the place `place`.
+abbrev pub RunsSession : SessionKind → SessionStreams → SessionStreams → Gateway → Gateway → ℕ → ℕ
+    → Result Totals RunFault → Type 0
+RunsSession Replay a a' gateway gateway' from place end =
+    Runs a.source a'.source a.sink a'.sink end gateway gateway'
+    × EndsAt a.source a'.source gateway gateway' from place end
+RunsSession Check a a' gateway gateway' from place end =
+    Checks a.source a'.source a.sink a'.sink end gateway gateway'
+RunsSession Serve a a' gateway gateway' from place end = Serves a a' end gateway gateway'
 
 -- a recording that is asked for is begun, and has taken nothing; where none is asked for nothing is recorded
 abbrev pub IsBegun : {X : Type 0} → Option X → TapeState → Type 0

@@ -1,6 +1,6 @@
 -- What was done of what the command line asks for (module `requests`).
 use Rattle.std.specs.Prelude.{◌≡◌, ◌≢◌, ◌⊎◌, ⊤, ℕ, List, [], Option, Some, None, Result, Err, IfOk}
-use Rattle.std.specs.Prelude.{IfErr, IsErrAnd, OnOk}
+use Rattle.std.specs.Prelude.{IfErr, IsErrAnd, IsSomeAnd, OnOk}
 use Rattle.std.specs.Prelude.{MatchResult, MatchOption, codes}
 use Rattle.clap.specs.Words.{Row}
 use Rattle.gw_config.specs.declared.config.Config.{Config}
@@ -20,11 +20,9 @@ use Rattle.gw_program.specs.declared.program_fault.ProgramFault.TheVariants as p
 use Rattle.gw_program.specs.Filters.{DoesFilter, DoesFilterUntil, HasChecked, HasCheckedUntil}
 use Rattle.gw_program.specs.Following.{IsLogged, LacksLog, SystemIsTold}
 use Rattle.gw_program.specs.Jobs.{Does, DoesUntil}
-use Rattle.gw_program.specs.Performing.{Ended, EndedSaved, NotBegun, HasConfig, by_session}
-use Rattle.gw_program.specs.Setup.{IsConfigAt}
-use Rattle.gw_program.specs.Places.{EndsAt}
-use Rattle.gw_program.specs.Sessions.{HasGateway, Runs, Serves, Checks}
-use Rattle.gw_program.specs.State.{BeginsWaiting, IsSaved}
+use Rattle.gw_program.specs.Performing.{Ended, EndedSaved, Performed, RunsSession, SystemFiles}
+use Rattle.gw_program.specs.Setup.{IsConfigAt, LacksConfigAt}
+use Rattle.gw_program.specs.State.{BeginsWaiting, IsSaved, LacksGateway}
 
 -- a subcommand with its options
 abbrev pub CommandLine : Type 0
@@ -120,38 +118,41 @@ save_in command = text_in (codes "save") command
 abbrev pub AsksWait : CommandLine → Option ℕ → Type 0
 AsksWait command wait = MatchOption wait ((signals : ℕ) → ¬ SaysWait command signals) (SaysWait command)
 
--- what a system reads, begins and saves is what the command names
-pub record TakesAsked (command : CommandLine) (reads : Config → Type 0) (starts : Config → Gateway → Type 0)
-    (saves : Config → Gateway → Result (Unit {0}) ProgramFault → Type 0) : Type 0 where
-  pub read : (config : Config) → reads config → IsConfigAt (config_in command) config
-  pub begun : (config : Config) (gateway : Gateway) → starts config gateway
-      → BeginsWaiting config.gateway (load_in command) (AsksWait command) gateway
-  pub saved : (config : Config) (gateway : Gateway) (saved : Result (Unit {0}) ProgramFault)
-      → saves config gateway saved → IsSaved (save_in command) saved
+-- The files that the command names. A gateway is begun from a state if one is named, with the wait that is
+-- asked for.
+abbrev pub files_in : CommandLine → SystemFiles
+files_in command = record {
+  reads = IsConfigAt (config_in command);
+  lacks_config = λ fault. IsSomeAnd (config_in command) (λ path. LacksConfigAt path fault);
+  starts = λ config. BeginsWaiting config.gateway (load_in command) (AsksWait command);
+  lacks_gateway = λ config. LacksGateway config.gateway (load_in command);
+  saves = λ config gateway. IsSaved (save_in command);
+}
 
--- a fault is returned for a reason, and nothing was read or written; or this was done with a gateway that was
--- begun by the configuration in the file that is named, from a state if one is named, and with the wait that
--- is asked for
+-- the files of a system are those that the command names
+pub record TakesAsked (command : CommandLine) (files : SystemFiles) : Type 0 where
+  pub read : (config : Config) → files.reads config → (files_in command).reads config
+  pub unread : (fault : ProgramFault) → files.lacks_config fault → (files_in command).lacks_config fault
+  pub begun : (config : Config) (gateway : Gateway) → files.starts config gateway
+      → (files_in command).starts config gateway
+  pub unbegun : (config : Config) (fault : ProgramFault) → files.lacks_gateway config fault
+      → (files_in command).lacks_gateway config fault
+  pub saved : (config : Config) (gateway : Gateway) (saved : Result (Unit {0}) ProgramFault)
+      → files.saves config gateway saved → (files_in command).saves config gateway saved
+
+-- A session with the files that the command names was not begun for such a reason, and nothing was read or
+-- written; or this was done with a gateway.
 abbrev pub ByGateway : SessionStreams → SessionStreams → CommandLine → (ProgramFault → Type 0)
     → Result Totals ProgramFault → (Gateway → Gateway → Type 0) → Type 0
-ByGateway a a' command lacks told does = NotBegun a.source a'.source a.sink a'.sink lacks told
-    ⊎ HasConfig (IsConfigAt (config_in command)) (λ config.
-    HasGateway (BeginsWaiting config.gateway (load_in command) (AsksWait command)) does)
+ByGateway a a' command lacks told does = Performed a a' (files_in command) lacks (λ config. does) told
 
 -- The session that the command names ended with this result, or was not begun for such a reason, and this is
--- known of its source. A replay began
--- at the place `from`, and ended at the place `place`.
+-- known of its source. A replay began at the place `from`, and ended at the place `place`.
 abbrev pub EndsSession : CommandLine → SessionKind → (ProgramFault → Type 0) → (SourceState → Type 0) → ℕ → ℕ
     → Result Totals ProgramFault → Type 0
 EndsSession command session lacks Given from place told = OnNewStreams (λ a a'. Given a'.source
-    × ByGateway a a' command lacks told
-    (λ gateway gateway'. by_session session
-    (EndedSaved (λ end. Runs a.source a'.source a.sink a'.sink end gateway gateway'
-    × EndsAt a.source a'.source gateway gateway' from place end)
-    (IsSaved (save_in command)) told)
-    (EndedSaved (λ end. Checks a.source a'.source a.sink a'.sink end gateway gateway')
-    (IsSaved (save_in command)) told)
-    (EndedSaved (λ end. Serves a a' end gateway gateway') (IsSaved (save_in command)) told)))
+    × ByGateway a a' command lacks told (λ gateway gateway'.
+    EndedSaved (RunsSession session a a' gateway gateway' from place) (IsSaved (save_in command)) told))
 
 -- the log that the command names to be followed
 abbrev pub follow_in : CommandLine → Option (List ℕ)

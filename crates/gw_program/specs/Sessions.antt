@@ -22,14 +22,7 @@ pub record Runs (source source' : SourceState) (sink sink' : SinkState) (end : R
       (RunsUntil gateway gateway' source source' sink sink')
   pub recovers : RecoversLive source source' sink sink' gateway gateway'
 
--- this was done with a gateway that a session began with so
-pub record HasGateway (Begins : Gateway → Type 0) (does : Gateway → Gateway → Type 0) : Type 0 where
-  pub gateway : Gateway
-  pub gateway' : Gateway
-  pub begun : Begins gateway
-  pub done : does gateway gateway'
-
--- the same with datagrams that come and go through ports, and what the gateway took was recorded
+-- Records were acted on, datagrams came and went through ports, and what the gateway received was recorded.
 abbrev pub Serves : SessionStreams → SessionStreams → Result Totals RunFault → Gateway → Gateway → Type 0
 Serves a a' end gateway gateway' =
     MatchResult end (ServesAll a a' gateway gateway') (ServesUntil a a' gateway gateway')

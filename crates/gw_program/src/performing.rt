@@ -2,12 +2,14 @@
 
 ghost use Rattle.std.specs.Prelude.{◌≡◌, ◌⊎◌, ◌-◌, ◌^◌, ◌<◌, IfOk, IfErr, MatchResult};
 ghost use Rattle.gw_records.specs.Streams.{CanBegin};
+ghost use Rattle.gw_command.specs.declared.command.SessionKind.TheVariants.{Replay, Serve};
+ghost use Rattle.gw_session.specs.PacketPorts.{no_ports};
 ghost use Rattle.gw_session.specs.Serve.{around};
+ghost use Rattle.gw_session.specs.Tape.{no_tape};
 ghost use Rattle.gw_program.specs.Jobs.{Does, DoesUntil};
-ghost use Rattle.gw_program.specs.Places.{EndsAt};
-ghost use Rattle.gw_program.specs.Sessions.{HasGateway, Runs, Serves, Checks};
-ghost use Rattle.gw_program.specs.Performing.{Ended, NotBegun, LacksTapeOrPorts, HasServed, HasConfig};
-ghost use Rattle.gw_program.specs.Performing.{by_session, told_as, IsTold, EndedSaved};
+ghost use Rattle.gw_program.specs.Performing.{Ended, NotBegun, Performed, HasServed, RunsSession, WithEnds};
+ghost use Rattle.gw_program.specs.Performing.{LacksMore, LacksSession, LacksTapeOrPorts};
+ghost use Rattle.gw_program.specs.Performing.{told_as, IsTold, EndedSaved};
 
 use crate::jobs::do_job;
 use crate::place::PlaceWatch;
@@ -24,9 +26,10 @@ use std::alloc::Global;
 /// What a session takes from the system beside its streams. The relations belong to the type. A generic
 /// caller has them only for results that these calls returned.
 pub trait System {
-    ghost use Rattle.std.specs.Prelude.{ℕ, Result};
+    ghost use Rattle.std.specs.Prelude.{ℕ};
     ghost use Rattle.gw_config.specs.declared.config.Config.{Config};
     ghost use Rattle.gw_switch.specs.declared.gateway.Gateway.{Gateway};
+    ghost use Rattle.gw_program.specs.Performing.{SystemFiles};
     ghost use Rattle.gw_program.specs.declared.program_fault.ProgramFault.{ProgramFault};
 
     /// The ports that receive and send the datagrams of the circuits.
@@ -38,20 +41,8 @@ pub trait System {
     /// The watch of a replay.
     type Watch: Watch + Drop;
 
-    /// Holds of a configuration that was read.
-    ghost reads: { Self → Config → Type 0 };
-
-    /// Holds of the fault if no configuration was read.
-    ghost lacks_config: { Self → ProgramFault → Type 0 };
-
-    /// Holds of a configuration and a gateway that a session begins with.
-    ghost starts: { Self → Config → Gateway → Type 0 };
-
-    /// Holds of a configuration and the fault if no gateway was opened for it.
-    ghost lacks_gateway: { Self → Config → ProgramFault → Type 0 };
-
-    /// Holds of a configuration, its gateway, and the result of saving the state.
-    ghost saves: { Self → Config → Gateway → Result (Unit {0}) ProgramFault → Type 0 };
+    /// What holds of the configuration, of the gateway that a session begins with, and of the saved state.
+    ghost files: { Self → SystemFiles };
 
     /// Holds of a configuration, a gateway and a place in the input of which a checkpoint was to be written.
     ghost keeps: { Self → Config → Gateway → ℕ → Type 0 };
@@ -73,17 +64,17 @@ pub trait System {
 
     /// Reads the configuration of the session.
     fn read_config(&self) -> Result<Config, ProgramFault>
-        ensures ok { IfOk result (λ config. reads self.now config) }
-        ensures err { IfErr result (λ program_fault. lacks_config self.now program_fault) };
+        ensures ok { IfOk result (files self.now).reads }
+        ensures err { IfErr result (files self.now).lacks_config };
 
     /// Opens the gateway of a session.
     fn begin_gateway(&self, config: &Config) -> Result<Gateway, ProgramFault>
-        ensures ok { IfOk result (λ gateway. starts self.now config.now gateway) }
-        ensures err { IfErr result (λ program_fault. lacks_gateway self.now config.now program_fault) };
+        ensures ok { IfOk result ((files self.now).starts config.now) }
+        ensures err { IfErr result ((files self.now).lacks_gateway config.now) };
 
     /// Saves the state of a gateway, if requested.
     fn save_gateway(&self, config: &Config, gateway: &Gateway) -> Result<(), ProgramFault>
-        ensures { saves self.now config.now gateway.now result };
+        ensures { (files self.now).saves config.now gateway.now result };
 
     /// Writes a checkpoint of a gateway at this place, if requested.
     fn keep(&self, config: &Config, gateway: &Gateway, place: u64) -> Result<(), ProgramFault>
@@ -157,7 +148,7 @@ pub fn end_session<Y: System>(
     gateway: &Gateway,
     ended: Result<Totals, RunFault>,
 ) -> Result<Totals, ProgramFault>
-    ensures { IsTold (Y.saves system.now config.now gateway.now) ended result }
+    ensures { IsTold ((Y.files system.now).saves config.now gateway.now) ended result }
 {
     match system.save_gateway(config, gateway) {
         Ok(()) => told_as(ended),
@@ -170,30 +161,35 @@ pub fn end_session<Y: System>(
     }
 }
 
-// Replays with a gateway, and shows each record to a watch of the system. The first record begins at `place`,
-// which becomes the place behind the last whole one.
+/// The source and the sink of a session, and the place in its input at which the next record begins.
+#[derive(Drop)]
+pub(crate) struct SessionEnds<S: Source, K: Sink> {
+    pub(crate) source: S,
+    pub(crate) sink: K,
+    pub(crate) place: u64,
+}
+
+// Replays with a gateway, and shows each record to a watch of the system.
 fn perform_replay<Y: System, S: Source, K: Sink>(
     system: &Y,
     alloc: Global,
     config: &Config,
     gateway: &mut Gateway,
-    place: &mut u64,
-    source: &mut S,
-    sink: &mut K,
+    ends: &mut SessionEnds<S, K>,
 ) -> Result<Totals, ProgramFault>
-    requires { CanBegin (S.tells source.old) (K.tells sink.old) }
-    ensures { NotBegun (S.tells source.old) (S.tells source.new) (K.tells sink.old) (K.tells sink.new)
-        (Y.lacks_watch system.now) result
-        ⊎ EndedSaved (λ end. Runs (S.tells source.old) (S.tells source.new) (K.tells sink.old)
-        (K.tells sink.new) end gateway.old gateway.new
-        × EndsAt (S.tells source.old) (S.tells source.new) gateway.old gateway.new place.old place.new end)
-        (Y.saves system.now config.now gateway.new) result }
+    requires { CanBegin (S.tells ends.old.source) (K.tells ends.old.sink) }
+    ensures { NotBegun ends.old ends.new (Y.lacks_watch system.now) result
+        ⊎ EndedSaved (RunsSession Replay
+        (around (S.tells ends.old.source) (K.tells ends.old.sink) no_ports no_tape)
+        (around (S.tells ends.new.source) (K.tells ends.new.sink) no_ports no_tape)
+        gateway.old gateway.new ends.old.place ends.new.place)
+        ((Y.files system.now).saves config.now gateway.new) result }
 {
     let watch = system.open_watch(config, gateway)?;
-    let mut watch = PlaceWatch::new(system, config, watch, *place);
-    let ended = replay_watched(alloc, gateway, source, sink, &mut watch);
+    let mut watch = PlaceWatch::new(system, config, watch, ends.place);
+    let ended = replay_watched(alloc, gateway, &mut ends.source, &mut ends.sink, &mut watch);
     system.end_watch(&mut watch.watch);
-    *place = watch.place;
+    ends.place = watch.place;
     end_session(system, config, gateway, ended)
 }
 
@@ -204,77 +200,61 @@ fn perform_serve<Y: System, S: Source, K: Sink>(
     alloc: Global,
     config: &Config,
     gateway: &mut Gateway,
-    source: &mut S,
-    sink: &mut K,
+    ends: &mut SessionEnds<S, K>,
 ) -> Result<Totals, ProgramFault>
-    requires { CanBegin (S.tells source.old) (K.tells sink.old) }
-    ensures { NotBegun (S.tells source.old) (S.tells source.new) (K.tells sink.old) (K.tells sink.new)
+    requires { CanBegin (S.tells ends.old.source) (K.tells ends.old.sink) }
+    ensures { NotBegun ends.old ends.new
         (LacksTapeOrPorts (Y.lacks_tape system.now) (Y.lacks_ports system.now config.now)) result
         ⊎ HasServed (Y.opens system.now config.now) (Y.begins system.now)
-        (λ ports ports' tape tape'. EndedSaved
-        (λ end. Serves
-        (around (S.tells source.old) (K.tells sink.old) (Y.Ports.tells ports) (Y.Tape.tells tape))
-        (around (S.tells source.new) (K.tells sink.new) (Y.Ports.tells ports') (Y.Tape.tells tape'))
-        end gateway.old gateway.new) (Y.saves system.now config.now gateway.new) result) }
+        (λ ports ports' tape tape'. EndedSaved (RunsSession Serve
+        (around (S.tells ends.old.source) (K.tells ends.old.sink) (Y.Ports.tells ports) (Y.Tape.tells tape))
+        (around (S.tells ends.new.source) (K.tells ends.new.sink) (Y.Ports.tells ports') (Y.Tape.tells tape'))
+        gateway.old gateway.new ends.old.place ends.new.place)
+        ((Y.files system.now).saves config.now gateway.new) result) }
 {
     let mut tape = system.begin_tape()?;
     let mut ports = system.open_ports(config)?;
-    let ended = serve_through(alloc, gateway, &mut ports, source, sink, &mut tape);
+    let ended = serve_through(
+        alloc,
+        gateway,
+        &mut ports,
+        &mut ends.source,
+        &mut ends.sink,
+        &mut tape,
+    );
     end_session(system, config, gateway, ended)
 }
 
 /// Runs a session with the configuration and the gateway of the system, and saves the gateway's state.
 /// `serve` uses the system's ports and tape. If the system cannot provide one of these, its fault is
-/// returned, and nothing was read or written. The first record of a replay begins at `place`, which becomes
-/// the place behind the last whole one.
-pub fn perform_session<Y: System, S: Source + StandardInput, K: Sink + StandardOutput>(
+/// returned, and nothing was read or written. After a replay the place of its ends is that behind the last
+/// whole record.
+pub(crate) fn perform_session<Y: System, S: Source + StandardInput, K: Sink + StandardOutput>(
     system: &Y,
     alloc: Global,
     session: SessionKind,
-    place: &mut u64,
-    source: &mut S,
-    sink: &mut K,
+    ends: &mut SessionEnds<S, K>,
 ) -> Result<Totals, ProgramFault>
-    requires { CanBegin (S.tells source.old) (K.tells sink.old) }
-    ensures { NotBegun (S.tells source.old) (S.tells source.new) (K.tells sink.old) (K.tells sink.new)
-        (Y.lacks_config system.now) result
-        ⊎ HasConfig (Y.reads system.now) (λ config.
-        NotBegun (S.tells source.old) (S.tells source.new) (K.tells sink.old) (K.tells sink.new)
-        (Y.lacks_gateway system.now config) result
-        ⊎ HasGateway (Y.starts system.now config) (λ gateway gateway'. by_session session
-        (NotBegun (S.tells source.old) (S.tells source.new) (K.tells sink.old) (K.tells sink.new)
-        (Y.lacks_watch system.now) result
-        ⊎ EndedSaved (λ end. Runs (S.tells source.old) (S.tells source.new) (K.tells sink.old)
-        (K.tells sink.new) end gateway gateway'
-        × EndsAt (S.tells source.old) (S.tells source.new) gateway gateway' place.old place.new end)
-        (Y.saves system.now config gateway') result)
-        (EndedSaved (λ end. Checks (S.tells source.old) (S.tells source.new) (K.tells sink.old)
-        (K.tells sink.new)
-        end gateway gateway') (Y.saves system.now config gateway') result)
-        (NotBegun (S.tells source.old) (S.tells source.new) (K.tells sink.old) (K.tells sink.new)
-        (LacksTapeOrPorts (Y.lacks_tape system.now) (Y.lacks_ports system.now config)) result
-        ⊎ HasServed (Y.opens system.now config) (Y.begins system.now) (λ ports ports' tape tape'. EndedSaved
-        (λ end. Serves
-        (around (S.tells source.old) (K.tells sink.old) (Y.Ports.tells ports) (Y.Tape.tells tape))
-        (around (S.tells source.new) (K.tells sink.new) (Y.Ports.tells ports') (Y.Tape.tells tape'))
-        end gateway gateway') (Y.saves system.now config gateway') result)))) }
+    requires { CanBegin (S.tells ends.old.source) (K.tells ends.old.sink) }
+    ensures { Performed ends.old ends.new (Y.files system.now) (LacksSession (Y.files system.now)
+        (LacksMore session (Y.lacks_watch system.now)
+        (λ config. LacksTapeOrPorts (Y.lacks_tape system.now) (Y.lacks_ports system.now config))))
+        (λ config gateway gateway'. WithEnds session (Y.opens system.now config) (Y.begins system.now)
+        (λ ports. Y.Ports.tells ports) (λ tape. Y.Tape.tells tape)
+        (λ ports ports' tape tape'. EndedSaved (RunsSession session
+        (around (S.tells ends.old.source) (K.tells ends.old.sink) ports tape)
+        (around (S.tells ends.new.source) (K.tells ends.new.sink) ports' tape')
+        gateway gateway' ends.old.place ends.new.place)
+        ((Y.files system.now).saves config gateway') result)) result }
 {
     let config = system.read_config()?;
     let mut gateway = system.begin_gateway(&config)?;
     match session {
-        SessionKind::Replay => perform_replay(
-            system,
-            alloc,
-            &config,
-            &mut gateway,
-            place,
-            source,
-            sink,
-        ),
+        SessionKind::Replay => perform_replay(system, alloc, &config, &mut gateway, ends),
         SessionKind::Check => {
-            let ended = check(alloc, &mut gateway, source, sink);
+            let ended = check(alloc, &mut gateway, &mut ends.source, &mut ends.sink);
             end_session(system, &config, &gateway, ended)
         }
-        SessionKind::Serve => perform_serve(system, alloc, &config, &mut gateway, source, sink),
+        SessionKind::Serve => perform_serve(system, alloc, &config, &mut gateway, ends),
     }
 }

@@ -5,11 +5,11 @@ ghost use Rattle.clap.specs.Words.{subcommand_rows_of};
 ghost use Rattle.gw_program.specs.Following.{SystemIsTold};
 ghost use Rattle.gw_program.specs.Performing.{LacksMore, LacksSession, LacksTapeOrPorts};
 ghost use Rattle.gw_program.specs.Requests.{DoesJob, RunsFilter, ChecksCrc4, DoesSession, TakesAsked};
-ghost use Rattle.gw_program.specs.Requests.{reports_path_in, EndsSession, FollowsLog};
+ghost use Rattle.gw_program.specs.Requests.{reports_path_in, files_in, EndsSession, FollowsLog};
 
 use crate::filters::{do_filter, perform_crc4_check};
 use crate::following::open_log;
-use crate::performing::{System, perform_job, perform_session, told_as};
+use crate::performing::{SessionEnds, System, perform_job, perform_session, told_as};
 use crate::program_fault::ProgramFault;
 use crate::report::{CheckTells, print_place};
 use crate::reports::open_reports;
@@ -128,25 +128,19 @@ fn run_on_input<Y: System>(
     system: &Y,
     session: SessionKind,
 ) -> Result<Totals, ProgramFault>
-    requires { TakesAsked (subcommand_rows_of matches.now) (Y.reads system.now) (Y.starts system.now)
-        (Y.saves system.now) }
-    ensures { (place : ℕ) × EndsSession (subcommand_rows_of matches.now) session (LacksSession
-        (Y.lacks_config system.now) (Y.reads system.now) (Y.lacks_gateway system.now)
+    requires { TakesAsked (subcommand_rows_of matches.now) (Y.files system.now) }
+    ensures { (place : ℕ) × EndsSession (subcommand_rows_of matches.now) session
+        (LacksSession (files_in (subcommand_rows_of matches.now))
         (LacksMore session (Y.lacks_watch system.now)
         (λ config. LacksTapeOrPorts (Y.lacks_tape system.now) (Y.lacks_ports system.now config))))
         (λ _. ⊤) 0 place result }
 {
-    let mut source = FromRead::new(rt.stdin());
-    let mut sink = ToWrite::new(rt.stdout());
-    let mut place = 0;
-    perform_session(
-        system,
-        rt.alloc(),
-        session,
-        &mut place,
-        &mut source,
-        &mut sink,
-    )
+    let mut ends = SessionEnds {
+        source: FromRead::new(rt.stdin()),
+        sink: ToWrite::new(rt.stdout()),
+        place: 0,
+    };
+    perform_session(system, rt.alloc(), session, &mut ends)
 }
 
 // Reports a place on standard error, if the matches ask for totals.
@@ -181,10 +175,9 @@ fn run_on_log<Y: System>(
     session: SessionKind,
     path: &str,
 ) -> Result<Totals, ProgramFault>
-    requires { TakesAsked (subcommand_rows_of matches.now) (Y.reads system.now) (Y.starts system.now)
-        (Y.saves system.now) }
-    ensures { FollowsLog (subcommand_rows_of matches.now) session (LacksSession
-        (Y.lacks_config system.now) (Y.reads system.now) (Y.lacks_gateway system.now)
+    requires { TakesAsked (subcommand_rows_of matches.now) (Y.files system.now) }
+    ensures { FollowsLog (subcommand_rows_of matches.now) session
+        (LacksSession (files_in (subcommand_rows_of matches.now))
         (LacksMore session (Y.lacks_watch system.now)
         (λ config. LacksTapeOrPorts (Y.lacks_tape system.now) (Y.lacks_ports system.now config))))
         path.now result }
@@ -192,21 +185,17 @@ fn run_on_log<Y: System>(
     let Some(from) = from_of(matches) else {
         return Err(ProgramFault::Nothing);
     };
-    let mut source = match open_log(rt, path, from) {
+    let source = match open_log(rt, path, from) {
         Ok(source) => source,
         Err(fault) => return Err(fault),
     };
-    let mut sink = ToWrite::new(rt.stdout());
-    let mut place = from;
-    let ended = perform_session(
-        system,
-        rt.alloc(),
-        session,
-        &mut place,
-        &mut source,
-        &mut sink,
-    );
-    tell_end(rt, matches, &ended, place);
+    let mut ends = SessionEnds {
+        source,
+        sink: ToWrite::new(rt.stdout()),
+        place: from,
+    };
+    let ended = perform_session(system, rt.alloc(), session, &mut ends);
+    tell_end(rt, matches, &ended, ends.place);
     ended
 }
 
@@ -223,10 +212,9 @@ pub fn run_session<Y: System>(
     system: &Y,
     session: SessionKind,
 ) -> Result<Totals, ProgramFault>
-    requires { TakesAsked (subcommand_rows_of matches.now) (Y.reads system.now) (Y.starts system.now)
-        (Y.saves system.now) }
-    ensures { DoesSession (subcommand_rows_of matches.now) session (LacksSession
-        (Y.lacks_config system.now) (Y.reads system.now) (Y.lacks_gateway system.now)
+    requires { TakesAsked (subcommand_rows_of matches.now) (Y.files system.now) }
+    ensures { DoesSession (subcommand_rows_of matches.now) session
+        (LacksSession (files_in (subcommand_rows_of matches.now))
         (LacksMore session (Y.lacks_watch system.now)
         (λ config. LacksTapeOrPorts (Y.lacks_tape system.now) (Y.lacks_ports system.now config))))
         result }

@@ -2,22 +2,18 @@
 use Rattle.std.proofs.Common.{◌≡◌, ◌⊎◌, inl, inr, ℕ, List, Option, None, Some}
 use Rattle.std.specs.Prelude.{Bool, IsSomeAnd, codes, option_map, string_bytes}
 use Rattle.gw_config.specs.declared.config.Config.{Config}
-use Rattle.gw_switch.specs.declared.GatewayConfig.{GatewayConfig}
 use Rattle.gw_command.specs.declared.command.SessionKind.{SessionKind}
 use Rattle.gw_command.specs.declared.command.SessionKind.TheVariants.{Replay, Check, Serve}
 use Rattle.gw_command.specs.Command.{text_in}
 use Rattle.gw_udp.specs.declared.source_filter.SourceFilter.{SourceFilter}
 use Rattle.gw_udp.specs.Names.{SystemLooksUp}
 use Rattle.gw_udp.specs.Opening.{LacksPorts}
-use Rattle.gw_program.specs.Performing.{LacksMore, LacksSession, LacksTapeOrPorts}
+use Rattle.gw_program.specs.Performing.{LacksMore, LacksTapeOrPorts}
 use Rattle.gw_program.specs.Recording.{LacksRecording}
-use Rattle.gw_program.specs.Requests.{CommandLine, load_in}
-use Rattle.gw_program.specs.Setup.{IsMeant, LacksConfigAt, PathGives}
-use Rattle.gw_program.specs.State.{LacksGateway}
+use Rattle.gw_program.specs.Requests.{CommandLine}
 use Rattle.gw_program.specs.declared.program_fault.ProgramFault.{ProgramFault}
-use Rattle.gw_program.specs.declared.program_fault.ProgramFault.TheVariants as program_faults
 use Rattle.gw_system.specs.Asked.{AreSenders}
-use Rattle.gw_system.specs.Lacking.{LacksEndsIn, LacksIn, config_named}
+use Rattle.gw_system.specs.Lacking.{LacksEndsIn}
 use Rattle.gw_system.specs.Opening.{IsOfOpening}
 
 -- what holds of a value that is asked for holds of the text that names it
@@ -27,36 +23,7 @@ pub named_so : {X : Type 0} (f : X → List ℕ) (asked : Option X) (named : Opt
 named_so f None named P Q e is p = absurd p
 named_so f (Some x) named P Q e is p = rw (← e) (is x p)
 
--- the path of a state is told as its text
-lacks_gateway_at : {X : Type 0} (f : X → List ℕ) (config : GatewayConfig) (path : Option X) (fault : ProgramFault)
-    → LacksGateway config path fault → LacksGateway config (option_map f path) fault
-lacks_gateway_at f config None fault lacks = lacks
-lacks_gateway_at f config (Some path) program_faults.OutOfMemory lacks = lacks
-lacks_gateway_at f config (Some path) program_faults.NoState lacks = lacks
-lacks_gateway_at f config (Some path) (program_faults.State fault) lacks = lacks
-lacks_gateway_at f config (Some path) _ lacks = absurd lacks
-
--- What a system with the paths of the command lacks, the command lacks.
-pub lacks_in : {X : Type 0} (f : X → List ℕ) (command : CommandLine) (path : List ℕ) (load : Option X)
-    → config_named command ≡ Some path → option_map f load ≡ load_in command
-    → (more more' : Config → ProgramFault → Type 0)
-    → ((config : Config) (fault : ProgramFault) → more config fault → more' config fault) → (fault : ProgramFault)
-    → LacksSession (LacksConfigAt path) (IsMeant (PathGives path)) (λ config. LacksGateway config.gateway load) more
-    fault
-    → LacksIn command more' fault
-lacks_in f command path load named loads more more' is fault lacks = inr (elim lacks [
-  | inl none ↦ inl (rw named none)
-  | inr some ↦ inr (
-    some.0,
-    rw named some.1,
-    elim some.2 [
-      | inl none ↦ inl (rw (← loads) (lacks_gateway_at f some.0.gateway load fault none))
-      | inr none ↦ inr (is some.0 fault none)
-    ],
-  )
-])
-
--- .. by the name of its session
+-- what a system lacks for a session of this kind, the command lacks
 pub more_in : (session : SessionKind) (watch watch' : ProgramFault → Type 0)
     (ends ends' : Config → ProgramFault → Type 0)
     → ((fault : ProgramFault) → watch fault → watch' fault)

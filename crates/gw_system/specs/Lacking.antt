@@ -9,9 +9,7 @@ use Rattle.gw_udp.specs.Names.{SystemLooksUp}
 use Rattle.gw_udp.specs.Opening.{LacksPorts}
 use Rattle.gw_program.specs.Performing.{LacksMore, LacksSession, LacksTapeOrPorts}
 use Rattle.gw_program.specs.Recording.{LacksRecording}
-use Rattle.gw_program.specs.Requests.{CommandLine, load_in}
-use Rattle.gw_program.specs.Setup.{IsConfigAt, LacksConfigAt}
-use Rattle.gw_program.specs.State.{LacksGateway}
+use Rattle.gw_program.specs.Requests.{CommandLine, files_in}
 use Rattle.gw_program.specs.Status.{SaysRefused}
 use Rattle.gw_program.specs.declared.program_fault.ProgramFault.{ProgramFault}
 use Rattle.gw_program.specs.declared.program_fault.ProgramFault.TheVariants as program_faults
@@ -45,17 +43,12 @@ LacksPortsIn command config fault = (senders : SourceFilter) × AreSenders comma
 abbrev pub LacksEndsIn : CommandLine → Config → ProgramFault → Type 0
 LacksEndsIn command config = LacksTapeOrPorts (LacksTapeIn command) (LacksPortsIn command config)
 
--- the file of the configuration that the command names
-abbrev pub config_named : CommandLine → Option (List ℕ)
-config_named command = text_in (codes "config") command
-
 -- why nothing that has a configuration is begun: the command names none, or that file has none; or there is
 -- no gateway for it, or something more is missing
 abbrev pub LacksIn : CommandLine → (Config → ProgramFault → Type 0) → ProgramFault → Type 0
-LacksIn command lacks_more fault = ((fault ≡ program_faults.Nothing) × (config_named command ≡ None))
-    ⊎ LacksSession (λ f. IsSomeAnd (config_named command) (λ path. LacksConfigAt path f))
-    (IsConfigAt (config_named command)) (λ config. LacksGateway config.gateway (load_in command)) lacks_more
-    fault
+LacksIn command lacks_more fault =
+    ((fault ≡ program_faults.Nothing) × (text_in (codes "config") command ≡ None))
+    ⊎ LacksSession (files_in command) lacks_more fault
 
 -- .. no trunk
 abbrev pub LacksTrunkIn : CommandLine → ProgramFault → Type 0

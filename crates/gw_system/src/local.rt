@@ -93,16 +93,13 @@ impl System for Local<'_> {
 
     type Watch = Option<Teller>;
 
-    ghost reads = { λ s config. IsMeant (PathGives s.path.now) config };
-
-    ghost lacks_config = { λ s. LacksConfigAt s.path.now };
-
-    ghost starts = { λ s config gateway.
-        BeginsWaiting config.gateway s.load (λ wait. wait ≡ s.wait) gateway };
-
-    ghost lacks_gateway = { λ s config program_fault. LacksGateway config.gateway s.load program_fault };
-
-    ghost saves = { λ s config gateway saved. IsSaved s.save saved };
+    ghost files = { λ s. record {
+      reads = IsMeant (PathGives s.path.now);
+      lacks_config = LacksConfigAt s.path.now;
+      starts = λ config. BeginsWaiting config.gateway s.load (λ wait. wait ≡ s.wait);
+      lacks_gateway = λ config. LacksGateway config.gateway s.load;
+      saves = λ config gateway. IsSaved s.save;
+    } };
 
     ghost keeps = { λ s config gateway place. IfSome s.checkpoint (λ path.
         IsKept path.now config.gateway gateway place) };

@@ -12,19 +12,18 @@ use Rattle.gw_command.specs.Command.{SaysNumberIn, text_in}
 use Rattle.gw_trunk.specs.Multiframes.{GoesInTime}
 use Rattle.gw_trunk.specs.System.{SystemRefusesDoor, SystemRefusesStream, SystemWatches}
 use Rattle.run_trunk.specs.Serving.{Carried, Traffic}
-use Rattle.gw_program.specs.Performing.{EndedSaved, HasConfig, NotBegun}
-use Rattle.gw_program.specs.Requests.{AsksWait, CommandLine, OnNewStreams, load_in, save_in}
-use Rattle.gw_program.specs.Sessions.{HasGateway, Serves}
-use Rattle.gw_program.specs.Setup.{IsConfigAt}
-use Rattle.gw_program.specs.State.{BeginsWaiting, IsSaved}
+use Rattle.gw_program.specs.Performing.{EndedSaved}
+use Rattle.gw_program.specs.Requests.{ByGateway, CommandLine, OnNewStreams, save_in}
+use Rattle.gw_program.specs.Sessions.{Serves}
+use Rattle.gw_program.specs.State.{IsSaved}
 use Rattle.gw_program.specs.Status.{SaysRefused}
 use Rattle.gw_program.specs.declared.program_fault.ProgramFault.{ProgramFault}
 use Rattle.gw_program.specs.declared.program_fault.ProgramFault.TheVariants as program_faults
 
 -- A gateway served a trunk and its clients, between whom this passed. What went is what the definitions give
 -- after all that had happened to the gateway.
-pub record CarriesTrunk (a a' : SessionStreams) (t : Traffic) (end : Result Totals RunFault)
-    (gateway gateway' : Gateway) : Type 0 where
+pub record CarriesTrunk (a a' : SessionStreams) (t : Traffic) (gateway gateway' : Gateway)
+    (end : Result Totals RunFault) : Type 0 where
   pub served : Serves a a' end gateway gateway'
   pub carried : (config : GatewayConfig) (before : List Event) → HasHistory config gateway before
       → ∥ Carried config before gateway' a.tape a'.tape t end ∥₁
@@ -63,8 +62,6 @@ LacksEnds command fault = LacksStream fault
 -- configuration in the file that is named.
 abbrev pub ServesTrunk : CommandLine → (ProgramFault → Type 0) → Result Totals ProgramFault → Type 0
 ServesTrunk command lacks told = OnNewStreams (λ a a'.
-    NotBegun a.source a'.source a.sink a'.sink (λ fault. LacksEnds command fault ⊎ lacks fault) told
-    ⊎ HasConfig (IsConfigAt (text_in (codes "config") command)) (λ config.
-    HasGateway (BeginsWaiting config.gateway (load_in command) (AsksWait command)) (λ gateway gateway'.
-    HasTrunk (λ passed. EndedSaved (λ end. CarriesTrunk a a' passed end gateway gateway')
-    (IsSaved (save_in command)) told))))
+    ByGateway a a' command (λ fault. LacksEnds command fault ⊎ lacks fault) told (λ gateway gateway'.
+    HasTrunk (λ passed. EndedSaved (CarriesTrunk a a' passed gateway gateway')
+    (IsSaved (save_in command)) told)))

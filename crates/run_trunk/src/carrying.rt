@@ -3,10 +3,10 @@
 ghost use Rattle.std.specs.Prelude.{◌≡◌, [], IfOk, IfErr, OnOk};
 ghost use Rattle.clap.specs.Words.{subcommand_rows_of};
 ghost use Rattle.gw_program.specs.Performing.{LacksSession, LacksTapeOrPorts};
-ghost use Rattle.gw_program.specs.Requests.{TakesAsked};
+ghost use Rattle.gw_program.specs.Requests.{TakesAsked, files_in};
 ghost use Rattle.run_trunk.specs.Trunks.{IsEndedBy, LacksControl, LacksStream, ServesTrunk};
 
-use crate::performing::perform_trunk;
+use crate::performing::{TrunkRecords, perform_trunk};
 use clap::ArgMatches;
 use gw_command::{control_of, end_of, wants_totals};
 use gw_program::{ProgramFault, System, print_discarded};
@@ -92,21 +92,22 @@ fn carry<Y: System, I: TrunkInput + Drop, O: TrunkOutput + Drop, A: TrunkOutput 
     system: &Y,
     ends: TrunkEnds<I, O, A>,
 ) -> Result<Totals, ProgramFault>
-    requires takes { TakesAsked (subcommand_rows_of matches.now) (Y.reads system.now) (Y.starts system.now)
-        (Y.saves system.now) }
+    requires takes { TakesAsked (subcommand_rows_of matches.now) (Y.files system.now) }
     requires came { I.came ends.incoming ≡ [] }
     requires asked { I.asked ends.incoming ≡ [] }
     requires went { O.went ends.outgoing ≡ [] }
     requires told { A.went ends.answers ≡ [] }
-    ensures { ServesTrunk (subcommand_rows_of matches.now) (LacksSession (Y.lacks_config system.now)
-        (Y.reads system.now) (Y.lacks_gateway system.now)
+    ensures { ServesTrunk (subcommand_rows_of matches.now)
+        (LacksSession (files_in (subcommand_rows_of matches.now))
         (λ config. LacksTapeOrPorts (Y.lacks_tape system.now) (Y.lacks_ports system.now config))) result }
 {
-    let mut source = TrunkRecordSource::new(ends.incoming);
     let outgoing = MultiframeDropper::new(ends.outgoing, rt.stderr());
-    let mut sink = TrunkRecordSink::new(outgoing, ends.answers);
-    let told = perform_trunk(system, rt.alloc(), &mut source, &mut sink);
-    let mut device = sink.into_outgoing();
+    let mut trunk = TrunkRecords {
+        source: TrunkRecordSource::new(ends.incoming),
+        sink: TrunkRecordSink::new(outgoing, ends.answers),
+    };
+    let told = perform_trunk(system, rt.alloc(), &mut trunk);
+    let mut device = trunk.sink.into_outgoing();
     device.finish();
     if told.is_ok() && wants_totals(matches) {
         print_discarded(rt, device.discarded());
@@ -128,10 +129,9 @@ pub fn serve<Y: System>(
     matches: &ArgMatches<'_>,
     system: &Y,
 ) -> Result<Totals, ProgramFault>
-    requires { TakesAsked (subcommand_rows_of matches.now) (Y.reads system.now) (Y.starts system.now)
-        (Y.saves system.now) }
-    ensures { ServesTrunk (subcommand_rows_of matches.now) (LacksSession (Y.lacks_config system.now)
-        (Y.reads system.now) (Y.lacks_gateway system.now)
+    requires { TakesAsked (subcommand_rows_of matches.now) (Y.files system.now) }
+    ensures { ServesTrunk (subcommand_rows_of matches.now)
+        (LacksSession (files_in (subcommand_rows_of matches.now))
         (λ config. LacksTapeOrPorts (Y.lacks_tape system.now) (Y.lacks_ports system.now config))) result }
 {
     let Some(path) = control_of(matches) else {

@@ -2,8 +2,8 @@
 
 ghost use Rattle.std.specs.Prelude.{◌≡◌, ◌⊎◌, []};
 ghost use Rattle.gw_session.specs.Serve.{around};
-ghost use Rattle.gw_program.specs.Performing.{EndedSaved, NotBegun, LacksTapeOrPorts, HasServed, HasConfig};
-ghost use Rattle.gw_program.specs.Sessions.{HasGateway};
+ghost use Rattle.gw_program.specs.Performing.{EndedSaved, NotBegun, LacksTapeOrPorts, HasServed};
+ghost use Rattle.gw_program.specs.Performing.{LacksSession, Performed};
 ghost use Rattle.run_trunk.specs.Trunks.{CarriesTrunk};
 ghost use Rattle.run_trunk.specs.Serving.{traffic};
 
@@ -36,9 +36,16 @@ fn carry_trunk<I: TrunkInput, O: TrunkOutput, A: TrunkOutput, P: Ports, T: Tape>
         (⟦<TrunkRecordSink<O, A> as Sink>⟧.tells sink.new)
         (P.tells ports.new) (T.tells tape.new))
         (traffic (I.came source.new.incoming) (I.asked source.new.incoming)
-        (O.went sink.new.outgoing) (A.went sink.new.answers)) result gateway.old gateway.new }
+        (O.went sink.new.outgoing) (A.went sink.new.answers)) gateway.old gateway.new result }
 {
     serve_trunk(alloc, gateway, ports, source, sink, tape)
+}
+
+/// A trunk and its clients as the source and the sink of a session.
+#[derive(Drop)]
+pub(crate) struct TrunkRecords<I: TrunkInput, O: TrunkOutput, A: TrunkOutput> {
+    pub(crate) source: TrunkRecordSource<I>,
+    pub(crate) sink: TrunkRecordSink<O, A>,
 }
 
 // Serves a trunk with a configuration and a gateway, on ports and a tape of the system. The tape is begun
@@ -48,29 +55,33 @@ fn perform_carry<Y: System, I: TrunkInput, O: TrunkOutput, A: TrunkOutput>(
     alloc: Global,
     config: &Config,
     gateway: &mut Gateway,
-    source: &mut TrunkRecordSource<I>,
-    sink: &mut TrunkRecordSink<O, A>,
+    trunk: &mut TrunkRecords<I, O, A>,
 ) -> Result<Totals, ProgramFault>
-    requires source { (source.old.failed ≡ 0) × (source.old.reads ≡ 0) × (source.old.log.octets ≡ []) }
-    requires sink { (sink.old.failed ≡ 0) × (sink.old.log.octets ≡ []) }
-    ensures { NotBegun source.old source.new sink.old sink.new
+    requires read { (trunk.old.source.failed ≡ 0) × (trunk.old.source.reads ≡ 0) }
+    requires came { trunk.old.source.log.octets ≡ [] }
+    requires sink { (trunk.old.sink.failed ≡ 0) × (trunk.old.sink.log.octets ≡ []) }
+    ensures { NotBegun trunk.old trunk.new
         (LacksTapeOrPorts (Y.lacks_tape system.now) (Y.lacks_ports system.now config.now)) result
         ⊎ HasServed (Y.opens system.now config.now) (Y.begins system.now)
-        (λ ports ports' tape tape'. EndedSaved
-        (λ end. CarriesTrunk
-        (around (⟦<TrunkRecordSource<I> as Source>⟧.tells source.old)
-        (⟦<TrunkRecordSink<O, A> as Sink>⟧.tells sink.old)
-        (Y.Ports.tells ports) (Y.Tape.tells tape))
-        (around (⟦<TrunkRecordSource<I> as Source>⟧.tells source.new)
-        (⟦<TrunkRecordSink<O, A> as Sink>⟧.tells sink.new)
-        (Y.Ports.tells ports') (Y.Tape.tells tape'))
-        (traffic (I.came source.new.incoming) (I.asked source.new.incoming)
-        (O.went sink.new.outgoing) (A.went sink.new.answers)) end gateway.old gateway.new)
-        (Y.saves system.now config.now gateway.new) result) }
+        (λ ports ports' tape tape'. EndedSaved (CarriesTrunk
+        (around (⟦<TrunkRecordSource<I> as Source>⟧.tells trunk.old.source)
+        (⟦<TrunkRecordSink<O, A> as Sink>⟧.tells trunk.old.sink) (Y.Ports.tells ports) (Y.Tape.tells tape))
+        (around (⟦<TrunkRecordSource<I> as Source>⟧.tells trunk.new.source)
+        (⟦<TrunkRecordSink<O, A> as Sink>⟧.tells trunk.new.sink) (Y.Ports.tells ports') (Y.Tape.tells tape'))
+        (traffic (I.came trunk.new.source.incoming) (I.asked trunk.new.source.incoming)
+        (O.went trunk.new.sink.outgoing) (A.went trunk.new.sink.answers)) gateway.old gateway.new)
+        ((Y.files system.now).saves config.now gateway.new) result) }
 {
     let mut tape = system.begin_tape()?;
     let mut ports = system.open_ports(config)?;
-    let ended = carry_trunk(alloc, gateway, &mut ports, source, sink, &mut tape);
+    let ended = carry_trunk(
+        alloc,
+        gateway,
+        &mut ports,
+        &mut trunk.source,
+        &mut trunk.sink,
+        &mut tape,
+    );
     end_session(system, config, gateway, ended)
 }
 
@@ -79,30 +90,25 @@ fn perform_carry<Y: System, I: TrunkInput, O: TrunkOutput, A: TrunkOutput>(
 pub(crate) fn perform_trunk<Y: System, I: TrunkInput, O: TrunkOutput, A: TrunkOutput>(
     system: &Y,
     alloc: Global,
-    source: &mut TrunkRecordSource<I>,
-    sink: &mut TrunkRecordSink<O, A>,
+    trunk: &mut TrunkRecords<I, O, A>,
 ) -> Result<Totals, ProgramFault>
-    requires source { (source.old.failed ≡ 0) × (source.old.reads ≡ 0) × (source.old.log.octets ≡ []) }
-    requires sink { (sink.old.failed ≡ 0) × (sink.old.log.octets ≡ []) }
-    ensures { NotBegun source.old source.new sink.old sink.new (Y.lacks_config system.now) result
-        ⊎ HasConfig (Y.reads system.now) (λ config.
-        NotBegun source.old source.new sink.old sink.new (Y.lacks_gateway system.now config) result
-        ⊎ HasGateway (Y.starts system.now config) (λ gateway gateway'.
-        NotBegun source.old source.new sink.old sink.new
-        (LacksTapeOrPorts (Y.lacks_tape system.now) (Y.lacks_ports system.now config)) result
-        ⊎ HasServed (Y.opens system.now config) (Y.begins system.now) (λ ports ports' tape tape'. EndedSaved
-        (λ end. CarriesTrunk
-        (around (⟦<TrunkRecordSource<I> as Source>⟧.tells source.old)
-        (⟦<TrunkRecordSink<O, A> as Sink>⟧.tells sink.old)
-        (Y.Ports.tells ports) (Y.Tape.tells tape))
-        (around (⟦<TrunkRecordSource<I> as Source>⟧.tells source.new)
-        (⟦<TrunkRecordSink<O, A> as Sink>⟧.tells sink.new)
-        (Y.Ports.tells ports') (Y.Tape.tells tape'))
-        (traffic (I.came source.new.incoming) (I.asked source.new.incoming)
-        (O.went sink.new.outgoing) (A.went sink.new.answers)) end gateway gateway')
-        (Y.saves system.now config gateway') result))) }
+    requires read { (trunk.old.source.failed ≡ 0) × (trunk.old.source.reads ≡ 0) }
+    requires came { trunk.old.source.log.octets ≡ [] }
+    requires sink { (trunk.old.sink.failed ≡ 0) × (trunk.old.sink.log.octets ≡ []) }
+    ensures { Performed trunk.old trunk.new (Y.files system.now)
+        (LacksSession (Y.files system.now)
+        (λ config. LacksTapeOrPorts (Y.lacks_tape system.now) (Y.lacks_ports system.now config)))
+        (λ config gateway gateway'. HasServed (Y.opens system.now config) (Y.begins system.now)
+        (λ ports ports' tape tape'. EndedSaved (CarriesTrunk
+        (around (⟦<TrunkRecordSource<I> as Source>⟧.tells trunk.old.source)
+        (⟦<TrunkRecordSink<O, A> as Sink>⟧.tells trunk.old.sink) (Y.Ports.tells ports) (Y.Tape.tells tape))
+        (around (⟦<TrunkRecordSource<I> as Source>⟧.tells trunk.new.source)
+        (⟦<TrunkRecordSink<O, A> as Sink>⟧.tells trunk.new.sink) (Y.Ports.tells ports') (Y.Tape.tells tape'))
+        (traffic (I.came trunk.new.source.incoming) (I.asked trunk.new.source.incoming)
+        (O.went trunk.new.sink.outgoing) (A.went trunk.new.sink.answers)) gateway gateway')
+        ((Y.files system.now).saves config gateway') result)) result }
 {
     let config = system.read_config()?;
     let mut gateway = system.begin_gateway(&config)?;
-    perform_carry(system, alloc, &config, &mut gateway, source, sink)
+    perform_carry(system, alloc, &config, &mut gateway, trunk)
 }

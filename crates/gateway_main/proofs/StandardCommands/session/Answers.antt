@@ -1,7 +1,7 @@
 use Rattle.std.proofs.Common.{inl, inr, refl, sym}
 use Rattle.clap.specs.Words.{subcommand_rows_of}
-use Rattle.gw_program.proofs.Streams.{no_session, session_so, takes_asked}
-use Rattle.gw_system.proofs.Lacked.{ends_in, lacks_in, more_in, named_so}
+use Rattle.gw_program.proofs.Streams.{lacks_so, no_session, session_so, takes_asked}
+use Rattle.gw_system.proofs.Lacked.{ends_in, more_in, named_so}
 use Rattle.gateway_main.proofs.StandardCommands.session.Goals as goal
 
 pub returns-in_default : goal.returns-in_default
@@ -19,10 +19,8 @@ returns c =
     let command = subcommand_rows_of c.args.self.now.matches.now in
     let local = c.local_of-system in
     session_so command c.args.session _ _ c.run_session.result
-    (lacks_in (λ path. path.now) command local.result.path.now local.result.load
-    (rw local.ensures.path (sym c.in-Some.ensures)) local.ensures.load _ _
-    (more_in c.args.session _ _ _ _
+    (λ fault why. inr (lacks_so _ _ _ (more_in c.args.session _ _ _ _
     (λ fault. named_so (λ path. path.now) local.result.tell _ _ _ local.ensures.tell (λ path why. why))
     (ends_in (λ asked. asked.path.now) (λ asked. asked.over) command local.result.recording local.ensures.recording
-    local.result.senders local.ensures.senders)))
+    local.result.senders local.ensures.senders)) fault why))
     c.run_session.ensures

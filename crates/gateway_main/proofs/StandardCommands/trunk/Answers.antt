@@ -1,7 +1,7 @@
 use Rattle.std.proofs.Common.{inl, inr, refl, sym}
 use Rattle.clap.specs.Words.{subcommand_rows_of}
-use Rattle.gw_program.proofs.Streams.{takes_asked}
-use Rattle.gw_system.proofs.Lacked.{ends_in, lacks_in}
+use Rattle.gw_program.proofs.Streams.{lacks_so, takes_asked}
+use Rattle.gw_system.proofs.Lacked.{ends_in}
 use Rattle.run_trunk.proofs.Served.{nothing_served, served_so}
 use Rattle.gateway_main.proofs.StandardCommands.trunk.Goals as goal
 
@@ -13,10 +13,8 @@ returns c =
     let command = subcommand_rows_of c.args.self.now.matches.now in
     let local = c.local_of-system in
     served_so command _ _ c.serve.result
-    (lacks_in (λ path. path.now) command local.result.path.now local.result.load
-    (rw local.ensures.path (sym c.in-Some.ensures)) local.ensures.load _ _
-    (ends_in (λ asked. asked.path.now) (λ asked. asked.over) command local.result.recording local.ensures.recording
-    local.result.senders local.ensures.senders))
+    (λ fault why. inr (lacks_so _ _ _ (ends_in (λ asked. asked.path.now) (λ asked. asked.over) command
+    local.result.recording local.ensures.recording local.result.senders local.ensures.senders) fault why))
     c.serve.ensures
 
 pub serve-requires : goal.serve-requires

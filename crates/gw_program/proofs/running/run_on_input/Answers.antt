@@ -4,8 +4,7 @@ use Rattle.gw_program.proofs.running.run_on_input.Goals as goal
 
 pub returns : goal.returns
 returns g c = (
-  c.perform_session.new.place,
-  session_done _ _ _ _ _ _ _ _ _ _ _ c.requires _ tt _ _ _ _ _ _ _ _ c.perform_session.ensures
-      (rw c.new-source.ensures refl) (rw c.new-source.ensures refl) (rw c.new-source.ensures refl)
-      c.new-sink.ensures.failed,
+  c.perform_session.new.ends.place,
+  session_done c.requires _ _ _ _ _ _ _ _ tt c.perform_session.ensures (λ e. rw e refl)
+      (rw c.new.ensures refl) (rw c.new.ensures refl) (rw c.new.ensures refl) c.new-2.ensures.failed,
 )

@@ -14,18 +14,18 @@ returns g c = inl (record {
   place = c.in-Some.from;
   from = c.in-Some.ensures.found;
   done = inr (record {
-    place = c.perform_session-ended.new.place;
+    place = c.perform_session-ended.new.ends.place;
     ends =
-        session_done _ _ _ _ _ _ _ _ _ _ _ c.requires (IsLogged c.args.path.now c.in-Some.from)
+        session_done c.requires _ _ _ _ _ _ _ (IsLogged c.args.path.now c.in-Some.from)
         (record {
           file = _;
           open_at = c.in-Ok.ensures.opens;
-          octets = c.perform_session-ended.new.source.log.octets;
+          octets = c.perform_session-ended.new.ends.source.log.octets;
           given = refl;
           reads = tt;
         })
-        _ _ _ _ _ _ _ _ c.perform_session-ended.ensures c.in-Ok.ensures.reads (rw c.in-Ok.ensures.log refl)
-        c.in-Ok.ensures.failed c.new-sink.ensures.failed;
+        c.perform_session-ended.ensures (λ e. rw e refl) c.in-Ok.ensures.reads (rw c.in-Ok.ensures.log refl)
+        c.in-Ok.ensures.failed c.new.ensures.failed;
     tells = c.tell_end.ensures;
   });
 })
