@@ -16,7 +16,7 @@ from .process import start_of
 
 NOTE = 'kept'               # the file of the note, in the folder of the service; also the name of its descriptor
 FIRST, APART = 3, 100       # the first descriptor that is given, and where they are put out of the way
-REPLACED = 'E1GW_REPLACED'
+REPLACED = 'E1GW_REPLACED'  # the numbers of those that a service has given to the one that it became
 
 
 class Notifier:
@@ -87,12 +87,10 @@ class Handover:
     def become_next(self, files: Mapping[str, int]) -> NoReturn:
         """Becomes another service of the same command line, which is given what systemd would give it."""
         its = {NOTE: self._note, **files}
-        apart = {name: fcntl.fcntl(file, fcntl.F_DUPFD, APART) for name, file in its.items()}
-        for number, file in enumerate(apart.values(), FIRST):
-            os.dup2(file, number, inheritable=True)
+        # (Not from FIRST on: a thread may still close what had a number there.)
+        numbers = [fcntl.fcntl(file, fcntl.F_DUPFD, APART) for file in its.values()]
         os.environ |= {'LISTEN_FDS': str(len(its)), 'LISTEN_FDNAMES': ':'.join(its), 'LISTEN_PID': str(os.getpid()),
-                       REPLACED: '1'}
-        os.closerange(FIRST + len(its), 1 << 16)
+                       REPLACED: ' '.join(map(str, numbers))}
         os.execv(sys.executable, [sys.executable, *sys.orig_argv[1:]])
 
 
@@ -102,8 +100,8 @@ def given_files() -> dict[str, int]:
     names = os.environ.pop('LISTEN_FDNAMES', '').split(':')
     if pid != str(os.getpid()):
         return {}
-    files = {}
-    for number, name in enumerate(names[:count], FIRST):
+    files, replaced = {}, os.environ.get(REPLACED, '').split()
+    for number, name in zip(map(int, replaced or range(FIRST, FIRST + count)), names[:count]):
         files[name] = fcntl.fcntl(number, fcntl.F_DUPFD_CLOEXEC, APART)
         os.close(number)
     return files
