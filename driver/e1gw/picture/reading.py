@@ -98,7 +98,7 @@ class SessionReading:
             self.replay.close()
             self._take(before)
         finally:
-            self.listener.look()
+            self.listener.orders.look()
 
     def _some(self, octets: Iterable[bytes]) -> Iterator[list[bytes]]:
         """All records, some at a time: in a long session more than in a short one."""
