@@ -21,6 +21,7 @@ from e1gw.service.version import VersionRefused, look_up, with_addresses
 from e1gw.session import MULTIFRAME, Codec, codec_record, encode_record, trunk_record
 
 END = encode_record(0x45, 0, b'')
+HANGS = 5.0                 # seconds, which no program takes that does not hang, on a machine that stalls
 
 
 class ServiceSequenceTests(RestartedKeeperCase):
@@ -217,9 +218,9 @@ class ServiceVersionTests(KeeperCase):
         self.other_program(*cases)
 
     def test_program_that_hangs(self) -> None:
-        self.renewed('trunk) exec sleep 600', keeper_START=1.0)
+        self.renewed('trunk) exec sleep 600', keeper_START=HANGS)
         self.keeper.send_signal(signal.SIGHUP)
-        self.awaits('reload: refused.*does not begin within 1 s')
+        self.awaits(f'reload: refused.*does not begin within {HANGS:g} s')
         self.goes_on()
         self.step(20)
         self.dies()
@@ -228,9 +229,9 @@ class ServiceVersionTests(KeeperCase):
         self.ends()
 
     def test_check_that_hangs(self) -> None:
-        self.renewed('check) exec sleep 600', version_CHECK=1.0)
+        self.renewed('check) exec sleep 600', version_CHECK=HANGS)
         self.keeper.send_signal(signal.SIGHUP)
-        self.awaits('reload: refused.*does not check the configuration within 1 s')
+        self.awaits(f'reload: refused.*does not check the configuration within {HANGS:g} s')
         self.dies()
         self.step(20)
         self.as_uncut()
