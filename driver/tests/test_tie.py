@@ -186,10 +186,10 @@ class TieCallTests(TieCase):
     async def test_operator_blocks(self) -> None:
         """A block of the operator stays, also if the tie is started again; that of a tie does not."""
         await self.both()
-        kept = self.sites[0][0].kept
+        blocked = self.sites[0][0].blocked
         self.west.obey(['block', '7'])
-        await self.until(lambda: kept.has(7))
-        await kept.close()                      # (a thread writes it, which goes by no clock of this loop)
+        await self.until(lambda: 7 in blocked.circuits)
+        await blocked.close()                    # (a thread writes it, which goes by no clock of this loop)
         await self.kill(self.tasks[:2], self.sites[0][1])
         self.west.obey(['block', '9'])          # with no tie there: nobody's
         self.run_tie(*self.tie('west'))
