@@ -16,6 +16,7 @@ from . import support
 from .support import SECONDS
 from .test_keeper import CIRCUITS, KeeperCase
 from .test_keeper_killed import RestartedKeeperCase
+from .world import children
 from e1gw.service.log import STATE_ROOM, TrunkLog, in_memory, take_file
 from e1gw.service.version import VersionRefused, look_up, with_addresses
 from e1gw.session import MULTIFRAME, Codec, codec_record, encode_record, trunk_record
@@ -86,15 +87,18 @@ class ServiceSequenceTests(RestartedKeeperCase):
         """What is heard is what an uncut replay gives, and all calls are up."""
         events = (self.program_dies, self.follower_dies, self.both_die, self.reloaded, self.replaced, self.service_dies,
                   self.client_asks)
-        with mock.patch.dict(os.environ, self.within(keeper_WITHIN=0.0)):   # (no death is taken for a state's harm)
+        done: list[str] = []
+        within = self.within(keeper_WITHIN=0.0)     # (no death is taken for a state's harm)
+        with self.subTest(done=done), mock.patch.dict(os.environ, within):
             self.begins()
             for event in (*events, *self.chance.choices(events, k=43)):
+                done.append(event.__name__)
                 event()
                 self.step(self.chance.randrange(1, 30))
-        self.assertNotIn('no state is known', self.told())
-        self.assertNotIn('the keeper goes on', self.told())
-        self.as_uncut()
-        self.leaves_nothing()
+            self.assertNotIn('no state is known', self.told())
+            self.assertNotIn('the keeper goes on', self.told())
+            self.as_uncut()
+            self.leaves_nothing()
 
 
 class ServiceLogTests(KeeperCase):
@@ -152,7 +156,7 @@ class ServiceFaultTests(KeeperCase):
         self.dies()
         self.assertIn('control does not lead to the process of now: Is a directory', self.told())
         self.step(20)
-        support.until(lambda: len(self.followers()) == 1)
+        support.until(lambda: len(children(self.keeper.pid, 'replay')) == 1)
         self.keeper.terminate()
         self.assertEqual(self.keeper.wait(SECONDS), 0)
 
