@@ -8,7 +8,7 @@ from itertools import islice
 from statistics import median
 from typing import Any
 
-from ..kept import InputError
+from ..session_files import InputError
 from ..packets import Datagram, datagrams
 from ..session import FRAME, OCTETS_A_SECOND, Kind, datagram_record, trunk_record
 from .facts import HEADER, MOST, Address, Facts, Wire

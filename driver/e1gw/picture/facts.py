@@ -14,7 +14,7 @@ from collections.abc import Iterable, Iterator, Sequence
 from dataclasses import dataclass, field
 from typing import Any
 
-from ..kept import Break
+from ..session_files import Break
 from ..lines import SEIZURE_WAIT
 from ..repetitions import VERSION, Repetitions
 from .sound import HeardSamples, ListeningTimes

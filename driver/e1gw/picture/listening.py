@@ -3,7 +3,7 @@ from __future__ import annotations
 
 import math
 
-from ..raw import DOUBLE, is_frame
+from ..frames import DOUBLE, is_frame
 from ..session import FRAME, BadPacket, packet_of
 from .facts import BITS, OPEN, Facts, Row
 from .orders import STRETCH, Orders

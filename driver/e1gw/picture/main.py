@@ -9,11 +9,11 @@ from datetime import datetime, timezone
 from typing import Any, TypeVar
 
 from ..faults import number
-from ..kept import InputError, KeptSession, octets_of, pieces
+from ..session_files import InputError, KeptSession, octets_of, pieces
 from ..lines import read_config, with_wait
-from ..raw import raw_words_of
+from ..frames import raw_words_of
 from ..session import OCTETS_A_SECOND, circuits_of
-from .begun import Begun, begin
+from .beginning import Begun, begin
 from .capture import merged
 from .facts import Facts
 from .page import draw

@@ -6,7 +6,7 @@ from collections import Counter, deque
 from collections.abc import Callable, Iterable, Iterator, Mapping
 from typing import Any
 
-from ..kept import InputError
+from ..session_files import InputError
 from ..lines import SEIZURE_WAIT, WAIT, law_of
 from ..repetitions import mark_of
 from ..session import CIRCUITS, MULTIFRAME, Codec, Command, Kind, refusal_of, trunk_record

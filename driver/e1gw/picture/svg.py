@@ -5,7 +5,7 @@ import html
 import time
 from collections.abc import Iterable, Sequence
 
-from ..kept import Break
+from ..session_files import Break
 from .facts import SECOND
 
 LEFT, WIDE, RIGHT = 126, 1000, 14

@@ -6,7 +6,7 @@ import json
 from contextlib import suppress
 from typing import Iterable
 
-from ..keep import put_file
+from ..ring import put_file
 from ..session import CIRCUITS
 
 

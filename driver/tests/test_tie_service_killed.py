@@ -10,9 +10,9 @@ import unittest
 from typing import Any, Callable
 
 from .limits import LONG
-from .telling import IDLE, WatchedTrunk, row
+from .stand_ins import IDLE, WatchedTrunk, row
 from e1gw.lines import Line, Role, State
-from e1gw.naming import Naming
+from e1gw.call_names import Naming
 from e1gw.session import Kind
 from e1gw.tie.circuit import CircuitEnd
 from e1gw.tie.blocked import BlockedCircuits
