@@ -10,7 +10,7 @@ from dataclasses import dataclass, field
 from typing import IO, Callable
 
 from .lines import SEIZURE_WAIT, wait_words
-from .pipes import put_last
+from .priority import put_last
 
 RECORDS, STATE = '.e1gw', '.state'
 UNFINISHED = '.new'         # behind the name of a state while e1gw writes it

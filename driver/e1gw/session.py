@@ -14,6 +14,16 @@ HEAD = struct.Struct('>BBH')
 PIECE = 65_536
 
 
+def circuits_of(word: str) -> range:
+    """A circuit, or a range such as 3-9. ValueError for others."""
+    first, dash, last = word.partition('-')
+    numbers = [int(each) if each.isascii() and each.isdecimal() and len(each) < 4 else 0
+               for each in (first, last if dash else first)]
+    if any(number not in CIRCUITS for number in numbers) or numbers[0] > numbers[1]:
+        raise ValueError(f'{word[:40]} is neither a circuit from 1 to 30 nor a range such as 3-9')
+    return range(numbers[0], numbers[1] + 1)
+
+
 class Kind(IntEnum):
     """The kinds of records."""
 

@@ -15,7 +15,7 @@ LONG = 900.0                # seconds
 # Where the follower tells of each command an answer waits for that. (A follower that comes meanwhile may not.)
 TELLS = {'service.connection.PATIENCE': LONG}
 LIMITS: dict[str, Any] = {
-    'service.keeper.START': LONG, 'service.keeper.GRACE': LONG, 'service.follower.PATIENCE': LONG,
+    'service.lifecycle.START': LONG, 'service.lifecycle.GRACE': LONG, 'service.follower.PATIENCE': LONG,
     'service.version.CHECK': LONG, 'service.version.LOOK_UP': LONG, 'service.status.FIRST': LONG,
     'service.status.QUIET': LONG, 'service.pages.DRAWN': LONG, 'service.reload.PATIENCE': LONG,
     'service.feed.PATIENCE': LONG, 'service.standby.PATIENCE': LONG, 'service.pair.PATIENCE': LONG,

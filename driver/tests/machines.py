@@ -15,7 +15,7 @@ from typing import Any
 
 from . import support
 from .support import SECONDS
-from .test_keeper import CIRCUITS, KeeperCase
+from .test_program_killed import CIRCUITS, KeeperCase
 from .world import LAUNCHER, children, words_of
 from e1gw.session import Kind, packet_of, records_in
 from e1gw.testing.ports import free_port

@@ -9,9 +9,10 @@ import unittest
 from unittest import mock
 
 from . import support
-from .test_keep import EACH, KEPT, ThreadAtOnce
+from .test_ring import EACH, KEPT, ThreadAtOnce
 from .test_state import config_of, records_of
-from e1gw import archive, keep
+from e1gw import archive
+from e1gw.ring import Ring
 from e1gw.session import Kind
 
 FAILS_TO_SAVE = '''#!/bin/sh
@@ -35,7 +36,7 @@ class RingCase(support.FolderCase):
         clock = types.SimpleNamespace(monotonic=lambda: self.passed, time=lambda: 1_800_000_000 + self.passed,
                                       strftime=time.strftime, gmtime=lambda: time.gmtime(self.passed))
         threads = types.SimpleNamespace(Thread=ThreadAtOnce)
-        for each in (mock.patch.object(keep, 'time', clock), mock.patch.object(archive, 'threading', threads)):
+        for each in (mock.patch('e1gw.ring.time', clock), mock.patch.object(archive, 'threading', threads)):
             each.start()
             self.addCleanup(each.stop)
         self.failed: list[str] = []
@@ -43,7 +44,7 @@ class RingCase(support.FolderCase):
     def keep(self, pieces: list[list[bytes]], config: str, program: str = '', zstd: str | None = None,
              during: str = '') -> None:
         """Keeps pieces; after the first one the configuration becomes `during`."""
-        ring = keep.Ring(self.ring, 'west', config, KEPT,
+        ring = Ring(self.ring, 'west', config, KEPT,
                          archive.FinishedPieces(program or self.program, failed=self.failed.append, zstd=zstd))
         ring.open()
         place = 0
@@ -132,7 +133,7 @@ class RingStateTests(RingCase):
     def test_a_piece_that_is_gone(self) -> None:
         config, records = self.write('trunk.toml', config_of('A')), list(records_of(random.Random(1), 'A', 20))
         worker = archive.FinishedPieces(self.program, failed=self.failed.append, zstd=None)
-        ring = keep.Ring(self.ring, 'west', config, KEPT, worker)
+        ring = Ring(self.ring, 'west', config, KEPT, worker)
         ring.open()
         for _ in range(2):
             ring.places.append(0)

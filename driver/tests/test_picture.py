@@ -245,7 +245,7 @@ def busy_page() -> str:
             row.cell.sent += 500
             for _ in range(3):
                 row.cell.admit(rng.randrange(0, 3000))
-            row.cell.refuse(rng.choice((11, 12, 13, 14, 16, 20)), rng.randrange(-400, 3200))
+            row.cell.refuse(rng.choice((11, 12, 13, 14, 16, 20)), -400, rng.randrange(-400, 3200))
             facts.command(row.number, place, 'seize', rng.choice(('', 'not idle')))
         facts.alarms['here', 'frame'].put(place, rng.random() < 0.5)
     return draw(facts, 'a day')
@@ -337,7 +337,7 @@ class PicturePageTests(unittest.TestCase):
             text = draw(facts, 'x')
             sheet = re.search(r'<svg viewBox="0 0 (\d+)', text)
             times = re.findall(rf'<text x="([\d.]+)" y="\d+" class="tick" text-anchor="(\w+)">{last}<', text)
-            self.assertEqual((len(times), bool(sheet)), (1, True))
+            self.assertEqual((len(times), bool(sheet)), (2, True))        # of the trunk and of the circuits
             part = {'middle': 0.5, 'end': 0.0}[times[0][1]]
             self.assertLessEqual(float(times[0][0]) + part * wide(last, 10.5), float(sheet[1] if sheet else 0))
 

@@ -17,7 +17,6 @@ from .picture_made import (BEGIN, CAPTURED, PEER, TROUBLES, MadeSession, Picture
                            recorded, udp)
 
 from e1gw.packets import BadCapture, datagrams
-from e1gw.picture.capture import reckoned
 from e1gw.picture.main import parser
 from e1gw.session import Kind, records_in, trunk_record
 
@@ -93,15 +92,6 @@ class PictureCommandTests(PictureCommandCase):
         self.assertIn('2023-11-14 22:13:20 UTC', page)
         again, _ = self.drawn('--config', config, '--begin', str(BEGIN), given)
         self.assertEqual(page, again)
-
-    def test_totals(self) -> None:
-        config, given = self.small()
-        words = ['--config', config, '--totals']
-        page, _ = self.drawn(*words, self.write('totals', 'a line\nport_faults 3\nports 9\nport_faults 7\n'), given)
-        self.assertIn('7 times a socket could not send or receive', page)
-        page, _ = self.drawn(*words, self.write('totals', 'dropped 1\nport_faults 0\n'), given)
-        self.assertNotIn('could not send', page)
-        self.assertIn('no line with port_faults', self.drawn(*words, config, given, status=1)[1])
 
     def test_cut_session_is_drawn_up_to_there(self) -> None:
         config, given = self.small()
@@ -271,7 +261,7 @@ class PictureCommandTests(PictureCommandCase):
         config, given = self.small()
         nothing = os.path.join(self.folder, 'nothing')
         for words, status, said in (
-                (['--config', config], 1, 'no session and no capture was named'),
+                (['--config', config], 2, 'the following arguments are required: SESSION'),
                 ([given], 1, 'no configuration'),
                 (['--config', config, nothing], 1, 'No such file'),
                 (['--config', nothing, given], 1, 'No such file'),
@@ -418,23 +408,6 @@ class PictureCaptureTests(PictureCommandCase):
                  for given in (bare, short)]
         wanted, found = (re.findall(r'(\d+) sent, (\d+) received, (\d+) discarded', page)[0] for page in pages)
         self.assertEqual(wanted, found)
-
-    def test_alone(self) -> None:
-        config, given, _, capture = self.split('hold')
-        path = self.write('call.pcap', capture)
-        answers = run('replay', '--config', config, given=given)
-        told = [record.body[1] for record in records_in(answers)
-                if record.kind is Kind.ANSWER and record.body[0] == Kind.DATAGRAM]
-        import tomllib
-        with open(config, 'rb') as file:
-            facts = reckoned(path, tomllib.load(file))
-        cell = facts.rows[3].count()
-        self.assertAlmostEqual(cell.admitted, told.count(0), delta=1)
-        self.assertAlmostEqual(cell.refused[12][0], told.count(12), delta=1)
-        # Seized at 0.1 s, acknowledged 30 ms on, recognised after 20 more; then a packet takes 20.
-        self.assertAlmostEqual(facts.begin or 0.0, BEGIN + 0.17, delta=0.005)
-        page, _ = self.drawn('--config', config, '--capture', path)
-        self.assertIn('reckoned from the capture', page)
 
     def said(self, name: str, packets: list[tuple[float, bytes]], *words: str) -> str:
         """The page of the octets and commands of a session, with a capture."""

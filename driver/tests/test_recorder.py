@@ -14,10 +14,10 @@ import unittest
 
 from . import support
 from .support import SECONDS
-from .test_keeper import KeeperCase
+from .test_program_killed import KeeperCase
 from .world import LAUNCHER
 from e1gw.archive import run_last
-from e1gw.kept import beside, by_time, kept, octets_of
+from e1gw.session_files import beside, by_time, kept, octets_of
 from e1gw.session import MULTIFRAME, Kind, records_in
 
 LONG = '96h'                # of a ring whose files have to be of one program each: they are of eight hours

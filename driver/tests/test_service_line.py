@@ -16,7 +16,7 @@ from unittest import mock
 from . import limits, support
 from .test_crc4 import MULTIFRAME, checked
 from .test_satop_process import ENDS, SCRIPT
-from .test_keeper_killed import RestartedKeeperCase
+from .test_service_killed import RestartedKeeperCase
 from .test_trunk import is_there
 from e1gw.lines import Event
 from e1gw.service import chain

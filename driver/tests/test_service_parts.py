@@ -13,7 +13,7 @@ from . import support
 from .manager import Manager
 from e1gw.service import trunk
 from e1gw.service.journal import MINUTE, MOST, LineLimit
-from e1gw.service.keeper import DEATHS, MOST_PAUSE, DeathCount
+from e1gw.service.lifecycle import DEATHS, MOST_PAUSE, DeathCount
 from e1gw.service.recovery import Handover, Notifier, note_of
 from e1gw.service.takeover import unnoted_programs
 from e1gw.service.version import TRIED, ProgramVersion, VersionHistory

@@ -13,8 +13,8 @@ from collections import Counter
 from typing import Any
 from unittest import mock
 
-from . import support, test_service_keeper
-from .test_keeper_killed import RestartedKeeperCase
+from . import support, test_service_lifecycle
+from .test_service_killed import RestartedKeeperCase
 from .test_recorder import LONG, RecorderCase
 from e1gw.clock import TICK, ClockFinding
 from e1gw.service import reader, recordings, watch
@@ -82,7 +82,7 @@ class KilledRecordingTests(RestartedKeeperCase, RecorderCase):
         self.assertEqual(len(self.each_file_replays()), 3)
 
 
-class ServiceSequenceRecordingTests(test_service_keeper.ServiceSequenceTests, RecorderCase):
+class ServiceSequenceRecordingTests(test_service_lifecycle.ServiceSequenceTests, RecorderCase):
     """Any sequence of what may happen to a trunk: a ring has all of it, once."""
 
     def begins(self, *options: str, **around: str) -> None:

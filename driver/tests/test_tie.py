@@ -14,15 +14,14 @@ from e1gw.lines import Role, State
 from e1gw.session import CIRCUITS
 from e1gw.testing.ports import free_port
 from e1gw.tie import site as site_module
+from e1gw.tie.blocked import BlockedCircuits
 from e1gw.tie.circuit import CircuitEnd
 from e1gw.tie.coding import Coding
-from e1gw.tie.kept import KeptBlocks
 from e1gw.tie.main import ANYBODY, is_loopback, parser
-from e1gw.tie.messages import (BadMessage, CircuitChange, Greeting, KeepAlive, Message, OutOfService, SiteState,
-                               encode_message, message_of)
-from e1gw.tie.pairs import BadPairs, agreed, pairs_of
+from e1gw.tie.messages import BadMessage, Greeting, Message, SiteState, encode_message, message_of
+from e1gw.tie.pairs import agreed, pairs_of
 from e1gw.tie.site import Site, context_of, has_name
-from e1gw.tie.status import StatusServer, TiePages
+from e1gw.tie.status import TiePages, serve_status
 from e1gw.tie.tie import AGAIN, Tie
 from e1gw.tie.trunk import LOOK
 from tests.support import SECONDS
@@ -39,7 +38,7 @@ class TiePairsTests(unittest.TestCase):
 
     def test_no_pairs(self) -> None:
         for text in ('', '1', '1 2 3', '0 1', '1 31', 'a b', '1 2\n1 3', '1 2\n3 2', '1-2 3', '5-4 1-2', '1 2²'):
-            with self.subTest(text=text), self.assertRaises(BadPairs):
+            with self.subTest(text=text), self.assertRaises(ValueError):
                 pairs_of(text)
 
     def test_agreed(self) -> None:
@@ -53,9 +52,9 @@ class TieMessageTests(unittest.TestCase):
     def test_there_and_back(self) -> None:
         end = CircuitEnd(Role.INCOMING, State.ACKED, 'a.1', True, 'a.0')
         sent: list[Message] = [
-            Greeting('ab', None), Greeting('ab', {1: 30}), SiteState(True, {30: end}), SiteState(False, {}, 'pcma'),
-            CircuitChange(1, end), OutOfService(False), KeepAlive(),
-            CircuitChange(2, CircuitEnd(Role.OUTGOING, State.FAULT, None))]
+            Greeting('ab', None), Greeting('ab', {1: 30}), SiteState(True, {30: end}, all=True),
+            SiteState(False, {}, 'pcma', all=True), SiteState(None, {1: end}), SiteState(False, {}), None,
+            SiteState(None, {2: CircuitEnd(Role.OUTGOING, State.FAULT, None)})]
         for message in sent:
             self.assertEqual(message_of(encode_message(message)), message)
 
@@ -187,10 +186,10 @@ class TieCallTests(TieCase):
     async def test_operator_blocks(self) -> None:
         """A block of the operator stays, also if the tie is started again; that of a tie does not."""
         await self.both()
-        kept = self.sites[0][0].kept
+        blocked = self.sites[0][0].blocked
         self.west.obey(['block', '7'])
-        await self.until(lambda: kept.has(7))
-        await kept.close()                      # (a thread writes it, which goes by no clock of this loop)
+        await self.until(lambda: 7 in blocked.circuits)
+        await blocked.close()                    # (a thread writes it, which goes by no clock of this loop)
         await self.kill(self.tasks[:2], self.sites[0][1])
         self.west.obey(['block', '9'])          # with no tie there: nobody's
         self.run_tie(*self.tie('west'))
@@ -299,10 +298,10 @@ class TieCallTests(TieCase):
     async def test_blocks_that_cannot_be_kept(self) -> None:
         """A file that holds no list, and one that cannot be written, end nothing."""
         for path in (self.folder.name, os.path.join(self.folder.name, 'none', 'kept')):
-            kept = KeptBlocks(path)
-            kept.put((1,))
-            await kept.close()
-            self.assertTrue(kept.has(1))
+            blocked = BlockedCircuits(path)
+            blocked.put((1,))
+            await blocked.close()
+            self.assertIn(1, blocked.circuits)
         with open(os.path.join(self.folder.name, 'west.kept'), 'w', encoding='ascii') as file:
             file.write('no list')
         await self.both()
@@ -453,7 +452,7 @@ class TieStatusTests(TieCase):
         """At the socket, with an empty line behind each answer, and over HTTP."""
         await self.both()
         path, port = os.path.join(self.folder.name, 'status'), free_port()
-        await StatusServer(self.sites[0][0]).open(path, ('127.0.0.1', port))
+        await serve_status(self.sites[0][0], path, ('127.0.0.1', port))
         reader, writer = await asyncio.open_unix_connection(path)
         for words, front in ((b'status', b'tie of '), (b'status json', b'{"time": '), (b'metrics', b'# HELP e1gw_tie_'),
                              (b'clear 1', b'there are status, status json and metrics\n\n')):
@@ -629,9 +628,8 @@ class CertificateTests(TieCase):
         subprocess.run(['openssl', *words], cwd=self.folder.name, check=True, capture_output=True)
 
     def context(self, name: str, authority: str, listens: bool) -> Any:
-        certificate, key, ours = (os.path.join(self.folder.name, each)
-                                  for each in (f'{name}.pem', f'{name}.key', f'{authority}.pem'))
-        return context_of(certificate, key, ours, listens)
+        return context_of([os.path.join(self.folder.name, each)
+                           for each in (f'{name}.pem', f'{name}.key', f'{authority}.pem')], listens)
 
     def tie(self, name: str, waits: bool = False, **more: Any) -> tuple[Tie, Site]:
         more.setdefault('context', self.context(name, 'ours', name == 'west'))

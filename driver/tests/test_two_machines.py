@@ -16,7 +16,7 @@ from unittest import mock
 from . import limits, support
 from .machines import ADDRESSES, TRUNK, GivenFile, Machine, PairCase, others, trunk_octets
 from .support import SECONDS
-from .test_keeper import CIRCUITS
+from .test_program_killed import CIRCUITS
 from e1gw.ctl_all import line_of
 from e1gw.metrics import exposition
 from e1gw.session import MULTIFRAME, OCTETS_A_SECOND

@@ -23,7 +23,7 @@ from e1gw.metrics import exposition, family
 from e1gw.service import pages as service_pages
 from e1gw.testing.ports import free_port
 from e1gw.tie import status as tie_status
-from e1gw.tie.kept import KeptBlocks
+from e1gw.tie.blocked import BlockedCircuits
 from e1gw.tie.tie import Tie, TieOptions
 
 SAMPLE = re.compile(r'([a-z_0-9]+)(\{(?:[a-z_]+="(?:[^"\\]|\\.)*",?)*\})? (-?[0-9.e+-]+)')
@@ -147,7 +147,7 @@ class WebTests(unittest.TestCase):
         pair = {'role': 'active', 'fed': False, 'feed_age': None}
         more = exposition(self.world.status() | {'crc4': Crc4().status()} | pair)
         more += tie_status.exposition(tie_status.status_of(
-            Tie(TieOptions('', None, 0.0, False), '', KeptBlocks(None), print)))
+            Tie(TieOptions('', None, 0.0, False), '', BlockedCircuits(None), print)))
         declared = set(re.findall(r'^# TYPE (\w+)', self.get('/metrics') + more, re.M)) | {
             'e1gw_trunk_rate_ppm'}
         self.assertLessEqual(named, declared)

@@ -17,7 +17,7 @@ from e1gw.session import CIRCUITS, Command
 from e1gw.testing.ports import free_port
 from e1gw.tie import site as site_module
 from e1gw.tie.coding import Coding
-from e1gw.tie.kept import KeptBlocks
+from e1gw.tie.blocked import BlockedCircuits
 from e1gw.tie.site import Site
 from e1gw.tie.tie import Tie, TieOptions
 from tests.loop_clock import LoopClock
@@ -167,8 +167,8 @@ class TieCase(unittest.IsolatedAsyncioTestCase):
         driver = self.west if name == 'west' else self.east
         told = self.events[name]
         options = TieOptions(driver.path, more.get('pairs'), HOLD, waits, more.get('until'))
-        kept = KeptBlocks(os.path.join(self.folder.name, f'{name}.kept'))
-        made = Tie(options, f'run {next(RUNS)} of {name}', kept,
+        blocked = BlockedCircuits(os.path.join(self.folder.name, f'{name}.kept'))
+        made = Tie(options, f'run {next(RUNS)} of {name}', blocked,
                    lambda event, **fields: told.append({'event': event, **fields}))
         if not self.port:
             self.port = free_port()

@@ -79,7 +79,7 @@ def exposition(status):
 ''',
     'driver/e1gw/tie/tie.py': 'from unittest.mock import MagicMock\nTie = TieOptions = MagicMock()\n',
     'driver/e1gw/tie/circuit.py': 'from unittest.mock import MagicMock\nTieCircuit = MagicMock()\n',
-    'driver/e1gw/tie/kept.py': 'def KeptBlocks(_):\n    pass\n',
+    'driver/e1gw/tie/blocked.py': 'def BlockedCircuits(_):\n    pass\n',
     'driver/e1gw/lines.py': 'from unittest.mock import MagicMock\nRole = State = MagicMock()\n',
     'driver/e1gw/testing/made.py': "def go(self):\n    self._tell('never', why='x')\n",
     'driver/e1gw/service/watch.py': '''from unittest.mock import MagicMock

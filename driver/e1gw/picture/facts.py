@@ -6,6 +6,7 @@ columns of a number of octets are kept.
 """
 from __future__ import annotations
 
+import bisect
 import enum
 import struct
 from collections import Counter
@@ -13,7 +14,7 @@ from collections.abc import Iterable, Iterator, Sequence
 from dataclasses import dataclass, field
 from typing import Any
 
-from ..kept import Break
+from ..session_files import Break
 from ..lines import SEIZURE_WAIT
 from ..repetitions import VERSION, Repetitions
 from .sound import HeardSamples, ListeningTimes
@@ -29,7 +30,9 @@ NOT_OPEN = 20
 TIMED = (0, 13, 14, 15, 16)
 BITS = {'g726-16': 2, 'g726-24': 3, 'g726-32': 4, 'g726-40': 5}
 # If several states are in one column, the first of these is shown.
-RANK = ('fault', 'blocked', 'releasing', 'seized', 'clearedback', 'answered', 'acked', 'idle', 'unknown')
+RANK = ('fault', 'blocked', 'releasing', 'seized', 'clearedback', 'answered', 'acked', 'idle')
+# What is counted, by the states of a line before and after, or by the one after.
+COUNTED = {('acked', 'answered'): 'answers', ('seized', 'releasing'): 'unacknowledged', ('', 'fault'): 'faults'}
 HEADER = struct.Struct('>BBHII').unpack
 
 
@@ -41,7 +44,7 @@ class Cell:
         self.sent = self.admitted = self.lost = self.uneven = 0
         self.low = self.high = self.total = 0               # samples before their turn, of those admitted
         self.refused: dict[int, list[int]] = {}             # code: how many, least and most samples before their turn
-        self.counts: dict[str, int] = {}                    # calls, answers, repetitions, ..
+        self.counts: Counter[str] = Counter()               # calls, answers, repetitions, ..
         self.heard: dict[str, HeardSamples] = {}            # by way: what came, its order of words, the time slot
 
     def is_empty(self) -> bool:
@@ -61,17 +64,14 @@ class Cell:
         self.total += margin
         self.admitted += 1
 
-    def count(self, name: str) -> None:
-        self.counts[name] = self.counts.get(name, 0) + 1
+    def refuse(self, code: int, low: int, high: int, count: int = 1) -> None:
+        """Datagrams that came so many samples before their turn."""
+        seen = self.refused.setdefault(code, [0, low, high])
+        seen[:] = seen[0] + count, min(seen[1], low), max(seen[2], high)
 
-    def refuse(self, code: int, margin: int | None) -> None:
-        seen = self.refused.get(code)
-        at = margin or 0
-        if seen is None:
-            self.refused[code] = [1, at, at]
-        else:
-            seen[0] += 1
-            seen[1], seen[2] = min(seen[1], at), max(seen[2], at)
+    def discarded(self) -> int:
+        """How many datagrams were refused."""
+        return sum(seen[0] for seen in self.refused.values())
 
     def join(self, other: Cell) -> None:
         """Adds the next column."""
@@ -83,21 +83,24 @@ class Cell:
         self.total += other.total
         self.lost += other.lost
         self.uneven += other.uneven
-        if other.refused or other.counts or other.heard:
-            self._join_rare(other)
-
-    def _join_rare(self, other: Cell) -> None:
         for code, (count, low, high) in other.refused.items():
-            seen = self.refused.setdefault(code, [0, low, high])
-            seen[:] = seen[0] + count, min(seen[1], low), max(seen[2], high)
-        for name, count in other.counts.items():
-            self.counts[name] = self.counts.get(name, 0) + count
+            self.refuse(code, low, high, count)
+        if other.counts:
+            self.counts.update(other.counts)
         for way, more in other.heard.items():
             self.hear(way, more)
 
     def hear(self, way: str, more: HeardSamples) -> None:
         """Adds a sample of one direction."""
         self.heard.setdefault(way, HeardSamples()).join(more)
+
+
+def joined(cells: Iterable[Cell]) -> Cell:
+    """The sum of cells."""
+    whole = Cell()
+    for cell in cells:
+        whole.join(cell)
+    return whole
 
 
 class Spans:
@@ -112,36 +115,24 @@ class Spans:
         return self.items[-1][1]
 
     def put(self, place: int, value: Any) -> None:
-        if self.items[-1][1] == value:
-            return
-        if self.items[-1][0] == place and len(self.items) > 1:
+        if self.items[1:] and self.items[-1][0] == place:
             self.items.pop()
-            if self.items[-1][1] != value:
-                self.items.append((place, value))
-        else:
+        if not self.items or self.items[-1][1] != value:
             self.items.append((place, value))
 
     def forget(self, place: int) -> None:
         """Drops what ended before a place."""
-        gone = 0
-        while gone + 1 < len(self.items) and self.items[gone + 1][0] <= place:
-            gone += 1
-        del self.items[:gone]
+        del self.items[:max(0, bisect.bisect_right(self.items, place, key=lambda item: item[0]) - 1)]
 
     def coalesce(self, width: int) -> None:
         """Leaves one value in each column in which several begin: the first by rank."""
-        kept: list[tuple[int, Any]] = []
-        for place, value in self.items:
-            start = place // width * width
-            if kept and kept[-1][0] >= start and place:
-                # The last one of a column begins in the next column, if it is another.
-                best = min(kept[-1][1], value, key=self.rank.index)
-                kept[-1] = (kept[-1][0], best)
-                if best != value:
-                    kept.append((start + width, value))
-            elif not kept or kept[-1][1] != value:
-                kept.append((max(place, kept[-1][0] if kept else 0), value))
-        self.items = [item for n, item in enumerate(kept) if not n or item[1] != kept[n - 1][1]]
+        columns: dict[int, Any] = {}
+        for column, value in ((place // width, value) for place, value in self.items):
+            columns[column] = min(columns.get(column, value), value, key=self.rank.index)
+            columns[column + 1] = value         # which holds behind it
+        self.items.clear()
+        for column, value in columns.items():
+            self.put(column * width, value)
 
     def between(self, start: int, end: int) -> Iterator[tuple[int, int, Any]]:
         """Each value with its stretch, cut to these places."""
@@ -152,21 +143,21 @@ class Spans:
                 yield first, last, value
 
 
-class Answer(enum.Enum):
+class Answer(enum.StrEnum):
     """The outcome of a command. AGAIN is a codec that the circuit already has: its jitter buffer was resynchronised, by
     the driver or by an operator."""
-    REFUSED = enum.auto()
-    DONE = enum.auto()
-    AGAIN = enum.auto()
+    REFUSED = 'refused'
+    DONE = 'done'
+    AGAIN = 'again'
 
 
 @dataclass
 class CommandMark:
-    """Commands to a circuit in a column with the same answer."""
+    """Commands to a circuit in a column with the same outcome, the first of them with its answer in words."""
     place: int
     words: str
-    refusal: str = ''
-    more: int = 0
+    answer: str
+    more: int = -1              # besides the first
 
 
 @dataclass
@@ -194,6 +185,10 @@ class CallStream:
     slot: ListeningTimes = field(default_factory=ListeningTimes)
     stretch: list[bytes] | None = None                  # consecutive datagrams to decode
 
+    def margin(self, place: int, stamp: int) -> int:
+        """How many samples before its turn a datagram comes."""
+        return ((self.base or 0) + stamp - place // FRAME + 0x8000_0000 & 0xFFFF_FFFF) - 0x8000_0000
+
 
 Address = tuple[str, int]
 
@@ -209,10 +204,6 @@ class Wire:
     def is_astray(self) -> bool:
         """They go to another host than the peer's datagrams come from."""
         return bool(self.went and self.came) and not {host for host, _ in self.went} & {host for host, _ in self.came}
-
-    def note(self, seen: Counter[Address], address: Address) -> None:
-        if address in seen or len(seen) < 8:
-            seen[address] += 1
 
 
 @dataclass
@@ -245,11 +236,11 @@ class Row:
         """A datagram received: its first twelve octets, its length, its mark and its answer. A refused repetition
         counts separately."""
         if len(head) < 12:
-            self.cell.refuse(code, None)
+            self.cell.refuse(code, 0, 0)
             return
         first, second, sequence, stamp, ssrc = HEADER(head)
         if first >> 6 == VERSION and self.before.is_marked(sequence, ssrc, mark) and code:
-            self.cell.count('repetitions')
+            self.cell.counts['repetitions'] += 1
             return
         stream = self.stream
         if code:
@@ -259,8 +250,7 @@ class Row:
         else:
             if stream.base is None:
                 self._begin(stream, place, second & 127, stamp, ssrc)
-            assert stream.base is not None
-            self.cell.admit((stream.base + stamp - place // FRAME + 0x8000_0000 & 0xFFFF_FFFF) - 0x8000_0000)
+            self.cell.admit(stream.margin(place, stamp))
         if sequence - stream.sequence & 0xFFFF != 1 or stamp - stream.stamp != self.step or length != self.length:
             self._follow(stream, sequence, stamp, length)
         else:
@@ -298,10 +288,8 @@ class Row:
         stream.sequence, stream.stamp = sequence, stamp
 
     def _refused(self, place: int, code: int, kind: int, stamp: int, ssrc: int) -> None:
-        margin = None
-        if code in TIMED and self.stream.base is not None:
-            margin = (self.stream.base + stamp - place // FRAME + 0x8000_0000) % 0x1_0000_0000 - 0x8000_0000
-        self.cell.refuse(code, margin)
+        margin = self.stream.margin(place, stamp) if code in TIMED and self.stream.base is not None else 0
+        self.cell.refuse(code, margin, margin)
         if code == 11 and (kind in self.types or len(self.types) < 8):
             self.types[kind] = place
         elif code == 12:
@@ -318,25 +306,42 @@ class Row:
         self.states.put(place, state)
         if (state in OPEN) != (was in OPEN):
             self.stream = CallStream()
-        for name, happened in (
-                ('calls', state == 'seized' or (self.role == 'incoming' and was == 'idle' and state == 'acked')),
-                ('answers', state == 'answered' and was == 'acked'),
-                ('unacknowledged', was == 'seized' and state == 'releasing'),
-                ('faults', state == 'fault')):
-            if happened:
-                self.cell.count(name)
-
-    def state_at(self, place: int) -> str:
-        """The line's state at a place still kept."""
-        return next((state for first, state in reversed(self.states.items) if first <= place), 'unknown')
+        if state == 'seized' or self.role == 'incoming' and (was, state) == ('idle', 'acked'):
+            self.cell.counts['calls'] += 1
+        elif name := COUNTED.get((was, state)) or COUNTED.get(('', state)):
+            self.cell.counts[name] += 1
 
     def count(self) -> Cell:
         """The sum of all columns."""
-        whole = Cell()
-        for cell in self.cells.values():
-            whole.join(cell)
-        whole.join(self.cell)
-        return whole
+        return joined((*self.cells.values(), self.cell))
+
+    def forget(self, start: int, oldest: int) -> None:
+        """Drops what was before a place, and before a column."""
+        while self.cells and (first := next(iter(self.cells))) < oldest:
+            del self.cells[first]
+        while self.commands and (begun := next(iter(self.commands)))[0] < oldest:
+            del self.commands[begun]
+        self.states.forget(start)
+        self.begun = [place for place in self.begun if place >= start]
+        self.types = {kind: place for kind, place in self.types.items() if place >= start}
+        for wrong in self.wrong:
+            wrong.others = {ssrc: seen for ssrc, seen in wrong.others.items() if seen[2] >= start}
+        self.wrong = [wrong for wrong in self.wrong if wrong.others or wrong is self.stream.wrong]
+
+    def double(self, width: int) -> None:
+        """Joins columns in pairs, which have this width then."""
+        cells, self.cells = self.cells, {}
+        for column, cell in cells.items():
+            if self.cells.setdefault(column // 2, cell) is not cell:
+                self.cells[column // 2].join(cell)
+        commands, self.commands = self.commands, {}
+        for (column, answer), command in commands.items():
+            if (first := self.commands.setdefault((column // 2, answer), command)) is not command:
+                first.more += command.more + 1
+        if len(self.states.items) > MOST:
+            self.states.coalesce(width)
+        if len(self.begun) > MOST:
+            self.begun = sorted({place // width: place for place in self.begun}.values())
 
 
 class Facts:
@@ -356,10 +361,9 @@ class Facts:
         self.losses: dict[str, list[int]] = {'frame': [], 'multiframe': []}
         self.begin: float | None = None     # the time of place 0, in seconds since 1970, if known
         self.breaks: list[Break] = []       # where the time goes on otherwise than the octets do
-        self.told = 'e1gw'                  # the source of the datagrams' answers
+        self.told = ''                      # how the datagrams' places are known, if not by the session
         self.law = 'A'                      # of the trunk
         self.strays: Counter[tuple[str, int]] = Counter()       # at ports without a circuit: from, to
-        self.port_faults = 0
         self.under_way: list[int] = []      # circuits with a call at the start of the session
 
     def began(self, place: int, alarms: Iterable[bool], lines: Iterable[Sequence[str]]) -> None:
@@ -396,20 +400,9 @@ class Facts:
         self.start = self.place - last
         oldest = self.start // self.width
         for row in self.rows.values():
-            while row.cells and (first := next(iter(row.cells))) < oldest:
-                del row.cells[first]
-            while row.commands and (begun := next(iter(row.commands)))[0] < oldest:
-                del row.commands[begun]
-            row.states.forget(self.start)
-            row.begun = [place for place in row.begun if place >= self.start]
-            row.types = {kind: place for kind, place in row.types.items() if place >= self.start}
-            for wrong in row.wrong:
-                wrong.others = {ssrc: seen for ssrc, seen in wrong.others.items() if seen[2] >= self.start}
-            row.wrong = [wrong for wrong in row.wrong if wrong.others or wrong is row.stream.wrong]
+            row.forget(self.start, oldest)
         for spans in (*self.alarms.values(), self.ones):
             spans.forget(self.start)
-        if self.slips:
-            self.slips = [(place, seconds) for place, seconds in self.slips if place >= self.start]
         for what, places in self.losses.items():
             self.losses[what] = [place for place in places if place >= self.start]
 
@@ -417,23 +410,7 @@ class Facts:
         """Joins columns in pairs."""
         self.width *= 2
         for row in self.rows.values():
-            cells: dict[int, Cell] = {}
-            for column, cell in row.cells.items():
-                if column // 2 in cells:
-                    cells[column // 2].join(cell)
-                else:
-                    cells[column // 2] = cell
-            row.cells = cells
-            commands: dict[tuple[int, Answer], CommandMark] = {}
-            for (column, answer), command in row.commands.items():
-                first = commands.setdefault((column // 2, answer), command)
-                if first is not command:
-                    first.more += command.more + 1
-            row.commands = commands
-            if len(row.states.items) > MOST:
-                row.states.coalesce(self.width)
-            if len(row.begun) > MOST:
-                row.begun = sorted({place // self.width: place for place in row.begun}.values())
+            row.double(self.width)
         for spans in (*self.alarms.values(), self.ones):
             if len(spans.items) > MOST:
                 spans.coalesce(self.width)
@@ -441,19 +418,20 @@ class Facts:
     def command(self, circuit: int, place: int, words: str, refusal: str = '') -> None:
         """A command to a circuit, with the words of its refusal if it was refused."""
         row = self.rows[circuit]
-        is_codec = words.startswith('codec')
-        again = is_codec and words == f'codec {row.codec} {row.payload}'
+        again = words == f'codec {row.codec} {row.payload}'
         answer = Answer.REFUSED if refusal else Answer.AGAIN if again else Answer.DONE
-        first = row.commands.setdefault((place // self.width, answer), CommandMark(place, words, refusal, -1))
-        first.more += 1
-        if not refusal and is_codec:
+        told = refusal or ('jitter buffer resynchronised' if again else 'done')
+        row.commands.setdefault((place // self.width, answer), CommandMark(place, words, told)).more += 1
+        if not refusal and words.startswith('codec'):
             row.stream = CallStream()
+
+    def open_for(self, row: Row) -> int:
+        """How long a circuit's path was open, in octets."""
+        return sum(last - first for first, last, state in row.states.between(self.start, self.place) if state in OPEN)
 
     def lost(self, what: str, place: int) -> None:
         """Alignment was lost: of frames or of multiframes."""
-        places = self.losses[what]
-        if len(places) < MOST:
-            places.append(place)
+        self.losses[what] += [place] * (len(self.losses[what]) < MOST)
 
     def hear(self, circuit: int, place: int, way: str, more: HeardSamples) -> None:
         """A sample at a past place."""

@@ -3,7 +3,7 @@ from __future__ import annotations
 
 import math
 
-from ..raw import DOUBLE, is_frame
+from ..frames import DOUBLE, is_frame
 from ..session import FRAME, BadPacket, packet_of
 from .facts import BITS, OPEN, Facts, Row
 from .orders import STRETCH, Orders
@@ -22,28 +22,22 @@ class SpeechListener:
         self.orders = Orders(program, facts.law, lambda circuit, place, seen: facts.hear(circuit, place, 'order', seen))
 
     def came(self, row: Row, place: int, datagram: bytes) -> None:
-        """An admitted datagram."""
+        """An admitted datagram: one of some in G.711, and of G.726 some that are consecutive."""
         try:
             payload = packet_of(datagram).payload
         except BadPacket:
             return
         stream = row.stream
+        if stream.stretch is None and stream.came.come(place, self.most):
+            row.cell.hear('came', HeardSamples(1, is_silent(payload)) if row.codec in BITS else
+                          heard(payload, self.facts.law))
+            stream.stretch = [] if row.codec in BITS else None
         if stream.stretch is not None:
-            self._further(row, place, payload, stream.stretch)
-        elif stream.came.come(place, self.most):
-            if row.codec in BITS:
-                row.cell.hear('came', HeardSamples(1, is_silent(payload)))
-                stream.stretch = [payload]
-            else:
-                row.cell.hear('came', heard(payload, self.facts.law))
-
-    def _further(self, row: Row, place: int, payload: bytes, stretch: list[bytes]) -> None:
-        """The next consecutive datagram of G.726."""
-        stretch.append(payload)
-        if len(stretch) == STRETCH:
-            row.stream.stretch = None
-            if row.codec in BITS:
-                self.orders.put(row.number, place, row.codec, stretch)
+            stream.stretch.append(payload)
+            if len(stream.stretch) == STRETCH:
+                if row.codec in BITS:
+                    self.orders.put(row.number, place, row.codec, stream.stretch)
+                stream.stretch = None
 
     def trunk(self, octets: bytes, place: int) -> None:
         """Octets of the trunk up to a place: of each open path's time slot some, if frames are found in them."""
@@ -56,12 +50,4 @@ class SpeechListener:
         for row in due:
             row.stream.slot.come(place, self.most)
             first = (begin + row.number + (row.number > 15)) % FRAME
-            self.slot(row, octets[first:first + LOOKED_AT * FRAME:FRAME])
-
-    def slot(self, row: Row, octets: bytes) -> None:
-        """Octets of a circuit's time slot."""
-        row.cell.hear('slot', heard(octets, self.facts.law))
-
-    def look(self) -> None:
-        """Evaluates what is queued."""
-        self.orders.look()
+            row.cell.hear('slot', heard(octets[first:first + LOOKED_AT * FRAME:FRAME], self.facts.law))

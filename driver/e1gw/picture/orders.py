@@ -8,7 +8,7 @@ from collections.abc import Callable, Sequence
 
 from ..session import datagram_record
 from .facts import BITS
-from .sound import HeardSamples, clearer, sound
+from .sound import HeardSamples, compared, sound
 
 STRETCH = 10                # consecutive datagrams
 SETTLES = 4                 # of them those before the decoder has settled, which are ignored
@@ -35,55 +35,40 @@ class Orders:
 
     def __init__(self, program: str | None, law: str, tell: OnHeard) -> None:
         self.program, self.law, self.tell = program, law, tell
-        self.waiting: list[tuple[int, int, str, list[bytes]]] = []
+        self.waiting: dict[str, list[tuple[int, int, list[bytes]]]] = {}        # by codec
 
     def put(self, circuit: int, place: int, codec: str, payloads: list[bytes]) -> None:
         """A stretch of a circuit's datagrams from a place."""
-        self.waiting.append((circuit, place, codec, payloads))
-        if len(self.waiting) >= WAITING:
+        stretches = self.waiting.setdefault(codec, [])
+        stretches.append((circuit, place, payloads))
+        if len(stretches) >= WAITING:
             self.look()
 
     def look(self) -> None:
         """Decodes everything queued."""
-        waiting, self.waiting = self.waiting, []
-        for codec in sorted({codec for _, _, codec, _ in waiting}):
-            self._look(codec, [(circuit, place, payloads) for circuit, place, each, payloads in waiting
-                               if each == codec])
+        for codec, stretches in self.waiting.items():
+            bits = BITS[codec]
+            payloads = [payload[:len(payload) // bits * bits] for *_, each in stretches for payload in each]
+            own = self._decoded(codec, payloads)
+            other = self._decoded(codec, [reordered(payload, bits) for payload in payloads])
+            at = 0
+            for circuit, place, each in stretches if own and other else ():
+                seen = HeardSamples()
+                for n, payload in enumerate(each):
+                    end = at + len(payload) // bits * 8
+                    if n >= SETTLES:
+                        seen.join(compared(sound(own[at:end], self.law), sound(other[at:end], self.law)))
+                    at = end
+                self.tell(circuit, place, seen)
+        self.waiting.clear()
 
-    def _look(self, codec: str, stretches: list[tuple[int, int, list[bytes]]]) -> None:
-        bits = BITS[codec]
-        payloads = [payload for _, _, each in stretches for payload in each]
-        own = self._decoded(codec, payloads)
-        other = self._decoded(codec, [reordered(payload, bits) for payload in payloads])
-        if own is None or other is None:
-            return
-        at = 0
-        for circuit, place, each in stretches:
-            seen = HeardSamples()
-            for n, payload in enumerate(each):
-                size = len(payload) // bits * 8
-                if n >= SETTLES:
-                    seen.join(self._heard(own[at:at + size], other[at:at + size]))
-                at += size
-            self.tell(circuit, place, seen)
-
-    def _heard(self, own: bytes, other: bytes) -> HeardSamples:
-        """A datagram in both orders."""
-        here, there = sound(own, self.law), sound(other, self.law)
-        seen = HeardSamples(1, power=here.power, under_other=there.power)
-        seen.vote(clearer(here, there))
-        return seen
-
-    def _decoded(self, codec: str, payloads: Sequence[bytes]) -> bytes | None:
-        """The program's output for payloads, one behind the other; None if it fails."""
-        if not self.program:
-            return None
-        bits = BITS[codec]
-        given = b''.join(datagram_record(1, HEADER + payload[:len(payload) // bits * bits]) for payload in payloads)
-        law = {'A': 'a', 'mu': 'mu'}[self.law]
+    def _decoded(self, codec: str, payloads: Sequence[bytes]) -> bytes:
+        """The program's output for payloads, one behind the other; nothing if it fails."""
+        given = b''.join(datagram_record(1, HEADER + payload) for payload in payloads)
+        words = [self.program or '', 'decode', '--law', {'A': 'a', 'mu': 'mu'}[self.law], '--codec', codec]
         try:
-            done = subprocess.run([self.program, 'decode', '--law', law, '--codec', codec], input=given, check=True,
-                                  stdout=subprocess.PIPE, stderr=subprocess.DEVNULL, timeout=SECONDS)
+            done = subprocess.run(words, input=given, check=True, stdout=subprocess.PIPE, stderr=subprocess.DEVNULL,
+                                  timeout=SECONDS)
         except (OSError, subprocess.SubprocessError):
-            return None
-        return done.stdout if len(done.stdout) == sum(len(each) // bits * 8 for each in payloads) else None
+            return b''
+        return done.stdout if len(done.stdout) == sum(map(len, payloads)) // BITS[codec] * 8 else b''

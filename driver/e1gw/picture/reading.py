@@ -2,14 +2,14 @@
 from __future__ import annotations
 
 import re
-from collections import deque
+from collections import Counter, deque
 from collections.abc import Callable, Iterable, Iterator, Mapping
 from typing import Any
 
-from ..kept import InputError
+from ..session_files import InputError
 from ..lines import SEIZURE_WAIT, WAIT, law_of
 from ..repetitions import mark_of
-from ..session import MULTIFRAME, Codec, Command, Kind, refusal_of, trunk_record
+from ..session import CIRCUITS, MULTIFRAME, Codec, Command, Kind, refusal_of, trunk_record
 from .facts import Facts, Row
 from .listening import SpeechListener
 from .replay import Replay
@@ -26,8 +26,8 @@ TELLS = ['e1gw', 'tell', '1']       # how the reports begin
 
 def rows_of(config: Mapping[str, Any]) -> dict[int, Row]:
     """The circuits of a configuration."""
-    law = law_of(config)
-    rows = {n: Row(n, codec=Codec.G711.word(law), payload=8 if law == 'A' else 0) for n in range(1, 31)}
+    law, wait = law_of(config), config.get(WAIT, SEIZURE_WAIT)
+    rows = {n: Row(n, codec=Codec.G711.word(law), payload=8 if law == 'A' else 0, wait=wait) for n in CIRCUITS}
     for table in config.get('circuit', []):
         row = rows[table['number']]
         for name in ('role', 'codec', 'payload', 'ptime', 'prefill'):
@@ -35,8 +35,6 @@ def rows_of(config: Mapping[str, Any]) -> dict[int, Row]:
         if 'local_port' in table:
             row.local = f'{config.get("host", "127.0.0.1")}:{table["local_port"]}'
             row.peer = f'{table.get("peer_host", "127.0.0.1")}:{table.get("peer_port", "")}'
-    for row in rows.values():
-        row.wait = config.get(WAIT, SEIZURE_WAIT)
     return rows
 
 
@@ -69,7 +67,7 @@ class SessionReading:
         self.answers = b''                      # those that were not looked at
         self.told: list[str] = []
         self.came: deque[bytes] = deque()       # datagrams of which nothing is reported yet
-        self.sent = dict.fromkeys(facts.rows, 0)
+        self.sent = Counter[int]()              # datagrams by circuit, since it was looked at
         self.lines: dict[str, Callable[..., None]] = {
             'alarms': self._alarms, 'line': self._line, 'command': self._command, 'codec': self._codec}
         self._begin()
@@ -98,7 +96,7 @@ class SessionReading:
             self.replay.close()
             self._take(before)
         finally:
-            self.listener.look()
+            self.listener.orders.look()
 
     def _some(self, octets: Iterable[bytes]) -> Iterator[list[bytes]]:
         """All records, some at a time: in a long session more than in a short one."""
@@ -125,9 +123,8 @@ class SessionReading:
         self._hear()
         facts.turn(self.place)
         for circuit, count in self.sent.items():
-            if count:
-                facts.rows[circuit].cell.sent += count
-                self.sent[circuit] = 0
+            facts.rows[circuit].cell.sent += count
+        self.sent.clear()
         return whole
 
     def _answered(self, asked: int) -> tuple[int, bool]:
@@ -196,12 +193,12 @@ class SessionReading:
         row.state(self.changed, state)
 
     def _command(self, circuit: str, command: str, code: str) -> None:
-        self._done(int(circuit), Command(int(command)).word, Kind.COMMAND, int(code))
+        self._done(circuit, Command(int(command)).word, Kind.COMMAND, code)
 
     def _codec(self, circuit: str, codec: str, payload: str, code: str) -> None:
-        self._done(int(circuit), f'codec {Codec(int(codec)).word(self.facts.law)} {payload}', Kind.CODEC, int(code))
+        self._done(circuit, f'codec {Codec(int(codec)).word(self.facts.law)} {payload}', Kind.CODEC, code)
 
-    def _done(self, circuit: int, words: str, kind: Kind, code: int) -> None:
+    def _done(self, circuit: str, words: str, kind: Kind, code: str) -> None:
         """A command that was done or refused. Its changes are reported next."""
-        self.changed, refusal = self.at, refusal_of(kind, code)
-        self.facts.command(circuit, self.at, words, refusal.words if refusal else '')
+        self.changed, refusal = self.at, refusal_of(kind, int(code))
+        self.facts.command(int(circuit), self.at, words, refusal.words if refusal else '')

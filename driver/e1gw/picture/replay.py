@@ -8,7 +8,7 @@ import subprocess
 import tempfile
 from contextlib import suppress
 
-from ..kept import PIECE, InputError
+from ..session_files import PIECE, InputError
 from ..lines import SEIZURE_WAIT, wait_words
 from ..session import trunk_record
 

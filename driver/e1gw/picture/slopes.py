@@ -2,7 +2,7 @@
 from __future__ import annotations
 
 from dataclasses import dataclass
-from statistics import median
+from statistics import fmean, linear_regression, median
 
 from .facts import FRAME, SECOND, Row
 
@@ -41,7 +41,7 @@ def _thinned(part: Points) -> Points:
     """At most this number of points, each the mean of neighbours."""
     each = -(-len(part) // POINTS)
     groups = [part[n:n + each] for n in range(0, len(part), each)]
-    return [(sum(x for x, _ in group) / len(group), sum(y for _, y in group) / len(group)) for group in groups]
+    return [(fmean(x for x, _ in group), fmean(y for _, y in group)) for group in groups]
 
 
 def steps(part: Points) -> list[Step]:
@@ -60,9 +60,6 @@ def steps(part: Points) -> list[Step]:
 def slope(part: Points) -> tuple[float, float, float]:
     """Of the straight line through points: parts in a million, its total change, and the points' distance from it, in
     samples."""
-    count = len(part)
-    x0, y0 = sum(x for x, _ in part) / count, sum(y for _, y in part) / count
-    square = sum((x - x0) ** 2 for x, _ in part)
-    gain = sum((x - x0) * (y - y0) for x, y in part) / square if square else 0.0
-    away = (sum((y - y0 - gain * (x - x0)) ** 2 for x, y in part) / count) ** 0.5
+    gain, first = linear_regression(*zip(*part))
+    away = fmean((y - first - gain * x) ** 2 for x, y in part) ** 0.5
     return gain * FRAME * 1e6, gain * (part[-1][0] - part[0][0]), away

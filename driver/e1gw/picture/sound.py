@@ -3,8 +3,9 @@
 Speech and tones are predicted well. Under the other law, or from code words in another order, they are noise."""
 from __future__ import annotations
 
-from dataclasses import dataclass
+from dataclasses import dataclass, fields
 from operator import mul
+from typing import NamedTuple
 
 from ..g711 import OTHER, VALUES, ZERO
 from ..session import OCTETS_A_SECOND
@@ -23,12 +24,16 @@ EIGHT = 8
 FLOATS = {law: [float(value) for value in values] for law, values in VALUES.items()}
 
 
-@dataclass(frozen=True, slots=True)
-class Sound:
+class Sound(NamedTuple):
     """Samples: their mean power relative to 0 dBm0, and the part of it that those before each do not predict, 0 to
     1."""
     power: float
     strange: float
+
+    def is_clearer(self, other: Sound) -> bool:
+        """Whether this is speech, and another reading of the same octets is not."""
+        return (self.strange * CLEARLY <= other.strange and self.strange <= SPEECH
+                and self.power <= other.power * LOUDER and min(self.power, other.power) >= FLOOR)
 
 
 def sound(octets: bytes, law: str) -> Sound:
@@ -47,18 +52,6 @@ def sound(octets: bytes, law: str) -> Sound:
     return Sound(along[0] / len(values) / ZERO[law], left / along[0])
 
 
-def _is_clearer(one: Sound, other: Sound) -> bool:
-    return (one.strange * CLEARLY <= other.strange and one.strange <= SPEECH
-            and one.power <= other.power * LOUDER)
-
-
-def clearer(one: Sound, other: Sound) -> int:
-    """1 if the first of two readings is clearly speech, -1 if the other is, 0 if neither is clear."""
-    if min(one.power, other.power) < FLOOR:
-        return 0
-    return _is_clearer(one, other) - _is_clearer(other, one)
-
-
 @dataclass(slots=True)
 class HeardSamples:
     """The samples of one direction of a circuit."""
@@ -70,17 +63,8 @@ class HeardSamples:
     under_other: float = 0.0            # under the other law
 
     def join(self, more: HeardSamples) -> None:
-        self.looks += more.looks
-        self.silent += more.silent
-        self.own += more.own
-        self.other += more.other
-        self.power += more.power
-        self.under_other += more.under_other
-
-    def vote(self, which: int) -> None:
-        """A sample, clear or not."""
-        self.own += which > 0
-        self.other += which < 0
+        for each in fields(self):
+            setattr(self, each.name, getattr(self, each.name) + getattr(more, each.name))
 
     def is_silence(self) -> bool:
         """Whether each sample had one octet only, and there are many."""
@@ -91,6 +75,11 @@ class HeardSamples:
         return self.other >= OFTEN and self.other >= MOSTLY * (self.own + self.other)
 
 
+def compared(own: Sound, other: Sound, silent: bool = False) -> HeardSamples:
+    """A sample in two readings, which should be the first."""
+    return HeardSamples(1, silent, own.is_clearer(other), other.is_clearer(own), own.power, other.power)
+
+
 def is_silent(octets: bytes) -> bool:
     """One octet only, as in silence."""
     return octets.count(octets[:1]) == len(octets)
@@ -98,10 +87,7 @@ def is_silent(octets: bytes) -> bool:
 
 def heard(octets: bytes, law: str) -> HeardSamples:
     """A sample of a circuit's octets of G.711, which should be in this law."""
-    own, other = sound(octets, law), sound(octets, OTHER[law])
-    seen = HeardSamples(1, is_silent(octets), power=own.power, under_other=other.power)
-    seen.vote(clearer(own, other))
-    return seen
+    return compared(sound(octets, law), sound(octets, OTHER[law]), is_silent(octets))
 
 
 class ListeningTimes:

@@ -5,7 +5,7 @@ import html
 import time
 from collections.abc import Iterable, Sequence
 
-from ..kept import Break
+from ..session_files import Break
 from .facts import SECOND
 
 LEFT, WIDE, RIGHT = 126, 1000, 14
@@ -16,11 +16,8 @@ STEPS = (0.01, 0.02, 0.05, 0.1, 0.2, 0.5, 1, 2, 5, 10, 20, 30, 60, 120, 300, 600
 
 def clock(second: float, digits: int = 3) -> str:
     """A time of the day, in UTC."""
-    whole = int(second)
-    part = f'{second - whole:.{digits}f}'
-    if part.startswith('1'):
-        whole, part = whole + 1, f'{0:.{digits}f}'
-    return time.strftime('%H:%M:%S', time.gmtime(whole)) + part[1:]
+    second = round(second, digits)
+    return time.strftime('%H:%M:%S', time.gmtime(second)) + f'{second % 1:.{digits}f}'[1:]
 
 
 class Scale:
@@ -111,14 +108,16 @@ class Sheet:
 
     def box(self, x: float, y: float, wide: float, high: float, kind: str, title: str = '') -> None:
         """A rectangle of a class, wide enough to be seen."""
-        told = f'><title>{html.escape(title)}</title></rect>' if title else '/>'
+        rest = f'><title>{html.escape(title)}</title></rect>' if title else '/>'
         self.out.append(f'<rect x="{x:.1f}" y="{y:g}" width="{max(wide, 0.8):.1f}" height="{high:g}" '
-                        f'class="{kind}"{told}')
+                        f'class="{kind}"{rest}')
 
-    def path(self, d: str, kind: str, title: str = '') -> None:
-        told = f'><title>{html.escape(title)}</title></path>' if title else '/>'
-        if d:
-            self.out.append(f'<path d="{d}" class="{kind}"{told}')
+    def path(self, parts: Iterable[str], kind: str, title: str = '', width: float = 0.0) -> None:
+        """A path of a class, of a text or its parts; nothing of none."""
+        rest = f'><title>{html.escape(title)}</title></path>' if title else '/>'
+        wide = f' style="stroke-width:{width:.1f}"' if width else ''
+        if d := ''.join(parts):
+            self.out.append(f'<path d="{d}" class="{kind}"{wide}{rest}')
 
     def words(self, x: float, y: float, words: str, kind: str = '', anchor: str = '') -> None:
         side = f' text-anchor="{anchor}"' if anchor else ''
@@ -126,15 +125,11 @@ class Sheet:
 
     def grid(self, scale: Scale, top: float, bottom: float) -> None:
         """Lines at round times, with their texts above."""
-        lines = []
         for x, words in scale.ticks():
-            lines.append(f'M{x:.1f} {top:g}V{bottom:g}')
-            middle = min(x, LEFT + WIDE - 10)
-            if middle + TICK * len(words) / 2 > LEFT + WIDE + RIGHT:
-                self.words(LEFT + WIDE + RIGHT - 1, top - 3, words, 'tick', 'end')
-            else:
-                self.words(middle, top - 3, words, 'tick', 'middle')
-        self.path(''.join(lines), 'grid')
+            right = LEFT + WIDE + RIGHT
+            place = (right - 1, 'end') if x + TICK * len(words) / 2 > right else (x, 'middle')
+            self.words(place[0], top - 3, words, 'tick', place[1])
+        self.path((f'M{x:.1f} {top:g}V{bottom:g}' for x, _ in scale.ticks()), 'grid')
 
     def drawn(self) -> str:
         return (f'<svg viewBox="0 0 {LEFT + WIDE + RIGHT} {self.height:g}" role="img" '

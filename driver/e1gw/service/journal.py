@@ -1,5 +1,5 @@
 """Lines for the operator, by the logging of Python: one thread writes them, so no slow disk or reader is waited for.
-The level of a module is set as anywhere: logging.getLogger('e1gw.service.keeper').setLevel(..)."""
+The level of a module is set as anywhere: logging.getLogger('e1gw.service.lifecycle').setLevel(..)."""
 from __future__ import annotations
 
 import logging

@@ -11,10 +11,10 @@ import sys
 import time
 from typing import Any, Callable
 
-from ..keep import put_file
+from ..ring import put_file
 from ..lines import Line
 from ..metrics import exposition, table
-from ..pipes import put_behind
+from ..priority import put_behind
 from ..sockets import SocketTables, with_sockets
 
 EVERY = 0.25                        # seconds between two statuses

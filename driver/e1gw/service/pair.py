@@ -14,7 +14,7 @@ from ..trunks import host_and_port
 from .chain import CarriedTrunk
 from .feed import FRESH, FeedServer
 from .journal import NOTICE
-from .keeper import ANEW, DEMOTED, GRACE, TICK, TrunkKeeper
+from .lifecycle import ANEW, DEMOTED, GRACE, TICK, TrunkKeeper
 from .program import LoggedProgram, TrunkProgram
 from .slot_trunk import before_signal
 from .standby import FedProgram, TrunkStandby

@@ -17,8 +17,8 @@ from dataclasses import dataclass, field
 from typing import Any, Callable, Mapping, Protocol
 
 from ..archive import FinishedPieces
-from ..keep import Ring
-from ..pipes import put_behind
+from ..ring import Ring
+from ..priority import put_behind
 from ..session import HEAD, Kind
 from ..writers import open_to_append, write_all
 from .log import Checkpoint

@@ -8,7 +8,7 @@ import time
 
 from .. import ctl
 from ..faults import Parser, words_of_fault
-from .keeper import TrunkKeeper, followed, refused
+from .lifecycle import TrunkKeeper, followed, refused
 from .log import Checkpoint
 from .recovery import Handover, Notifier
 from .version import VersionRefused, version_of_now

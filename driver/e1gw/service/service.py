@@ -23,7 +23,7 @@ from typing import Any, NoReturn
 
 from ..explain import config_words
 from ..faults import Parser, number, options_words, words_of_fault
-from ..keep import seconds_of
+from ..ring import seconds_of
 from ..lines import wait_words
 from ..options import add_calls, add_control, add_options, fields_of
 from ..programs import add_program, add_session, program_of, version_of
@@ -31,7 +31,7 @@ from ..writers import hold_descriptors
 from .commands import CannotListen
 from .devices import add_line, line_of, line_words, opening_of
 from .journal import ServiceJournal
-from .keeper import GRACE, TrunkKeeper, TrunkWants, followed
+from .lifecycle import GRACE, TrunkKeeper, TrunkWants, followed
 from .log import Checkpoint
 from .pair import add_pair, feeding_of, pair_of
 from .program import MOST_PATH, LoggedProgram, TrunkProgram

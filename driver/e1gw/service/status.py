@@ -12,9 +12,9 @@ from typing import Any, Callable
 from ..counts import DatagramCounts
 from ..faults import words_of_fault
 from ..lines import Event, read_config, tables_of
-from ..naming import Naming, note_of
+from ..call_names import Naming, note_of
 from ..session import CIRCUITS
-from ..told import BadTelling, Told
+from ..reports import BadTelling, Told
 
 AGAIN = 0.1                 # seconds between two tries to connect, and two looks
 REST, SHORT_REST = 0.05, 0.01       # between two reads of reports; the latter if somebody follows events

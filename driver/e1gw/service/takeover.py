@@ -14,7 +14,7 @@ from ..programs import SENDERS
 from .chain import CarriedTrunk
 from .follower import totals_in
 from .journal import NOTICE
-from .keeper import ANEW, GRACE, TrunkKeeper, TrunkWants, loaded
+from .lifecycle import ANEW, GRACE, TrunkKeeper, TrunkWants, loaded
 from .log import Checkpoint, take_file
 from .process import Child, start_of, text_of
 from .program import TrunkProgram, connected

@@ -4,7 +4,7 @@ from __future__ import annotations
 from ..counts import DatagramCounts
 from ..lines import Tell, read_config
 from ..picture.replay import Replay
-from ..told import Told
+from ..reports import Told
 
 
 class ReplayedTrunk(Told):

@@ -37,14 +37,9 @@ class CircuitEnd:
 
 
 @dataclass(frozen=True, slots=True)
-class TieCircuit:
+class TieCircuit(CircuitEnd):
     """One end of a circuit, and what is known of the other."""
 
-    role: Role
-    state: State
-    call: str | None
-    over: bool = False
-    passed: str = NO_CALL
     kept: bool = False          # blocked by the operator, who alone lifts it
     stuck: bool = False         # a release that the exchange does not follow
     far: CircuitEnd | None = None      # None: not yet received, or not joined with this end
@@ -145,12 +140,6 @@ def begun(known: TieCircuit | None, fresh: TieCircuit, is_kept: bool) -> TieCirc
     return replace(fresh, kept=blocked and (fresh.kept or is_kept))
 
 
-class CallNames:
-    """Names the calls of incoming circuits: by the life of the driver, and how often each was seized in it."""
-
-    def __init__(self) -> None:
-        self.life, self.seizures = '', dict[int, int]()
-
-    def latest(self, n: int) -> str:
-        """The name of the latest call of a circuit."""
-        return f'{self.life}.{self.seizures[n]}' if self.seizures[n] else NO_CALL
+def call_name(life: str, seizures: int) -> str:
+    """The name of the latest call of an incoming circuit: by the life of the trunk, and its number in it."""
+    return f'{life}.{seizures}' if seizures else NO_CALL

@@ -5,6 +5,7 @@ So a missed change is made later. Between the two changes each end refuses the p
 payload type, and plays silence."""
 from __future__ import annotations
 
+from dataclasses import dataclass
 from typing import Any, Callable, Iterable, NamedTuple
 
 from ..lines import State
@@ -24,6 +25,16 @@ LAWS = {'A': 'pcma', 'mu': 'pcmu'}
 ANSWERED = frozenset((State.ANSWERED, State.CLEAREDBACK))
 
 
+@dataclass
+class CircuitCoding:
+    """The codecs of a circuit, and whether a change is under way."""
+
+    configured: Coding
+    present: Coding
+    refused: Coding | None = None
+    is_changing: bool = False
+
+
 class CodecChanges:
     """Gives each circuit here the codec that it needs, by one change at a time. `asked` is the codec until the answer;
     without one codecs are left alone. `look` looks at a circuit again once a change is answered."""
@@ -31,23 +42,18 @@ class CodecChanges:
     def __init__(self, asked: str | None, trunk: TrunkLink, tell: Tell, look: Callable[[int], None]) -> None:
         self.own: str | None = None             # the same, if the circuits here can have it; sent to the other site
         self._asked, self._trunk, self._tell, self._look = asked, trunk, tell, look
-        self._changing: set[int] = set()        # circuits whose change is not yet answered
         self._heard: list[str | None] = []      # the other site's codec, once it is connected
-        self._configured: dict[int, Coding] = {}
-        self._present: dict[int, Coding] = {}
-        self._refused: dict[int, Coding] = {}
+        self._circuits: dict[int, CircuitCoding] = {}
 
     def begin(self, status: dict[str, Any]) -> None:
         """Takes the circuits of the trunk, and warns if they cannot have the codec asked for."""
         if self._asked is None:
             return
-        self._refused = {}
-        self._configured = {row['circuit']: Coding(row['configured_codec'], row['configured_payload'])
-                            for row in status['circuits']}
-        for row in status['circuits']:
-            self.stands(row)
-        fixed = [str(n) for n, coding in self._configured.items()
-                 if coding.codec != self._asked and coding.payload not in DYNAMIC]
+        self._circuits = {row['circuit']: CircuitCoding(Coding(row['configured_codec'], row['configured_payload']),
+                                                        Coding(row['codec'], row['payload']))
+                          for row in status['circuits']}
+        fixed = [str(n) for n, each in self._circuits.items()
+                 if each.configured.codec != self._asked and each.configured.payload not in DYNAMIC]
         self.own = None
         if LAWS.get(status['law']) != self._asked:
             self._warn(f'{self._asked} does not match the law of this trunk')
@@ -69,40 +75,40 @@ class CodecChanges:
 
     def stands(self, row: dict[str, Any]) -> None:
         """Takes a circuit's row of the status."""
-        if row['circuit'] in self._configured and row['circuit'] not in self._changing:
-            self._present[row['circuit']] = Coding(row['codec'], row['payload'])
+        circuit = self._circuits.get(row['circuit'])
+        if circuit and not circuit.is_changing:
+            circuit.present = Coding(row['codec'], row['payload'])
 
     def give(self, n: int, state: State) -> None:
         """Gives a circuit in this state the codec that it needs; none before the other site is connected. A refused
         change is retried only when another was needed."""
-        if not self._trunk.is_up or not self._heard or n not in self._configured or n in self._changing:
+        circuit = self._circuits.get(n)
+        if not circuit or circuit.is_changing or not self._trunk.is_up or not self._heard:
             return
-        wanted = self._configured[n]
+        wanted = circuit.configured
         if self.own and self._heard == [self.own] and state not in ANSWERED and wanted.codec != self.own:
             wanted = SIGNALLING[self.own]
-        if wanted not in (self._present[n], self._refused.get(n)):
-            self._changing.add(n)
-            self._trunk.begin(self._change(n, wanted))
+        if wanted not in (circuit.present, circuit.refused):
+            circuit.is_changing = True
+            self._trunk.begin(self._change(n, circuit, wanted))
 
-    async def _change(self, n: int, coding: Coding) -> None:
+    async def _change(self, n: int, circuit: CircuitCoding, coding: Coding) -> None:
         try:
             answer = (await self._trunk.ask(f'codec {n} {coding.codec} {coding.payload}')).rpartition(': ')[2]
         except (OSError, EOFError):
             return
         finally:
-            self._changing.discard(n)
+            circuit.is_changing = False
         self._tell('codec', circuit=n, codec=coding.codec, payload=coding.payload, answer=answer)
         if answer == 'done':
-            self._present[n] = coding
-            self._refused.pop(n, None)
+            circuit.present, circuit.refused = coding, None
         else:
-            self._refused[n] = coding
+            circuit.refused = coding
         self._look(n)
 
     async def leave(self, idle: Iterable[int]) -> None:
         """Restores the configured codec of these circuits, before the end."""
-        others = {n: coding for n, coding in self._configured.items() if coding != self._present[n]}
-        self._configured = {}
+        circuits, self._circuits = self._circuits, {}
         for n in idle:
-            if n in others and self._trunk.is_up:
-                await self._change(n, others[n])
+            if n in circuits and circuits[n].configured != circuits[n].present and self._trunk.is_up:
+                await self._change(n, circuits[n], circuits[n].configured)

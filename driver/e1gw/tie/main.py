@@ -17,11 +17,11 @@ from ..service.commands import CannotListen
 from ..service.events import EventFile, json_line, lines_to
 from ..trunks import host_and_port
 from ..writers import hold_descriptors
+from .blocked import BlockedCircuits
 from .coding import SIGNALLING
-from .kept import KeptBlocks
-from .pairs import BadPairs, Pairs, pairs_of
+from .pairs import Pairs, pairs_of
 from .site import Site, context_of
-from .status import StatusServer
+from .status import serve_status
 from .tie import Tie, TieOptions
 
 ABOUT = '''Joins the circuits of two gateways at two sites: a seizure at one end seizes the circuit at the other, and
@@ -83,28 +83,29 @@ def is_open(options: argparse.Namespace) -> bool:
 
 def read_map(path: str) -> Pairs:
     with open(path, encoding='utf-8', errors='replace') as file:
-        return pairs_of(file.read(MOST_MAP))
+        try:
+            return pairs_of(file.read(MOST_MAP))
+        except ValueError as fault:
+            raise ValueError(f'{path}: {fault}') from None
 
 
 def site_of(options: argparse.Namespace, tie: Tie) -> Site:
-    listens = options.listen is not None
     context: ssl.SSLContext | None = None
+    for path in options.tls or ():
+        with open(path, 'rb'):          # TLS would not say which of the three cannot be read
+            pass
     if options.tls:
-        certificate, key, authority = options.tls
-        for path in options.tls:
-            with open(path, 'rb'):      # TLS would not say which of the three cannot be read
-                pass
         try:
-            context = context_of(certificate, key, authority, listens)
+            context = context_of(options.tls, options.listen is not None)
         except OSError as fault:
             raise named(fault, f'--tls {" ".join(options.tls)}') from None
-    return Site(options.listen or options.connect, listens, context, options.peer, tie)
+    return Site(options.listen or options.connect, options.listen is not None, context, options.peer, tie)
 
 
 async def work(tie: Tie, site: Site, path: str | None, http: tuple[str, int] | None) -> int:
     """Runs until a signal asks for the end; returns the status."""
     try:
-        await StatusServer(tie).open(path, http)
+        await serve_status(tie, path, http)
     except (OSError, CannotListen) as fault:
         tie.tell('warning', about=f'nobody can ask how it stands: {words_of_fault(fault)}')
     loop, ends, status = asyncio.get_running_loop(), asyncio.Event(), 0
@@ -144,10 +145,10 @@ def main() -> None:
     try:
         pairs = read_map(options.map) if options.map else None
         wanted = TieOptions(options.control, pairs, options.hold, options.congestion == 'wait', options.until_answer)
-        tie = Tie(wanted, secrets.token_hex(8), KeptBlocks(options.state), tell)
+        tie = Tie(wanted, secrets.token_hex(8), BlockedCircuits(options.state), tell)
         site = tie.site = site_of(options, tie)
-    except (OSError, BadPairs, ValueError) as fault:
-        return refuse(f'{options.map}: {fault}' if isinstance(fault, BadPairs) else words_of_fault(fault))
+    except (OSError, ValueError) as fault:
+        return refuse(words_of_fault(fault))
     host, port = site.place
     tell('start', control=options.control, hold=options.hold, place=f'{host}:{port}',
          connection='TLS' if options.tls else 'neither secret nor authenticated: for 127.0.0.1 or a tunnel')

@@ -32,49 +32,32 @@ class Greeting:
 
 @dataclass(frozen=True)
 class SiteState:
-    """The state of a site."""
+    """What has changed at a site: whether its trunk is out of service, and states of circuits. All that is known if
+    `all` is set, with the codec that it can give its circuits until the answer."""
 
-    out_of_service: bool
+    out_of_service: bool | None
     ends: dict[int, CircuitEnd]
-    until_answer: str | None = None     # the codec that it can give its circuits until the answer
+    until_answer: str | None = None
+    all: bool = False
 
 
-@dataclass(frozen=True)
-class CircuitChange:
-    """The new state of a circuit."""
-
-    circuit: int
-    end: CircuitEnd
-
-
-@dataclass(frozen=True)
-class OutOfService:
-    """Whether the trunk of that site is out of service."""
-
-    out_of_service: bool
-
-
-@dataclass(frozen=True)
-class KeepAlive:
-    """A keepalive."""
-
-
-Message = Greeting | SiteState | CircuitChange | OutOfService | KeepAlive
+Message = Greeting | SiteState | None       # None: a keepalive
 
 
 def encode_message(message: Message) -> bytes:
-    """The line of a message."""
-    plain: dict[str, Any] = {'alive': True}
+    """The line of a message. (A change of a site is that of one circuit, or of its service.)"""
     match message:
-        case Greeting():
-            plain = {'tie': VERSION, 'run': message.run, 'pairs': message.pairs}
-        case SiteState():
-            plain = {'all': {n: asdict(end) for n, end in message.ends.items()}, 'dark': message.out_of_service,
-                     'until_answer': message.until_answer}
-        case CircuitChange():
-            plain = {'circuit': message.circuit, 'end': asdict(message.end)}
-        case OutOfService():
-            plain = {'dark': message.out_of_service}
+        case None:
+            plain: dict[str, Any] = {'alive': True}
+        case Greeting(run, pairs):
+            plain = {'tie': VERSION, 'run': run, 'pairs': pairs}
+        case SiteState(dark, ends, codec, all=True):
+            plain = {'all': {n: asdict(end) for n, end in ends.items()}, 'dark': dark, 'until_answer': codec}
+        case SiteState(None, ends):
+            (circuit, end), = ends.items()
+            plain = {'circuit': circuit, 'end': asdict(end)}
+        case SiteState(dark):
+            plain = {'dark': dark}
     return json.dumps(plain).encode() + b'\n'
 
 
@@ -92,13 +75,13 @@ def message_of(line: bytes) -> Message:
         case {'all': dict(ends), 'dark': bool(dark)}:
             codec = fields.get('until_answer')
             return SiteState(dark, {_circuit(n): _end(end) for n, end in ends.items()},
-                             None if codec is None else _name(codec))
+                             None if codec is None else _name(codec), True)
         case {'circuit': circuit, 'end': end}:
-            return CircuitChange(_circuit(circuit), _end(end))
+            return SiteState(None, {_circuit(circuit): _end(end)})
         case {'dark': bool(dark)} if not fields.keys() & {'tie', 'all', 'circuit'}:
-            return OutOfService(dark)
+            return SiteState(dark, {})
         case {'alive': _}:
-            return KeepAlive()
+            return None
     raise BadMessage('an unknown message')
 
 

@@ -6,9 +6,10 @@ import ipaddress
 import os
 import ssl
 from collections import Counter
+from collections.abc import Sequence
 from typing import TYPE_CHECKING, Any
 
-from .messages import MOST, BadMessage, Greeting, KeepAlive, Message, encode_message, message_of
+from .messages import MOST, BadMessage, Greeting, Message, encode_message, message_of
 
 if TYPE_CHECKING:
     from .tie import Tie
@@ -17,8 +18,7 @@ ALIVE = 0.5                 # seconds between two keepalives
 GONE = 2.0                  # seconds without one after which the connection is given up
 AGAIN = 0.25                # seconds until a connection is retried
 HANDSHAKE = 5.0             # seconds for a connection until it has greeted
-STRANGERS = 8               # connections that have not greeted
-BACKLOG = 8                 # connections that the system queues
+STRANGERS = 8               # connections that have not greeted, and those that the system queues
 MOST_WAITING = 1 << 20      # octets not yet taken by the other site
 MINUTE, MOST_REASONS = 60.0, 10     # seconds in which a reason why nobody is connected is told once, and how many are
 
@@ -27,8 +27,10 @@ class SiteRefused(Exception):
     """A refused connection; the words say why."""
 
 
-def context_of(certificate: str, key: str, authority: str, listens: bool) -> ssl.SSLContext:
-    """TLS 1.3 in which both ends show a certificate of that authority. OSError for a bad file."""
+def context_of(files: Sequence[str], listens: bool) -> ssl.SSLContext:
+    """TLS 1.3 in which both ends show a certificate, by the files of this end's one, of its key and of the authority
+    of both. OSError for a bad file."""
+    certificate, key, authority = files
     context = ssl.SSLContext(ssl.PROTOCOL_TLS_SERVER if listens else ssl.PROTOCOL_TLS_CLIENT)
     context.minimum_version = ssl.TLSVersion.TLSv1_3
     context.verify_mode = ssl.CERT_REQUIRED
@@ -37,22 +39,14 @@ def context_of(certificate: str, key: str, authority: str, listens: bool) -> ssl
     return context
 
 
-def words_of_no_connection(fault: BaseException, place: str) -> str:
-    """Why there is no connection: a system error by its name and the place, otherwise its own words."""
-    if isinstance(fault, OSError) and fault.errno and fault.errno > 0 and not isinstance(fault, ssl.SSLError):
-        return f'{place}: {os.strerror(fault.errno)}'
-    return str(fault) or f'{place}: no answer'
-
-
 def has_name(certificate: dict[str, Any] | None, name: str) -> bool:
     """Whether a certificate names that host or address."""
     names = certificate.get('subjectAltName', ()) if certificate else ()
     try:
-        wanted: tuple[str, object] = ('IP Address', ipaddress.ip_address(name))
-        found = [(kind, ipaddress.ip_address(text.strip())) for kind, text in names if kind == 'IP Address']
+        wanted = ipaddress.ip_address(name)
+        return wanted in [ipaddress.ip_address(text.strip()) for kind, text in names if kind == 'IP Address']
     except ValueError:
-        return ('DNS', name.lower()) in [(kind, text.lower()) for kind, text in names if kind == 'DNS']
-    return wanted in found
+        return ('DNS', name.lower()) in [(kind, text.lower()) for kind, text in names]
 
 
 class Site:
@@ -94,16 +88,18 @@ class Site:
         """Keeps the connection up for ever. OSError if it cannot listen at this place."""
         host, port = self.place
         if self.listens:
-            server = await asyncio.start_server(self._came, host, port, limit=MOST, backlog=BACKLOG)
-            await server.serve_forever()
+            await (await asyncio.start_server(self._came, host, port, limit=MOST, backlog=STRANGERS)).serve_forever()
         more: dict[str, Any] = {'ssl': self.context, 'server_hostname': self.name or host} if self.context else {}
         while True:
             try:
                 async with asyncio.timeout(HANDSHAKE):
                     streams = await asyncio.open_connection(host, port, limit=MOST, **more)
                 await self._hold(*streams)
+            except ssl.SSLError as fault:
+                self.turned_away(str(fault))
             except OSError as fault:
-                self.turned_away(words_of_no_connection(fault, f'{host}:{port}'))
+                why = os.strerror(fault.errno) if fault.errno and fault.errno > 0 else str(fault) or 'no answer'
+                self.turned_away(f'{host}:{port}: {why}')
             await asyncio.sleep(AGAIN)
 
     async def _came(self, reader: asyncio.StreamReader, writer: asyncio.StreamWriter) -> None:
@@ -126,22 +122,22 @@ class Site:
 
     async def _hold(self, reader: asyncio.StreamReader, writer: asyncio.StreamWriter) -> None:
         """Runs a connection from start to end."""
-        why, task = 'closed', asyncio.current_task()
+        why = ''
         try:
             async with asyncio.timeout(HANDSHAKE):
                 greeting = await self._greeted(reader, writer)
-            if task in self._strangers:
-                del self._strangers[task]
             self._take_up(greeting, writer)
-            while (message := await read_one(reader)) is not None and self._writer is writer:
-                self._tie.heard(message)
+            while self._writer is writer:
+                self._tie.heard(await read_one(reader))
+        except EOFError:
+            pass
         except Exception as fault:      # pylint: disable=broad-exception-caught
             why = str(fault) or ('no keepalive' if self._writer is writer else 'it sends nothing')
-            if self._writer is not writer:
-                self.turned_away(why)
         finally:
             if self._writer is writer:
-                self._gone(why)
+                self._gone(why or 'closed')
+            elif why:
+                self.turned_away(why)
             writer.transport.abort()
 
     async def _greeted(self, reader: asyncio.StreamReader, writer: asyncio.StreamWriter) -> Greeting:
@@ -152,13 +148,18 @@ class Site:
             if self.name and not has_name(writer.get_extra_info('peercert'), self.name):
                 raise SiteRefused(f'its certificate is not that of {self.name}')
         writer.write(encode_message(self._tie.own_greeting))
-        greeting = await read_one(reader)
+        try:
+            greeting = await read_one(reader)
+        except EOFError:
+            raise SiteRefused('it closed the connection') from None
         if not isinstance(greeting, Greeting):
-            raise SiteRefused('it sends no greeting' if greeting else 'it closed the connection')
+            raise SiteRefused('it sends no greeting')
         return greeting
 
     def _take_up(self, greeting: Greeting, writer: asyncio.StreamWriter) -> None:
         """Makes this the present connection; another one of the same run is dead and not yet closed."""
+        if (task := asyncio.current_task()) in self._strangers:
+            del self._strangers[task]
         if self._writer is not None:
             if self._run != greeting.run:
                 raise SiteRefused('another one is connected')
@@ -175,15 +176,17 @@ class Site:
     def _sign(self, writer: asyncio.StreamWriter) -> None:
         """Sends keepalives as long as this is the present connection."""
         if self._writer is writer:
-            self.send(KeepAlive())
+            self.send(None)
             asyncio.get_running_loop().call_later(ALIVE, self._sign, writer)
 
 
-async def read_one(reader: asyncio.StreamReader) -> Message | None:
-    """The next message; None at the end. TimeoutError if it is late, BadMessage if it is invalid."""
+async def read_one(reader: asyncio.StreamReader) -> Message:
+    """The next message. EOFError at the end, TimeoutError if it is late, BadMessage if it is invalid."""
     async with asyncio.timeout(GONE):
         try:
             line = await reader.readline()
         except ValueError:
             raise BadMessage('a line is too long') from None
-    return message_of(line) if line else None
+    if not line:
+        raise EOFError
+    return message_of(line)

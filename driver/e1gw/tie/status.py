@@ -20,6 +20,7 @@ SECONDS = 60.0              # for one who asks at the socket
 MODE = 0o660                # of the socket
 MOST_LINE = 4096            # octets of a line, and of a request
 HEAD = 'here there role     state       there is    remark'
+REMARKS = {'over': 'given up', 'kept': 'blocked by the operator', 'stuck': 'release not followed'}
 
 
 def status_of(tie: Tie) -> dict[str, Any]:
@@ -38,21 +39,16 @@ def status_of(tie: Tie) -> dict[str, Any]:
              'stuck': its.stuck} for n, its in circuits.items()]}
 
 
-def _remark(row: dict[str, Any]) -> str:
-    words = {'over': 'given up', 'kept': 'blocked by the operator', 'stuck': 'release not followed'}
-    return ', '.join(text for key, text in words.items() if row[key])
-
-
 def table(status: dict[str, Any]) -> str:
     """A tie for people."""
-    def trunk(dark: bool) -> str:
-        return 'out of service' if dark else 'in service'
+    here, there = ('out of service' if status[dark] else 'in service' for dark in ('dark', 'far_dark'))
     rows = [f'{row["circuit"]:4} {row["there"]:5} {row["role"]:8} {row["state"]:11} '
-            f'{row["far_state"] or "not known":11} {_remark(row)}'.rstrip() for row in status['circuits']]
+            f'{row["far_state"] or "not known":11} '
+            f'{", ".join(text for key, text in REMARKS.items() if row[key])}'.rstrip() for row in status['circuits']]
     return '\n'.join([
         f'tie of {status["control"]}, up {status["uptime"]:.0f} s: link {status["link"]}',
-        f'this trunk: {trunk(status["dark"]) if status["trunk"] else "not connected"}; the other site: '
-        + (f'connected, its trunk {trunk(status["far_dark"])}' if status['site'] else 'not connected'),
+        f'this trunk: {here if status["trunk"] else "not connected"}; the other site: '
+        + (f'connected, its trunk {there}' if status['site'] else 'not connected'),
         f'circuits joined {len(rows)}, calls {status["calls"]}, calls given up {status["given_up"]}', HEAD, *rows, ''])
 
 
@@ -95,35 +91,22 @@ class TiePages(TrunkPages):
         return TieTexts(self._status())
 
 
-class StatusServer:
-    """Answers who asks how a tie stands."""
+async def serve_status(tie: Tie, path: str | None, http: tuple[str, int] | None) -> None:
+    """Answers who asks how a tie stands, at a Unix socket and over HTTP. OSError or CannotListen where it cannot."""
+    pages = TiePages(tie)
 
-    def __init__(self, tie: Tie) -> None:
-        self._pages = TiePages(tie)
-
-    async def open(self, path: str | None, http: tuple[str, int] | None) -> None:
-        """Listens at a Unix socket, and for HTTP. OSError or CannotListen where it cannot."""
-        if path:
-            await asyncio.start_unix_server(self._came, sock=unix_listener(path, MODE, None), limit=MOST_LINE)
-        if http:
-            await asyncio.start_server(WebServer(self._pages).came, *http, limit=MOST_LINE)
-
-    async def _came(self, reader: asyncio.StreamReader, writer: asyncio.StreamWriter) -> None:
-        """A client: a line in, an answer and an empty line out."""
+    async def came(reader: asyncio.StreamReader, writer: asyncio.StreamWriter) -> None:
         with suppress(OSError, ValueError):
             async with asyncio.timeout(SECONDS):
                 while line := await reader.readline():
-                    writer.write(f'{await self._answer(line.split())}\n\n'.encode())
+                    now = await pages.fresh()
+                    texts = {'status': now.table, 'status json': now.json, 'metrics': now.metrics}
+                    words = ' '.join(line.decode(errors='replace').split())
+                    answer = texts.get(words, 'there are status, status json and metrics').rstrip('\n')
+                    writer.write(f'{answer}\n\n'.encode())
                     await writer.drain()
         writer.close()
-
-    async def _answer(self, words: list[bytes]) -> str:
-        now = await self._pages.fresh()
-        match words:
-            case [b'status']:
-                return now.table.rstrip('\n')
-            case [b'status', b'json']:
-                return now.json
-            case [b'metrics']:
-                return now.metrics.rstrip('\n')
-        return 'there are status, status json and metrics'
+    if path:
+        await asyncio.start_unix_server(came, sock=unix_listener(path, MODE, None), limit=MOST_LINE)
+    if http:
+        await asyncio.start_server(WebServer(pages).came, *http, limit=MOST_LINE)

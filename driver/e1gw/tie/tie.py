@@ -9,10 +9,10 @@ from typing import Any, Callable
 
 from ..lines import IN_CALL, Event, Role, State
 from ..session import Command
-from .circuit import NO_CALL, CallNames, CircuitEnd, LinkState, TieCircuit, begun
+from .blocked import BlockedCircuits
+from .circuit import NO_CALL, CircuitEnd, LinkState, TieCircuit, begun, call_name
 from .coding import CodecChanges
-from .kept import KeptBlocks
-from .messages import CircuitChange, Greeting, Message, OutOfService, SiteState
+from .messages import Greeting, Message, SiteState
 from .pairs import Pairs, agreed
 from .site import Site
 from .trunk import Tell, TrunkLink
@@ -67,8 +67,8 @@ class LinkWatch:
 class Tie:
     """Joins the circuits of the trunk here with those of the other site."""
 
-    def __init__(self, options: TieOptions, run: str, kept: KeptBlocks, tell: Tell) -> None:
-        self.options, self.kept, self.tell = options, kept, tell
+    def __init__(self, options: TieOptions, run: str, blocked: BlockedCircuits, tell: Tell) -> None:
+        self.options, self.blocked, self.tell = options, blocked, tell
         self.own_greeting, self.start = Greeting(run, options.pairs), time.monotonic()
         self.site: Site | None = None
         self.circuits: dict[int, TieCircuit] = {}
@@ -79,7 +79,7 @@ class Tie:
         self.codecs = CodecChanges(options.until_answer, self.trunk, tell, self._look_at_codec)
         self.done = Counter[tuple[str, str]]()          # how often which command got which answer
         self.given_up = 0                               # calls that could not be set up, or that were lost
-        self._calls = CallNames()
+        self._life, self._seizures = '', dict[int, int]()       # of the trunk, and how often each line was seized in it
         self._timers: dict[int, asyncio.TimerHandle] = {}       # until a release is stuck
         self.far: dict[int, CircuitEnd] | None = None           # the other site's states, by its numbers; None: unknown
         self._busy: dict[int, Command] = {}
@@ -96,13 +96,13 @@ class Tie:
 
     def begin(self, status: dict[str, Any]) -> None:
         """Takes all circuits from the trunk, with what is remembered of their calls."""
-        self._calls.life = status['life']
+        self._life = status['life']
         for row in status['circuits']:
             n, role, state = row['circuit'], Role(row['role']), State(row['state'])
-            self._calls.seizures[n] = row['seizures']
+            self._seizures[n] = row['seizures']
             known = self.circuits.get(n)
-            call = self._calls.latest(n) if role is Role.INCOMING else known.call if known else None
-            self.circuits[n] = begun(known, TieCircuit(role, state, call), self.kept.has(n))
+            call = call_name(self._life, self._seizures[n]) if role is Role.INCOMING else known.call if known else None
+            self.circuits[n] = begun(known, TieCircuit(role, state, call), n in self.blocked.circuits)
             self._moved(n)
         states = Counter(str(circuit.state) for circuit in self.circuits.values())
         self.tell('trunk', states=dict(sorted(states.items())))
@@ -119,8 +119,8 @@ class Tie:
             n = row['circuit']
             self.codecs.stands(row)
             if n not in self._busy:
-                circuit, state, self._calls.seizures[n] = self.circuits[n], State(row['state']), row['seizures']
-                call = self._calls.latest(n) if circuit.role is Role.INCOMING else circuit.call
+                circuit, state, self._seizures[n] = self.circuits[n], State(row['state']), row['seizures']
+                call = call_name(self._life, self._seizures[n]) if circuit.role is Role.INCOMING else circuit.call
                 if state is not circuit.state or call != circuit.call:
                     self._put(n, circuit.moved(state, None if call == circuit.call else call))
             self._look_at_codec(n)
@@ -139,8 +139,8 @@ class Tie:
     def _state(self, n: int, was: State, state: State) -> None:
         circuit, call = self.circuits[n], None
         if circuit.role is Role.INCOMING and state is State.ACKED and was is State.IDLE:
-            self._calls.seizures[n] += 1
-            call = self._calls.latest(n)
+            self._seizures[n] += 1
+            call = call_name(self._life, self._seizures[n])
         if self._busy.get(n) is Command.SEIZE and state is State.SEIZED and circuit.far:
             circuit = circuit.tried(circuit.far.call or NO_CALL)
         circuit = circuit.moved(state, call)
@@ -168,7 +168,7 @@ class Tie:
         """Takes a circuit's new values: sends them to the other site and acts on them."""
         before, self.circuits[n] = self.circuits[n], circuit
         if before.kept is not circuit.kept:
-            self.kept.put(n for n, each in self.circuits.items() if each.kept)
+            self.blocked.put(n for n, each in self.circuits.items() if each.kept)
         if before.end() != circuit.end():
             self._send(n)
         if before.state is not circuit.state:
@@ -233,7 +233,7 @@ class Tie:
     async def leave(self) -> None:
         """Restores the configured codec of circuits without a call, before the end."""
         await self.codecs.leave(n for n, circuit in self.circuits.items() if circuit.state not in IN_CALL)
-        await self.kept.close()
+        await self.blocked.close()
 
     # ---- the link ----
 
@@ -243,7 +243,7 @@ class Tie:
             self.out_of_service = on
             self.tell('dark' if on else 'light')
             if self.site:
-                self.site.send(OutOfService(on))
+                self.site.send(SiteState(on, {}))
             self._look_at_link()
 
     def _look_at_link(self) -> None:
@@ -265,21 +265,23 @@ class Tie:
         self._send_all()
 
     def heard(self, message: Message) -> None:
-        match message:
-            case SiteState():
-                self.far, self.far_out_of_service = dict(message.ends), message.out_of_service
-                self.codecs.heard(message.until_answer)
-                self._join()
-                self._look_at_link()
-                self._look_at_all()
-            case CircuitChange(circuit, end) if self.far is not None:
-                self.far[circuit] = end
-                for here, there in self.there.items():
-                    if there == circuit and here in self.circuits:
-                        self._put(here, self.circuits[here].heard(end))
-            case OutOfService(far_out_of_service):
-                self.far_out_of_service = far_out_of_service
-                self._look_at_link()
+        """Takes what the other site says; a keepalive is nothing."""
+        if not isinstance(message, SiteState):
+            return
+        if message.out_of_service is not None:
+            self.far_out_of_service = message.out_of_service
+        if message.all:
+            self.far = dict(message.ends)
+            self.codecs.heard(message.until_answer)
+            self._join()
+        elif self.far is not None:
+            self.far |= message.ends
+            for here, there in self.there.items():
+                if there in message.ends and here in self.circuits:
+                    self._put(here, self.circuits[here].heard(message.ends[there]))
+        self._look_at_link()
+        if message.all:
+            self._look_at_all()
 
     def gone(self, why: str) -> None:
         self.tell('site gone', why=why)
@@ -288,28 +290,26 @@ class Tie:
 
     def _join(self) -> None:
         """Gives each circuit the other site's state of its other end."""
-        alike = []
-        for here, there in self.there.items():
-            end = self.far.get(there) if self.far else None
-            if here in self.circuits and end:
-                before = self.circuits[here]
-                self.circuits[here] = before.heard(end)
-                if before.end() != self.circuits[here].end():
-                    self._send(here)
-                if end.role is before.role:
-                    alike.append(here)
+        alike, far = [], self.far or {}
+        for here, end in ((here, far[there]) for here, there in self.there.items()
+                          if here in self.circuits and there in far):
+            before, self.circuits[here] = self.circuits[here], self.circuits[here].heard(end)
+            if before.end() != self.circuits[here].end():
+                self._send(here)
+            if end.role is before.role:
+                alike.append(here)
         if alike:
             self.tell('warning', about='both ends have the same role', circuits=alike)
 
     def _send(self, n: int) -> None:
         if self.site and n in self.there:
-            self.site.send(CircuitChange(n, self.circuits[n].end()))
+            self.site.send(SiteState(None, {n: self.circuits[n].end()}))
 
     def _send_all(self) -> None:
         """Sends the state of all circuits, once it is known."""
         if self.site and self.circuits:
             ends = {n: self.circuits[n].end() for n in self.there if n in self.circuits}
-            self.site.send(SiteState(self.out_of_service, ends, self.codecs.own))
+            self.site.send(SiteState(self.out_of_service, ends, self.codecs.own, all=True))
         if self.far is not None:
             self._join()
             self._look_at_link()

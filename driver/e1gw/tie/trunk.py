@@ -28,7 +28,6 @@ class TrunkLink:
         self._writer: asyncio.StreamWriter | None = None
         self._asked: deque[asyncio.Future[str]] = deque()
         self._tasks: set[asyncio.Task[None]] = set()
-        self._why = ''                                  # why it is lost
 
     def begin(self, work: Coroutine[Any, Any, None]) -> None:
         """Begins to give a command. The task is held until it is done."""
@@ -37,40 +36,43 @@ class TrunkLink:
         task.add_done_callback(self._tasks.discard)
 
     async def follow(self) -> None:
-        """Keeps the connection up for ever."""
+        """Keeps the connection up for ever, and tells each reason once why it is not."""
+        before = ''
         while True:
+            why = ''
             try:
-                await self._follow()
-            except (OSError, EOFError, ValueError, KeyError, TypeError) as fault:
+                reader, self._writer = await asyncio.open_unix_connection(self._path, limit=MOST)
+                async with asyncio.TaskGroup() as group:
+                    group.create_task(self._read(reader))
+                    await self._look()
+            except* (OSError, EOFError, ValueError, KeyError, TypeError) as faults:
+                fault = faults.exceptions[0]
                 why = words_of_fault(fault, self._path) or type(fault).__name__
-                if why != self._why:
-                    self._tell('trunk gone', why=why)
-                self._why = why
+            finally:
+                before = '' if self.is_up else before
+                if self._writer:
+                    self._writer.close()
+                self.is_up, self._writer = False, None
+            if why != before:
+                self._tell('trunk gone', why=why)
+            before = why
             self._tie.lost()
             await asyncio.sleep(SOON)
 
-    async def _follow(self) -> None:
-        reader, self._writer = await asyncio.open_unix_connection(self._path, limit=MOST)
-        reading = asyncio.create_task(self._read(reader))
-        try:
-            await self.ask('events')
-            await self._ask_on_loss()
-            while not reading.done():
-                status = json.loads(await self.ask('status json'))
-                if self.is_up:
-                    self._tie.stands(status)
-                elif status['life'] is not None:        # it knows how often each line was seized
-                    self.is_up, self._why = True, ''
-                    self._tie.begin(status)
-                await asyncio.wait((reading,), timeout=LOOK if self.is_up else SOON)
-            reading.result()
-        finally:
-            self.is_up = False
-            self._writer.close()
-            self._writer = None
-            reading.cancel()
-            await asyncio.wait((reading,))
-            reading.cancelled() or reading.exception()
+    async def _look(self) -> None:
+        """Looks at the trunk again and again, which ends calls and blocks circuits if this program dies."""
+        await self.ask('events')
+        answer = await self.ask(f'on-loss block {self._hold:g}')
+        if not answer.endswith('done'):
+            self._tell('warning', about='the trunk clears no calls if this program dies', answer=answer)
+        while True:
+            status = json.loads(await self.ask('status json'))
+            if self.is_up:
+                self._tie.stands(status)
+            elif status['life'] is not None:            # it knows how often each line was seized
+                self.is_up = True
+                self._tie.begin(status)
+            await asyncio.sleep(LOOK if self.is_up else SOON)
 
     async def _read(self, reader: asyncio.StreamReader) -> None:
         """Reads until the trunk closes the connection, which is EOFError or OSError."""
@@ -88,14 +90,13 @@ class TrunkLink:
                         answer.set_result('\n'.join(lines))
                     lines = []
                     await asyncio.sleep(0)              # who has asked goes on before an event behind the answer
+            raise EOFError('the trunk has closed the connection')
         except ValueError:
             raise EOFError('a line of the trunk is too long') from None
         finally:
-            for answer in self._asked:
-                if not answer.done():
+            while self._asked:
+                if not (answer := self._asked.popleft()).done():
                     answer.set_exception(EOFError('the trunk is gone'))
-            self._asked.clear()
-        raise EOFError('the trunk has closed the connection')
 
     async def ask(self, line: str) -> str:
         """The answer to a line. OSError or EOFError without one in time."""
@@ -111,12 +112,6 @@ class TrunkLink:
             if self._writer:
                 self._writer.close()
             raise EOFError('the trunk does not answer') from None
-
-    async def _ask_on_loss(self) -> None:
-        """Asks the trunk to end calls and block circuits if this program dies."""
-        answer = await self.ask(f'on-loss block {self._hold:g}')
-        if not answer.endswith('done'):
-            self._tell('warning', about='the trunk clears no calls if this program dies', answer=answer)
 
 
 def event_of(line: str) -> Event | None:

@@ -26,8 +26,8 @@ import sys
 from typing import BinaryIO, Iterable, Iterator
 
 from ..faults import words_of_fault
-from ..kept import InputError, Source, beside, octets_of
-from ..raw import DOUBLE, FAS, REVERSED, SIGNALS, is_frame, raw_words_of
+from ..session_files import InputError, Source, beside, octets_of
+from ..frames import DOUBLE, FAS, REVERSED, SIGNALS, is_frame, raw_words_of
 from ..session import (CIRCUITS, FRAME, OCTETS_A_SECOND, BadPacket, BadSession, Kind, Readable, Record, packet_of,
                        records, trunk_record)
 

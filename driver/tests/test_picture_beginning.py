@@ -13,8 +13,8 @@ from . import support
 from .picture_made import MadeSession, PictureSender, coded, packets
 from .support import SECONDS
 from .test_archive import RingCase, octets_in
-from e1gw.kept import kept
-from e1gw.picture.begun import begin
+from e1gw.session_files import kept
+from e1gw.picture.beginning import begin
 from e1gw.picture.facts import Facts
 from e1gw.picture.main import gathered
 from e1gw.session import OCTETS_A_SECOND, Kind, trunk_record

@@ -4,9 +4,9 @@ from __future__ import annotations
 import unittest
 from typing import Any
 
-from .telling import IDLE, row
+from .stand_ins import IDLE, row
 from e1gw.counts import DatagramCounts
-from e1gw.told import BadTelling, Told
+from e1gw.reports import BadTelling, Told
 
 BEGIN = ['e1gw tell 1 A', 'at 512', 'alarms 0 0 0 0', *(f'line {each}' for each in IDLE)]
 

@@ -11,7 +11,9 @@ from typing import Any, Callable
 from unittest import mock
 
 from . import support
-from e1gw import archive, keep, kept
+from e1gw import archive
+from e1gw.ring import MOST_EARLIER, MOST_SLIPS, Ring
+from e1gw.session_files import beside, kept
 
 assert support.TOP
 KEPT = 60           # seconds, in files of five
@@ -34,7 +36,7 @@ class RingTests(support.FolderCase):
         clock = types.SimpleNamespace(monotonic=lambda: self.passed, time=lambda: self.day, strftime=time.strftime,
                                       gmtime=lambda: time.gmtime(self.day))
         threads = types.SimpleNamespace(Thread=ThreadAtOnce)
-        for each in (mock.patch.object(keep, 'time', clock), mock.patch.object(archive, 'threading', threads)):
+        for each in (mock.patch('e1gw.ring.time', clock), mock.patch.object(archive, 'threading', threads)):
             each.start()
             self.addCleanup(each.stop)
         self.zstd = ''
@@ -42,7 +44,7 @@ class RingTests(support.FolderCase):
     def play(self, seconds: int, steps: dict[int, float] | None = None, first: int = 0, state: bytes = b'') -> None:
         """A session of this number of seconds, a line for each, while the clock of the day is set by these steps."""
         behind = archive.FinishedPieces(zstd=self.zstd or None)
-        ring = keep.Ring(self.ring, 'we.st', self.config, KEPT, behind, state=state)
+        ring = Ring(self.ring, 'we.st', self.config, KEPT, behind, state=state)
         ring.open()
         for second in range(first, first + seconds):
             ring.places.append(second)
@@ -106,21 +108,21 @@ class RingTests(support.FolderCase):
     def test_runs_that_end_at_once(self) -> None:
         for run in range(100):
             self.play(1, first=run)
-        self.assertEqual(self.kept(), list(range(99 - keep.MOST_EARLIER, 100)))
+        self.assertEqual(self.kept(), list(range(99 - MOST_EARLIER, 100)))
 
     def test_twelve_in_a_second(self) -> None:
         """They are read, and dropped, in the order in which they began."""
         for run in range(12):
             self.play(1, first=run, state=b'state')
             self.day -= 1
-        files = kept.kept(self.ring).files
-        self.assertEqual([kept.beside(file)['place'] for file in files], [*range(12)])
-        with mock.patch.object(keep, 'MOST_EARLIER', 3):
+        files = kept(self.ring).files
+        self.assertEqual([beside(file)['place'] for file in files], [*range(12)])
+        with mock.patch('e1gw.ring.MOST_EARLIER', 3):
             self.play(1, first=12)
         self.assertEqual(self.kept(), [9, 10, 11, 12])
 
     def test_slips_are_noted_beside_their_file(self) -> None:
-        ring = keep.Ring(self.ring, 'west', self.config, KEPT, archive.FinishedPieces(zstd=None))
+        ring = Ring(self.ring, 'west', self.config, KEPT, archive.FinishedPieces(zstd=None))
         ring.open()
         for second in range(3 * EACH):
             if second in (1, 2, 7):
@@ -129,7 +131,7 @@ class RingTests(support.FolderCase):
             ring.write(b'%d\n' % second)
             self.passed += 1
             self.day += 1
-        ring.slips.extend([(99, 0.1)] * 2 * keep.MOST_SLIPS)
+        ring.slips.extend([(99, 0.1)] * 2 * MOST_SLIPS)
         ring.places.append(99)
         ring.write(b'99\n')
         ring.close()
@@ -138,19 +140,19 @@ class RingTests(support.FolderCase):
             with open(os.path.join(self.ring, name), encoding='utf-8') as file:
                 noted.append(json.load(file).get('slips', []))
         self.assertEqual(noted[:3], [[[1, 0.25], [2, 0.25]], [[7, 0.25]], []])
-        self.assertEqual(len(noted[3]), keep.MOST_SLIPS)
+        self.assertEqual(len(noted[3]), MOST_SLIPS)
         self.assertEqual(self.files('.part'), [])
         self.assertEqual({stat.S_IMODE(os.stat(os.path.join(self.ring, name)).st_mode)
                           for name in self.files('.json')}, {0o640})
 
     def test_another_ring_goes_on(self) -> None:
         """With the file that was written last, and with one that was announced and is not there yet."""
-        def ring() -> keep.Ring:
-            found = keep.Ring(self.ring, 'we.st', self.config, KEPT, archive.FinishedPieces(zstd=None))
+        def ring() -> Ring:
+            found = Ring(self.ring, 'we.st', self.config, KEPT, archive.FinishedPieces(zstd=None))
             found.open()
             return found
 
-        def write(its: keep.Ring, seconds: range) -> dict[str, Any]:
+        def write(its: Ring, seconds: range) -> dict[str, Any]:
             for second in seconds:
                 its.places.append(second)
                 its.write(b'%d\n' % second)

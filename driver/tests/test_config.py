@@ -10,7 +10,7 @@ import unittest
 from typing import Any
 
 from . import support
-from e1gw.making import options_text, parser, plan_of, text_of
+from e1gw.config import options_text, parser, plan_of, text_of
 
 LAUNCHER = os.path.join(support.TOP, 'driver', 'e1gw-config')
 

@@ -220,7 +220,7 @@ class KeeperCase(support.FolderCase):
         return {circuit: ANSWERED if circuit % 2 else SEIZED for circuit in CIRCUITS}
 
     def within(self, **of_modules: Any) -> dict[str, str]:
-        """The environment in which these limits of the service hold: keeper_START=0.5 is keeper.START."""
+        """The environment in which these limits of the service hold: lifecycle_START=0.5 is lifecycle.START."""
         return limits.around({f'service.{name.replace("_", ".", 1)}': value for name, value in of_modules.items()})
 
     def dies(self, number: int = signal.SIGKILL) -> None:

@@ -13,7 +13,7 @@ from dataclasses import dataclass, field
 from typing import Any, Callable, Sized
 
 from .archive import RECORDS, STATE, UNFINISHED, FinishedPieces, forget
-from .kept import by_time
+from .session_files import by_time
 from .lines import SEIZURE_WAIT, WAIT
 from .writers import write_all
 

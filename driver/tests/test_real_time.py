@@ -14,8 +14,8 @@ from typing import Any, Callable, Mapping
 from . import limits, support
 from .support import SECONDS
 from .manager import Manager
-from .test_keeper import GOES_ON
-from .test_keeper_killed import RestartedKeeperCase
+from .test_program_killed import GOES_ON
+from .test_service_killed import RestartedKeeperCase
 from .world import LAUNCHER, ServedProgram, config_of
 
 EXCHANGE = os.path.join(support.TOP, 'examples', 'exchange')

@@ -13,7 +13,7 @@ from typing import Any
 from . import support
 from .manager import Manager
 from .support import SECONDS
-from .test_keeper import KeeperCase
+from .test_program_killed import KeeperCase
 from .world import LAUNCHER
 from e1gw.service.process import UNKNOWN, Child, start_of
 from e1gw.session import MULTIFRAME

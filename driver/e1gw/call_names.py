@@ -9,7 +9,7 @@ import os
 import secrets
 from typing import Mapping
 
-from .keep import put_file
+from .ring import put_file
 from .lines import Line
 
 Seizures = dict[int, int]       # by circuit

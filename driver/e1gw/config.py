@@ -23,7 +23,27 @@ from .session import CIRCUITS
 FIRST, APART, TRUNKS = 24_002, 100, 64      # ports of a trunk: for each circuit one for RTP and the next one unused
 SAME_HOST = 10_000                          # ports between the two ends of a tie on one machine
 METRICS = 9100
-ROLES = ('outgoing', 'incoming', 'odd', 'even')
+# The circuits that e1gw seizes, by their numbers modulo 2, and what the other end of a tie has.
+ROLES = {'outgoing': ((0, 1), 'incoming'), 'incoming': ((), 'outgoing'), 'odd': ((1,), 'even'), 'even': ((0,), 'odd')}
+HEAD = '''# Thirty circuits of one trunk, made by e1gw-config(1); e1gw.toml(5) has each key.
+# The jitter buffer (prefill) is {depth:g} ms deep.
+law = "{law}"
+host = "{host}"
+'''
+CIRCUIT = '''
+[[circuit]]
+number = {circuit}
+role = "{role}"
+codec = "{codec}"{payload}
+ptime = {ptime}
+prefill = {prefill}
+local_port = {local_port}
+peer_host = "{peer}"
+peer_port = {peer_port}
+'''
+OPTIONS = '''# Options of e1gw-trunk(1) for the trunk {name}.
+TRUNK="{device} --http 127.0.0.1:{http} --session /var/lib/e1gw/{name} --keep 1h --calls /var/lib/e1gw/{name}/calls.csv"
+'''
 
 
 class CannotWrite(Exception):
@@ -48,34 +68,21 @@ class Plan:
 
     def other_end(self, trunk: int) -> Plan:
         """The plan of the other end: hosts, ports and the seizing end are swapped."""
-        other = {'outgoing': 'incoming', 'incoming': 'outgoing', 'odd': 'even', 'even': 'odd'}
-        return replace(self, trunk=trunk, role=other[self.role], host=self.peer, peer=self.host,
+        return replace(self, trunk=trunk, role=ROLES[self.role][1], host=self.peer, peer=self.host,
                        first_local=self.first_peer, first_peer=self.first_local)
 
-
-def is_outgoing(role: str, circuit: int) -> bool:
-    """Whether e1gw seizes the circuit: `odd` and `even` name the circuits on which it does."""
-    return {'outgoing': True, 'incoming': False, 'odd': circuit % 2 == 1, 'even': circuit % 2 == 0}[role]
-
-
-def table_of(plan: Plan, circuit: int) -> str:
-    """The table of a circuit."""
-    step = 2 * (circuit - 1)
-    lines = ['', '[[circuit]]', f'number = {circuit}',
-             f'role = "{"outgoing" if is_outgoing(plan.role, circuit) else "incoming"}"', f'codec = "{plan.codec}"']
-    if plan.payload is not None:
-        lines.append(f'payload = {plan.payload}')
-    lines += [f'ptime = {plan.ptime}', f'prefill = {plan.prefill}', f'local_port = {plan.first_local + step}',
-              f'peer_host = "{plan.peer}"', f'peer_port = {plan.first_peer + step}']
-    return '\n'.join(lines) + '\n'
+    def circuit(self, circuit: int) -> str:
+        """The table of a circuit."""
+        step = 2 * (circuit - 1)
+        return CIRCUIT.format(
+            circuit=circuit, role='outgoing' if circuit % 2 in ROLES[self.role][0] else 'incoming', codec=self.codec,
+            payload='' if self.payload is None else f'\npayload = {self.payload}', ptime=self.ptime, peer=self.peer,
+            prefill=self.prefill, local_port=self.first_local + step, peer_port=self.first_peer + step)
 
 
 def text_of(plan: Plan) -> str:
     """The whole configuration, or CannotWrite if e1gw would refuse it."""
-    head = (f'# Thirty circuits of one trunk, made by e1gw-config(1); e1gw.toml(5) has each key.\n'
-            f'# The jitter buffer (prefill) is {plan.prefill / 8:g} ms deep.\n'
-            f'law = "{plan.law}"\nhost = "{plan.host}"\n')
-    text = head + ''.join(table_of(plan, circuit) for circuit in CIRCUITS)
+    text = HEAD.format(depth=plan.prefill / 8, law=plan.law, host=plan.host) + ''.join(map(plan.circuit, CIRCUITS))
     try:
         check(text.encode())
     except ConfigFault as fault:
@@ -85,9 +92,7 @@ def text_of(plan: Plan) -> str:
 
 def options_text(name: str, trunk: int, device: str) -> str:
     """The options of the unit of a trunk."""
-    return (f'# Options of e1gw-trunk(1) for the trunk {name}.\n'
-            f'TRUNK="{device.replace("NAME", name)} --http 127.0.0.1:{METRICS + trunk} --session /var/lib/e1gw/{name} '
-            f'--keep 1h --calls /var/lib/e1gw/{name}/calls.csv"\n')
+    return OPTIONS.format(name=name, device=device.replace('NAME', name), http=METRICS + trunk)
 
 
 def plan_of(asked: argparse.Namespace) -> Plan:
@@ -192,7 +197,7 @@ def parser() -> argparse.ArgumentParser:
     values.add_argument('--ptime', type=int, choices=(10, 20, 30), default=20, help='ms in a packet [default: 20]')
     values.add_argument('--prefill', type=number(0, 1600), default=320, metavar='SAMPLES',
                         help='how late packets may be, in samples, 8 a ms [default: 320, 40 ms]')
-    values.add_argument('--role', choices=ROLES, default='outgoing',
+    values.add_argument('--role', choices=tuple(ROLES), default='outgoing',
                         help='circuits that e1gw seizes: all, none, odd or even ones [default: outgoing, all]')
     values.add_argument('--host', default='127.0.0.1', help='the address of this end [default: 127.0.0.1]')
     values.add_argument('--peer', default='127.0.0.1', metavar='HOST', help='that of the far end [default: 127.0.0.1]')

@@ -1,6 +1,6 @@
 """One process a trunk: what it does when something of it is killed, hangs, fails or is full, with thirty calls up.
 
-It goes in lock step, as test_keeper does; what is received is what one uncut replay of all records gives."""
+It goes in lock step, as test_program_killed does; what is received is what one uncut replay of all records gives."""
 from __future__ import annotations
 
 import contextlib
@@ -14,8 +14,8 @@ from unittest import mock
 
 from . import support
 from .support import SECONDS
-from .test_keeper import CIRCUITS, KeeperCase
-from .test_keeper_killed import RestartedKeeperCase
+from .test_program_killed import CIRCUITS, KeeperCase
+from .test_service_killed import RestartedKeeperCase
 from .world import children
 from e1gw.service.log import STATE_ROOM, TrunkLog, in_memory, take_file
 from e1gw.service.version import VersionRefused, look_up, with_addresses
@@ -87,7 +87,7 @@ class ServiceSequenceTests(RestartedKeeperCase):
         events = (self.program_dies, self.follower_dies, self.both_die, self.reloaded, self.replaced, self.service_dies,
                   self.client_asks)
         done: list[str] = []
-        within = self.within(keeper_WITHIN=0.0)     # (no death is taken for a state's harm)
+        within = self.within(lifecycle_WITHIN=0.0)     # (no death is taken for a state's harm)
         with self.subTest(done=done), mock.patch.dict(os.environ, within):
             self.begins()
             for event in (*events, *self.chance.choices(events, k=43)):
@@ -227,7 +227,7 @@ class ServiceVersionTests(KeeperCase):
         self.other_program(*cases)
 
     def test_program_that_hangs(self) -> None:
-        self.renewed('trunk) exec sleep 600', keeper_START=HANGS)
+        self.renewed('trunk) exec sleep 600', lifecycle_START=HANGS)
         self.keeper.send_signal(signal.SIGHUP)
         self.awaits(f'reload: refused.*does not begin within {HANGS:g} s')
         self.goes_on()

@@ -5,7 +5,7 @@ import os
 from contextlib import suppress
 from dataclasses import dataclass
 
-from ..kept import InputError, KeptSession, kept
+from ..session_files import InputError, KeptSession, kept
 from ..programs import program_of
 from ..session import MULTIFRAME
 from .replay import Replay

@@ -10,13 +10,13 @@ import unittest
 from typing import Any, Callable
 
 from .limits import LONG
-from .telling import IDLE, WatchedTrunk, row
+from .stand_ins import IDLE, WatchedTrunk, row
 from e1gw.lines import Line, Role, State
-from e1gw.naming import Naming
+from e1gw.call_names import Naming
 from e1gw.session import Kind
 from e1gw.tie.circuit import CircuitEnd
-from e1gw.tie.kept import KeptBlocks
-from e1gw.tie.messages import CircuitChange, Message, SiteState
+from e1gw.tie.blocked import BlockedCircuits
+from e1gw.tie.messages import Message, SiteState
 from e1gw.tie.tie import Tie, TieOptions
 
 CONFIG = 'law = "A"\n[[circuit]]\nnumber = 1\n[[circuit]]\nnumber = 2\nrole = "incoming"\n'
@@ -35,9 +35,7 @@ class FarSite:
     def call(self, circuit: int) -> str | None:
         """The name of a circuit's call as it was sent last."""
         for message in reversed(self.sent):
-            if isinstance(message, CircuitChange) and message.circuit == circuit:
-                return message.end.call
-            if isinstance(message, SiteState):
+            if isinstance(message, SiteState) and circuit in message.ends:
                 return message.ends[circuit].call
         return None
 
@@ -49,8 +47,8 @@ class TieKilledWatcherTests(unittest.IsolatedAsyncioTestCase):
         self.world = WatchedTrunk(CONFIG, rows=ROWS)
         self.addCleanup(self.world.__exit__)
         self.events: list[dict[str, Any]] = []
-        kept = KeptBlocks(os.path.join(self.world.folder, 'kept'))
-        self.tie = Tie(TieOptions(self.world.path('ctl'), None, LONG, False), 'run', kept,
+        blocked = BlockedCircuits(os.path.join(self.world.folder, 'kept'))
+        self.tie = Tie(TieOptions(self.world.path('ctl'), None, LONG, False), 'run', blocked,
                        lambda event, **fields: self.events.append({'event': event, **fields}))
         self.far = self.tie.site = FarSite()        # type: ignore[assignment]
         self.follows = asyncio.create_task(self.tie.follow())
@@ -68,7 +66,7 @@ class TieKilledWatcherTests(unittest.IsolatedAsyncioTestCase):
     def hear(self, one: State, two: State, call: str | None = '') -> None:
         """Of the other site: circuit 1 is incoming there, circuit 2 outgoing, with the call that was passed."""
         self.tie.heard(SiteState(False, {1: CircuitEnd(Role.INCOMING, one, 'far.1'),
-                                         2: CircuitEnd(Role.OUTGOING, two, call)}))
+                                         2: CircuitEnd(Role.OUTGOING, two, call)}, all=True))
 
     def commands(self) -> list[tuple[int, int]]:
         """What the program was given."""

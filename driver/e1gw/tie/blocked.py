@@ -6,35 +6,30 @@ import json
 from contextlib import suppress
 from typing import Iterable
 
-from ..keep import put_file
+from ..ring import put_file
 from ..session import CIRCUITS
 
 
-class KeptBlocks:
+class BlockedCircuits:
     """A set of circuits. Without a path it is forgotten at the end; a file that is not one of ours, or that cannot be
     written, ends nothing."""
 
     def __init__(self, path: str | None) -> None:
-        self._path, self._circuits = path, frozenset[int]()
+        self.circuits, self._path = frozenset[int](), path
         self._writing: asyncio.Task[None] | None = None
-        with suppress(OSError, ValueError, TypeError):
-            if path:
-                with open(path, encoding='ascii') as file:
-                    self._circuits = frozenset(CIRCUITS) & frozenset(json.loads(file.read(4096)))
-
-    def has(self, circuit: int) -> bool:
-        return circuit in self._circuits
+        with suppress(OSError, ValueError, TypeError), open(path or '', encoding='ascii') as file:
+            self.circuits = frozenset(CIRCUITS) & frozenset(json.loads(file.read(4096)))
 
     def put(self, circuits: Iterable[int]) -> None:
         """Keeps these circuits and no others."""
-        self._circuits = frozenset(circuits)
+        self.circuits = frozenset(circuits)
         if self._path and (self._writing is None or self._writing.done()):
             self._writing = asyncio.create_task(self._write(self._path))
 
     async def _write(self, path: str) -> None:
         written: frozenset[int] | None = None
-        while written != self._circuits:
-            written = self._circuits
+        while written != self.circuits:
+            written = self.circuits
             with suppress(OSError):
                 await asyncio.to_thread(put_file, path, json.dumps(sorted(written)).encode() + b'\n')
 

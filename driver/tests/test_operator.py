@@ -10,7 +10,7 @@ import urllib.request
 from typing import Any, Mapping
 
 from .support import SECONDS
-from .telling import IDLE, StandInProgram, StandInShadow, WatchedTrunk, row
+from .stand_ins import IDLE, StandInProgram, StandInShadow, WatchedTrunk, row
 from .test_web import samples
 from e1gw.session import Codec, Command, Record, codec_record, command_record
 from e1gw.testing.ports import free_port
