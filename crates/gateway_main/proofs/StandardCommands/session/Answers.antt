@@ -1,6 +1,8 @@
 use Rattle.std.proofs.Common.{inl, inr, refl, sym}
 use Rattle.clap.specs.Words.{subcommand_rows_of}
 use Rattle.gw_program.proofs.Streams.{lacks_so, no_session, session_so, takes_asked}
+use Rattle.gw_program.specs.Requests.{files_in}
+use Rattle.gw_system.specs.Lacking.{LacksTeller}
 use Rattle.gw_system.proofs.Lacked.{ends_in, more_in, named_so}
 use Rattle.gateway_main.proofs.StandardCommands.session.Goals as goal
 
@@ -19,8 +21,9 @@ returns c =
     let command = subcommand_rows_of c.args.self.now.matches.now in
     let local = c.local_of-system in
     session_so command c.args.session _ _ c.run_session.result
-    (λ fault why. inr (lacks_so _ _ _ (more_in c.args.session _ _ _ _
-    (λ fault. named_so (λ path. path.now) local.result.tell _ _ _ local.ensures.tell (λ path why. why))
+    (λ fault why. inr (lacks_so (files_in command) _ _ (more_in c.args.session _ _ _ _
+    (λ fault. named_so (λ path. path.now) local.result.tell _ _ (λ path. LacksTeller path fault) local.ensures.tell
+    (λ path why. why))
     (ends_in (λ asked. asked.path.now) (λ asked. asked.over) command local.result.recording local.ensures.recording
     local.result.senders local.ensures.senders)) fault why))
     c.run_session.ensures

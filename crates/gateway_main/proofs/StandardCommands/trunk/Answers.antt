@@ -1,6 +1,7 @@
 use Rattle.std.proofs.Common.{inl, inr, refl, sym}
 use Rattle.clap.specs.Words.{subcommand_rows_of}
 use Rattle.gw_program.proofs.Streams.{lacks_so, takes_asked}
+use Rattle.gw_program.specs.Requests.{files_in}
 use Rattle.gw_system.proofs.Lacked.{ends_in}
 use Rattle.run_trunk.proofs.Served.{nothing_served, served_so}
 use Rattle.gateway_main.proofs.StandardCommands.trunk.Goals as goal
@@ -13,7 +14,7 @@ returns c =
     let command = subcommand_rows_of c.args.self.now.matches.now in
     let local = c.local_of-system in
     served_so command _ _ c.serve.result
-    (λ fault why. inr (lacks_so _ _ _ (ends_in (λ asked. asked.path.now) (λ asked. asked.over) command
+    (λ fault why. inr (lacks_so (files_in command) _ _ (ends_in (λ asked. asked.path.now) (λ asked. asked.over) command
     local.result.recording local.ensures.recording local.result.senders local.ensures.senders) fault why))
     c.serve.ensures
 
