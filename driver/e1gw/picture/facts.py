@@ -250,7 +250,8 @@ class Row:
         else:
             if stream.base is None:
                 self._begin(stream, place, second & 127, stamp, ssrc)
-            self.cell.admit(stream.margin(place, stamp))
+            assert stream.base is not None          # (as in margin, without a call for each datagram)
+            self.cell.admit((stream.base + stamp - place // FRAME + 0x8000_0000 & 0xFFFF_FFFF) - 0x8000_0000)
         if sequence - stream.sequence & 0xFFFF != 1 or stamp - stream.stamp != self.step or length != self.length:
             self._follow(stream, sequence, stamp, length)
         else:
