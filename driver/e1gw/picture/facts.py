@@ -44,7 +44,8 @@ class Cell:
         self.sent = self.admitted = self.lost = self.uneven = 0
         self.low = self.high = self.total = 0               # samples before their turn, of those admitted
         self.refused: dict[int, list[int]] = {}             # code: how many, least and most samples before their turn
-        self.counts: Counter[str] = Counter()               # calls, answers, repetitions, ..
+        # Calls, answers, repetitions, .. (without Counter's own __init__, which takes most of the time of a cell's.)
+        self.counts: Counter[str] = Counter.__new__(Counter)
         self.heard: dict[str, HeardSamples] = {}            # by way: what came, its order of words, the time slot
 
     def is_empty(self) -> bool:
