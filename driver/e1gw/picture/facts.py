@@ -44,7 +44,8 @@ class Cell:
         self.sent = self.admitted = self.lost = self.uneven = 0
         self.low = self.high = self.total = 0               # samples before their turn, of those admitted
         self.refused: dict[int, list[int]] = {}             # code: how many, least and most samples before their turn
-        self.counts: Counter[str] = Counter()               # calls, answers, repetitions, ..
+        # Calls, answers, repetitions, .. (without Counter's own __init__, which takes most of the time of a cell's.)
+        self.counts: Counter[str] = Counter.__new__(Counter)
         self.heard: dict[str, HeardSamples] = {}            # by way: what came, its order of words, the time slot
 
     def is_empty(self) -> bool:
@@ -250,7 +251,8 @@ class Row:
         else:
             if stream.base is None:
                 self._begin(stream, place, second & 127, stamp, ssrc)
-            self.cell.admit(stream.margin(place, stamp))
+            assert stream.base is not None          # (as in margin, without a call for each datagram)
+            self.cell.admit((stream.base + stamp - place // FRAME + 0x8000_0000 & 0xFFFF_FFFF) - 0x8000_0000)
         if sequence - stream.sequence & 0xFFFF != 1 or stamp - stream.stamp != self.step or length != self.length:
             self._follow(stream, sequence, stamp, length)
         else:

@@ -2,7 +2,7 @@
 from __future__ import annotations
 
 import re
-from collections import Counter, deque
+from collections import deque
 from collections.abc import Callable, Iterable, Iterator, Mapping
 from typing import Any
 
@@ -67,7 +67,7 @@ class SessionReading:
         self.answers = b''                      # those that were not looked at
         self.told: list[str] = []
         self.came: deque[bytes] = deque()       # datagrams of which nothing is reported yet
-        self.sent = Counter[int]()              # datagrams by circuit, since it was looked at
+        self.sent = dict.fromkeys(facts.rows, 0)    # datagrams by circuit, since it was looked at
         self.lines: dict[str, Callable[..., None]] = {
             'alarms': self._alarms, 'line': self._line, 'command': self._command, 'codec': self._codec}
         self._begin()
@@ -124,7 +124,7 @@ class SessionReading:
         facts.turn(self.place)
         for circuit, count in self.sent.items():
             facts.rows[circuit].cell.sent += count
-        self.sent.clear()
+        self.sent = dict.fromkeys(self.sent, 0)
         return whole
 
     def _answered(self, asked: int) -> tuple[int, bool]:
