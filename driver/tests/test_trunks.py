@@ -100,8 +100,8 @@ class TrunkKindServiceTests(unittest.TestCase):
             call(world, 1)
             world.line.close()
             support.until(lambda: not world.known()['trunk_up'])
-            self.assertRegex(world.ask_at_once('seize 2'), '^seize 2: (no connection to the program|the trunk has '
-                             'ended|the trunk cannot be opened: .*/card: Connection refused)$')
+            self.assertRegex(world.ask_at_once('seize 2'),
+                             '^seize 2: the trunk (has ended|cannot be opened: .*/card: Connection refused)$')
             world.comes_again()
             world.step(50)
             world.until(lambda: bool(world.status()['trunk_up']))

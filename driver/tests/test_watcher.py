@@ -177,11 +177,15 @@ class WatcherServiceTests(WatcherCase):
 
 
 class WatcherConnectionTests(WatcherCase):
-    def test_no_program(self) -> None:
-        world = self.watched()
+    def without_program(self, **within: Any) -> WatchedTrunk:
+        world = self.watched(within={f'service.connection.{name}': value for name, value in within.items()})
         events = self.events(world)
         world.program.close()
         self.assertEqual(self.next(events, 'disconnected', 'from'), ['program'])
+        return world
+
+    def test_no_program(self) -> None:
+        world = self.without_program(NEXT=0.0)
         self.assertEqual(world.ask('seize 1'), 'seize 1: no connection to the program')
         status = world.told()
         self.assertEqual((status['program'], status['trunk_up'], status['program_since'] > 1e9), (False, False, True))
@@ -190,6 +194,22 @@ class WatcherConnectionTests(WatcherCase):
         world.connected()
         self.assertEqual(world.program.taken, [])
         self.assertEqual(world.ask('seize 1'), 'seize 1: done')
+
+    def test_the_next_program(self) -> None:
+        """It is given what was asked for before it came, once."""
+        world = self.without_program()
+        lines = [socket.socket(socket.AF_UNIX) for _ in range(3)]
+        for circuit, line in enumerate(lines, 1):
+            self.addCleanup(line.close)
+            line.connect(world.path('ctl'))
+            line.settimeout(SECONDS)
+            line.sendall(f'clear {circuit}\n'.encode())
+        self.assertFalse(world.told()['program'])
+        world.program = StandInProgram(world.path('program'), world.shadow)
+        for circuit, line in enumerate(lines, 1):
+            self.assertEqual(line.recv(200), f'clear {circuit}: done\n\n'.encode())
+        self.assertEqual(sorted(record.encode() for record in world.program.taken),
+                         [command_record(circuit, Command.CLEAR) for circuit in (1, 2, 3)])
 
     def test_a_program_that_goes_before_it_answers(self) -> None:
         world = self.watched()

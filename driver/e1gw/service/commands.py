@@ -107,11 +107,9 @@ class CommandServer:
     async def came(self, reader: asyncio.StreamReader, writer: asyncio.StreamWriter) -> None:
         """A client: a line in, an answer and an empty line out."""
         if len(self._peers) >= MOST_CLIENTS:
-            idle = [peer for peer in self._peers if not peer.follows]
-            if not idle:
-                writer.write(f'no seat: {MOST_CLIENTS} clients are connected\n\n'.encode())
-                return writer.close()
-            min(idle, key=lambda each: each.last).writer.transport.abort()
+            out = min(self._peers, key=lambda each: (each.follows, each.last))
+            self._peers.discard(out)
+            out.writer.transport.abort()
         self._peers.add(peer := ControlPeer(writer))
         with contextlib.suppress(OSError, ValueError, asyncio.LimitOverrunError):
             while line := await reader.readline():

@@ -3,6 +3,7 @@ with calls by themselves (jitter buffers, --dark, --on-loss). All of it may fail
 from __future__ import annotations
 
 import asyncio
+import contextlib
 import functools
 import logging
 import os
@@ -156,10 +157,8 @@ class TrunkWatch:
         self._resyncs += len(circuits)
 
     async def _renew(self, record: bytes) -> None:
-        try:
-            await self._program.ask(record, lambda: None)
-        except NoAnswer:
-            pass
+        with contextlib.suppress(NoAnswer):     # (the next program may have another configuration)
+            await self._program.ask(record, lambda: None, waits=False)
 
     def _does(self, work: Awaitable[Any]) -> None:
         task = asyncio.ensure_future(work)
@@ -303,7 +302,5 @@ class TrunkWatch:
             if each:
                 each.close()
         if self.wants.control:
-            try:
+            with contextlib.suppress(OSError):
                 os.unlink(self.wants.control)
-            except OSError:
-                pass
