@@ -5,7 +5,6 @@ that another program goes on. What it hears is what one uncut replay of all reco
 from __future__ import annotations
 
 import contextlib
-import glob
 import itertools
 import os
 import random
@@ -23,7 +22,7 @@ from typing import Any, Callable
 
 from . import limits, support
 from .support import SECONDS
-from .world import LAUNCHER
+from .world import LAUNCHER, of_words
 from e1gw.exchange import ACKNOWLEDGED, ANSWERED, SEIZED
 from e1gw.session import MULTIFRAME, Codec, Command, Kind, codec_record, command_record, packet_of, records_in
 from e1gw.session import trunk_record
@@ -115,7 +114,7 @@ class KeeperCase(support.FolderCase):
         self.given: list[bytes] = []            # what the gateway was given, in the order in which it took it
         self.unknown = 0                        # how many records a killed program had in hand, which nobody knows of
         self.heard: list[bytes | None] = []     # the answer to each record of the trunk, or None where it is lost
-        self.told_from = 0
+        self.told_from = self.first = 0         # what was heard before the keeper of now counted octets
         self.program = self.shadow = 0
 
     def starts(self, *options: str, **around: str) -> None:
@@ -228,22 +227,15 @@ class KeeperCase(support.FolderCase):
     def dies(self, number: int = signal.SIGKILL) -> None:
         """The program is sent a signal when it has answered all, and another one goes on behind that."""
         os.kill(self.program, number)
-        self.assertIn(f'behind octet {len(self.heard) * MULTIFRAME}', self.goes_on())
+        self.goes_on_behind()
 
-    def followers(self) -> list[str]:
-        """The processes that read the log of a program."""
-        found = []
-        for path in glob.glob('/proc/[0-9]*/cmdline'):
-            try:
-                with open(path, 'rb') as file:
-                    words = file.read().split(b'\0')
-                with open(os.path.join(os.path.dirname(path), 'stat'), encoding='ascii') as file:
-                    parent = int(file.read().rpartition(')')[2].split()[1])
-            except OSError:
-                continue
-            if b'replay' in words[1:2] and parent == self.keeper.pid:
-                found.append(path)
-        return found
+    def goes_on_behind(self) -> None:
+        """The next program goes on behind all that was answered."""
+        self.assertIn(f'behind octet {(len(self.heard) - self.first) * MULTIFRAME}', self.goes_on())
+
+    def followers(self) -> list[int]:
+        """The processes of the service that read the log of a program."""
+        return of_words(self.keeper.pid, 'replay')
 
     def other_program(self, *cases: str) -> str:
         """A program that does what these cases of a shell say, else what the program does."""
@@ -255,6 +247,7 @@ class KeeperCase(support.FolderCase):
     def killed(self, number: int) -> None:
         """The program is sent a signal at any moment behind a record, and another one goes on."""
         before = sum(len(record.body) for record in records_in(b''.join(self.given)) if record.kind is Kind.TRUNK)
+        before -= self.first * MULTIFRAME
         self.send()
         for _ in range(self.chance.randrange(0, 400)):
             pass
@@ -338,57 +331,13 @@ class KeeperCase(support.FolderCase):
         self.assertFalse(os.path.lexists(self.path('control')))
 
 
-class KeeperToldTests(KeeperCase):
-    """What is told beside the trunk."""
-
-    def told_now(self, began: int) -> list[str]:
-        """What a new client of --tell gets first, once the shadow has acted on all multiframes of its session, which
-        began behind so many."""
-        least = MULTIFRAME * (len(self.heard) - began)
-        while True:
-            with socket.socket(socket.AF_UNIX) as line:
-                line.settimeout(SECONDS)
-                with contextlib.suppress(FileNotFoundError, ConnectionRefusedError):
-                    line.connect(self.path('tell'))
-                    self.step(LOOK)
-                    with line.makefile() as lines:
-                        told = list(itertools.takewhile(lambda text: text != 'now\n', lines))
-                    if any(text.startswith('at ') and int(text[3:]) >= least for text in told):
-                        return told
-
-    def test_shadow_that_tells(self) -> None:
-        """Its clients see the calls, also at the next shadow."""
-        self.starts('--tell', self.path('tell'))
-        self.calls()
-        began = 0
-        for _ in range(2):
-            rows = [line.split()[3] for line in self.told_now(began) if line.startswith('line')]
-            self.assertEqual(rows, ['answered'] * 30)
-            os.kill(self.program, signal.SIGKILL)
-            self.goes_on()
-            began = len(self.heard)
-        self.ends()
-        self.assertEqual([name for name in os.listdir(self.folder) if name.startswith('tell')], [])
-
-
 class KeeperHandoverTests(KeeperCase):
     """What an operator asks for."""
 
-    def test_configurations(self) -> None:
-        """One that is none and one of another law are refused with no program ended for them; of one with another
-        circuit 7 all other circuits go on."""
+    def test_another_configuration(self) -> None:
+        """Of one with another circuit 7 all other circuits go on."""
         self.starts()
         self.calls()
-        program = self.program
-        with open(self.config, encoding='ascii') as file:
-            right = file.read()
-        for text, words in ((right + 'x = 1\n', 'config 2 UnknownKey at 30: .*trunk.toml'),
-                            (right.replace('"A"', '"mu"'), 'state 5 Config at 0')):
-            self.write('trunk.toml', text)
-            self.keeper.send_signal(signal.SIGHUP)
-            self.awaits(f'reload: refused, the trunk goes on as it was: {words}')
-            self.step(10)
-            os.kill(program, 0)
         self.write('trunk.toml', self.peers.config(prefill=400))
         self.keeper.send_signal(signal.SIGHUP)
         self.goes_on()
@@ -398,21 +347,8 @@ class KeeperHandoverTests(KeeperCase):
         self.dies()
         self.step(10)
         self.assertEqual(self.told().count('begins as new'), 1)
-        self.write('trunk.toml', right)
+        self.write('trunk.toml', self.peers.config())
         self.as_uncut(7)
-
-    def test_end_and_start(self) -> None:
-        """Another keeper begins with the state that the first one left."""
-        self.starts('--state', self.path('state'))
-        self.calls()
-        for _ in range(2):
-            self.ends()
-            self.assertTrue(os.path.exists(self.path('state')))
-            self.device.line.close()
-            self.starts('--state', self.path('state'))
-            self.assertFalse(os.path.exists(self.path('state')))
-            self.step(40)
-        self.as_uncut()
 
     def test_what_is_told_to_systemd(self) -> None:
         told: list[str] = []

@@ -53,61 +53,6 @@ class RecorderCase(KeeperCase):
 
 
 class RecordedFileTests(RecorderCase):
-    def test_whole_session(self) -> None:
-        """Whatever ends besides the program, nothing that was received is lost; what is kept begins as it was."""
-        self.starts('--session', self.path('kept'))
-        self.calls()
-        self.handed_over(None)
-        self.handed_over(signal.SIGKILL, self.shadow)
-        self.assertNotIn('at most', self.told())
-        self.as_uncut()
-        self.ends()
-        mine = self.kept_of(self.path('kept'))
-        self.assertEqual(self.answers(mine)[:MULTIFRAME * 100], self.heard_all()[:MULTIFRAME * 100])
-
-    def test_nothing_is_missing(self) -> None:
-        """Not one octet, datagram or command."""
-        self.starts('--session', self.path('kept'))
-        self.calls()
-        self.handed_over(None)
-        self.handed_over(signal.SIGKILL, self.shadow)
-        self.keeper.send_signal(signal.SIGUSR2)
-        self.awaits('the keeper was replaced')
-        self.step(20)
-        self.handed_over(None)
-        self.as_uncut()
-        self.ends()
-        mine = self.kept_of(self.path('kept'))
-        self.assertEqual(self.trunk_of(self.path('kept')), self.given_trunk())
-        self.assertEqual(self.answers(mine), self.heard_all())
-        self.assertEqual([record for record in records_in(mine) if record.kind is Kind.COMMAND],
-                         [record for record in records_in(b''.join(self.given)) if record.kind is Kind.COMMAND])
-
-    def test_commands_are_those_that_were_given(self) -> None:
-        """Through a reload and a crash: no program other than the trunk's gives any of its own."""
-        self.starts('--session', self.path('kept'))
-        self.calls()
-        self.handed_over(None)
-        self.handed_over(signal.SIGKILL, self.shadow)
-        self.ends()
-        with open(self.path('kept'), 'rb') as file:
-            kept = [record.encode() for record in records_in(file.read()) if record.kind in (Kind.COMMAND, Kind.CODEC)]
-        self.assertEqual(kept, [record for record in self.given if record[0] in (Kind.COMMAND, Kind.CODEC)])
-        self.assertEqual(len(kept), 30)
-
-    def test_clients_that_say_nothing(self) -> None:
-        """Eight that take all places keep no reload from being orderly."""
-        self.starts()
-        self.calls()
-        clients = [self.client() for _ in range(8)]
-        self.step(4)
-        self.handed_over(None)
-        self.assertNotIn('at most', self.told())
-        self.as_uncut()
-        self.ends()
-        for line in clients:
-            line.close()
-
     def test_full_disk(self) -> None:
         """It ends what is kept, and nothing else."""
         self.starts('--session', '/dev/full')

@@ -13,7 +13,7 @@ from collections import Counter
 from typing import Any
 from unittest import mock
 
-from . import support, test_service_keeper
+from . import support
 from .test_keeper_killed import RestartedKeeperCase
 from .test_recorder import RecorderCase
 from e1gw.clock import TICK, ClockFinding
@@ -23,81 +23,6 @@ from e1gw.service.log import Checkpoint, TrunkLog
 from e1gw.session import MULTIFRAME, Kind, encode_record, trunk_record
 
 RECORD = MULTIFRAME / 256_000       # seconds
-
-
-class KilledRecordingTests(RestartedKeeperCase, RecorderCase):
-    """The service is killed, and goes on with what it kept."""
-
-    def service_killed(self) -> None:
-        for _ in range(3):
-            self.step(self.chance.randrange(1, 40))
-            self.kill_keeper()
-            self.step(20)
-            self.comes_back()
-        self.keeper.send_signal(signal.SIGHUP)
-        self.goes_on()
-        self.step(20)
-        self.settles()
-        self.kill_keeper()
-        self.step(20)
-        os.kill(self.program, signal.SIGKILL)
-        self.again()
-        self.awaits('the keeper was killed')
-        self.goes_on()
-        self.step(20)
-        self.as_uncut()
-        self.ends()
-
-    def test_file(self) -> None:
-        """Not one octet is missing, and none is there twice."""
-        self.begins('--session', self.path('kept'))
-        self.service_killed()
-        self.assertEqual(self.trunk_of(self.path('kept')), self.given_trunk())
-        self.assertEqual(self.answers(self.kept_of(self.path('kept'))), self.heard_all())
-
-    def test_file_without_systemd(self) -> None:
-        """The log is that of the program, which is there until it has ended in order."""
-        self.begins('--session', self.path('kept'))
-        for _ in range(2):
-            self.dies_unkept()
-            self.goes_on()
-            self.step(40)
-            self.settles()
-        self.as_uncut()
-        self.ends()
-        self.assertEqual(self.trunk_of(self.path('kept')), self.given_trunk())
-
-    def test_at_any_moment_of_a_reload(self) -> None:
-        """The log of a program is noted with the program."""
-        self.begins('--session', self.path('ring'), '--keep', '1h')
-        self.dies_in_reloads()
-        self.as_uncut()
-        self.ends()
-        self.assertEqual(self.trunk_of(self.path('ring')), self.given_trunk(), self.told())
-
-    def test_ring(self) -> None:
-        """The same file is written on for each program, and each replays from its state."""
-        self.begins('--session', self.path('ring'), '--keep', '1h')
-        self.service_killed()
-        self.assertEqual(self.trunk_of(self.path('ring')), self.given_trunk(), self.told())
-        fronts = sorted(path.removesuffix('.json') for path in glob.glob(self.path('ring/*.json')))
-        places = [beside(f'{front}.e1gw')['place'] for front in fronts]
-        self.assertEqual(len(places), 3)
-        for front, begin, end in zip(fronts, places, [*places[1:], len(self.given_trunk())]):
-            load = ('--load', f'{front}.state') if begin else ()
-            with open(f'{front}.e1gw', 'rb') as file:
-                self.assertEqual(self.answers(file.read(), *load), self.heard_all()[begin:end], begin)
-
-
-class ServiceSequenceRecordingTests(test_service_keeper.ServiceSequenceTests, RecorderCase):
-    """Any sequence of what may happen to a trunk: a ring has all of it, once."""
-
-    def begins(self, *options: str, **around: str) -> None:
-        super().begins('--session', self.path('ring'), '--keep', '1h', *options, **around)
-
-    def ends(self) -> None:
-        super().ends()
-        self.assertEqual(self.trunk_of(self.path('ring')), self.given_trunk(), self.told())
 
 
 class WholeRecordTests(unittest.TestCase):

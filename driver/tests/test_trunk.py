@@ -152,23 +152,6 @@ class TrunkCommandTests(unittest.TestCase):
 
 
 class TrunkSessionTests(unittest.TestCase):
-    def test_commands_are_the_operators(self) -> None:
-        """No program other than the trunk's gives any of its own."""
-        with World(config_of(FOUR), '--session', '@/kept') as world:
-            aligned(world)
-            self.assertEqual(world.ask('seize 1'), 'seize 1: done')
-            world.step(40)
-            self.assertEqual(world.ask('clear 1'), 'clear 1: done')
-            world.step(20)
-            self.assertEqual(world.quit()[0], 0)
-            with open(world.path('kept'), 'rb') as file:
-                kept = [record for record in session.records_in(file.read()) if record.kind is not session.Kind.TRUNK]
-        asked = session.codec_record(30, session.Codec.G726_16, 95)     # (by the test, to know where the trunk is)
-        self.assertEqual([record.encode() for record in kept if record.encode() != asked and record.kind is not
-                          session.Kind.DATAGRAM],
-                         [session.command_record(1, session.Command.SEIZE),
-                          session.command_record(1, session.Command.CLEAR)])
-
     def test_a_session_replays_alike(self) -> None:
         with World(config_of(range(1, 31), prefill=320), '--session', '@/kept') as world:
             aligned(world)
