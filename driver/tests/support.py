@@ -5,6 +5,7 @@ import atexit
 import fcntl
 import functools
 import os
+import random
 import socket
 import subprocess
 import sys
@@ -24,8 +25,8 @@ from e1gw.testing.service import Service
 TOP = os.path.dirname(os.path.dirname(os.path.dirname(os.path.abspath(__file__))))
 sys.dont_write_bytecode = True
 
-__all__ = ['Exchange', 'FolderCase', 'SECONDS', 'Service', 'TOP', 'all_read', 'launcher', 'program', 'run', 'until',
-           'without']
+__all__ = ['Exchange', 'FolderCase', 'SECONDS', 'Service', 'TOP', 'all_read', 'chance_of', 'launcher', 'program', 'run',
+           'until', 'without']
 
 T = TypeVar('T')
 
@@ -80,6 +81,11 @@ def program() -> str:
     if not os.access(path, os.X_OK):
         raise unittest.SkipTest('no program: E1GW names one, scripts/drivers builds it')
     return path
+
+
+def chance_of(test: unittest.TestCase) -> random.Random:
+    """By what a test chooses: its name and the seed of scripts/drivers."""
+    return random.Random(f'{test.id()} {os.environ.get("E1GW_SEED", "1")}')
 
 
 def all_read(line: socket.socket) -> None:

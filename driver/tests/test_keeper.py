@@ -5,7 +5,6 @@ that another program goes on. What it hears is what one uncut replay of all reco
 from __future__ import annotations
 
 import contextlib
-import itertools
 import os
 import random
 import re
@@ -22,7 +21,7 @@ from typing import Any, Callable
 
 from . import limits, support
 from .support import SECONDS
-from .world import LAUNCHER, of_words
+from .world import LAUNCHER
 from e1gw.exchange import ACKNOWLEDGED, ANSWERED, SEIZED
 from e1gw.session import MULTIFRAME, Codec, Command, Kind, codec_record, command_record, packet_of, records_in
 from e1gw.session import trunk_record
@@ -106,7 +105,7 @@ class KeeperCase(support.FolderCase):
     def setUp(self) -> None:
         support.program()
         super().setUp()
-        self.chance = random.Random(self.id())
+        self.chance = support.chance_of(self)
         self.device, self.peers = KeeperDevice(self.folder), RtpPeers()
         self.addCleanup(self.device.close)
         self.addCleanup(self.peers.socket.close)
@@ -232,10 +231,6 @@ class KeeperCase(support.FolderCase):
     def goes_on_behind(self) -> None:
         """The next program goes on behind all that was answered."""
         self.assertIn(f'behind octet {(len(self.heard) - self.first) * MULTIFRAME}', self.goes_on())
-
-    def followers(self) -> list[int]:
-        """The processes of the service that read the log of a program."""
-        return of_words(self.keeper.pid, 'replay')
 
     def other_program(self, *cases: str) -> str:
         """A program that does what these cases of a shell say, else what the program does."""

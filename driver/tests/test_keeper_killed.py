@@ -17,7 +17,6 @@ from .support import SECONDS
 from .test_keeper import KeeperCase
 from .world import LAUNCHER
 from e1gw.service.process import UNKNOWN, Child, start_of
-from e1gw.session import MULTIFRAME
 
 
 class RestartedKeeperCase(KeeperCase):

@@ -20,15 +20,16 @@ from . import support
 from .support import SECONDS
 from .test_keeper import CIRCUITS, NO_EFFECT, KeeperCase
 from .test_keeper_killed import RestartedKeeperCase
-from .test_recorder import RecorderCase
+from .test_recorder import LONG, RecorderCase
 from .test_trunk import is_there
-from e1gw.kept import beside
+from .world import children
 from e1gw.service.log import STATE_ROOM, TrunkLog, in_memory, take_file
 from e1gw.service.version import VersionRefused, look_up, with_addresses
-from e1gw.session import MULTIFRAME, Codec, Kind, codec_record, encode_record, records_in, trunk_record
+from e1gw.session import Codec, Kind, codec_record, encode_record, records_in, trunk_record
 from e1gw.testing.service import ask
 
 END = encode_record(0x45, 0, b'')
+HANGS = 5.0                 # seconds, which no program takes that does not hang, on a machine that stalls
 
 
 class ServiceSequenceTests(RestartedKeeperCase, RecorderCase):
@@ -44,9 +45,9 @@ class ServiceSequenceTests(RestartedKeeperCase, RecorderCase):
         if self.is_small:
             self.addCleanup(os.system, f'umount -l {self.memory}')
         self.ended, self.refused = 0, itertools.cycle(self.refusals())
-        own = [word for name in ('session', 'state', 'calls', 'json', 'control')
+        own = [word for name in ('state', 'calls', 'json', 'control')
                for word in (f'--{name}', self.path(f'its-{name}'))]
-        super().begins('--reopen', '--gap', '10000', *own, *self.keeps, *options)
+        super().begins('--reopen', '--gap', '10000', '--session', self.path('ring'), *own, *self.keeps, *options)
         self.knows_all()
         ask(self.path('its-control'), b'codec 1 g726-16 1')     # (it is refused)
         support.until(lambda: 'command' in [event['event'] for event in self.events()])
@@ -112,10 +113,9 @@ class ServiceSequenceTests(RestartedKeeperCase, RecorderCase):
         with open(self.config, encoding='ascii') as file:
             self.right = file.read()
         name = self.right.replace('peer_port', 'peer_host = "no.such.invalid"\npeer_port', 1)
-        return [(self.right + 'x = 1\n', 'config 2 UnknownKey at 30: .*trunk.toml'),
+        return [(self.right + 'x = 1\n', 'config 2 UnknownKey at 30: .*trunk.toml'), (name, 'no.such.invalid: '),
                 (self.right.replace('"A"', '"mu"'), 'state 5 Config at 0'), ('x = ' + '[' * 1200, 'config 1 Syntax'),
-                ('#' * 70_000, '.*more than 65536 octets'), (name, 'no.such.invalid: '),
-                (None, '.*trunk.toml is no file')]
+                ('#' * 70_000, '.*more than 65536 octets'), (None, '.*trunk.toml is no file')]
 
     def reload_is_refused(self) -> None:
         text, words = next(self.refused)
@@ -129,7 +129,7 @@ class ServiceSequenceTests(RestartedKeeperCase, RecorderCase):
         os.unlink(self.config)
         self.write('trunk.toml', self.right)
         os.kill(self.program, 0)
-        self.finds_follower()      # (a state of now was taken)
+        self.finds_follower()                       # (a state of now was taken)
 
     def replaced(self) -> None:
         before = self.program
@@ -154,8 +154,9 @@ class ServiceSequenceTests(RestartedKeeperCase, RecorderCase):
         self.goes_on_behind()
 
     def service_dies_unkept(self) -> None:
-        """Its program ends in order, and another one begins with the state on the trunk opened again."""
-        self.settles()
+        """Its program ends in order, and another one begins with the state on the trunk opened again. (Of a program
+        before that nobody has the log.)"""
+        support.until(lambda: (note := self.noted()) and len(note['read']['logs']) == 1)
         self.dies_unkept()
         self.goes_on_behind()
         self.settles()
@@ -166,7 +167,10 @@ class ServiceSequenceTests(RestartedKeeperCase, RecorderCase):
         self.step(self.chance.randrange(40))
         self.kill_keeper()
         self.told_from = len(self.told())
-        self.comes_back()
+        self.again()
+        self.awaits('the keeper was killed')        # (its program may have ended, as it was asked to)
+        self.goes_on()
+        self.settles()
 
     def service_ends(self) -> None:
         """In order, and the next one begins with its state."""
@@ -215,7 +219,8 @@ class ServiceSequenceTests(RestartedKeeperCase, RecorderCase):
 
     def finds_follower(self) -> None:
         """Waits until there is one follower."""
-        (self.shadow,) = support.until(lambda: found if len(found := self.followers()) == 1 else None)
+        support.until(lambda: len(children(self.keeper.pid, 'replay')) == 1)
+        (self.shadow,) = children(self.keeper.pid, 'replay')
 
     def client_asks(self) -> None:
         """Another codec of a circuit in a call, or what is refused."""
@@ -244,7 +249,7 @@ class ServiceSequenceTests(RestartedKeeperCase, RecorderCase):
         self.knows_all()
         super().ends()
         self.ended += 1
-        kept, given = parted(self.kept_of(self.path('its-session'))), parted(b''.join(self.given))
+        kept, given = parted(self.kept_of(self.path('ring'))), parted(b''.join(self.given))
         self.assertTrue(kept == given, f'{len(kept[0])} octets kept of {len(given[0])}, {kept[1]} of {given[1]}')
         with open(self.path('its-calls'), encoding='utf-8', newline='') as file:
             rows = list(csv.DictReader(file))
@@ -264,41 +269,33 @@ class ServiceSequenceTests(RestartedKeeperCase, RecorderCase):
                 self.operator_asks_between_programs]
 
     def test_any_sequence(self) -> None:
-        events = self.happens()
-        with mock.patch.dict(os.environ, self.within(keeper_WITHIN=0.0)):   # (no death is taken for a state's harm)
+        done: list[str] = []
+        within = self.within(keeper_WITHIN=0.0)     # (no death is taken for a state's harm)
+        with self.subTest(done=done), mock.patch.dict(os.environ, within):
             self.begins()
-            for event in (*events, *self.chance.choices(events, k=25)):
-                try:
-                    event()
-                    self.step(self.chance.randrange(1, 30))
-                except BaseException as fault:
-                    fault.add_note(f'{event.__name__}: {self.told()[-2000:]}')
-                    raise
-        for words in 'no state is known', 'the keeper goes on', 'the calls go on':
-            self.assertNotIn(words, self.told())
-        self.as_uncut()
-        self.leaves_nothing()
-        self.assertEqual(self.events('state')[self.changes:], [])
+            for event in (*self.happens(), *self.chance.choices(self.happens(), k=25)):
+                done.append(event.__name__)
+                event()
+                self.step(self.chance.randrange(1, 30))
+            for words in 'no state is known', 'the keeper goes on', 'the calls go on':
+                self.assertNotIn(words, self.told())
+            self.as_uncut()
+            self.leaves_nothing()
+            self.assertEqual(self.events('state')[self.changes:], [])
 
 
 class ServiceSequenceRingTests(ServiceSequenceTests):
     """The same with a ring, each of whose files replays from its state."""
 
-    keeps = '--keep', '1h'
+    keeps = '--keep', LONG
 
     def happens(self) -> list[Callable[[], None]]:
         """Without an end in order, behind which places are counted again."""
         return [event for event in super().happens() if event != self.service_ends]
 
-    def as_uncut(self, but: int = 0) -> None:
-        super().as_uncut(but)
-        octets = b''.join(self.uncut()[0])
-        fronts = sorted(path.removesuffix('.json') for path in glob.glob(self.path('its-session/*.json')))
-        places = [beside(f'{front}.e1gw')['place'] for front in fronts]
-        for front, begin, end in zip(fronts, places, places[1:]):
-            load = ('--load', f'{front}.state') if begin else ()
-            with open(f'{front}.e1gw', 'rb') as file:
-                self.assertEqual(self.answers(file.read(), *load), octets[begin:end], begin)
+    def ends(self) -> None:
+        super().ends()
+        self.each_file_replays()
 
 
 def parted(octets: bytes) -> tuple[bytes, list[tuple[int, bytes]]]:
@@ -359,9 +356,9 @@ class ServiceVersionTests(KeeperCase):
 
     def test_program_that_hangs(self) -> None:
         """When it is to begin, or to check the configuration."""
-        self.renewed(keeper_START=3.0, version_CHECK=3.0)
-        for case, words in (('check', 'does not check the configuration within 3 s'),
-                            ('trunk', 'does not begin within 3 s')):
+        self.renewed(keeper_START=HANGS, version_CHECK=HANGS)
+        for case, words in (('check', f'does not check the configuration within {HANGS:g} s'),
+                            ('trunk', f'does not begin within {HANGS:g} s')):
             os.unlink(self.path('program'))
             self.other_program(f'{case}) exec sleep 600')
             self.keeper.send_signal(signal.SIGHUP)

@@ -5,7 +5,6 @@ import glob
 import itertools
 import json
 import os
-import signal
 import tempfile
 import types
 import unittest
@@ -14,10 +13,7 @@ from typing import Any
 from unittest import mock
 
 from . import support
-from .test_keeper_killed import RestartedKeeperCase
-from .test_recorder import RecorderCase
 from e1gw.clock import TICK, ClockFinding
-from e1gw.kept import beside
 from e1gw.service import reader, recordings, watch
 from e1gw.service.log import Checkpoint, TrunkLog
 from e1gw.session import MULTIFRAME, Kind, encode_record, trunk_record

@@ -3,7 +3,6 @@ from __future__ import annotations
 
 import contextlib
 import csv
-import json
 import os
 import signal
 import subprocess
@@ -15,7 +14,6 @@ from . import limits, support
 from .support import SECONDS
 from .manager import Manager
 from .test_keeper import GOES_ON
-from .test_keeper_killed import RestartedKeeperCase
 from .world import LAUNCHER, ServedProgram, config_of
 
 EXCHANGE = os.path.join(support.TOP, 'examples', 'exchange')

@@ -324,18 +324,17 @@ class WatcherConnectionTests(WatcherCase):
         world = self.watched(within={'service.status.QUIET': 1.0})
         events = self.events(world)
         world.shadow.flows = False
-        self.next(events, 'stalled')
+        world.until(lambda: world.told()['clock']['stalled'])
         self.assertEqual(world.ask('seize 1'), 'seize 1: the trunk is stalled')
         self.assertIn(' UTC, stalled; the other end: not heard', world.ask('status'))
         with world.shadow.lock:
             world.shadow.flows = True
             for line in world.shadow.clients[1:]:       # those that wait are let in now
                 world.shadow.came(line)
-        self.next(events, 'flows')
-        clock = world.told()['clock']
+        world.until(lambda: not world.told()['clock']['stalled'])
+        self.assertGreater(world.told()['clock']['stalls'], 0)          # (more if the machine stood still)
         world.quit()
-        if not any(json.loads(line)['event'] == 'stalled' for line in events):      # (of a machine that stood still)
-            self.assertEqual(clock, {'stalled': False, 'stalls': 1})
+        self.assertIn('flows', [json.loads(line)['event'] for line in events])
 
     def test_killed_and_begun_again(self) -> None:
         """Calls that were up before have a line at their end."""
