@@ -14,7 +14,6 @@ import socket
 import subprocess
 import sys
 import tempfile
-import threading
 import time
 import unittest
 from typing import Any, Callable
@@ -345,27 +344,6 @@ class KeeperHandoverTests(KeeperCase):
         self.write('trunk.toml', self.peers.config())
         self.as_uncut(7)
 
-    def test_what_is_told_to_systemd(self) -> None:
-        told: list[str] = []
-        with socket.socket(socket.AF_UNIX, socket.SOCK_DGRAM) as systemd:
-            systemd.bind(self.path('notify'))
-            systemd.settimeout(SECONDS)
-
-            def hear() -> None:
-                while not told or told[-1] != 'STOPPING=1':
-                    told.extend(systemd.recv(4096).decode().split('\n'))
-            hears = threading.Thread(target=hear)
-            hears.start()
-            self.starts(NOTIFY_SOCKET=self.path('notify'), WATCHDOG_USEC='1000000')
-            self.step(20)
-            self.keeper.send_signal(signal.SIGHUP)
-            self.goes_on()
-            self.ends()
-            hears.join(SECONDS)
-        self.assertEqual([line for line in told if line in ('READY=1', 'RELOADING=1')],
-                         ['READY=1', 'RELOADING=1', 'READY=1'])
-        self.assertIn('WATCHDOG=1', told)
-
 
 class KeeperFifoTests(support.FolderCase):
     """A trunk that is a pair of FIFOs, without a control socket."""
@@ -402,46 +380,6 @@ class KeeperFifoTests(support.FolderCase):
             self.assertFalse(exchange.remote_alarms)
             into.close()
             self.assertEqual(keeper.wait(SECONDS), 0)
-
-
-class KeeperEndTests(KeeperCase):
-    """How a keeper ends."""
-
-    def test_trunk_ends(self) -> None:
-        self.starts()
-        self.step(20)
-        self.device.line.shutdown(socket.SHUT_WR)
-        self.assertEqual(self.keeper.wait(SECONDS), 0)
-        self.assertIn(f'the trunk has ended, behind octet {20 * MULTIFRAME}', self.told())
-
-    def refused(self, *options: str, status: int = 2) -> str:
-        """What a keeper says that refuses its command line or configuration, or has no trunk."""
-        done = subprocess.run([sys.executable, '-B', LAUNCHER, '--program', support.program(), *options],
-                              stderr=subprocess.PIPE, stdin=subprocess.DEVNULL, timeout=SECONDS)
-        self.assertEqual(done.returncode, status)
-        return done.stderr.decode()
-
-    def test_refusals(self) -> None:
-        unix = ('--unix', self.device.path)
-        self.assertIn('a trunk is', self.refused('--config', self.config))
-        self.assertIn('a trunk is', self.refused('--config', self.config, *unix, '--tcp', '127.0.0.1:7'))
-        self.assertIn('HOST:PORT', self.refused('--config', self.config, '--tcp', '7'))
-        self.assertIn('No such file', self.refused('--config', self.config, '--unix', self.path('none'), status=1))
-        other = self.write('other.toml', 'law = "B"\n')
-        self.assertIn('config 5 OutOfRange at 0', self.refused('--config', other, *unix))
-        for path in (self.config, self.device.path):
-            self.assertIn('somebody listens', self.refused('--config', self.config, *unix, '--program-control', path))
-        self.assertIn('--tell', self.refused('--config', self.config, *unix, '--tell', self.device.path))
-
-    def test_program_that_never_answers(self) -> None:
-        """A port that is taken: the circuit and the cause are named, and the status is 1."""
-        port = next(iter(self.peers.circuits))
-        with socket.socket(socket.AF_INET, socket.SOCK_DGRAM) as taken:
-            taken.bind(('127.0.0.1', port))
-            done = subprocess.run([sys.executable, '-B', LAUNCHER, '--program', support.program(), '--config',
-                                   self.config, '--unix', self.device.path], stderr=subprocess.PIPE, timeout=SECONDS)
-        self.assertEqual(done.returncode, 1)
-        self.assertIn('socket 1', done.stderr.decode())
 
 
 if __name__ == '__main__':

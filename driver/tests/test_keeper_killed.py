@@ -107,7 +107,7 @@ class KilledKeeperTests(RestartedKeeperCase):
         self.manager.files['trunk-in'] = os.open(os.devnull, os.O_RDONLY)
         self.begins()
         self.ends()
-        self.assertIn('STOPPING=1', self.manager.told)
+        self.assertLessEqual({'READY=1', 'WATCHDOG=1', 'STOPPING=1'}, {*self.manager.told})
 
     def test_another_trunk(self) -> None:
         """What was killed of another trunk in the same folder is none of its business."""

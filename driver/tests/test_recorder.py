@@ -7,15 +7,11 @@ import glob
 import json
 import os
 import signal
-import subprocess
-import sys
 import time
 import unittest
 
 from . import support
-from .support import SECONDS
 from .test_keeper import KeeperCase
-from .world import LAUNCHER
 from e1gw.archive import run_last
 from e1gw.kept import beside, by_time, kept, octets_of
 from e1gw.session import MULTIFRAME, Kind, records_in
@@ -183,17 +179,6 @@ class RecordedRingTests(RecorderCase):
                 self.assertEqual(json.load(file)['config'], self.config)
             status, said = run_last([os.path.join(support.TOP, 'tools', 'records'), f'{front}.e1gw'])
             self.assertEqual(status, 0, said)
-
-
-class RecorderRefusalTests(RecorderCase):
-    def test_options(self) -> None:
-        words = ('--config', self.config, '--unix', self.device.path)
-        for options, said in ((('--keep', '1h'), '--keep wants --session'),
-                              (('--keep', '1x', '--session', 'ring'), 'is no time such as 30m')):
-            done = subprocess.run([sys.executable, '-B', LAUNCHER, '--program', support.program(), *words, *options],
-                                  stderr=subprocess.PIPE, stdin=subprocess.DEVNULL, timeout=SECONDS)
-            self.assertEqual(done.returncode, 2)
-            self.assertIn(said, done.stderr.decode())
 
 
 if __name__ == '__main__':

@@ -21,6 +21,7 @@ from .support import SECONDS
 from .world import IDLE, LAUNCHER, SEIZED, World, config_of
 from e1gw import session
 from e1gw.clearing import DisconnectPolicy, DisconnectWatch, OutageWatch
+from e1gw.service.service import parser, wants_of
 from e1gw.testing.ports import free_ports
 from e1gw.testing.service import ask
 
@@ -206,24 +207,11 @@ class TrunkSessionTests(unittest.TestCase):
 class BesideCallsTests(unittest.TestCase):
     """Something ends; the calls go on."""
 
-    def goes_on(self, world: World, what: str | None = None) -> None:
-        """A call comes up, and what has ended is reported. The trunk goes on in lock step until then: what ends does so
-        in a process or a thread of its own."""
+    def goes_on(self, world: World) -> None:
+        """A call comes up, and nothing has ended."""
         aligned(world)
         call(world, 1)
-        world.until(lambda: not what or world.told()['ended'][what] is not None)
-        ended = world.status()['ended']
-        self.assertEqual([name for name, why in ended.items() if why is not None], [what] if what else [])
-
-    def test_a_full_disk(self) -> None:
-        with World(config_of(FOUR), '--json', '/dev/full') as world:
-            self.goes_on(world, 'json')
-            status, said = world.quit()
-            self.assertEqual((status, said.count('json ended, the calls go on: No space left')), (0, 1))
-
-    def test_a_folder_for_metrics_that_is_not_there(self) -> None:
-        with World(config_of(FOUR), '--metrics', '@/none/e1gw.prom') as world:
-            self.goes_on(world, 'metrics')
+        self.assertEqual({*world.status()['ended'].values()}, {None})
 
     def test_readers_that_go_and_readers_that_stand_still(self) -> None:
         reads, writes = os.pipe()
@@ -322,8 +310,11 @@ class RefusedOptionsTests(support.FolderCase):
             ['--unix', 'a', '--session', 's', '--keep', '1x'], ['--unix', 'a', '--on-loss', 'drop'],
             ['--unix', 'a', '--http', '1'], ['--unix', 'a', '--gap', 'x']]
         for words in rows:
-            with self.subTest(words):
-                self.assertEqual(self.run_driver('--config', self.good, *words)[0], 2)
+            with self.subTest(words), self.assertRaises((ValueError, SystemExit)) as refused, \
+                    unittest.mock.patch('sys.stderr'):
+                wants_of(parser().parse_args(['--config', self.good, *words]))
+            self.assertEqual(getattr(refused.exception, 'code', 2), 2)
+        self.assertEqual(self.run_driver('--config', self.good, '--unix', 'a', '--keep', '1h')[0], 2)
 
     def test_only_sockets_are_taken_away(self) -> None:
         path = self.write('ctl', 'precious')
@@ -374,9 +365,13 @@ class RefusedOptionsTests(support.FolderCase):
     def test_no_error_is_a_number_alone(self) -> None:
         """What is refused names the file or the address that it is of."""
         none = os.path.join(self.folder, 'none')
-        with socket.create_server(('127.0.0.1', 0)) as held:
-            place = f'127.0.0.1:{held.getsockname()[1]}'
+        with socket.create_server(('127.0.0.1', 0)) as held, socket.socket(socket.AF_UNIX) as listener:
+            place, taken = f'127.0.0.1:{held.getsockname()[1]}', self.path('taken')
+            listener.bind(taken)
+            listener.listen()
             for words, told in ((('--control', f'{none}/ctl'), f'cannot listen: --control {none}/ctl: No such file'),
+                                (('--program-control', taken), f'--program-control {taken}: somebody listens there'),
+                                (('--tell', self.good), f'--tell {self.good}: somebody listens there, or something'),
                                 (('--http', place), f'cannot listen: --http {place}: Address already in use'),
                                 (('--config', none), f'{none}: No such file or directory'),
                                 (('--program', none), f'{none}: No such file or directory')):
