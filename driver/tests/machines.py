@@ -10,7 +10,6 @@ import socket
 import struct
 import subprocess
 import sys
-import tempfile
 import time
 from typing import Any
 
@@ -46,7 +45,7 @@ class Machine:
     """A machine, whose control is `ask`."""
 
     def __init__(self, case: support.FolderCase, name: str, ports: dict[str, int], *words: str, **around: str) -> None:
-        self._memory = tempfile.TemporaryDirectory(dir='/dev/shm' if os.path.isdir('/dev/shm') else None)
+        self._memory = support.in_memory()
         case.addCleanup(self._memory.cleanup)
         case.addCleanup(self.power_off)
         self.control, self._told, self._from = case.path(f'{name}.control'), case.path(f'{name}.told'), 0

@@ -25,8 +25,8 @@ from e1gw.testing.service import Service
 TOP = os.path.dirname(os.path.dirname(os.path.dirname(os.path.abspath(__file__))))
 sys.dont_write_bytecode = True
 
-__all__ = ['Exchange', 'FolderCase', 'SECONDS', 'Service', 'TOP', 'all_read', 'chance_of', 'launcher', 'program', 'run',
-           'until', 'without']
+__all__ = ['Exchange', 'FolderCase', 'SECONDS', 'Service', 'TOP', 'all_read', 'chance_of', 'in_memory', 'launcher',
+           'program', 'run', 'until', 'without']
 
 T = TypeVar('T')
 
@@ -38,6 +38,11 @@ def until(holds: Callable[[], T | None], pause: float = 0.005) -> T:
     return found
 
 
+def in_memory() -> tempfile.TemporaryDirectory[str]:
+    """A folder in memory, where there is one."""
+    return tempfile.TemporaryDirectory(dir='/dev/shm' if os.path.isdir('/dev/shm') else None)
+
+
 @functools.cache
 def launcher(name: str) -> str:
     """The file that starts a command with the limits of tests. The other commands are next to it."""
@@ -46,7 +51,7 @@ def launcher(name: str) -> str:
 
 @functools.cache
 def _launchers() -> str:
-    folder = tempfile.TemporaryDirectory()
+    folder = in_memory()
     atexit.register(folder.cleanup)
     for name in COMMANDS:
         os.symlink(os.path.join(TOP, 'driver', 'tests', 'start'), os.path.join(folder.name, f'e1gw-{name}'))

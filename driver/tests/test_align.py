@@ -69,9 +69,7 @@ class FilterServiceTests(unittest.TestCase):
             aligned(world)
             call(world, 1)
             for number in (signal.SIGKILL, signal.SIGSTOP):
-                (before,) = support.until(lambda: children(world.process.pid, 'align'))
-                os.kill(before, number)
-                support.until(lambda: before not in children(world.process.pid, 'align'))
+                world.kill('align', number=number)
                 world.step(60)
                 self.assertEqual(world.state(1), 'answered')
             status, said = world.quit()

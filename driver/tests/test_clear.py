@@ -2,14 +2,13 @@
 from __future__ import annotations
 
 import os
-import signal
 import tempfile
 import random
 import unittest
 from typing import Any
 
 from . import support
-from .world import World, children, config_of
+from .world import World, config_of
 from e1gw.clear import Clear, Place
 from e1gw.events import words_of
 from e1gw.exchange import ACKNOWLEDGED, ServeProcess
@@ -316,9 +315,7 @@ class ClearServiceTests(unittest.TestCase):
         """Each slot goes on in its place, both ways."""
         with World(config_of(range(1, 2)), '--clear') as world:
             for words in ('trunk',), ('-BP', '-c', PUMP), ('trunk',):
-                before = support.until(lambda: children(world.process.pid, *words))
-                os.kill(before[0], signal.SIGKILL)
-                support.until(lambda: children(world.process.pid, *words) not in (before, []))
+                world.kill(*words)
                 self.assertEqual(wrong_slots(self.through(world, 31 * 64)), [])
 
     def test_a_state_that_ends_inside_a_frame(self) -> None:

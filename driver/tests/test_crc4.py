@@ -249,9 +249,7 @@ class Crc4ServiceTests(unittest.TestCase):
             with self.subTest(words), Crc4World(config_of(FOUR)) as world:
                 aligned(world)
                 call(world, 1)
-                before = support.until(lambda: children(world.process.pid, *words))
-                os.kill(before[0], signal.SIGKILL)
-                support.until(lambda: children(world.process.pid, *words) not in (before, []))
+                world.kill(*words)
                 self.goes_on(world)
 
     def goes_on(self, world: Crc4World) -> None:

@@ -13,7 +13,6 @@ import signal
 import socket
 import subprocess
 import sys
-import tempfile
 import time
 import unittest
 from typing import Any, Callable
@@ -119,7 +118,7 @@ class KeeperCase(support.FolderCase):
         """Starts a keeper, which opens the device."""
         told = open(self.path('told'), 'ab')
         self.addCleanup(told.close)
-        memory = tempfile.TemporaryDirectory(dir='/dev/shm' if os.path.isdir('/dev/shm') else None)
+        memory = support.in_memory()
         self.addCleanup(memory.cleanup)
         self.memory = memory.name
         words = [sys.executable, '-B', LAUNCHER, '--program', support.program(), '--config', self.config, '--unix',

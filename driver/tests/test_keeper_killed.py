@@ -7,7 +7,6 @@ import os
 import signal
 import subprocess
 import sys
-import tempfile
 import unittest
 from typing import Any
 
@@ -26,7 +25,7 @@ class RestartedKeeperCase(KeeperCase):
         super().setUp()
         self.manager = Manager(self.path('notify'))
         self.addCleanup(self.manager.close)
-        memory = tempfile.TemporaryDirectory(dir='/dev/shm' if os.path.isdir('/dev/shm') else None)
+        memory = support.in_memory()
         self.addCleanup(memory.cleanup)
         self.memory = memory.name
         self.words = [sys.executable, '-B', LAUNCHER, '--program', support.program(), '--config', self.config,
@@ -107,6 +106,7 @@ class KilledKeeperTests(RestartedKeeperCase):
         self.manager.files['trunk-in'] = os.open(os.devnull, os.O_RDONLY)
         self.begins()
         self.ends()
+        support.until(lambda: not self.manager.files)
         self.assertLessEqual({'READY=1', 'WATCHDOG=1', 'STOPPING=1'}, {*self.manager.told})
 
     def test_another_trunk(self) -> None:

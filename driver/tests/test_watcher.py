@@ -4,9 +4,7 @@ from __future__ import annotations
 import csv
 import json
 import os
-import signal
 import socket
-import subprocess
 import unittest
 import urllib.request
 from typing import Any, Mapping
@@ -293,10 +291,7 @@ class WatcherConnectionTests(WatcherCase):
         world.shadow.row(1, 'answered', '00 01', (50, 40, 0))
         world.has(1, state='answered')
         world.quit()
-        assert world.process.stderr
-        world.process.stderr.close()
-        words = [str(word) for word in world.process.args]      # type: ignore[union-attr]
-        world.process = subprocess.Popen(words, stdin=subprocess.DEVNULL, stderr=subprocess.DEVNULL)
+        world.begin_again()
         world.connected()
         for counts in ((60, 45, 0), (62, 46, 0)):
             world.shadow.tell('command 1 2 0', row(1, 'releasing', '10 01', counts))
@@ -341,13 +336,8 @@ class WatcherConnectionTests(WatcherCase):
         world = self.watched()
         world.shadow.row(1, 'answered', '00 01', (50, 40, 0))
         world.has(1, state='answered')
-        world.process.send_signal(signal.SIGKILL)
-        world.wait()
-        assert world.process.stderr
-        world.process.stderr.close()
-        words = [str(word) for word in world.process.args]      # type: ignore[union-attr]
-        world.process = subprocess.Popen([*words, '--calls', world.path('calls')], stdin=subprocess.DEVNULL,
-                                         stderr=subprocess.DEVNULL)
+        world.process.kill()
+        world.begin_again('--calls', world.path('calls'))
         world.connected()
         world.shadow.row(1, 'clearedback', '00 11', (60, 45, 1))
         world.shadow.row(1, 'releasing', '10 11', (60, 45, 1))

@@ -5,6 +5,7 @@ import contextlib
 import itertools
 import json
 import os
+import signal
 import socket
 import subprocess
 import sys
@@ -216,6 +217,12 @@ class World(ServedProgram):
 
     def close(self) -> None:
         self.line.close()
+
+    def kill(self, *words: str, number: int = signal.SIGKILL) -> None:
+        """Sends a signal to the process that was started with these words, and waits until there is another one."""
+        (before,) = support.until(lambda: children(self.process.pid, *words))
+        os.kill(before, number)
+        support.until(lambda: {*children(self.process.pid, *words)} - {before})
 
     def step(self, multiframes: int = 1) -> None:
         """Multiframes to and fro."""
