@@ -99,19 +99,6 @@ class RecordedRingTests(RecorderCase):
         self.starts('--session', self.path('ring'), '--keep', keep, '--name', 'west')
         self.calls()
 
-    def test_each_file_replays(self) -> None:
-        """Each file begins with the state of its program, and replays from that state to what was heard."""
-        self.starts_ring()
-        self.handed_over(None)
-        self.handed_over(signal.SIGKILL, self.shadow)
-        self.handed_over(None)
-        self.ends()
-        self.as_uncut()
-        told = [beside(f'{front}.e1gw') for front in self.each_file_replays()]
-        self.assertEqual([(about['begins'], 'slips' in about) for about in told],
-                         [('start', False), ('middle', False), ('middle', False)])
-        self.assertEqual(self.trunk_of(self.path('ring')), self.given_trunk())
-
     def test_what_a_crash_lost(self) -> None:
         """It is noted where the next file begins, which has the state of the shadow."""
         self.starts_ring()
@@ -119,7 +106,8 @@ class RecordedRingTests(RecorderCase):
         self.goes_on()
         self.step(40)
         self.ends()
-        about = beside(f'{self.each_file_replays()[1]}.e1gw')
+        first, about = [beside(f'{front}.e1gw') for front in self.each_file_replays()]
+        self.assertEqual((first['begins'], 'slips' in first, about['begins']), ('start', False, 'middle'))
         self.assertEqual(about['slips'], [[about['place'], 0.008]])
         self.assertEqual(about['place'], len(self.given_trunk()) - 40 * MULTIFRAME)
 

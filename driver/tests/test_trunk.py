@@ -13,7 +13,7 @@ import time
 import unittest
 import unittest.mock
 from functools import partial
-from typing import Any, TypeVar
+from typing import TypeVar
 
 from . import support
 from .flowing import is_seized
@@ -477,23 +477,6 @@ class UnitTests(support.FolderCase):
         self.assertEqual(self.told(), 'READY=1\nSTATUS=the trunk is not open yet')
 
 
-class OnLossTests(unittest.TestCase):
-    def guard(self, world: World, words: str) -> socket.socket:
-        line = socket.socket(socket.AF_UNIX)
-        line.connect(world.path('ctl'))
-        line.sendall(f'on-loss {words}\n'.encode())
-        line.settimeout(SECONDS)
-        self.assertEqual(line.recv(100), b'on-loss: done\n\n')
-        return line
-
-    def test_calls_are_cleared_and_idle_circuits_blocked(self) -> None:
-        with World(config_of(FOUR, incoming=(2, 4))) as world:
-            aligned(world)
-            call(world, 1)
-            self.guard(world, 'block 0').close()
-            world.until(lambda: [row['state'] for row in world.told()['circuits'][:4]] == ['idle', 'blocked'] * 2)
-
-
 class DisconnectWatchTests(unittest.TestCase):
     """When calls are cleared, by a clock of its own."""
 
@@ -545,19 +528,6 @@ class OutageWatchTests(unittest.TestCase):
         for now in (106.0, 120.0):
             watch.look(now, 'dark')
         self.assertEqual(cleared, ['the trunk has been dark for 3 s'])
-
-
-class DarkTrunkTests(unittest.TestCase):
-    def test_calls_of_a_dark_trunk_are_cleared(self) -> None:
-        with World(config_of(FOUR), '--dark', '0') as world:
-            aligned(world)
-            call(world, 1)
-            while world.state(1) == 'answered':
-                world.give(b'\xFF' * 512)
-            self.assertEqual(world.ask('seize 2'), 'seize 2: no alignment')
-            self.assertEqual(world.state(1), 'releasing')
-            events: list[Any] = [row for row in world.status()['commands'] if row['command'] == 'clear']
-            self.assertEqual(events, [{'command': 'clear', 'answer': 'done', 'count': 1}])
 
 
 if __name__ == '__main__':

@@ -161,18 +161,6 @@ class WatcherServiceTests(WatcherCase):
         self.assertEqual(json.loads(page('/status'))['circuits'][0]['state'], 'answered')
         self.assertIn(' 1 outgoing answered ', page('/table'))
 
-    def test_a_client_that_hangs(self) -> None:
-        world = self.watched()
-        deaf = socket.socket(socket.AF_UNIX)
-        self.addCleanup(deaf.close)
-        deaf.connect(world.path('ctl'))
-        deaf.sendall(b'events\n' + b'status\n' * 500)
-        for number in range(5000):
-            world.shadow.row(1, ('idle', 'fault')[number % 2])
-        world.shadow.row(2, 'blocked', role='incoming')
-        world.has(2, state='blocked')
-        self.assertEqual(world.ask('clear 1'), 'clear 1: done')
-
 
 class WatcherConnectionTests(WatcherCase):
     def without_program(self, **within: Any) -> WatchedTrunk:
@@ -330,21 +318,6 @@ class WatcherConnectionTests(WatcherCase):
         self.assertGreater(world.told()['clock']['stalls'], 0)          # (more if the machine stood still)
         world.quit()
         self.assertIn('flows', [json.loads(line)['event'] for line in events])
-
-    def test_killed_and_begun_again(self) -> None:
-        """Calls that were up before have a line at their end."""
-        world = self.watched()
-        world.shadow.row(1, 'answered', '00 01', (50, 40, 0))
-        world.has(1, state='answered')
-        world.process.kill()
-        world.begin_again('--calls', world.path('calls'))
-        world.connected()
-        world.shadow.row(1, 'clearedback', '00 11', (60, 45, 1))
-        world.shadow.row(1, 'releasing', '10 11', (60, 45, 1))
-        line = self.lines(world)[0]
-        self.assertEqual([line[key] for key in ('circuit', 'seized', 'by', 'sent', 'received')],
-                         ['1', '', 'exchange', '10', '5'])
-        self.assertTrue(line['answered'] and line['ended'])
 
 
 class WatcherCallTests(WatcherCase):
