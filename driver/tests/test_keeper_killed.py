@@ -49,6 +49,7 @@ class RestartedKeeperCase(KeeperCase):
 
     def again(self) -> None:
         with open(self.path('told'), 'ab') as told:
+            self.told_from = len(self.told())
             self.keeper = self.manager.starts([*self.words, *self.options], told.fileno())
         self.addCleanup(self._end)
 

@@ -166,7 +166,6 @@ class ServiceSequenceTests(RestartedKeeperCase, RecorderCase):
         self.keeper.send_signal(signal.SIGHUP)
         self.step(self.chance.randrange(40))
         self.kill_keeper()
-        self.told_from = len(self.told())
         self.again()
         self.awaits('the keeper was killed')        # (its program may have ended, as it was asked to)
         self.goes_on()

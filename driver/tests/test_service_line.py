@@ -47,7 +47,6 @@ class LineKilledTests(RestartedKeeperCase):
         process = self.process(name)
         self.kill_keeper()
         os.kill(process, signal.SIGKILL)
-        self.told_from = len(self.told())
         self.comes_back()
         self.process(name, process)
         self.step(20)
