@@ -23,6 +23,7 @@ LIMITS: dict[str, Any] = {
     'service.connection.NEXT': LONG, 'service.line_process.QUICK': 0.0, 'service.checkpoints.PAUSE': 0.0,
     'service.checkpoints.QUICK': 0.0, 'service.pages.SECONDS': LONG, 'ctl_all.PATIENCE': LONG,
     'programs.PATIENCE': LONG, 'tie.trunk.PATIENCE': LONG, 'writers.OPENS': LONG,
+    'service.slot_trunk.TAKES': LONG,
     # (A process that gets what others leave gets next to nothing on a loaded machine.)
     'archive.put_last': lambda process: None}
 

@@ -50,8 +50,8 @@ class Machine:
         case.addCleanup(self.power_off)
         self.control, self._told, self._from = case.path(f'{name}.control'), case.path(f'{name}.told'), 0
         own, other = ((ADDRESSES[each], ports[each]) for each in (name, 'b' if name == 'a' else 'a'))
-        options = [*words, '--control', self.control, '--folder', self._memory.name, '--feed', f'{own[0]}:{own[1]}',
-                   '--standby', f'{other[0]}:{other[1]}']
+        options = [*words, '--gap', '10000', '--control', self.control, '--folder', self._memory.name,
+                   '--feed', f'{own[0]}:{own[1]}', '--standby', f'{other[0]}:{other[1]}']
         with open(self._told, 'wb') as told:
             self.process = subprocess.Popen([sys.executable, '-B', LAUNCHER, '--program', support.program(), *options],
                                             stderr=told, stdin=subprocess.DEVNULL, env={**os.environ, **around})

@@ -15,6 +15,7 @@ from unittest import mock
 
 from . import support
 from .support import SECONDS
+from .test_recorder import LONG
 from .test_trunk import FOUR, aligned, call
 from .world import World, config_of
 from e1gw.crc4 import Crc4
@@ -53,7 +54,7 @@ class PictureRequestTests(unittest.TestCase):
         """Drawn of what is kept; the calls go on meanwhile."""
         support.program()
         port = free_port()
-        options = ('--http', f'127.0.0.1:{port}', '--picture', '60', '--session', '@/ring', '--keep', '1m')
+        options = ('--http', f'127.0.0.1:{port}', '--picture', '60', '--session', '@/ring', '--keep', LONG)
         with World(config_of(FOUR), *options, '--name', 'west') as world:
             aligned(world)
             call(world, 1)

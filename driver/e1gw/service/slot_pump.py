@@ -90,9 +90,10 @@ class SlotPump:
             self._device.write(octets)
 
     def _settle(self) -> None:
-        """A program is gone that has read octets which it has not answered: the multiframe before is sent for them."""
-        *lines, self._held = (self._held + os.read(self._places, MOST)).split(b'\n')
+        """A program is gone that has read octets which it has not answered: the multiframe before is sent for them.
+        (The next one is started once this is read.)"""
         self._answer()
+        *lines, self._held = (self._held + os.read(self._places, MOST)).split(b'\n')
         for line in lines:
             lost = int(line) - self._answered
             if lost > 0:

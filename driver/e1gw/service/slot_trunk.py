@@ -1,9 +1,11 @@
 """The trunk of a device that keeps time slot 0 (slot_pump), and which trunk there is for which options."""
 from __future__ import annotations
 
+import asyncio
 import os
 import socket
 import sys
+import time
 from typing import Any, Callable
 
 from ..session import FRAME, Kind, records_in, trunk_record
@@ -11,7 +13,7 @@ from ..trunks import Stream
 from .chain import ENDED, CarriedTrunk, shut
 from .crc4_trunk import Crc4Trunk
 from .devices import LineOptions
-from .line_process import Joint, LineProcess, unsent
+from .line_process import SOON, Joint, LineProcess, unsent, waiting
 from .log import Checkpoint, in_memory
 from .process import start
 from .trunk import TrunkFiles
@@ -22,6 +24,7 @@ MANY = 64 * SIGNALS                     # octets in which no other slot has it e
 PUMP = 'import sys; sys.path[:0] = [sys.argv.pop(1)]; from e1gw.service.slot_pump import main; main()'
 TOP = os.path.dirname(os.path.dirname(os.path.dirname(os.path.abspath(__file__))))
 STATUS = 'silent', 'slots_lost', 'slots_moved'
+TAKES = 1.0                 # seconds for the pump to take a number
 
 
 class SlotTrunk(CarriedTrunk):
@@ -55,13 +58,20 @@ class SlotTrunk(CarriedTrunk):
 
     async def join(self, octets: int, is_new: bool, is_well: bool) -> None:
         await super().join(octets, is_new, is_well)
-        if self._is_there('pump'):
-            os.write(self.files.joints['places'].file, f'{octets}\n'.encode())
-        else:
+        if not (self._is_there('pump') and await self._takes(octets)):
             await self._end_process('pump', 0.0)
             self._pair()
             self._added('pump', octets=octets)
             self._begin('pump')
+
+    async def _takes(self, octets: int) -> bool:
+        """Whether the pump has taken how many octets were read. It has all answers up to there then, and none of the
+        next program."""
+        places, until = self.files.joints['places'].file, time.monotonic() + TAKES
+        os.write(places, f'{octets}\n'.encode())
+        while waiting(places) and self._is_there('pump') and time.monotonic() < until:
+            await asyncio.sleep(SOON)
+        return not waiting(places)
 
     def _hear(self) -> None:
         super()._hear()
