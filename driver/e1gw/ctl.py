@@ -72,7 +72,7 @@ def answer_of(stream: BinaryIO) -> list[str]:
 
 def ask(stream: BinaryIO, line: socket.socket, command: str, front: str = '') -> bool:
     """Gives a command and prints what answers it; returns whether it was done."""
-    with suppress(BrokenPipeError):     # a trunk that has no seat says so before it is asked, and ends the connection
+    with suppress(BrokenPipeError):     # (there is no answer then)
         line.sendall(command.encode() + b'\n')
     lines = answer_of(stream)
     print('\n'.join(f'{front}{each}' for each in lines), flush=True)

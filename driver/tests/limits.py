@@ -20,9 +20,10 @@ LIMITS: dict[str, Any] = {
     'service.status.QUIET': LONG, 'service.pages.DRAWN': LONG, 'service.reload.PATIENCE': LONG,
     'service.feed.PATIENCE': LONG, 'service.standby.PATIENCE': LONG, 'service.pair.PATIENCE': LONG,
     'service.standby.MOST_AGE': LONG, 'service.recordings.FLUSH': LONG, 'service.chain.GRACE': LONG,
-    'service.line_process.QUICK': 0.0, 'service.checkpoints.PAUSE': 0.0, 'service.checkpoints.QUICK': 0.0,
-    'service.pages.SECONDS': LONG, 'ctl_all.PATIENCE': LONG, 'programs.PATIENCE': LONG, 'tie.trunk.PATIENCE': LONG,
-    'writers.OPENS': LONG, 'service.slot_trunk.TAKES': LONG,
+    'service.connection.NEXT': LONG, 'service.line_process.QUICK': 0.0, 'service.checkpoints.PAUSE': 0.0,
+    'service.checkpoints.QUICK': 0.0, 'service.pages.SECONDS': LONG, 'ctl_all.PATIENCE': LONG,
+    'programs.PATIENCE': LONG, 'tie.trunk.PATIENCE': LONG, 'writers.OPENS': LONG,
+    'service.slot_trunk.TAKES': LONG,
     # (A process that gets what others leave gets next to nothing on a loaded machine.)
     'archive.put_last': lambda process: None}
 

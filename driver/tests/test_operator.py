@@ -161,25 +161,17 @@ class WatcherServiceTests(WatcherCase):
         self.assertEqual(json.loads(page('/status'))['circuits'][0]['state'], 'answered')
         self.assertIn(' 1 outgoing answered ', page('/table'))
 
-    def test_a_client_that_hangs(self) -> None:
-        world = self.watched()
-        deaf = socket.socket(socket.AF_UNIX)
-        self.addCleanup(deaf.close)
-        deaf.connect(world.path('ctl'))
-        deaf.sendall(b'events\n' + b'status\n' * 500)
-        for number in range(5000):
-            world.shadow.row(1, ('idle', 'fault')[number % 2])
-        world.shadow.row(2, 'blocked', role='incoming')
-        world.has(2, state='blocked')
-        self.assertEqual(world.ask('clear 1'), 'clear 1: done')
-
 
 class WatcherConnectionTests(WatcherCase):
-    def test_no_program(self) -> None:
-        world = self.watched()
+    def without_program(self, **within: Any) -> WatchedTrunk:
+        world = self.watched(within={f'service.connection.{name}': value for name, value in within.items()})
         events = self.events(world)
         world.program.close()
         self.assertEqual(self.next(events, 'disconnected', 'from'), ['program'])
+        return world
+
+    def test_no_program(self) -> None:
+        world = self.without_program(NEXT=0.0)
         self.assertEqual(world.ask('seize 1'), 'seize 1: no connection to the program')
         status = world.told()
         self.assertEqual((status['program'], status['trunk_up'], status['program_since'] > 1e9), (False, False, True))
@@ -188,6 +180,22 @@ class WatcherConnectionTests(WatcherCase):
         world.connected()
         self.assertEqual(world.program.taken, [])
         self.assertEqual(world.ask('seize 1'), 'seize 1: done')
+
+    def test_the_next_program(self) -> None:
+        """It is given what was asked for before it came, once."""
+        world = self.without_program()
+        lines = [socket.socket(socket.AF_UNIX) for _ in range(3)]
+        for circuit, line in enumerate(lines, 1):
+            self.addCleanup(line.close)
+            line.connect(world.path('ctl'))
+            line.settimeout(SECONDS)
+            line.sendall(f'clear {circuit}\n'.encode())
+        self.assertFalse(world.told()['program'])
+        world.program = StandInProgram(world.path('program'), world.shadow)
+        for circuit, line in enumerate(lines, 1):
+            self.assertEqual(line.recv(200), f'clear {circuit}: done\n\n'.encode())
+        self.assertEqual(sorted(record.encode() for record in world.program.taken),
+                         [command_record(circuit, Command.CLEAR) for circuit in (1, 2, 3)])
 
     def test_a_program_that_goes_before_it_answers(self) -> None:
         world = self.watched()
@@ -310,21 +318,6 @@ class WatcherConnectionTests(WatcherCase):
         self.assertGreater(world.told()['clock']['stalls'], 0)          # (more if the machine stood still)
         world.quit()
         self.assertIn('flows', [json.loads(line)['event'] for line in events])
-
-    def test_killed_and_begun_again(self) -> None:
-        """Calls that were up before have a line at their end."""
-        world = self.watched()
-        world.shadow.row(1, 'answered', '00 01', (50, 40, 0))
-        world.has(1, state='answered')
-        world.process.kill()
-        world.begin_again('--calls', world.path('calls'))
-        world.connected()
-        world.shadow.row(1, 'clearedback', '00 11', (60, 45, 1))
-        world.shadow.row(1, 'releasing', '10 11', (60, 45, 1))
-        line = self.lines(world)[0]
-        self.assertEqual([line[key] for key in ('circuit', 'seized', 'by', 'sent', 'received')],
-                         ['1', '', 'exchange', '10', '5'])
-        self.assertTrue(line['answered'] and line['ended'])
 
 
 class WatcherCallTests(WatcherCase):

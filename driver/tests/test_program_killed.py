@@ -5,7 +5,6 @@ that another program goes on. What it hears is what one uncut replay of all reco
 from __future__ import annotations
 
 import contextlib
-import itertools
 import os
 import random
 import re
@@ -14,7 +13,6 @@ import signal
 import socket
 import subprocess
 import sys
-import threading
 import time
 import unittest
 from typing import Any, Callable
@@ -113,7 +111,7 @@ class KeeperCase(support.FolderCase):
         self.given: list[bytes] = []            # what the gateway was given, in the order in which it took it
         self.unknown = 0                        # how many records a killed program had in hand, which nobody knows of
         self.heard: list[bytes | None] = []     # the answer to each record of the trunk, or None where it is lost
-        self.told_from = 0
+        self.told_from = self.first = 0         # what was heard before the keeper of now counted octets
         self.program = self.shadow = 0
 
     def starts(self, *options: str, **around: str) -> None:
@@ -226,7 +224,11 @@ class KeeperCase(support.FolderCase):
     def dies(self, number: int = signal.SIGKILL) -> None:
         """The program is sent a signal when it has answered all, and another one goes on behind that."""
         os.kill(self.program, number)
-        self.assertIn(f'behind octet {len(self.heard) * MULTIFRAME}', self.goes_on())
+        self.goes_on_behind()
+
+    def goes_on_behind(self) -> None:
+        """The next program goes on behind all that was answered."""
+        self.assertIn(f'behind octet {(len(self.heard) - self.first) * MULTIFRAME}', self.goes_on())
 
     def other_program(self, *cases: str) -> str:
         """A program that does what these cases of a shell say, else what the program does."""
@@ -238,6 +240,7 @@ class KeeperCase(support.FolderCase):
     def killed(self, number: int) -> None:
         """The program is sent a signal at any moment behind a record, and another one goes on."""
         before = sum(len(record.body) for record in records_in(b''.join(self.given)) if record.kind is Kind.TRUNK)
+        before -= self.first * MULTIFRAME
         self.send()
         for _ in range(self.chance.randrange(0, 400)):
             pass
@@ -321,57 +324,13 @@ class KeeperCase(support.FolderCase):
         self.assertFalse(os.path.lexists(self.path('control')))
 
 
-class KeeperToldTests(KeeperCase):
-    """What is told beside the trunk."""
-
-    def told_now(self, began: int) -> list[str]:
-        """What a new client of --tell gets first, once the shadow has acted on all multiframes of its session, which
-        began behind so many."""
-        least = MULTIFRAME * (len(self.heard) - began)
-        while True:
-            with socket.socket(socket.AF_UNIX) as line:
-                line.settimeout(SECONDS)
-                with contextlib.suppress(FileNotFoundError, ConnectionRefusedError):
-                    line.connect(self.path('tell'))
-                    self.step(LOOK)
-                    with line.makefile() as lines:
-                        told = list(itertools.takewhile(lambda text: text != 'now\n', lines))
-                    if any(text.startswith('at ') and int(text[3:]) >= least for text in told):
-                        return told
-
-    def test_shadow_that_tells(self) -> None:
-        """Its clients see the calls, also at the next shadow."""
-        self.starts('--tell', self.path('tell'))
-        self.calls()
-        began = 0
-        for _ in range(2):
-            rows = [line.split()[3] for line in self.told_now(began) if line.startswith('line')]
-            self.assertEqual(rows, ['answered'] * 30)
-            os.kill(self.program, signal.SIGKILL)
-            self.goes_on()
-            began = len(self.heard)
-        self.ends()
-        self.assertEqual([name for name in os.listdir(self.folder) if name.startswith('tell')], [])
-
-
 class KeeperHandoverTests(KeeperCase):
     """What an operator asks for."""
 
-    def test_configurations(self) -> None:
-        """One that is none and one of another law are refused with no program ended for them; of one with another
-        circuit 7 all other circuits go on."""
+    def test_another_configuration(self) -> None:
+        """Of one with another circuit 7 all other circuits go on."""
         self.starts()
         self.calls()
-        program = self.program
-        with open(self.config, encoding='ascii') as file:
-            right = file.read()
-        for text, words in ((right + 'x = 1\n', 'config 2 UnknownKey at 30: .*trunk.toml'),
-                            (right.replace('"A"', '"mu"'), 'state 5 Config at 0')):
-            self.write('trunk.toml', text)
-            self.keeper.send_signal(signal.SIGHUP)
-            self.awaits(f'reload: refused, the trunk goes on as it was: {words}')
-            self.step(10)
-            os.kill(program, 0)
         self.write('trunk.toml', self.peers.config(prefill=400))
         self.keeper.send_signal(signal.SIGHUP)
         self.goes_on()
@@ -381,42 +340,8 @@ class KeeperHandoverTests(KeeperCase):
         self.dies()
         self.step(10)
         self.assertEqual(self.told().count('begins as new'), 1)
-        self.write('trunk.toml', right)
+        self.write('trunk.toml', self.peers.config())
         self.as_uncut(7)
-
-    def test_end_and_start(self) -> None:
-        """Another keeper begins with the state that the first one left."""
-        self.starts('--state', self.path('state'))
-        self.calls()
-        for _ in range(2):
-            self.ends()
-            self.assertTrue(os.path.exists(self.path('state')))
-            self.device.line.close()
-            self.starts('--state', self.path('state'))
-            self.assertFalse(os.path.exists(self.path('state')))
-            self.step(40)
-        self.as_uncut()
-
-    def test_what_is_told_to_systemd(self) -> None:
-        told: list[str] = []
-        with socket.socket(socket.AF_UNIX, socket.SOCK_DGRAM) as systemd:
-            systemd.bind(self.path('notify'))
-            systemd.settimeout(SECONDS)
-
-            def hear() -> None:
-                while not told or told[-1] != 'STOPPING=1':
-                    told.extend(systemd.recv(4096).decode().split('\n'))
-            hears = threading.Thread(target=hear)
-            hears.start()
-            self.starts(NOTIFY_SOCKET=self.path('notify'), WATCHDOG_USEC='1000000')
-            self.step(20)
-            self.keeper.send_signal(signal.SIGHUP)
-            self.goes_on()
-            self.ends()
-            hears.join(SECONDS)
-        self.assertEqual([line for line in told if line in ('READY=1', 'RELOADING=1')],
-                         ['READY=1', 'RELOADING=1', 'READY=1'])
-        self.assertIn('WATCHDOG=1', told)
 
 
 class KeeperFifoTests(support.FolderCase):
@@ -454,46 +379,6 @@ class KeeperFifoTests(support.FolderCase):
             self.assertFalse(exchange.remote_alarms)
             into.close()
             self.assertEqual(keeper.wait(SECONDS), 0)
-
-
-class KeeperEndTests(KeeperCase):
-    """How a keeper ends."""
-
-    def test_trunk_ends(self) -> None:
-        self.starts()
-        self.step(20)
-        self.device.line.shutdown(socket.SHUT_WR)
-        self.assertEqual(self.keeper.wait(SECONDS), 0)
-        self.assertIn(f'the trunk has ended, behind octet {20 * MULTIFRAME}', self.told())
-
-    def refused(self, *options: str, status: int = 2) -> str:
-        """What a keeper says that refuses its command line or configuration, or has no trunk."""
-        done = subprocess.run([sys.executable, '-B', LAUNCHER, '--program', support.program(), *options],
-                              stderr=subprocess.PIPE, stdin=subprocess.DEVNULL, timeout=SECONDS)
-        self.assertEqual(done.returncode, status)
-        return done.stderr.decode()
-
-    def test_refusals(self) -> None:
-        unix = ('--unix', self.device.path)
-        self.assertIn('a trunk is', self.refused('--config', self.config))
-        self.assertIn('a trunk is', self.refused('--config', self.config, *unix, '--tcp', '127.0.0.1:7'))
-        self.assertIn('HOST:PORT', self.refused('--config', self.config, '--tcp', '7'))
-        self.assertIn('No such file', self.refused('--config', self.config, '--unix', self.path('none'), status=1))
-        other = self.write('other.toml', 'law = "B"\n')
-        self.assertIn('config 5 OutOfRange at 0', self.refused('--config', other, *unix))
-        for path in (self.config, self.device.path):
-            self.assertIn('somebody listens', self.refused('--config', self.config, *unix, '--program-control', path))
-        self.assertIn('--tell', self.refused('--config', self.config, *unix, '--tell', self.device.path))
-
-    def test_program_that_never_answers(self) -> None:
-        """A port that is taken: the circuit and the cause are named, and the status is 1."""
-        port = next(iter(self.peers.circuits))
-        with socket.socket(socket.AF_INET, socket.SOCK_DGRAM) as taken:
-            taken.bind(('127.0.0.1', port))
-            done = subprocess.run([sys.executable, '-B', LAUNCHER, '--program', support.program(), '--config',
-                                   self.config, '--unix', self.device.path], stderr=subprocess.PIPE, timeout=SECONDS)
-        self.assertEqual(done.returncode, 1)
-        self.assertIn('socket 1', done.stderr.decode())
 
 
 if __name__ == '__main__':

@@ -5,7 +5,7 @@ import socket
 import unittest
 
 from .readers import EVENTS
-from .support import SECONDS, until
+from .support import SECONDS
 from .test_trunk import FOUR
 from .world import World, config_of
 from e1gw.service import commands
@@ -40,19 +40,25 @@ class ControlConnectionTests(unittest.TestCase):
         self.assertEqual(silent[0].recv(1), b'')
 
     def test_those_who_follow_are_kept(self) -> None:
-        lines = [self.connect(b'events\n') for _ in range(commands.MOST_CLIENTS - 1)]
-        for line in lines:
-            self.assertEqual(line.recv(100), b'following\n\n')
-        self.assertIn('circuits are', self.world.ask('seize 31'))
-        last = self.connect(b'events\n')
-        last.recv(100)
-        self.assertIn('no seat: 64 clients', self.world.ask_at_once(b''))
-        last.close()
-        until(lambda: 'circuits are' in self.world.ask_at_once('seize 31'))
+        """Before those who do not. If all follow the one goes who was the longest without a command."""
+        lines = []
+        for _ in range(commands.MOST_CLIENTS):
+            lines.append(self.connect(b'events\n'))
+            self.assertEqual(lines[-1].recv(100), b'following\n\n')
+        lines[0].sendall(EVENTS.encode() + b'\n')
+        self.until_told(lines[0], b'codec 3: done\n')
+        for _ in range(2):
+            self.assertIn('circuits are', self.world.ask_at_once('seize 31'))
+        while lines[1].recv(65536):
+            pass
         self.world.ask(EVENTS)
+        for line in lines[0], lines[2]:
+            self.until_told(line, b'"command"')
+
+    def until_told(self, line: socket.socket, words: bytes) -> None:
         told = b''
-        while b'"command"' not in told:         # a stall of the machine has a stalled trunk reported before it
-            self.assertTrue(piece := lines[1].recv(65536))
+        while words not in told:
+            self.assertTrue(piece := line.recv(65536))
             told += piece
 
 

@@ -3,7 +3,6 @@ from __future__ import annotations
 
 import contextlib
 import csv
-import json
 import os
 import signal
 import subprocess
@@ -15,7 +14,6 @@ from . import limits, support
 from .support import SECONDS
 from .manager import Manager
 from .test_program_killed import GOES_ON
-from .test_service_killed import RestartedKeeperCase
 from .world import LAUNCHER, ServedProgram, config_of
 
 EXCHANGE = os.path.join(support.TOP, 'examples', 'exchange')
@@ -154,45 +152,6 @@ class WatchedTrunkTests(unittest.TestCase):
             trunk.is_in(2, 'acked')
             trunk.until(lambda: trunk.told()['circuits'][1]['seizures'] == seizures)
             self.assertEqual(trunk.told()['life'], life)
-
-    def test_a_trunk_that_stops(self) -> None:
-        trunk = self.begun(QUIET=1.0)
-        trunk.is_in(1, 'idle')
-        os.kill(trunk.exchange.pid, signal.SIGSTOP)
-        trunk.until(lambda: trunk.told()['clock']['stalled'])
-        self.assertEqual(trunk.ask('seize 1'), 'seize 1: the trunk is stalled')
-        os.kill(trunk.exchange.pid, signal.SIGCONT)
-        trunk.until(lambda: not trunk.told()['clock']['stalled'])
-
-    def test_status(self) -> None:
-        trunk = self.begun()
-        trunk.is_in(1, 'idle')
-        before = json.loads(trunk.ask('status json'))
-        trunk.until(lambda: trunk.told()['octets'] > before['octets'])
-        version = support.run('--version').decode().split()[1]
-        trunk.until(lambda: trunk.stands(version=version))
-        self.assertEqual([before['alarm'], before['remote_alarm']], [{'frame': False, 'multiframe': False}] * 2)
-
-
-class KilledCallTests(RestartedKeeperCase):
-    """A line for each call, whoever is killed."""
-
-    def test_calls(self) -> None:
-        """Thirty calls are thirty lines, also of an e1gw-trunk that was killed and begun again."""
-        self.begins('--calls', self.path('calls'))
-        self.kill_keeper()
-        self.step(20)
-        began = len(self.told())
-        self.comes_back()
-        while 'connected to the shadow' not in self.told()[began:]:
-            self.step()
-        self.step(20)
-        self.ends()
-        with open(self.path('calls'), encoding='utf-8', newline='') as file:
-            rows = list(csv.DictReader(file))
-        self.assertEqual(sorted(int(row['circuit']) for row in rows), list(range(1, 31)))
-        self.assertEqual({row['by'] for row in rows}, {'stop'})
-        self.assertEqual(len({row['call'] for row in rows}), 30)
 
 
 if __name__ == '__main__':

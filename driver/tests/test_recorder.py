@@ -7,15 +7,11 @@ import glob
 import json
 import os
 import signal
-import subprocess
-import sys
 import time
 import unittest
 
 from . import support
-from .support import SECONDS
 from .test_program_killed import KeeperCase
-from .world import LAUNCHER
 from e1gw.archive import run_last
 from e1gw.session_files import beside, by_time, kept, octets_of
 from e1gw.session import MULTIFRAME, Kind, records_in
@@ -50,13 +46,13 @@ class RecorderCase(KeeperCase):
         return sorted((path.removesuffix('.json') for path in glob.glob(self.path('ring/*.json'))), key=by_time)
 
     def each_file_replays(self) -> list[str]:
-        """Each file of the ring replays from its state to what was heard up to the next one. The files."""
-        fronts = self.files()
+        """Each file of the ring replays from its state as an uncut session up to the next one. The files."""
+        fronts, octets = self.files(), b''.join(self.uncut()[0])
         places = [beside(f'{front}.e1gw')['place'] for front in fronts]
         for front, begin, end in zip(fronts, places, [*places[1:], len(self.given_trunk())]):
             load = ('--load', f'{front}.state') if begin else ()
             with open(f'{front}.e1gw', 'rb') as file:
-                self.assertEqual(self.answers(file.read(), *load), self.heard_all()[begin:end], begin)
+                self.assertEqual(self.answers(file.read(), *load), octets[begin:end], begin)
         return fronts
 
     def handed_over(self, number: int | None, pid: int = 0) -> None:
@@ -70,61 +66,6 @@ class RecorderCase(KeeperCase):
 
 
 class RecordedFileTests(RecorderCase):
-    def test_whole_session(self) -> None:
-        """Whatever ends besides the program, nothing that was received is lost; what is kept begins as it was."""
-        self.starts('--session', self.path('kept'))
-        self.calls()
-        self.handed_over(None)
-        self.handed_over(signal.SIGKILL, self.shadow)
-        self.assertNotIn('at most', self.told())
-        self.as_uncut()
-        self.ends()
-        mine = self.kept_of(self.path('kept'))
-        self.assertEqual(self.answers(mine)[:MULTIFRAME * 100], self.heard_all()[:MULTIFRAME * 100])
-
-    def test_nothing_is_missing(self) -> None:
-        """Not one octet, datagram or command."""
-        self.starts('--session', self.path('kept'))
-        self.calls()
-        self.handed_over(None)
-        self.handed_over(signal.SIGKILL, self.shadow)
-        self.keeper.send_signal(signal.SIGUSR2)
-        self.awaits('the keeper was replaced')
-        self.step(20)
-        self.handed_over(None)
-        self.as_uncut()
-        self.ends()
-        mine = self.kept_of(self.path('kept'))
-        self.assertEqual(self.trunk_of(self.path('kept')), self.given_trunk())
-        self.assertEqual(self.answers(mine), self.heard_all())
-        self.assertEqual([record for record in records_in(mine) if record.kind is Kind.COMMAND],
-                         [record for record in records_in(b''.join(self.given)) if record.kind is Kind.COMMAND])
-
-    def test_commands_are_those_that_were_given(self) -> None:
-        """Through a reload and a crash: no program other than the trunk's gives any of its own."""
-        self.starts('--session', self.path('kept'))
-        self.calls()
-        self.handed_over(None)
-        self.handed_over(signal.SIGKILL, self.shadow)
-        self.ends()
-        with open(self.path('kept'), 'rb') as file:
-            kept = [record.encode() for record in records_in(file.read()) if record.kind in (Kind.COMMAND, Kind.CODEC)]
-        self.assertEqual(kept, [record for record in self.given if record[0] in (Kind.COMMAND, Kind.CODEC)])
-        self.assertEqual(len(kept), 30)
-
-    def test_clients_that_say_nothing(self) -> None:
-        """Eight that take all places keep no reload from being orderly."""
-        self.starts()
-        self.calls()
-        clients = [self.client() for _ in range(8)]
-        self.step(4)
-        self.handed_over(None)
-        self.assertNotIn('at most', self.told())
-        self.as_uncut()
-        self.ends()
-        for line in clients:
-            line.close()
-
     def test_full_disk(self) -> None:
         """It ends what is kept, and nothing else."""
         self.starts('--session', '/dev/full')
@@ -158,19 +99,6 @@ class RecordedRingTests(RecorderCase):
         self.starts('--session', self.path('ring'), '--keep', keep, '--name', 'west')
         self.calls()
 
-    def test_each_file_replays(self) -> None:
-        """Each file begins with the state of its program, and replays from that state to what was heard."""
-        self.starts_ring()
-        self.handed_over(None)
-        self.handed_over(signal.SIGKILL, self.shadow)
-        self.handed_over(None)
-        self.ends()
-        self.as_uncut()
-        told = [beside(f'{front}.e1gw') for front in self.each_file_replays()]
-        self.assertEqual([(about['begins'], 'slips' in about) for about in told],
-                         [('start', False), ('middle', False), ('middle', False)])
-        self.assertEqual(self.trunk_of(self.path('ring')), self.given_trunk())
-
     def test_what_a_crash_lost(self) -> None:
         """It is noted where the next file begins, which has the state of the shadow."""
         self.starts_ring()
@@ -178,7 +106,8 @@ class RecordedRingTests(RecorderCase):
         self.goes_on()
         self.step(40)
         self.ends()
-        about = beside(f'{self.each_file_replays()[1]}.e1gw')
+        first, about = [beside(f'{front}.e1gw') for front in self.each_file_replays()]
+        self.assertEqual((first['begins'], 'slips' in first, about['begins']), ('start', False, 'middle'))
         self.assertEqual(about['slips'], [[about['place'], 0.008]])
         self.assertEqual(about['place'], len(self.given_trunk()) - 40 * MULTIFRAME)
 
@@ -238,17 +167,6 @@ class RecordedRingTests(RecorderCase):
                 self.assertEqual(json.load(file)['config'], self.config)
             status, said = run_last([os.path.join(support.TOP, 'tools', 'records'), f'{front}.e1gw'])
             self.assertEqual(status, 0, said)
-
-
-class RecorderRefusalTests(RecorderCase):
-    def test_options(self) -> None:
-        words = ('--config', self.config, '--unix', self.device.path)
-        for options, said in ((('--keep', '1h'), '--keep wants --session'),
-                              (('--keep', '1x', '--session', 'ring'), 'is no time such as 30m')):
-            done = subprocess.run([sys.executable, '-B', LAUNCHER, '--program', support.program(), *words, *options],
-                                  stderr=subprocess.PIPE, stdin=subprocess.DEVNULL, timeout=SECONDS)
-            self.assertEqual(done.returncode, 2)
-            self.assertIn(said, done.stderr.decode())
 
 
 if __name__ == '__main__':

@@ -16,7 +16,6 @@ from .support import SECONDS
 from .test_program_killed import KeeperCase
 from .world import LAUNCHER
 from e1gw.service.process import UNKNOWN, Child, start_of
-from e1gw.session import MULTIFRAME
 
 
 class RestartedKeeperCase(KeeperCase):
@@ -50,23 +49,27 @@ class RestartedKeeperCase(KeeperCase):
 
     def again(self) -> None:
         with open(self.path('told'), 'ab') as told:
+            self.told_from = len(self.told())
             self.keeper = self.manager.starts([*self.words, *self.options], told.fileno())
         self.addCleanup(self._end)
 
     def settles(self) -> None:
-        """Until systemd has the descriptors of the program of now, and no others."""
+        """Until systemd has the descriptors of the trunk, the program and the logs of now, and no others."""
         def settled() -> bool:
-            note = self.note()
-            return note is not None and {'kept', 'trunk-in', *note['files'].values()} == {*self.manager.files}
+            note = self.noted()
+            noted = [note.get('program'), note.get('trunk') or {'files': {'': 'trunk-in'}},
+                     *(note.get('read') or {}).get('logs', ())]
+            names = {name for each in noted if each for name in each['files'].values()}
+            return bool(note) and {'kept', *names} == {*self.manager.files}
         support.until(settled)
 
-    def note(self) -> dict[str, Any] | None:
-        """What the service of now has noted of its program."""
+    def noted(self) -> dict[str, Any]:
+        """What the service of now has noted, with a program that is up; nothing before that."""
         file = self.manager.files.get('kept')
         octets = os.pread(file, 65_536, 0).partition(b'\n')[0] if file is not None else b''
         found: dict[str, Any] = json.loads(octets) if octets else {}
-        program: dict[str, Any] | None = found.get('program')
-        return program if found.get('service', [0])[0] == self.keeper.pid and program and program['up'] else None
+        is_its = found.get('service', [0])[0] == self.keeper.pid
+        return found if is_its and found['program'] and found['program']['up'] else {}
 
     def comes_back(self) -> None:
         """The service is begun again, and goes on with the program that is there."""
@@ -89,17 +92,6 @@ class RestartedKeeperCase(KeeperCase):
         self.device.accept()
         line.close()
 
-    def dies_in_reloads(self) -> None:
-        """The service is killed at any moment of six reloads, and comes back."""
-        for _ in range(6):
-            self.keeper.send_signal(signal.SIGHUP)
-            for _ in range(self.chance.randrange(40)):
-                self.step()
-            self.kill_keeper()
-            self.told_from = len(self.told())
-            self.comes_back()
-            self.step(20)
-
     def leaves_nothing(self) -> None:
         """The trunk ends, and nothing of it is left."""
         self.ends()
@@ -110,45 +102,13 @@ class RestartedKeeperCase(KeeperCase):
 class KilledKeeperTests(RestartedKeeperCase):
     """It is killed, and started again as systemd does it."""
 
-    def test_at_any_moment_of_a_reload(self) -> None:
-        """No call ends."""
-        self.begins()
-        self.dies_in_reloads()
-        self.assertNotIn('no state is known', self.told())
-        self.as_uncut()
-        self.ends()
-
-    def test_without_systemd(self) -> None:
-        """The program ends in order, and another one begins with its state on the trunk opened again."""
-        self.begins()
-        for _ in range(2):
-            self.dies_unkept()
-            self.assertIn(f'behind octet {len(self.heard) * MULTIFRAME}', self.goes_on())
-            self.step(40)
-            self.settles()
-        self.as_uncut()
-        self.ends()
-
     def test_descriptors_that_are_held(self) -> None:
-        """Those of the program of now and of the trunk, not more and not fewer, and none behind an orderly end. What is
-        held of a program of which nothing is noted is forgotten."""
+        """Those of a program of which nothing is noted are forgotten."""
+        self.manager.files['trunk-in'] = os.open(os.devnull, os.O_RDONLY)
         self.begins()
-        held = sorted(name.split('-')[0] for name in self.manager.files)
-        self.keeper.send_signal(signal.SIGHUP)
-        self.goes_on()
-        self.settles()
-        self.assertLessEqual({*held}, {name.split('-')[0] for name in self.manager.files})
         self.ends()
         support.until(lambda: not self.manager.files)
-        self.assertIn('STOPPING=1', self.manager.told)
-        self.device.line.close()
-        self.manager.files['trunk-in'] = os.open(os.devnull, os.O_RDONLY)
-        self.again()
-        self.device.accept()
-        self.goes_on()
-        self.settles()
-        self.step(20)
-        self.ends()
+        self.assertLessEqual({'READY=1', 'WATCHDOG=1', 'STOPPING=1'}, {*self.manager.told})
 
     def test_another_trunk(self) -> None:
         """What was killed of another trunk in the same folder is none of its business."""

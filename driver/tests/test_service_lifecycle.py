@@ -4,28 +4,65 @@ It goes in lock step, as test_program_killed does; what is received is what one 
 from __future__ import annotations
 
 import contextlib
+import csv
 import glob
+import itertools
+import json
 import os
 import signal
+import socket
 import subprocess
 import unittest
-from typing import Any
+from typing import Any, Callable
 from unittest import mock
 
 from . import support
 from .support import SECONDS
-from .test_program_killed import CIRCUITS, KeeperCase
+from .test_program_killed import CIRCUITS, NO_EFFECT, KeeperCase
 from .test_service_killed import RestartedKeeperCase
+from .test_recorder import LONG, RecorderCase
+from .test_trunk import is_there
 from .world import children
 from e1gw.service.log import STATE_ROOM, TrunkLog, in_memory, take_file
 from e1gw.service.version import VersionRefused, look_up, with_addresses
-from e1gw.session import MULTIFRAME, Codec, codec_record, trunk_record
+from e1gw.session import Codec, Kind, codec_record, records_in, trunk_record
+from e1gw.testing.service import ask
 
 HANGS = 5.0                 # seconds, which no program takes that does not hang, on a machine that stalls
 
 
-class ServiceSequenceTests(RestartedKeeperCase):
-    """Any sequence of what may happen to a trunk, with multiframes under way and records of clients in between."""
+class ServiceSequenceTests(RestartedKeeperCase, RecorderCase):
+    """Any sequence of what may happen to a trunk, with multiframes under way and commands in between. What is heard is
+    what an uncut replay gives, all of it is kept, once, and no line changes its state behind the seizures."""
+
+    keeps: tuple[str, ...] = ()
+
+    def begins(self, *options: str) -> None:
+        """With all that may be wanted of a trunk, in a folder that can be full (if the test may mount one)."""
+        mounts = ['mount', '-t', 'tmpfs', '-o', 'size=4M', 'tmpfs', self.memory]
+        self.is_small = not subprocess.run(mounts, stderr=subprocess.DEVNULL, check=False).returncode
+        if self.is_small:
+            self.addCleanup(os.system, f'umount -l {self.memory}')
+        self.ended, self.refused = 0, itertools.cycle(self.refusals())
+        own = [word for name in ('state', 'calls', 'json', 'control')
+               for word in (f'--{name}', self.path(f'its-{name}'))]
+        super().begins('--reopen', '--gap', '10000', '--session', self.path('ring'), *own, *self.keeps, *options)
+        self.knows_all()
+        ask(self.path('its-control'), b'codec 1 g726-16 1')     # (it is refused)
+        support.until(lambda: 'command' in [event['event'] for event in self.events()])
+        self.changes = len(self.events('state'))
+
+    def knows_all(self) -> None:
+        """Returns once the service knows of all calls."""
+        def states() -> set[str]:
+            with contextlib.suppress(OSError, EOFError):
+                status = json.loads(ask(self.path('its-control'), b'status json'))
+                return {str(row['state']) for row in status['circuits']} if status['shadow'] else set()
+            return set()
+        while states() != {'answered'}:
+            self.step()
+
+    # ---- what may happen ----
 
     def program_dies(self) -> None:
         number = self.chance.choice((signal.SIGKILL, signal.SIGSTOP, signal.SIGSEGV, signal.SIGTERM))
@@ -46,11 +83,58 @@ class ServiceSequenceTests(RestartedKeeperCase):
         while self.goes_on() and self.program == before:
             pass
 
+    def service_and_follower_stand_still(self) -> None:
+        """For more of the trunk than any pipe holds."""
+        for pid in (self.keeper.pid, self.shadow):
+            os.kill(pid, signal.SIGSTOP)
+        self.step(400)
+        for pid in (self.shadow, self.keeper.pid):
+            os.kill(pid, signal.SIGCONT)
+
+    def end_is_asked_for(self) -> None:
+        """A client cannot ask for it: its record E closes its connection alone. What others ask for is a death, and
+        loses nothing."""
+        with self.client() as line:
+            line.sendall(b'E\0\0\0')
+            self.assertEqual(line.recv(1), b'')
+        with open(f'/proc/{self.program}/cmdline', 'rb') as file:
+            words = file.read().decode().split('\0')
+        with open(f'/proc/{self.program}/fd/{words[words.index("--end") + 1]}', 'wb') as end:
+            end.write(b'\n')
+        self.assertNotIn('at most', self.goes_on())
+
     def reloaded(self) -> None:
+        """Also if clients who say nothing have all places."""
+        clients = [self.client() for _ in range(self.chance.choice((0, 8)))]
         before = self.program
         self.under_way(lambda: self.keeper.send_signal(signal.SIGHUP))
-        self.goes_on()
+        self.assertNotIn('at most', self.goes_on())
         self.assertNotEqual(self.program, before)
+        for line in clients:
+            line.close()
+
+    def refusals(self) -> list[tuple[str | None, str]]:
+        """Configurations that are refused, by the program or before it reads them; None is a FIFO."""
+        with open(self.config, encoding='ascii') as file:
+            self.right = file.read()
+        name = self.right.replace('peer_port', 'peer_host = "no.such.invalid"\npeer_port', 1)
+        return [(self.right + 'x = 1\n', 'config 2 UnknownKey at 30: .*trunk.toml'), (name, 'no.such.invalid: '),
+                (self.right.replace('"A"', '"mu"'), 'state 5 Config at 0'), ('x = ' + '[' * 1200, 'config 1 Syntax'),
+                ('#' * 70_000, '.*more than 65536 octets'), (None, '.*trunk.toml is no file')]
+
+    def reload_is_refused(self) -> None:
+        text, words = next(self.refused)
+        os.unlink(self.config)
+        if text is None:
+            os.mkfifo(self.config)
+        else:
+            self.write('trunk.toml', text)
+        self.keeper.send_signal(signal.SIGHUP)
+        self.awaits(f'reload: refused, the trunk goes on as it was: {words}')
+        os.unlink(self.config)
+        self.write('trunk.toml', self.right)
+        os.kill(self.program, 0)
+        self.finds_follower()                       # (a state of now was taken)
 
     def replaced(self) -> None:
         before = self.program
@@ -72,7 +156,75 @@ class ServiceSequenceTests(RestartedKeeperCase):
             return self.assertEqual(self.program, before)
         self.again()
         self.awaits('the keeper was killed')
-        self.assertIn(f'behind octet {len(self.heard) * MULTIFRAME}', self.goes_on())
+        self.goes_on_behind()
+
+    def service_dies_unkept(self) -> None:
+        """Its program ends in order, and another one begins with the state on the trunk opened again. (Of a program
+        before that nobody has the log.)"""
+        support.until(lambda: (note := self.noted()) and len(note['read']['logs']) == 1)
+        self.dies_unkept()
+        self.goes_on_behind()
+        self.settles()
+
+    def service_dies_in_a_reload(self) -> None:
+        self.settles()
+        self.keeper.send_signal(signal.SIGHUP)
+        self.step(self.chance.randrange(40))
+        self.kill_keeper()
+        self.again()
+        self.awaits('the keeper was killed')        # (its program may have ended, as it was asked to)
+        self.goes_on()
+        self.settles()
+
+    def service_ends(self) -> None:
+        """In order, and the next one begins with its state."""
+        self.leaves_nothing()
+        self.assertTrue(os.path.exists(self.path('its-state')))
+        self.device.line.close()
+        self.again()
+        self.device.accept()
+        self.first = len(self.heard)
+        self.goes_on()
+        self.assertFalse(os.path.exists(self.path('its-state')))
+        self.settles()
+
+    def trunk_is_lost(self) -> None:
+        """It is opened again."""
+        self.device.line.close()
+        self.device.accept()
+        self.goes_on_behind()
+
+    def folder_is_gone(self) -> None:
+        (folder,) = glob.glob(os.path.join(self.memory, '*'))
+        subprocess.run(['rm', '-r', folder], check=True)
+        self.dies()
+        support.until(lambda: os.path.isdir(folder))
+
+    def folder_is_full(self) -> None:
+        """The state is put elsewhere."""
+        if self.is_small:
+            full = os.path.join(self.memory, 'full')
+            with open(full, 'wb', buffering=0) as file, contextlib.suppress(OSError):
+                while True:
+                    file.write(bytes(4096))
+            self.dies()
+            self.reloaded()
+            os.unlink(full)
+
+    def control_is_taken(self) -> None:
+        """It is reported, and one follower is started, not one for each try."""
+        os.unlink(self.path('control'))
+        os.mkdir(self.path('control'))
+        self.dies()
+        self.assertIn('control does not lead to the process of now: Is a directory', self.told())
+        os.rmdir(self.path('control'))
+        self.dies()
+        self.finds_follower()
+
+    def finds_follower(self) -> None:
+        """Waits until there is one follower."""
+        support.until(lambda: len(children(self.keeper.pid, 'replay')) == 1)
+        (self.shadow,) = children(self.keeper.pid, 'replay')
 
     def client_asks(self) -> None:
         """Another codec of a circuit in a call, or what is refused."""
@@ -82,40 +234,87 @@ class ServiceSequenceTests(RestartedKeeperCase):
             line.sendall(self.given[-1])
             self.assertEqual(len(line.recv(6)), 6)
 
+    def operator_asks_between_programs(self) -> None:
+        """The next program is given it."""
+        os.kill(self.program, signal.SIGKILL)
+        support.until(lambda: not is_there(self.program))
+        with socket.socket(socket.AF_UNIX) as line:
+            line.settimeout(SECONDS)
+            line.connect(self.path('its-control'))
+            line.sendall(b'codec 3 g726-32 96\n')
+            self.goes_on()
+            self.assertEqual(line.recv(100), b'codec 3: done\n\n')
+        self.given.append(codec_record(3, Codec.G726_32, 96))
+
+    # ---- what must hold ----
+
+    def ends(self) -> None:
+        """All that was given is kept, and each call has a line."""
+        self.knows_all()
+        super().ends()
+        self.ended += 1
+        kept, given = parted(self.kept_of(self.path('ring'))), parted(b''.join(self.given))
+        self.assertTrue(kept == given, f'{len(kept[0])} octets kept of {len(given[0])}, {kept[1]} of {given[1]}')
+        with open(self.path('its-calls'), encoding='utf-8', newline='') as file:
+            rows = list(csv.DictReader(file))
+        self.assertEqual(sorted(int(row['circuit']) for row in rows), sorted([*CIRCUITS] * self.ended))
+        self.assertEqual({row['by'] for row in rows}, {'stop'})
+
+    def events(self, name: str = '') -> list[dict[str, Any]]:
+        """The events of this name, or all, that were told."""
+        with open(self.path('its-json'), encoding='utf-8') as file:
+            return [event for line in file if (event := json.loads(line))['event'] == name or not name]
+
+    def happens(self) -> list[Callable[[], None]]:
+        return [self.program_dies, self.follower_dies, self.both_die, self.service_and_follower_stand_still,
+                self.end_is_asked_for, self.reloaded, *[self.reload_is_refused] * 6, self.replaced, self.service_dies,
+                self.service_dies_unkept, self.service_dies_in_a_reload, self.service_ends, self.trunk_is_lost,
+                self.folder_is_gone, self.folder_is_full, self.control_is_taken, self.client_asks,
+                self.operator_asks_between_programs]
+
     def test_any_sequence(self) -> None:
-        """What is heard is what an uncut replay gives, and all calls are up."""
-        events = (self.program_dies, self.follower_dies, self.both_die, self.reloaded, self.replaced, self.service_dies,
-                  self.client_asks)
         done: list[str] = []
         within = self.within(lifecycle_WITHIN=0.0)     # (no death is taken for a state's harm)
         with self.subTest(done=done), mock.patch.dict(os.environ, within):
             self.begins()
-            for event in (*events, *self.chance.choices(events, k=43)):
+            for event in (*self.happens(), *self.chance.choices(self.happens(), k=25)):
                 done.append(event.__name__)
                 event()
                 self.step(self.chance.randrange(1, 30))
-            self.assertNotIn('no state is known', self.told())
-            self.assertNotIn('the keeper goes on', self.told())
+            for words in 'no state is known', 'the keeper goes on', 'the calls go on':
+                self.assertNotIn(words, self.told())
             self.as_uncut()
             self.leaves_nothing()
+            self.assertEqual(self.events('state')[self.changes:], [])
+
+
+class ServiceSequenceRingTests(ServiceSequenceTests):
+    """The same with a ring, each of whose files replays from its state."""
+
+    keeps = '--keep', LONG
+
+    def happens(self) -> list[Callable[[], None]]:
+        """Without an end in order, behind which places are counted again."""
+        return [event for event in super().happens() if event != self.service_ends]
+
+    def ends(self) -> None:
+        super().ends()
+        self.each_file_replays()
+
+
+def parted(octets: bytes) -> tuple[bytes, list[tuple[int, bytes]]]:
+    """The octets of the trunk in a session, and the operator's records with their places among those."""
+    trunk, others = bytearray(), []
+    for record in records_in(octets):
+        if record.kind is Kind.TRUNK:
+            trunk += record.body
+        elif record.encode() != NO_EFFECT:
+            others.append((len(trunk), record.encode()))
+    return bytes(trunk), others
 
 
 class ServiceLogTests(KeeperCase):
     """The state after any death is that of the log."""
-
-    def test_service_and_follower_that_stand_still(self) -> None:
-        """Three seconds of the trunk, more than any pipe holds: nothing ends, and a death goes on behind them."""
-        self.starts()
-        self.calls()
-        for pid in (self.keeper.pid, self.shadow):
-            os.kill(pid, signal.SIGSTOP)
-        self.step(1500)
-        for pid in (self.shadow, self.keeper.pid):
-            os.kill(pid, signal.SIGCONT)
-        self.dies()
-        self.step(20)
-        self.assertNotIn('no state is known', self.told())
-        self.as_uncut()
 
     def test_checkpoints(self) -> None:
         """Another one each 64 KiB: what lies before it is given back, and a death goes on from it."""
@@ -146,73 +345,6 @@ class ServiceFaultTests(KeeperCase):
         self.as_uncut()
         self.ends()
 
-    def test_a_link_that_cannot_be_made(self) -> None:
-        """It is reported, and one follower is started, not one for each try."""
-        self.starts()
-        os.unlink(self.path('control'))
-        os.mkdir(self.path('control'))
-        self.step(40)
-        self.dies()
-        self.assertIn('control does not lead to the process of now: Is a directory', self.told())
-        self.step(20)
-        support.until(lambda: len(children(self.keeper.pid, 'replay')) == 1)
-        self.keeper.terminate()
-        self.assertEqual(self.keeper.wait(SECONDS), 0)
-
-    def test_folder_that_is_gone(self) -> None:
-        """It is made again, with a program that has a control socket there; the calls go on."""
-        self.starts()
-        self.calls()
-        (folder,) = glob.glob(os.path.join(self.memory, '*'))
-        subprocess.run(['rm', '-r', folder], check=True)
-        self.dies()
-        self.step(20)
-        support.until(lambda: os.path.isdir(folder))
-        self.as_uncut()
-        self.ends()
-
-    def test_configurations_that_are_hostile(self) -> None:
-        """They are refused by the program, or by their size, before any Python reads them."""
-        self.starts()
-        self.calls()
-        with open(self.config, encoding='ascii') as file:
-            right = file.read()
-        for text, words in (('x = ' + '[' * 1200, 'config 1 Syntax'), ('#' * 70_000, 'more than 65536 octets'),
-                            (right.replace('peer_port', 'peer_host = "no.such.invalid"\npeer_port', 1),
-                             'no.such.invalid: ')):
-            self.write('trunk.toml', text)
-            self.keeper.send_signal(signal.SIGHUP)
-            self.awaits(f'reload: refused, the trunk goes on as it was: .*{words}')
-            self.step(10)
-        os.unlink(self.config)
-        os.mkfifo(self.config)
-        self.keeper.send_signal(signal.SIGHUP)
-        self.awaits('reload: refused.*trunk.toml is no file')
-        os.unlink(self.config)
-        self.write('trunk.toml', right)
-        self.dies()
-        self.step(20)
-        self.as_uncut()
-        self.ends()
-
-    def test_end_that_was_not_asked_for(self) -> None:
-        """A client cannot ask for it: its record E closes its connection alone. What others ask for is a death."""
-        self.starts()
-        self.calls()
-        with self.client() as line:
-            line.sendall(b'E\0\0\0')
-            self.assertEqual(line.recv(1), b'')
-        self.step(20)
-        with open(f'/proc/{self.program}/cmdline', 'rb') as file:
-            words = file.read().decode().split('\0')
-        with open(f'/proc/{self.program}/fd/{words[words.index("--end") + 1]}', 'wb') as end:
-            end.write(b'\n')
-        self.goes_on()
-        self.step(20)
-        self.assertNotIn('at most', self.told())
-        self.as_uncut()
-        self.ends()
-
 
 class ServiceVersionTests(KeeperCase):
     """A version that does not do: the one before comes back, with all calls."""
@@ -227,20 +359,15 @@ class ServiceVersionTests(KeeperCase):
         self.other_program(*cases)
 
     def test_program_that_hangs(self) -> None:
-        self.renewed('trunk) exec sleep 600', lifecycle_START=HANGS)
-        self.keeper.send_signal(signal.SIGHUP)
-        self.awaits(f'reload: refused.*does not begin within {HANGS:g} s')
+        """When it is to begin, or to check the configuration."""
+        self.renewed(lifecycle_START=HANGS, version_CHECK=HANGS)
+        for case, words in (('check', f'does not check the configuration within {HANGS:g} s'),
+                            ('trunk', f'does not begin within {HANGS:g} s')):
+            os.unlink(self.path('program'))
+            self.other_program(f'{case}) exec sleep 600')
+            self.keeper.send_signal(signal.SIGHUP)
+            self.awaits(f'reload: refused.*{words}')
         self.goes_on()
-        self.step(20)
-        self.dies()
-        self.step(20)
-        self.as_uncut()
-        self.ends()
-
-    def test_check_that_hangs(self) -> None:
-        self.renewed('check) exec sleep 600', version_CHECK=HANGS)
-        self.keeper.send_signal(signal.SIGHUP)
-        self.awaits(f'reload: refused.*does not check the configuration within {HANGS:g} s')
         self.dies()
         self.step(20)
         self.as_uncut()
@@ -271,39 +398,6 @@ class ServiceVersionTests(KeeperCase):
             text = its.read()
         self.assertEqual((text.count('localhost'), text.count('peer_host = "127.0.0.1"')), (0, 1))
         self.assertEqual(words[words.index('--senders') + 1], 'any')
-        self.ends()
-
-
-class ServiceRoomTests(KeeperCase):
-    """A folder in memory that is full."""
-
-    def setUp(self) -> None:
-        super().setUp()
-        self.small = self.path('small')
-        os.mkdir(self.small)
-        mounts = ['mount', '-t', 'tmpfs', '-o', 'size=1M', 'tmpfs', self.small]
-        if subprocess.run(mounts, stderr=subprocess.DEVNULL, check=False).returncode:
-            self.skipTest('a folder in memory of a given size wants root')
-        self.addCleanup(os.system, f'umount -l {self.small}')
-
-    def fill(self) -> None:
-        with open(os.path.join(self.small, 'full'), 'wb', buffering=0) as file, contextlib.suppress(OSError):
-            while True:
-                file.write(bytes(4096))
-
-    def test_full_folder(self) -> None:
-        """A death and a reload go on with all calls: the state is put elsewhere."""
-        self.starts('--folder', self.small)
-        self.calls()
-        self.fill()
-        self.step(20)
-        self.dies()
-        self.step(20)
-        self.keeper.send_signal(signal.SIGHUP)
-        self.goes_on()
-        self.step(20)
-        self.assertNotIn('no state is known', self.told())
-        self.as_uncut()
         self.ends()
 
 

@@ -3,7 +3,6 @@ processes on its line."""
 from __future__ import annotations
 
 import asyncio
-import json
 import os
 import signal
 import socket
@@ -31,18 +30,9 @@ from e1gw.trunks import Stream
 class LineKilledTests(RestartedKeeperCase):
     """A service that is killed: the processes on its line go on, and the next one sees to them."""
 
-    def settles(self) -> None:
-        """Until systemd has the descriptors of the program and the line of now, and no others."""
-        def settled() -> bool:
-            note, line = self.note(), self.line()
-            return note is not None and {'kept', *note['files'].values(), *line['files'].values()} == {
-                *self.manager.files}
-        support.until(settled)
-
     def line(self) -> dict[str, Any]:
         """What the service has noted of its line."""
-        octets = os.pread(self.manager.files['kept'], 65_536, 0).partition(b'\n')[0]
-        found: dict[str, Any] = json.loads(octets)['trunk']
+        found: dict[str, Any] = support.until(self.noted)['trunk']
         return found
 
     def process(self, name: str, before: int = 0) -> int:
@@ -57,7 +47,6 @@ class LineKilledTests(RestartedKeeperCase):
         process = self.process(name)
         self.kill_keeper()
         os.kill(process, signal.SIGKILL)
-        self.told_from = len(self.told())
         self.comes_back()
         self.process(name, process)
         self.step(20)

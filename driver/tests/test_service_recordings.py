@@ -5,7 +5,6 @@ import glob
 import itertools
 import json
 import os
-import signal
 import tempfile
 import types
 import unittest
@@ -13,84 +12,13 @@ from collections import Counter
 from typing import Any
 from unittest import mock
 
-from . import support, test_service_lifecycle
-from .test_service_killed import RestartedKeeperCase
-from .test_recorder import LONG, RecorderCase
+from . import support
 from e1gw.clock import TICK, ClockFinding
 from e1gw.service import reader, recordings, watch
 from e1gw.service.log import Checkpoint, TrunkLog
 from e1gw.session import MULTIFRAME, Kind, encode_record, trunk_record
 
 RECORD = MULTIFRAME / 256_000       # seconds
-
-
-class KilledRecordingTests(RestartedKeeperCase, RecorderCase):
-    """The service is killed, and goes on with what it kept."""
-
-    def service_killed(self) -> None:
-        for _ in range(3):
-            self.step(self.chance.randrange(1, 40))
-            self.kill_keeper()
-            self.step(20)
-            self.comes_back()
-        self.keeper.send_signal(signal.SIGHUP)
-        self.goes_on()
-        self.step(20)
-        self.settles()
-        self.kill_keeper()
-        self.step(20)
-        os.kill(self.program, signal.SIGKILL)
-        self.again()
-        self.awaits('the keeper was killed')
-        self.goes_on()
-        self.step(20)
-        self.as_uncut()
-        self.ends()
-
-    def test_file(self) -> None:
-        """Not one octet is missing, and none is there twice."""
-        self.begins('--session', self.path('kept'))
-        self.service_killed()
-        self.assertEqual(self.trunk_of(self.path('kept')), self.given_trunk())
-        self.assertEqual(self.answers(self.kept_of(self.path('kept'))), self.heard_all())
-
-    def test_file_without_systemd(self) -> None:
-        """The log is that of the program, which is there until it has ended in order."""
-        self.begins('--session', self.path('kept'))
-        for _ in range(2):
-            self.dies_unkept()
-            self.goes_on()
-            self.step(40)
-            self.settles()
-        self.as_uncut()
-        self.ends()
-        self.assertEqual(self.trunk_of(self.path('kept')), self.given_trunk())
-
-    def test_at_any_moment_of_a_reload(self) -> None:
-        """The log of a program is noted with the program."""
-        self.begins('--session', self.path('ring'), '--keep', LONG)
-        self.dies_in_reloads()
-        self.as_uncut()
-        self.ends()
-        self.assertEqual(self.trunk_of(self.path('ring')), self.given_trunk(), self.told())
-
-    def test_ring(self) -> None:
-        """The same file is written on for each program, and each replays from its state."""
-        self.begins('--session', self.path('ring'), '--keep', LONG)
-        self.service_killed()
-        self.assertEqual(self.trunk_of(self.path('ring')), self.given_trunk(), self.told())
-        self.assertEqual(len(self.each_file_replays()), 3)
-
-
-class ServiceSequenceRecordingTests(test_service_lifecycle.ServiceSequenceTests, RecorderCase):
-    """Any sequence of what may happen to a trunk: a ring has all of it, once."""
-
-    def begins(self, *options: str, **around: str) -> None:
-        super().begins('--session', self.path('ring'), '--keep', LONG, *options, **around)
-
-    def ends(self) -> None:
-        super().ends()
-        self.assertEqual(self.trunk_of(self.path('ring')), self.given_trunk(), self.told())
 
 
 class WholeRecordTests(unittest.TestCase):

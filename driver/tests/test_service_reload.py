@@ -57,15 +57,6 @@ class ServiceReloadTests(unittest.TestCase):
         self.assertEqual([*self.up()], [])
         self.assertIn('reload: it ends 2 calls (circuits 5, 7)', self.world.quit()[1])
 
-    def test_what_is_refused(self) -> None:
-        """By the program, with the line of the file; the calls go on."""
-        call(self.world, 1)
-        self.write(self.text + 'x = 1\n')
-        status, said = self.reload()
-        self.assertEqual(status, 1)
-        self.assertRegex(said, 'reload: refused, the trunk goes on as it was: config 2 UnknownKey at [0-9]+: ')
-        self.assertEqual([*self.up()], [1])
-
     def test_nobody_listens(self) -> None:
         self.world.quit()
         self.assertEqual(self.reload(), (2, ''))

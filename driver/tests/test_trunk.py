@@ -13,7 +13,7 @@ import time
 import unittest
 import unittest.mock
 from functools import partial
-from typing import Any, TypeVar
+from typing import TypeVar
 
 from . import support
 from .flowing import is_seized
@@ -21,6 +21,7 @@ from .support import SECONDS
 from .world import IDLE, LAUNCHER, SEIZED, World, config_of
 from e1gw import session
 from e1gw.clearing import DisconnectPolicy, DisconnectWatch, OutageWatch
+from e1gw.service.service import parser, wants_of
 from e1gw.testing.ports import free_ports
 from e1gw.testing.service import ask
 
@@ -152,23 +153,6 @@ class TrunkCommandTests(unittest.TestCase):
 
 
 class TrunkSessionTests(unittest.TestCase):
-    def test_commands_are_the_operators(self) -> None:
-        """No program other than the trunk's gives any of its own."""
-        with World(config_of(FOUR), '--session', '@/kept') as world:
-            aligned(world)
-            self.assertEqual(world.ask('seize 1'), 'seize 1: done')
-            world.step(40)
-            self.assertEqual(world.ask('clear 1'), 'clear 1: done')
-            world.step(20)
-            self.assertEqual(world.quit()[0], 0)
-            with open(world.path('kept'), 'rb') as file:
-                kept = [record for record in session.records_in(file.read()) if record.kind is not session.Kind.TRUNK]
-        asked = session.codec_record(30, session.Codec.G726_16, 95)     # (by the test, to know where the trunk is)
-        self.assertEqual([record.encode() for record in kept if record.encode() != asked and record.kind is not
-                          session.Kind.DATAGRAM],
-                         [session.command_record(1, session.Command.SEIZE),
-                          session.command_record(1, session.Command.CLEAR)])
-
     def test_a_session_replays_alike(self) -> None:
         with World(config_of(range(1, 31), prefill=320), '--session', '@/kept') as world:
             aligned(world)
@@ -223,24 +207,11 @@ class TrunkSessionTests(unittest.TestCase):
 class BesideCallsTests(unittest.TestCase):
     """Something ends; the calls go on."""
 
-    def goes_on(self, world: World, what: str | None = None) -> None:
-        """A call comes up, and what has ended is reported. The trunk goes on in lock step until then: what ends does so
-        in a process or a thread of its own."""
+    def goes_on(self, world: World) -> None:
+        """A call comes up, and nothing has ended."""
         aligned(world)
         call(world, 1)
-        world.until(lambda: not what or world.told()['ended'][what] is not None)
-        ended = world.status()['ended']
-        self.assertEqual([name for name, why in ended.items() if why is not None], [what] if what else [])
-
-    def test_a_full_disk(self) -> None:
-        with World(config_of(FOUR), '--json', '/dev/full') as world:
-            self.goes_on(world, 'json')
-            status, said = world.quit()
-            self.assertEqual((status, said.count('json ended, the calls go on: No space left')), (0, 1))
-
-    def test_a_folder_for_metrics_that_is_not_there(self) -> None:
-        with World(config_of(FOUR), '--metrics', '@/none/e1gw.prom') as world:
-            self.goes_on(world, 'metrics')
+        self.assertEqual({*world.status()['ended'].values()}, {None})
 
     def test_readers_that_go_and_readers_that_stand_still(self) -> None:
         reads, writes = os.pipe()
@@ -339,8 +310,11 @@ class RefusedOptionsTests(support.FolderCase):
             ['--unix', 'a', '--session', 's', '--keep', '1x'], ['--unix', 'a', '--on-loss', 'drop'],
             ['--unix', 'a', '--http', '1'], ['--unix', 'a', '--gap', 'x']]
         for words in rows:
-            with self.subTest(words):
-                self.assertEqual(self.run_driver('--config', self.good, *words)[0], 2)
+            with self.subTest(words), self.assertRaises((ValueError, SystemExit)) as refused, \
+                    unittest.mock.patch('sys.stderr'):
+                wants_of(parser().parse_args(['--config', self.good, *words]))
+            self.assertEqual(getattr(refused.exception, 'code', 2), 2)
+        self.assertEqual(self.run_driver('--config', self.good, '--unix', 'a', '--keep', '1h')[0], 2)
 
     def test_only_sockets_are_taken_away(self) -> None:
         path = self.write('ctl', 'precious')
@@ -391,9 +365,13 @@ class RefusedOptionsTests(support.FolderCase):
     def test_no_error_is_a_number_alone(self) -> None:
         """What is refused names the file or the address that it is of."""
         none = os.path.join(self.folder, 'none')
-        with socket.create_server(('127.0.0.1', 0)) as held:
-            place = f'127.0.0.1:{held.getsockname()[1]}'
+        with socket.create_server(('127.0.0.1', 0)) as held, socket.socket(socket.AF_UNIX) as listener:
+            place, taken = f'127.0.0.1:{held.getsockname()[1]}', self.path('taken')
+            listener.bind(taken)
+            listener.listen()
             for words, told in ((('--control', f'{none}/ctl'), f'cannot listen: --control {none}/ctl: No such file'),
+                                (('--program-control', taken), f'--program-control {taken}: somebody listens there'),
+                                (('--tell', self.good), f'--tell {self.good}: somebody listens there, or something'),
                                 (('--http', place), f'cannot listen: --http {place}: Address already in use'),
                                 (('--config', none), f'{none}: No such file or directory'),
                                 (('--program', none), f'{none}: No such file or directory')):
@@ -499,23 +477,6 @@ class UnitTests(support.FolderCase):
         self.assertEqual(self.told(), 'READY=1\nSTATUS=the trunk is not open yet')
 
 
-class OnLossTests(unittest.TestCase):
-    def guard(self, world: World, words: str) -> socket.socket:
-        line = socket.socket(socket.AF_UNIX)
-        line.connect(world.path('ctl'))
-        line.sendall(f'on-loss {words}\n'.encode())
-        line.settimeout(SECONDS)
-        self.assertEqual(line.recv(100), b'on-loss: done\n\n')
-        return line
-
-    def test_calls_are_cleared_and_idle_circuits_blocked(self) -> None:
-        with World(config_of(FOUR, incoming=(2, 4))) as world:
-            aligned(world)
-            call(world, 1)
-            self.guard(world, 'block 0').close()
-            world.until(lambda: [row['state'] for row in world.told()['circuits'][:4]] == ['idle', 'blocked'] * 2)
-
-
 class DisconnectWatchTests(unittest.TestCase):
     """When calls are cleared, by a clock of its own."""
 
@@ -567,19 +528,6 @@ class OutageWatchTests(unittest.TestCase):
         for now in (106.0, 120.0):
             watch.look(now, 'dark')
         self.assertEqual(cleared, ['the trunk has been dark for 3 s'])
-
-
-class DarkTrunkTests(unittest.TestCase):
-    def test_calls_of_a_dark_trunk_are_cleared(self) -> None:
-        with World(config_of(FOUR), '--dark', '0') as world:
-            aligned(world)
-            call(world, 1)
-            while world.state(1) == 'answered':
-                world.give(b'\xFF' * 512)
-            self.assertEqual(world.ask('seize 2'), 'seize 2: no alignment')
-            self.assertEqual(world.state(1), 'releasing')
-            events: list[Any] = [row for row in world.status()['commands'] if row['command'] == 'clear']
-            self.assertEqual(events, [{'command': 'clear', 'answer': 'done', 'count': 1}])
 
 
 if __name__ == '__main__':

@@ -6,7 +6,7 @@ import time
 import unittest
 
 from . import devices, support
-from .test_trunk import FOUR, aligned, call
+from .test_trunk import FOUR, aligned
 from .world import World, config_of
 from e1gw.trunks import Stream, Trunk, host_and_port, open_files
 
@@ -87,26 +87,6 @@ class TrunkKindTests(support.FolderCase):
 
 
 class TrunkKindServiceTests(unittest.TestCase):
-    def test_a_seizure_while_no_octets_come(self) -> None:
-        with World(config_of(FOUR), within={'service.status.QUIET': 1.0}) as world:
-            aligned(world)
-            support.until(lambda: bool(world.told()['clock']['stalled']))
-            self.assertEqual(world.ask('seize 2'), 'seize 2: the trunk is stalled')
-            self.assertEqual(world.state(2), 'idle')
-
-    def test_a_trunk_that_comes_again(self) -> None:
-        with World(config_of(FOUR), '--reopen') as world:
-            aligned(world)
-            call(world, 1)
-            world.line.close()
-            support.until(lambda: not world.known()['trunk_up'])
-            self.assertRegex(world.ask_at_once('seize 2'), '^seize 2: (no connection to the program|the trunk has '
-                             'ended|the trunk cannot be opened: .*/card: Connection refused)$')
-            world.comes_again()
-            world.step(50)
-            world.until(lambda: bool(world.status()['trunk_up']))
-            self.assertEqual(world.state(1), 'answered')
-
     def test_a_trunk_that_takes_nothing_holds_nobody_else(self) -> None:
         with World(config_of(FOUR)) as world:
             aligned(world)

@@ -46,16 +46,18 @@ class WriterOpeningTests(support.FolderCase):
     def test_a_trunk_whose_files_do_not_open(self) -> None:
         support.program()
         none = os.path.join(self.fifo, 'none')
-        for options, what in ((('--json', self.fifo), 'json'), (('--json', none), 'json'),
-                              (('--calls', none), 'calls')):
-            with self.subTest(options), World(config_of(FOUR), *options, within={'writers.OPENS': 0.1}) as world:
+        for what, path, why in (('json', self.fifo, 'nobody reads it'), ('json', none, 'Not a directory'),
+                                ('json', '/dev/full', 'No space left'), ('calls', none, 'Not a directory'),
+                                ('metrics', none, 'Not a directory')):
+            with self.subTest(what, path=path), World(config_of(FOUR), f'--{what}', path,
+                                                      within={'writers.OPENS': 0.1}) as world:
                 aligned(world)
                 call(world, 1)
                 world.until(lambda: world.told()['ended'][what] is not None)
                 self.assertEqual([name for name, why in world.status()['ended'].items() if why is not None], [what])
                 self.assertEqual(world.state(1), 'answered')
                 status, said = world.quit()
-                self.assertEqual((status, said.count(f'{what} ended, the calls go on: ')), (0, 1))
+                self.assertEqual((status, said.count(f'{what} ended, the calls go on: {why}')), (0, 1), said)
 
     def test_modes(self) -> None:
         support.program()

@@ -20,7 +20,7 @@ from .devices import EmulatedStream, LineOptions
 from .line_counts import LineCounts
 from .line_process import Joint, LineFiles, LineProcess, unsent, waiting
 from .program import name_of
-from .trunk import TrunkFiles
+from .trunk import TrunkFiles, again
 
 AGAIN = 1.0                 # seconds after which another program is asked for again
 LOOK = 0.25                 # seconds between two looks at what the processes say
@@ -125,7 +125,7 @@ class CarriedTrunk(TrunkFiles):
             self._tell_open()
 
     def _does(self, name: str, work: Callable[[], Awaitable[None]]) -> None:
-        self._tasks[name] = asyncio.create_task(again(work))
+        self._tasks[name] = asyncio.create_task(again(work, tell_failure))
 
     def _is_there(self, name: str) -> bool:
         return name in self._processes and self._processes[name].is_there()
@@ -279,14 +279,8 @@ class CarriedTrunk(TrunkFiles):
         return super().facts() | {'carried': {'transport': self.status(), 'crc4': self.counts.crc4_status()}}
 
 
-async def again(work: Callable[[], Awaitable[None]]) -> None:
-    """Does a work, and begins it again if it fails."""
-    while True:
-        try:
-            return await work()
-        except Exception:       # pylint: disable=broad-exception-caught
-            logger.exception('the line goes on', extra={'kind': 'fault'})
-            await asyncio.sleep(LOOK)
+def tell_failure() -> None:
+    logger.exception('the line goes on', extra={'kind': 'fault'})
 
 
 def shut(file: int) -> None:

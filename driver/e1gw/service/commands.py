@@ -27,11 +27,13 @@ import socket
 import stat
 import time
 from dataclasses import dataclass, field
-from typing import Protocol
+from typing import TYPE_CHECKING
 
 from ..metrics import circuit_table
 from ..session import CIRCUITS, Codec, Command, codec_record, command_record
-from .pages import TrunkPages
+
+if TYPE_CHECKING:
+    from .watch import TrunkWatch
 
 MOST_LINE = 4096            # octets of a line
 MOST_CLIENTS = 64
@@ -43,39 +45,6 @@ CODECS = {'pcma': Codec.G711, 'pcmu': Codec.G711} | {codec.word('A'): codec for 
 
 class CannotListen(Exception):
     """Why nobody could connect."""
-
-
-class CommandTrunk(Protocol):
-    """What carries out commands."""
-
-    pages: TrunkPages
-
-    def law(self) -> str:
-        """The law of the trunk."""
-
-    def outage(self) -> str | None:
-        """Why no seizure can reach the other end, or None."""
-
-    async def command(self, record: bytes, circuit: int, words: str) -> str:
-        """Gives a command or a change of codec; the answer in words."""
-
-    def count(self, circuit: int, words: str, text: str) -> None:
-        """Counts and tells a command, and what answers it."""
-
-    def asked_on_loss(self, client: object, words: list[str]) -> str:
-        """A client asks for what is done when it is gone."""
-
-    def left(self, client: object) -> bool:
-        """A client is gone."""
-
-    async def role(self, word: str) -> str:
-        """`role`, `promote` or `demote` of a trunk that two machines have; the answer in words."""
-
-    async def reload(self, force: bool) -> str:
-        """Another program or configuration is asked for; the answer in words, when it is there."""
-
-    def quit(self) -> str:
-        """The end is asked for; the answer in words."""
 
 
 @dataclass(eq=False)
@@ -97,7 +66,7 @@ class ControlPeer:
 class CommandServer:
     """Takes commands of those who connect. Each is asked one line in turn."""
 
-    def __init__(self, trunk: CommandTrunk) -> None:
+    def __init__(self, trunk: TrunkWatch) -> None:
         self._trunk, self._peers = trunk, set[ControlPeer]()
 
     def followers(self) -> list[ControlPeer]:
@@ -107,11 +76,9 @@ class CommandServer:
     async def came(self, reader: asyncio.StreamReader, writer: asyncio.StreamWriter) -> None:
         """A client: a line in, an answer and an empty line out."""
         if len(self._peers) >= MOST_CLIENTS:
-            idle = [peer for peer in self._peers if not peer.follows]
-            if not idle:
-                writer.write(f'no seat: {MOST_CLIENTS} clients are connected\n\n'.encode())
-                return writer.close()
-            min(idle, key=lambda each: each.last).writer.transport.abort()
+            out = min(self._peers, key=lambda each: (each.follows, each.last))
+            self._peers.discard(out)
+            out.writer.transport.abort()
         self._peers.add(peer := ControlPeer(writer))
         with contextlib.suppress(OSError, ValueError, asyncio.LimitOverrunError):
             while line := await reader.readline():
@@ -122,7 +89,7 @@ class CommandServer:
                 await asyncio.sleep(0)          # (one line of each who asks)
                 peer.follows |= words == ['events']
         self._peers.discard(peer)
-        self._trunk.left(peer)
+        self._trunk.disconnects.left(peer, time.monotonic())
         writer.close()
 
     async def _obey(self, words: list[str], peer: ControlPeer) -> str:
@@ -140,15 +107,15 @@ class CommandServer:
             case ['events']:
                 return 'following'
             case ['on-loss', *rest]:
-                return self._trunk.asked_on_loss(peer, rest)
+                return self._trunk.disconnects.asked(peer, rest)
             case ['help']:
                 return (__doc__ or '').partition('\n\n')[2].rstrip('\n')
             case ['reload'] | ['reload', 'force']:
-                return await self._trunk.reload(words[1:] == ['force'])
+                return await self._trunk.reloads(words[1:] == ['force'])
             case ['role' | 'promote' | 'demote' as word]:
-                return await self._trunk.role(word)
+                return await self._trunk.roles(word)
             case ['quit']:
-                return self._trunk.quit()
+                return self._trunk.ends()
             case [name, *rest] if name in COMMANDS or name == 'codec':
                 return await self._obey_circuit(name, rest)
         return (f'{words[0][:40]}: no such command; there are {", ".join(COMMANDS)}, codec, status, events, on-loss, '
@@ -163,11 +130,11 @@ class CommandServer:
             return f'{name} {words[0][:40]}: circuits are 1 to 30'
         front = f'{name} {circuit}: '
         if name == 'codec':
-            if fault := codec_fault(words[1:], trunk.law()):
+            if fault := codec_fault(words[1:], trunk.status.lines.law):
                 return front + fault
             record = codec_record(circuit, CODECS[words[1]], int(words[2]))
         else:
-            if COMMANDS[name] is Command.SEIZE and (fault := trunk.outage()):
+            if COMMANDS[name] is Command.SEIZE and (fault := trunk.status.outage()):
                 # The gateway would do it; no exchange could see it, and 200 ms later it would be released.
                 trunk.count(circuit, name, fault)
                 return front + fault

@@ -14,6 +14,7 @@ from ..programs import version_of
 from ..session import HEAD, Kind, Record
 
 AGAIN = 0.1                 # seconds between two tries to connect
+NEXT = 1.5                  # seconds that the next program has to come: less than e1gw-tie waits for an answer
 PATIENCE = 0.3              # seconds that an answer of the program waits for the follower
 SOON = 0.002                # seconds between two looks whether it has told
 
@@ -46,6 +47,7 @@ class ProgramConnection:
         self._path, self._stands, self._hurry = path, stands, hurry
         self._given = deque[GivenRecord]()
         self._writer: asyncio.StreamWriter | None = None
+        self._lost = time.monotonic()           # when the last connection was
 
     async def run(self) -> None:
         """Connects, again and again."""
@@ -90,6 +92,7 @@ class ProgramConnection:
     def _lose(self) -> None:
         if self._writer:
             self._writer.close()
+            self._lost = time.monotonic()
         self._writer = None
         for each in self._given:
             if not each.answer.done():
@@ -97,22 +100,17 @@ class ProgramConnection:
                 each.answer.exception()
         self._given.clear()
 
-    def give(self, record: bytes) -> GivenRecord:
-        """Gives a record to the program. NoAnswer if there is none."""
+    async def ask(self, record: bytes, teller: Callable[[], object], waits: bool = True) -> Record:
+        """The answer to a record, once the follower has told of the record, too: what follows from it is known
+        then. `teller` is who tells now, None if nobody; one that came behind the record may not tell of it. With no
+        program it `waits` for the next one. A record is given once. NoAnswer if there is none."""
+        while waits and not self._writer and not self._fault() and time.monotonic() < self._lost + NEXT:
+            await asyncio.sleep(SOON)
         if not self._writer:
             raise NoAnswer(self._fault() or 'no connection to the program')
         self._given.append(given := GivenRecord(record, asyncio.get_running_loop().create_future()))
         self._writer.write(record)
-        return given
-
-    def let_go(self, given: GivenRecord) -> None:
-        with suppress(ValueError):
-            self._given.remove(given)
-
-    async def ask(self, record: bytes, teller: Callable[[], object]) -> Record:
-        """The answer to a record, once the follower has told of the record, too: what follows from it is known
-        then. `teller` is who tells now, None if nobody; one that came behind the record may not tell of it."""
-        given, its = self.give(record), teller()
+        its = teller()
         try:
             answer = await given.answer
             until = time.monotonic() + PATIENCE
@@ -121,7 +119,8 @@ class ProgramConnection:
                 await asyncio.sleep(SOON)
             return answer
         finally:
-            self.let_go(given)
+            with suppress(ValueError):
+                self._given.remove(given)
 
     def told(self, record: bytes) -> None:
         """The follower has told of a record."""

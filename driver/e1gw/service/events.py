@@ -7,7 +7,6 @@ import logging.handlers
 import os
 import queue
 import sys
-import threading
 import time
 from typing import Any, Callable, TextIO
 
@@ -15,7 +14,7 @@ from ..calls import FIELDS, KEPT, MOST_OCTETS
 from ..events import NOTICED, WARNED, words_of
 from ..lines import Event, State
 from ..writers import open_to_append
-from .journal import MOST_WAITING, NOTICE
+from .journal import MOST_WAITING, NOTICE, stop_within
 
 OPEN = logging.DEBUG        # the level of the record that has a file opened
 
@@ -51,9 +50,7 @@ class EventFile:
 
     def close(self, seconds: float = 2.0) -> None:
         """Waits so long at most until all is written."""
-        stops = threading.Thread(target=self._listener.stop, daemon=True)
-        stops.start()
-        stops.join(seconds)
+        stop_within(self._listener, seconds)
 
 
 class LineFile(logging.handlers.RotatingFileHandler):

@@ -78,6 +78,11 @@ class ServiceJournal:
 
     def close(self, seconds: float = 2.0) -> None:
         """Waits so long at most until all is written."""
-        stops = threading.Thread(target=self._listener.stop, daemon=True)
-        stops.start()
-        stops.join(seconds)
+        stop_within(self._listener, seconds)
+
+
+def stop_within(listener: logging.handlers.QueueListener, seconds: float) -> None:
+    """Has a listener write all that it has, and waits so long at most."""
+    stops = threading.Thread(target=listener.stop, daemon=True)
+    stops.start()
+    stops.join(seconds)

@@ -130,6 +130,7 @@ class TrunkKeeper:
 
     async def _start(self) -> TrunkProgram:
         """Starts a program from the state of now, and remembers it before anything else happens."""
+        os.makedirs(self.wants.folder, 0o700, exist_ok=True)
         await self.trunk.join(self.state.counted['octets'], self.state.state < 0, self.is_whole)
         self.number += 1
         self.program = program = TrunkProgram.started(

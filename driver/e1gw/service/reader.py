@@ -14,6 +14,7 @@ from ..faults import words_of_fault
 from .journal import NOTICE
 from .program import TrunkProgram
 from .recordings import MOST_BEHIND, ReadLog, RecordingWants, TrunkRecording, has_room
+from .trunk import again
 
 MEASURED = frozenset(('gap', 'ahead', 'rate'))
 AGAIN = 60.0                # seconds between two looks whether a ring that has ended can be written again
@@ -108,14 +109,17 @@ class LogReader:
         """Until it is cancelled. Whatever fails is begun again."""
         beside = asyncio.create_task(self._begin_again())
         try:
-            while True:
-                try:
-                    await self.look()
-                except Exception:       # pylint: disable=broad-exception-caught
-                    logger.exception('the reading of the log goes on', extra={'kind': 'fault'})
-                await asyncio.sleep(TICK)
+            await again(self._look_on, self._tell_failure)
         finally:
             beside.cancel()
+
+    def _tell_failure(self) -> None:
+        logger.exception('the reading of the log goes on', extra={'kind': 'fault'})
+
+    async def _look_on(self) -> None:
+        while True:
+            await self.look()
+            await asyncio.sleep(TICK)
 
     async def look(self) -> None:
         """Reads what there is."""

@@ -14,7 +14,7 @@ import threading
 from collections import deque
 from contextlib import suppress
 from dataclasses import dataclass, field
-from typing import Any, Callable, Mapping, Protocol
+from typing import Any, Callable, Mapping
 
 from ..archive import FinishedPieces
 from ..ring import Ring
@@ -129,82 +129,61 @@ class ReadLog:
                    place, place, float(note['lost']))
 
 
-class RecordingPlace(Protocol):
-    """Where logs are copied to. `begun` are the places with which the file begins; that of the log is less than 0 if
-    the file had something before it. `announce` is called before a file is begun."""
-
-    begun: tuple[int, int]
-    announce: Callable[[], None]
-
-    def start(self, log: ReadLog) -> None:
-        """Another log is copied from now on."""
-
-    def go_on(self, log: ReadLog, standing: Mapping[str, Any]) -> None:
-        """The log is copied as by the service before this one, which has noted this."""
-
-    def standing(self) -> dict[str, Any]:
-        """What the next service has to know."""
-
-    def size(self) -> int:
-        """The octets of the file; 0 of what is no file."""
-
-    def complete(self, octets: bytes) -> None:
-        """The rest of a record that the file has in part."""
-
-    def write(self, octets: bytes, place: tuple[int, int], slips: deque[tuple[int, float]]) -> None:
-        """Whole records, from these places on; slips that are to be noted."""
-
-    def close(self) -> None:
-        """Nothing more is written."""
-
-
 class RecordedFile:
-    """One file for all logs."""
+    """One file for all logs. `begun` are the places with which it begins; that of the log is less than 0 if it had
+    something before the log. `announce` is called before it is begun."""
 
     def __init__(self, wants: RecordingWants) -> None:
-        self._path, self._file, self.begun = wants.session, -1, (0, 0)
+        self.wants, self._file, self.begun = wants, -1, (0, 0)
         self.announce: Callable[[], None] = lambda: None
 
     def start(self, log: ReadLog) -> None:
+        """Another log is copied from now on."""
         if self._file < 0:
-            self._file = open_to_append(self._path)
+            self._file = open_to_append(self.wants.session)
         self.begun = log.kept[0] - self.size(), log.kept[1]
         self.announce()
 
     def go_on(self, log: ReadLog, standing: Mapping[str, Any]) -> None:
-        self._file = open_to_append(self._path)
+        """The log is copied as by the service before this one, which has noted this."""
+        self._file = open_to_append(self.wants.session)
         self.begun = standing['begun'][0], standing['begun'][1]
 
     def standing(self) -> dict[str, Any]:
+        """What the next service has to know."""
         return {}
 
     def size(self) -> int:
+        """The octets of the file; 0 of what is no file."""
         about = os.fstat(self._file)
         return about.st_size if stat.S_ISREG(about.st_mode) else 0
 
     def complete(self, octets: bytes) -> None:
+        """The rest of a record that the file has in part."""
         write_all(self._file, octets)
 
     def write(self, octets: bytes, place: tuple[int, int], slips: deque[tuple[int, float]]) -> None:
+        """Whole records, from these places on; slips that are to be noted."""
         slips.clear()
         write_all(self._file, octets)
 
     def close(self) -> None:
+        """Nothing more is written."""
         if self._file >= 0:
             os.close(self._file)
 
 
-class RecordedRing:
+class RecordedRing(RecordedFile):
     """A ring of files. Each log begins another one, with the state of its program."""
 
     def __init__(self, wants: RecordingWants) -> None:
-        self._wants, self.begun, self._place = wants, (0, 0), (0, 0)
-        self.announce: Callable[[], None] = lambda: None
+        super().__init__(wants)
+        self._place = 0, 0
         self._ring: Ring | None = None
 
     def start(self, log: ReadLog) -> None:
         self.close()
-        wants, file, state = self._wants, log.files.get('state', -1), b''
+        wants, file, state = self.wants, log.files.get('state', -1), b''
         if file >= 0:
             state = os.pread(file, os.fstat(file).st_size, 0)
         behind = FinishedPieces(log.program, wait=wants.wait, failed=functools.partial(tell_end, 'states'))
@@ -258,9 +237,7 @@ class TrunkRecording:
         self.standing: Mapping[str, Any] = noted or {}
         self.has_ended = has_ended
         self.wants, self._stands, self._loop = wants, stands, asyncio.get_running_loop()
-        self._place: RecordingPlace = RecordedFile(wants)
-        if wants.keep:
-            self._place = RecordedRing(wants)
+        self._place = RecordedRing(wants) if wants.keep else RecordedFile(wants)
         self._place.announce = self._announce
         self._log: ReadLog | None = None
         self._closes = threading.Event()

@@ -16,7 +16,7 @@ from .process import start_of
 
 NOTE = 'kept'               # the file of the note, in the folder of the service; also the name of its descriptor
 FIRST, APART = 3, 100       # the first descriptor that is given, and where they are put out of the way
-REPLACED = 'E1GW_REPLACED'  # the numbers of those that a service has given to the one that it became
+REPLACED, NUMBERS = 'E1GW_REPLACED', 'E1GW_NUMBERS'      # of a service that becomes another one
 
 
 class Notifier:
@@ -85,23 +85,28 @@ class Handover:
             self._notifier.tell('FDSTOREREMOVE=1', f'FDNAME={name}')
 
     def become_next(self, files: Mapping[str, int]) -> NoReturn:
-        """Becomes another service of the same command line, which is given what systemd would give it."""
+        """Becomes another service of the same command line, which has the same descriptors by the same numbers: up to
+        that moment threads write to theirs."""
         its = {NOTE: self._note, **files}
-        # (Not from FIRST on: a thread may still close what had a number there.)
-        numbers = [fcntl.fcntl(file, fcntl.F_DUPFD, APART) for file in its.values()]
-        os.environ |= {'LISTEN_FDS': str(len(its)), 'LISTEN_FDNAMES': ':'.join(its), 'LISTEN_PID': str(os.getpid()),
-                       REPLACED: ' '.join(map(str, numbers))}
+        for file in its.values():
+            os.set_inheritable(file, True)
+        os.environ |= {NUMBERS: json.dumps(its), REPLACED: '1'}
         os.execv(sys.executable, [sys.executable, *sys.orig_argv[1:]])
 
 
 def given_files() -> dict[str, int]:
     """The descriptors that were given to this process, by their names. To be called once."""
+    if numbers := os.environ.pop(NUMBERS, ''):
+        its: dict[str, int] = json.loads(numbers)
+        for file in its.values():
+            os.set_inheritable(file, False)
+        return its
     count, pid = int(os.environ.pop('LISTEN_FDS', '0')), os.environ.pop('LISTEN_PID', '')
     names = os.environ.pop('LISTEN_FDNAMES', '').split(':')
     if pid != str(os.getpid()):
         return {}
-    files, replaced = {}, os.environ.get(REPLACED, '').split()
-    for number, name in zip(map(int, replaced or range(FIRST, FIRST + count)), names[:count]):
+    files = {}
+    for number, name in enumerate(names[:count], FIRST):
         files[name] = fcntl.fcntl(number, fcntl.F_DUPFD_CLOEXEC, APART)
         os.close(number)
     return files

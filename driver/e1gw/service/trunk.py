@@ -7,7 +7,7 @@ import os
 import select
 import stat
 import time
-from typing import Any, Callable
+from typing import Any, Awaitable, Callable
 
 from ..faults import words_of_fault
 from ..lines import Event
@@ -15,6 +15,7 @@ from ..trunks import Stream
 from .events import tell_journal
 
 REOPEN, MOST_REOPEN = 0.25, 30.0        # seconds before a trunk is opened again
+AGAIN = 0.1                 # seconds before what has failed is begun again
 NAMES = 'trunk-in', 'trunk-out'         # of the descriptors that are kept
 
 logger = logging.getLogger(__name__)
@@ -102,3 +103,13 @@ async def either(seconds: float, *events: asyncio.Event) -> None:
     await asyncio.wait(waits, timeout=seconds, return_when=asyncio.FIRST_COMPLETED)
     for each in waits:
         each.cancel()
+
+
+async def again(work: Callable[[], Awaitable[None]], tells: Callable[[], None]) -> None:
+    """Does a work, and begins it again each time that it fails, which `tells` reports."""
+    while True:
+        try:
+            return await work()
+        except Exception:       # pylint: disable=broad-exception-caught
+            tells()
+            await asyncio.sleep(AGAIN)

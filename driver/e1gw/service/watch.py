@@ -3,6 +3,7 @@ with calls by themselves (jitter buffers, --dark, --on-loss). All of it may fail
 from __future__ import annotations
 
 import asyncio
+import contextlib
 import functools
 import logging
 import os
@@ -27,6 +28,7 @@ from .connection import NoAnswer, ProgramConnection
 from .events import CallFile, EventFile, json_line, lines_to, tell_journal
 from .pages import TrunkPages, WebServer, keep_metrics
 from .status import TrunkStatus
+from .trunk import again
 
 TICK = 0.1                  # seconds between two looks
 BESIDE = ('json', 'calls', 'metrics', 'pages')      # what may end without the calls
@@ -69,7 +71,7 @@ class TrunkWatch:
 
     def __init__(self, wants: WatchWants, ends: Callable[[], str], hurry: Callable[[], None] = lambda: None,
                  facts: Callable[[], dict[str, Any]] = dict) -> None:
-        self.wants, self._ends, self._facts = wants, ends, facts
+        self.wants, self.ends, self._facts = wants, ends, facts
         self.flow: Callable[[], dict[str, Any]] = dict      # gaps and the rate of the trunk, if they are measured
         self.reloads: Callable[[bool], Awaitable[str]] = cannot_reload
         self.roles: Callable[[str], Awaitable[str]] = no_pair
@@ -86,7 +88,7 @@ class TrunkWatch:
         self.pages = TrunkPages(self._values, self.status.take_now, list(self._lines.lines.values()))
         self._server = CommandServer(self)
         self.status.is_followed = lambda: bool(self._server.followers())
-        self._disconnects = DisconnectWatch(wants.on_loss, self.clear_all)
+        self.disconnects = DisconnectWatch(wants.on_loss, self.clear_all)
         self._outages = OutageWatch(wants.dark, self.clear_all)
         self._done, self._resyncs, self._began = Counter[tuple[str, str]](), 0, time.time()
         self._json = EventFile('json', lines_to(sys.stdout if wants.json == '-' else wants.json), self._note,
@@ -108,12 +110,6 @@ class TrunkWatch:
         return str(self._facts().get('fault') or '')
 
     # ---- what is done with calls ----
-
-    def law(self) -> str:
-        return self._lines.law
-
-    def outage(self) -> str | None:
-        return self.status.outage()
 
     async def command(self, record: bytes, circuit: int, words: str) -> str:
         try:
@@ -156,31 +152,13 @@ class TrunkWatch:
         self._resyncs += len(circuits)
 
     async def _renew(self, record: bytes) -> None:
-        try:
-            await self._program.ask(record, lambda: None)
-        except NoAnswer:
-            pass
+        with contextlib.suppress(NoAnswer):     # (the next program may have another configuration)
+            await self._program.ask(record, lambda: None, waits=False)
 
     def _does(self, work: Awaitable[Any]) -> None:
         task = asyncio.ensure_future(work)
         self._tasks.add(task)
         task.add_done_callback(self._tasks.discard)
-
-    def asked_on_loss(self, client: object, words: list[str]) -> str:
-        return self._disconnects.asked(client, words)
-
-    def left(self, client: object) -> bool:
-        self._disconnects.left(client, time.monotonic())
-        return True
-
-    async def role(self, word: str) -> str:
-        return await self.roles(word)
-
-    async def reload(self, force: bool) -> str:
-        return await self.reloads(force)
-
-    def quit(self) -> str:
-        return self._ends()
 
     def _came(self) -> None:
         if self._calls:
@@ -272,26 +250,20 @@ class TrunkWatch:
         if self.wants.metrics:
             works.append(functools.partial(keep_metrics, self.pages, self.wants.metrics, self._note))
         try:
-            await asyncio.gather(*(self._again(work) for work in works))
+            await asyncio.gather(*(again(work, self._tell_failure) for work in works))
         finally:
             self._close()
 
-    async def _again(self, work: Callable[[], Awaitable[None]]) -> None:
-        """Does a work, and begins it again if it fails."""
-        while True:
-            try:
-                return await work()
-            except Exception:       # pylint: disable=broad-exception-caught
-                logger.exception('the watch of the trunk goes on', extra={'kind': 'fault'})
-                await asyncio.sleep(TICK)
+    def _tell_failure(self) -> None:
+        logger.exception('the watch of the trunk goes on', extra={'kind': 'fault'})
 
     async def _look(self) -> None:
         """A few times a second: what is to become of calls."""
         while True:
             now = time.monotonic()
             self._restarts.look(now, self._lines.place, self._lines.open_circuits(), not self._counts.stale())
-            self._disconnects.look(now)
-            self._outages.look(now, self.outage())
+            self.disconnects.look(now)
+            self._outages.look(now, self.status.outage())
             if self._calls:
                 self._calls.look()
             await asyncio.sleep(TICK)
@@ -303,7 +275,5 @@ class TrunkWatch:
             if each:
                 each.close()
         if self.wants.control:
-            try:
+            with contextlib.suppress(OSError):
                 os.unlink(self.wants.control)
-            except OSError:
-                pass

@@ -19,7 +19,7 @@ def ask(path: str, command: bytes) -> str:
     with socket.socket(socket.AF_UNIX) as line:
         line.connect(path)                              # waits for a place; with a time limit it would be refused
         line.settimeout(SECONDS)
-        with contextlib.suppress(BrokenPipeError):      # who has no seat learns it at once
+        with contextlib.suppress(BrokenPipeError):      # (there is no answer then)
             line.sendall(command + b'\n')
         answer = b''
         while not answer.endswith(b'\n\n'):
