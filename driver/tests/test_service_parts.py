@@ -14,7 +14,7 @@ from .manager import Manager
 from e1gw.service import trunk
 from e1gw.service.journal import MINUTE, MOST, LineLimit
 from e1gw.service.lifecycle import DEATHS, MOST_PAUSE, DeathCount
-from e1gw.service.recovery import Handover, Notifier, note_of
+from e1gw.service.recovery import NOTE, Handover, Notifier, given_files, note_of
 from e1gw.service.takeover import unnoted_programs
 from e1gw.service.version import TRIED, ProgramVersion, VersionHistory
 
@@ -131,6 +131,17 @@ class HandoverTests(support.FolderCase):
                 except BlockingIOError:
                     break
             self.assertTrue(handover.put({}, {'one': self.files[1]}))
+
+    def test_next_service(self) -> None:
+        """It has the descriptors by the numbers that they had, since threads write to them up to then."""
+        handover, given = Handover(self.folder, ['x'], Notifier(), {}), dict[str, int]()
+
+        def begins(*_: object) -> None:
+            given.update(given_files())
+            raise EOFError
+        with mock.patch('os.execv', begins), mock.patch.dict(os.environ), self.assertRaises(EOFError):
+            handover.become_next({'one': self.files[1]})
+        self.assertEqual(([*given], given['one']), ([NOTE, 'one'], self.files[1]))
 
     def test_note(self) -> None:
         """It is of a service that is no more, and of the same trunk; a shorter one leaves nothing of a longer one."""
