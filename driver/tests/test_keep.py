@@ -114,7 +114,7 @@ class RingTests(support.FolderCase):
             self.play(1, first=run, state=b'state')
             self.day -= 1
         files = kept.kept(self.ring).files
-        self.assertEqual([kept.beside(file)['place'] for file in files], [*range(12)])
+        self.assertEqual([kept.note_of(file)['place'] for file in files], [*range(12)])
         with mock.patch.object(keep, 'MOST_EARLIER', 3):
             self.play(1, first=12)
         self.assertEqual(self.kept(), [9, 10, 11, 12])

@@ -339,7 +339,7 @@ class KeeperCase(support.FolderCase):
 
 
 class KeeperToldTests(KeeperCase):
-    """What is told beside the trunk."""
+    """What is reported, other than the trunk."""
 
     def told_now(self, began: int) -> list[str]:
         """What a new client of --tell gets first, once the shadow has acted on all multiframes of its session, which

@@ -16,7 +16,7 @@ from .support import SECONDS
 from .test_keeper import KeeperCase
 from .world import LAUNCHER
 from e1gw.archive import run_last
-from e1gw.kept import beside, kept, octets_of
+from e1gw.kept import kept, note_of, octets_of
 from e1gw.session import MULTIFRAME, Kind, records_in
 
 
@@ -155,15 +155,15 @@ class RecordedRingTests(RecorderCase):
         self.handed_over(None)
         self.ends()
         self.as_uncut()
-        places = [beside(f'{front}.e1gw')['place'] for front in self.files()]
-        self.assertEqual([beside(f'{front}.e1gw')['begins'] for front in self.files()], ['start', 'middle', 'middle'])
+        places = [note_of(f'{front}.e1gw')['place'] for front in self.files()]
+        self.assertEqual([note_of(f'{front}.e1gw')['begins'] for front in self.files()], ['start', 'middle', 'middle'])
         ends = [*places[1:], len(self.given_trunk())]
         for front, begin, end in zip(self.files(), places, ends):
             with open(f'{front}.e1gw', 'rb') as file:
                 octets = file.read()
             load = ('--load', f'{front}.state') if begin else ()
             self.assertEqual(self.answers(octets, *load), self.heard_all()[begin:end], begin)
-            self.assertNotIn('slips', beside(f'{front}.e1gw'))
+            self.assertNotIn('slips', note_of(f'{front}.e1gw'))
         self.assertEqual(self.trunk_of(self.path('ring')), self.given_trunk())
 
     def test_what_a_crash_lost(self) -> None:
@@ -174,7 +174,7 @@ class RecordedRingTests(RecorderCase):
         self.step(40)
         self.ends()
         front = self.files()[1]
-        about = beside(f'{front}.e1gw')
+        about = note_of(f'{front}.e1gw')
         self.assertEqual(about['slips'], [[about['place'], 0.008]])
         self.assertEqual(about['place'], len(self.given_trunk()) - 40 * MULTIFRAME)
         with open(f'{front}.e1gw', 'rb') as file:
@@ -204,7 +204,7 @@ class RecordedRingTests(RecorderCase):
             time.sleep(0.05)
         self.ends()
         front = self.files()[1]
-        place = beside(f'{front}.e1gw')['place']
+        place = note_of(f'{front}.e1gw')['place']
         with open(f'{front}.e1gw', 'rb') as file:
             self.assertEqual(self.answers(file.read(), '--load', f'{front}.state'), self.heard_all()[place:])
 
@@ -222,7 +222,7 @@ class RecordedRingTests(RecorderCase):
         self.as_uncut()
         self.ends()
         (front,) = self.files()
-        place = beside(f'{front}.e1gw')['place']
+        place = note_of(f'{front}.e1gw')['place']
         self.assertGreater(place, 0)
         with open(f'{front}.e1gw', 'rb') as file:
             self.assertEqual(self.answers(file.read(), '--load', f'{front}.state'), self.heard_all()[place:])

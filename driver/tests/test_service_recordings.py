@@ -17,7 +17,7 @@ from . import support, test_service_keeper
 from .test_keeper_killed import RestartedKeeperCase
 from .test_recorder import RecorderCase
 from e1gw.clock import TICK, ClockFinding
-from e1gw.kept import beside
+from e1gw.kept import note_of
 from e1gw.service import reader, recordings, watch
 from e1gw.service.log import Checkpoint, TrunkLog
 from e1gw.session import MULTIFRAME, Kind, encode_record, trunk_record
@@ -81,7 +81,7 @@ class KilledRecordingTests(RestartedKeeperCase, RecorderCase):
         self.service_killed()
         self.assertEqual(self.trunk_of(self.path('ring')), self.given_trunk(), self.told())
         fronts = sorted(path.removesuffix('.json') for path in glob.glob(self.path('ring/*.json')))
-        places = [beside(f'{front}.e1gw')['place'] for front in fronts]
+        places = [note_of(f'{front}.e1gw')['place'] for front in fronts]
         self.assertEqual(len(places), 3)
         for front, begin, end in zip(fronts, places, [*places[1:], len(self.given_trunk())]):
             load = ('--load', f'{front}.state') if begin else ()

@@ -1,4 +1,4 @@
-"""How a tie stands: a table for people, JSON and the text of Prometheus for machines, at a socket and over HTTP."""
+"""The status of a tie: a table for people, JSON and the text of Prometheus for machines, at a socket and over HTTP."""
 from __future__ import annotations
 
 import asyncio
@@ -86,7 +86,7 @@ class TieTexts(StatusTexts):
 
 
 class TiePages(TrunkPages):
-    """The texts of how a tie stands now."""
+    """The texts of the status of a tie."""
 
     def __init__(self, tie: Tie) -> None:
         super().__init__(lambda: status_of(tie), lambda: None, [])
@@ -96,7 +96,7 @@ class TiePages(TrunkPages):
 
 
 class StatusServer:
-    """Answers who asks how a tie stands."""
+    """Answers who asks for the status of a tie."""
 
     def __init__(self, tie: Tie) -> None:
         self._pages = TiePages(tie)
