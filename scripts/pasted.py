@@ -64,7 +64,6 @@ NOT_RUN = {
     ('docs/START.md', "e1gw-config --folder /etc/e1gw --write box"): SYSTEMD,
     ('docs/START.md', 'cp /etc/e1gw/example.toml'): SYSTEMD,
     ('docs/OPERATING.md', 'head -c 4096 /dev/e1'): CARD,
-    ('docs/OPERATING.md', '# in /etc/e1gw/west.options'): SYSTEMD,
     ('docs/SATOP.md', 'e1gw-trunk --config trunk1.toml --clear'): CARD,
     ('docs/SIP.md', ''): 'ffmpeg and GStreamer: bench/interwork makes these calls',
     ('docs/TIE.md', 'TIE='): SYSTEMD,
