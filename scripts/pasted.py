@@ -164,7 +164,7 @@ def pages() -> list[str]:
 
 # ---- a page in a shell ----
 
-# A mount table of its own has an empty /run, and what is written to /etc and /var/lib is gone afterwards.
+# The page's own mount table has an empty /run and nothing of e1gw in /etc and /var/lib; what a page writes there goes.
 SHELL = r'''
 for folder in /etc /var/lib; do
   mkdir -p memory; mountpoint -q memory || mount -t tmpfs pages memory
@@ -173,6 +173,7 @@ for folder in /etc /var/lib; do
 done
 mount -t tmpfs pages /run
 mkdir -p /etc/e1gw /var/lib/e1gw /run/e1gw
+for folder in /etc/e1gw /var/lib/e1gw; do mount -t tmpfs pages $folder; done
 cp examples/trunk.toml /etc/e1gw/example.toml
 ip link set lo up
 for host in HOSTS; do ip addr add $host dev lo; done
