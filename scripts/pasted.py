@@ -39,6 +39,9 @@ BEFORE = {
     'dist/man/e1gw-picture.1': EXCHANGE + TRUNK.format('control', 'trunk1') + SESSION +
                                'tools/pcap --in trunk1.rec sent.rec > call.pcap\n',
     'dist/man/e1gw-records.1': SESSION + 'cp trunk1.toml /etc/e1gw\n',
+    'dist/man/e1gw-tie.1': 'for site in west east; do\n'
+                           'openssl req -x509 -newkey ec -pkeyopt ec_paramgen_curve:P-256 -nodes '
+                           '-subj /CN=$site.example -keyout $site.key -out $site.pem\ndone; cp west.pem ca.pem\n',
     'dist/man/e1gw-trunk.1': 'e1gw-config --write trunk1; e1gw-exchange --again card > seen & sleep 1\n',
 }
 # Commands that wait in a terminal of their own until the end of their page, by page and first words, and what is typed
@@ -90,7 +93,8 @@ class Block:
 
     def why_not(self) -> str | None:
         """Why it is not run: a row of NOT_RUN, or a program that this machine does not have."""
-        lacking = next((f'no {tool}' for word, tool in TOOLS.items() if re.search(rf'(?<!\w){word}\b', self.text)
+        text = BEFORE.get(self.page, '') + self.text
+        lacking = next((f'no {tool}' for word, tool in TOOLS.items() if re.search(rf'(?<!\w){word}\b', text)
                         and not shutil.which(tool) and not os.path.exists(tool)), None)
         return next((NOT_RUN[row] for row in NOT_RUN if matches(row, self.page, self.text)), lacking)
 
