@@ -21,7 +21,8 @@ LIMITS: dict[str, Any] = {
     'service.feed.PATIENCE': LONG, 'service.standby.PATIENCE': LONG, 'service.pair.PATIENCE': LONG,
     'service.standby.MOST_AGE': LONG, 'service.recordings.FLUSH': LONG, 'service.chain.GRACE': LONG,
     'service.line_process.QUICK': 0.0, 'service.checkpoints.PAUSE': 0.0, 'service.checkpoints.QUICK': 0.0,
-    'ctl_all.PATIENCE': LONG, 'programs.PATIENCE': LONG, 'tie.trunk.PATIENCE': LONG,
+    'service.pages.SECONDS': LONG, 'ctl_all.PATIENCE': LONG, 'programs.PATIENCE': LONG, 'tie.trunk.PATIENCE': LONG,
+    'writers.OPENS': LONG,
     # (A process that gets what others leave gets next to nothing on a loaded machine.)
     'archive.put_last': lambda process: None}
 

@@ -10,14 +10,13 @@ import socket
 import struct
 import subprocess
 import sys
-import tempfile
 import time
 from typing import Any
 
 from . import support
 from .support import SECONDS
 from .test_keeper import CIRCUITS, KeeperCase
-from .world import LAUNCHER
+from .world import LAUNCHER, children, words_of
 from e1gw.session import Kind, packet_of, records_in
 from e1gw.testing.ports import free_port
 from e1gw.testing.service import ask
@@ -25,23 +24,6 @@ from e1gw.testing.service import ask
 ADDRESSES = {'a': '127.0.0.11', 'b': '127.0.0.12'}      # of the machines
 TRUNK, SPEECH = '127.0.0.100', '127.0.0.101'            # of the trunk, wherever it is: SAToP and RTP
 PREFILL = 1200
-
-
-def children(parent: int) -> list[int]:
-    """The processes that a process has started."""
-    found = []
-    for name in filter(str.isdecimal, os.listdir('/proc')):
-        with contextlib.suppress(OSError), open(f'/proc/{name}/stat', encoding='utf-8', errors='replace') as file:
-            if int(file.read().rpartition(')')[2].split()[1]) == parent:
-                found.append(int(name))
-    return found
-
-
-def words_of(pid: int) -> list[str]:
-    """The command line of a process; nothing if it has ended."""
-    with contextlib.suppress(OSError), open(f'/proc/{pid}/cmdline', 'rb') as file:
-        return file.read().decode().split('\0')[:-1]
-    return []
 
 
 class GivenFile:
@@ -63,7 +45,7 @@ class Machine:
     """A machine, whose control is `ask`."""
 
     def __init__(self, case: support.FolderCase, name: str, ports: dict[str, int], *words: str, **around: str) -> None:
-        self._memory = tempfile.TemporaryDirectory(dir='/dev/shm' if os.path.isdir('/dev/shm') else None)
+        self._memory = support.in_memory()
         case.addCleanup(self._memory.cleanup)
         case.addCleanup(self.power_off)
         self.control, self._told, self._from = case.path(f'{name}.control'), case.path(f'{name}.told'), 0
@@ -98,8 +80,7 @@ class Machine:
 
     def process_of(self, word: str) -> int:
         """The process of it that has this subcommand, if need be waited for."""
-        return support.until(lambda: next((pid for pid in children(self.process.pid) if words_of(pid)[1:2] == [word]),
-                                          0))
+        return support.until(lambda: next(iter(children(self.process.pid, word)), 0))
 
     def power_off(self) -> None:
         """Nothing of it goes on."""

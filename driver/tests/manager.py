@@ -9,6 +9,9 @@ import subprocess
 import sys
 import threading
 
+from . import support
+
+MARK = b'all of this'
 APART = 300                 # descriptors that a service is given have numbers from here on before it starts
 
 
@@ -20,6 +23,7 @@ class Manager:
         self.line = socket.socket(socket.AF_UNIX, socket.SOCK_DGRAM)
         self.line.bind(path)
         self.told: list[str] = []
+        self._marks = 0
         self._taker = threading.Thread(target=self._take, daemon=True)
         self._taker.start()
 
@@ -31,6 +35,9 @@ class Manager:
                 return
             if not text:                    # the socket is shut down
                 return
+            if text == MARK:
+                self._marks += 1
+                continue
             words = dict(line.split('=', 1) for line in text.decode().split('\n'))
             self.told += text.decode().split('\n')
             if 'FDSTORE' in words:
@@ -48,8 +55,16 @@ class Manager:
         else:
             self.files[name] = file
 
+    def _take_all(self) -> None:
+        """Returns once all is taken that was told before, as systemd does before it starts a service again."""
+        marks = self._marks
+        with socket.socket(socket.AF_UNIX, socket.SOCK_DGRAM) as line:
+            line.sendto(MARK, self.path)
+        support.until(lambda: self._marks > marks)
+
     def starts(self, words: list[str], told: int) -> subprocess.Popen[bytes]:
         """Starts the service with what is kept, from descriptor 3 on."""
+        self._take_all()
         script = ('import os, sys\n'
                   'os.environ["LISTEN_PID"] = str(os.getpid())\n'
                   'os.execv(sys.argv[1], sys.argv[1:])\n')

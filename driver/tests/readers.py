@@ -7,6 +7,7 @@ import socket
 import time
 from typing import Any, Callable
 
+from .test_trunk import aligned
 from .world import World
 
 PATIENCE = 5
@@ -102,9 +103,7 @@ class Readers:
 
 def all_answered(world: World) -> None:
     """Thirty calls."""
-    world.until(lambda: world.exchange.aligned and not world.exchange.remote_alarms)
-    world.step(15)
-    world.wait_for_watcher()
+    aligned(world)
     with _connect(world.path('ctl')) as line:
         for n in range(1, 31):
             line.sendall(f'seize {n}\n'.encode())

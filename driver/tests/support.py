@@ -5,6 +5,7 @@ import atexit
 import fcntl
 import functools
 import os
+import random
 import socket
 import subprocess
 import sys
@@ -24,8 +25,8 @@ from e1gw.testing.service import Service
 TOP = os.path.dirname(os.path.dirname(os.path.dirname(os.path.abspath(__file__))))
 sys.dont_write_bytecode = True
 
-__all__ = ['Exchange', 'FolderCase', 'SECONDS', 'Service', 'TOP', 'all_read', 'launcher', 'program', 'run', 'until',
-           'without']
+__all__ = ['Exchange', 'FolderCase', 'SECONDS', 'Service', 'TOP', 'all_read', 'chance_of', 'in_memory', 'launcher',
+           'program', 'run', 'until', 'without']
 
 T = TypeVar('T')
 
@@ -37,6 +38,11 @@ def until(holds: Callable[[], T | None], pause: float = 0.005) -> T:
     return found
 
 
+def in_memory() -> tempfile.TemporaryDirectory[str]:
+    """A folder in memory, where there is one."""
+    return tempfile.TemporaryDirectory(dir='/dev/shm' if os.path.isdir('/dev/shm') else None)
+
+
 @functools.cache
 def launcher(name: str) -> str:
     """The file that starts a command with the limits of tests. The other commands are next to it."""
@@ -45,7 +51,7 @@ def launcher(name: str) -> str:
 
 @functools.cache
 def _launchers() -> str:
-    folder = tempfile.TemporaryDirectory()
+    folder = in_memory()
     atexit.register(folder.cleanup)
     for name in COMMANDS:
         os.symlink(os.path.join(TOP, 'driver', 'tests', 'start'), os.path.join(folder.name, f'e1gw-{name}'))
@@ -80,6 +86,11 @@ def program() -> str:
     if not os.access(path, os.X_OK):
         raise unittest.SkipTest('no program: E1GW names one, scripts/drivers builds it')
     return path
+
+
+def chance_of(test: unittest.TestCase) -> random.Random:
+    """By what a test chooses: its name and the seed of scripts/drivers."""
+    return random.Random(f'{test.id()} {os.environ.get("E1GW_SEED", "1")}')
 
 
 def all_read(line: socket.socket) -> None:

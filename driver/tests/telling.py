@@ -143,11 +143,11 @@ class WatchedTrunk(ServedProgram):
         self.shadow = StandInShadow(self.path('tell'), rows)
         self.program = StandInProgram(self.path('program'), self.shadow)
         streams = {'stdin': subprocess.DEVNULL, 'stdout': subprocess.DEVNULL, 'stderr': subprocess.PIPE} | streams
-        self.process = subprocess.Popen(
-            [sys.executable, '-B', LAUNCHER, '--config', self.config, '--tell',
-             self.shadow.path, '--program-control', self.program.path, '--control', self.path('ctl'),
-             *(word.replace('@', self.folder) for word in options)],
-            env={**os.environ, **limits.around(limits.TELLS | within)}, **streams)
+        self.words = [sys.executable, '-B', LAUNCHER, '--config', self.config, '--tell', self.shadow.path,
+                      '--program-control', self.program.path, '--control', self.path('ctl'),
+                      *(word.replace('@', self.folder) for word in options)]
+        self.around = {**os.environ, **limits.around(limits.TELLS | within)}
+        self.process = subprocess.Popen(self.words, env=self.around, **streams)
         try:
             self.connected()
         except BaseException:
@@ -156,6 +156,14 @@ class WatchedTrunk(ServedProgram):
 
     def __enter__(self) -> WatchedTrunk:
         return self
+
+    def begin_again(self, *options: str) -> None:
+        """Starts another watcher behind the end of this one, with more options."""
+        self.process.wait(SECONDS)
+        assert self.process.stderr
+        self.process.stderr.close()
+        self.process = subprocess.Popen([*self.words, *options], env=self.around, stdin=subprocess.DEVNULL,
+                                        stdout=subprocess.DEVNULL, stderr=subprocess.PIPE)
 
     def close(self) -> None:
         self.shadow.close()

@@ -12,7 +12,7 @@ from . import support
 from .bits import late
 from .support import SECONDS
 from .test_trunk import FOUR, aligned, call
-from .world import LAUNCHER, World, config_of, descendant, of_words
+from .world import LAUNCHER, World, children, config_of
 from e1gw import session
 
 
@@ -69,9 +69,7 @@ class FilterServiceTests(unittest.TestCase):
             aligned(world)
             call(world, 1)
             for number in (signal.SIGKILL, signal.SIGSTOP):
-                before = descendant(world.process.pid, 'align')
-                os.kill(before, number)
-                support.until(lambda: before not in of_words(world.process.pid, 'align'))
+                world.kill('align', number=number)
                 world.step(60)
                 self.assertEqual(world.state(1), 'answered')
             status, said = world.quit()
@@ -85,7 +83,8 @@ class FilterServiceTests(unittest.TestCase):
             with world.new_listener() as listener:
                 world.take(listener)
                 world.step(50)
-                os.kill(descendant(world.process.pid, 'align'), signal.SIGKILL)
+                (process,) = support.until(lambda: children(world.process.pid, 'align'))
+                os.kill(process, signal.SIGKILL)
                 world.line.close()
                 world.take(listener)
             world.step(50)

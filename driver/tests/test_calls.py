@@ -115,7 +115,7 @@ class CallServiceTests(unittest.TestCase):
             aligned(world)
             call(world, 1)
             self.assertEqual(world.state(1), 'answered')
-            self.assertIn('No space left', world.status()['ended']['calls'])
+            world.until(lambda: 'No space left' in (world.told()['ended']['calls'] or ''))
 
 
 if __name__ == '__main__':

@@ -2,17 +2,17 @@
 from __future__ import annotations
 
 import os
-import signal
 import tempfile
 import random
 import unittest
 from typing import Any
 
 from . import support
-from .world import World, config_of, of_words
+from .world import World, config_of
 from e1gw.clear import Clear, Place
 from e1gw.events import words_of
 from e1gw.exchange import ACKNOWLEDGED, ServeProcess
+from e1gw.service.slot_trunk import PUMP
 from e1gw.session import Command, command_record, trunk_record
 from e1gw.testing import datagrams
 from e1gw.testing.replayed import ReplayedTrunk
@@ -314,10 +314,8 @@ class ClearServiceTests(unittest.TestCase):
     def test_the_pump_and_the_program_die(self) -> None:
         """Each slot goes on in its place, both ways."""
         with World(config_of(range(1, 2)), '--clear') as world:
-            for word in 'trunk', 'slot_pump', 'trunk':
-                before = of_words(world.process.pid, word)
-                os.kill(before[0], signal.SIGKILL)
-                support.until(lambda: of_words(world.process.pid, word) not in (before, []))
+            for words in ('trunk',), ('-BP', '-c', PUMP), ('trunk',):
+                world.kill(*words)
                 self.assertEqual(wrong_slots(self.through(world, 31 * 64)), [])
 
     def test_a_state_that_ends_inside_a_frame(self) -> None:

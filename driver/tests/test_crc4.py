@@ -17,7 +17,7 @@ from typing import Any
 from . import support
 from .support import SECONDS
 from .test_trunk import FOUR, aligned, call, is_there
-from .world import LAUNCHER, World, config_of, of_words
+from .world import LAUNCHER, World, children, config_of
 from e1gw import crc4, metrics
 from e1gw.crc4 import Crc4, counts_of, live_counts
 from e1gw.events import words_of
@@ -104,26 +104,6 @@ def e_bits(octets: bytes | bytearray, at: int) -> int:
     """The E bits that are 0 in the multiframes from here on: those of frames 13 and 15 (G.704, 2.3.3.4)."""
     return sum(octets[start + frame * FRAME] < 128 for start in range(at, len(octets) - MULTIFRAME + 1, MULTIFRAME)
                for frame in (13, 15))
-
-
-def of_children(parent: int, *words: str) -> list[int]:
-    """The processes that a process has started with these words behind the program's name."""
-    found = []
-    for name in filter(str.isdecimal, os.listdir('/proc')):
-        try:
-            with open(f'/proc/{name}/stat', encoding='ascii') as stat, open(f'/proc/{name}/cmdline', 'rb') as line:
-                is_child = int(stat.read().rpartition(')')[2].split()[1]) == parent
-                begins = b'\0'.join([b'', *(word.encode() for word in words), b'--reports', b''])
-                if is_child and begins in line.read():
-                    found.append(int(name))
-        except (OSError, ValueError):
-            pass
-    return found
-
-
-def command_of(pid: int) -> list[str]:
-    with open(f'/proc/{pid}/cmdline', encoding='utf-8') as file:
-        return file.read().split('\0')
 
 
 class Crc4World(World):
@@ -265,13 +245,11 @@ class Crc4ServiceTests(unittest.TestCase):
 
     def test_a_process_dies(self) -> None:
         """Another one is begun. The call is up, on the same device, and every submultiframe is right."""
-        for words in ('crc4',), ('crc4', '--check'):
+        for words in ('crc4', '--reports'), ('crc4', '--check'):
             with self.subTest(words), Crc4World(config_of(FOUR)) as world:
                 aligned(world)
                 call(world, 1)
-                before = of_children(world.process.pid, *words)
-                os.kill(before[0], signal.SIGKILL)
-                support.until(lambda: of_children(world.process.pid, *words) not in (before, []))
+                world.kill(*words)
                 self.goes_on(world)
 
     def goes_on(self, world: Crc4World) -> None:
@@ -286,7 +264,8 @@ class Crc4ServiceTests(unittest.TestCase):
 
     def test_who_dies_inside_a_multiframe(self) -> None:
         """The exchange keeps the alignment of frames and multiframes, whether the program or `e1gw crc4` dies."""
-        for words in ('trunk',), ('crc4',), ('crc4', 'trunk'):
+        program, sender = ('trunk',), ('crc4', '--reports')
+        for words in (program,), (sender,), (sender, program):
             for count in 0, 77, 500:
                 with self.subTest(words=words, count=count), Crc4World(config_of(FOUR)) as world:
                     aligned(world)
@@ -294,8 +273,7 @@ class Crc4ServiceTests(unittest.TestCase):
                     octets = world.sender.multiframe(world.exchange.multiframe())
                     world.line.sendall(octets[:count])
                     back = self.read(world, count)
-                    processes = [pid for word in words for pid in of_words(world.process.pid, word)]
-                    processes = [pid for pid in processes if '--check' not in command_of(pid)]
+                    processes = [pid for each in words for pid in children(world.process.pid, *each)]
                     for pid in processes:
                         with contextlib.suppress(ProcessLookupError):       # (a program ends behind its e1gw crc4)
                             os.kill(pid, signal.SIGKILL)
@@ -330,7 +308,8 @@ class Crc4ServiceTests(unittest.TestCase):
         world = aligned(self.world('--reopen'))
         call(world, 1)
         with world.new_listener() as listener:
-            os.kill(of_children(world.process.pid, 'crc4')[0], signal.SIGKILL)
+            (sender,) = support.until(lambda: children(world.process.pid, 'crc4', '--reports'))
+            os.kill(sender, signal.SIGKILL)
             try:
                 world.step()
             except (EOFError, ConnectionError, BrokenPipeError):

@@ -64,11 +64,7 @@ class TypedCommandTests(unittest.TestCase):
         self.assertEqual(exchange.stdout.read(), b'there are seize N and clear N\n')
 
     def until_seized(self, line: socket.socket, circuits: set[int]) -> None:
-        for _ in range(5000):
-            found = {n for n, pair in pairs(line).items() if pair == SEIZED}
-            if found == circuits:
-                return
-        self.fail(f'{circuits} are not seized, but {found}')
+        support.until(lambda: {n for n, pair in pairs(line).items() if pair == SEIZED} == circuits, 0.0)
 
 
 def connected(path: str) -> socket.socket:

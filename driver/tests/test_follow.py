@@ -3,7 +3,6 @@ is that of a session that was not cut."""
 from __future__ import annotations
 
 import os
-import random
 import subprocess
 import unittest
 
@@ -19,7 +18,7 @@ class FollowTests(support.FolderCase):
 
     def setUp(self) -> None:
         super().setUp()
-        self.rng = random.Random(self.id())
+        self.rng = support.chance_of(self)
         self.config = self.write('follow.toml', config_of('A'))
         self.records = list(records_of(self.rng, 'A', 200))
 

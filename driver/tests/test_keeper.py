@@ -5,7 +5,6 @@ that another program goes on. What it hears is what one uncut replay of all reco
 from __future__ import annotations
 
 import contextlib
-import glob
 import itertools
 import os
 import random
@@ -15,7 +14,6 @@ import signal
 import socket
 import subprocess
 import sys
-import tempfile
 import threading
 import time
 import unittest
@@ -107,7 +105,7 @@ class KeeperCase(support.FolderCase):
     def setUp(self) -> None:
         support.program()
         super().setUp()
-        self.chance = random.Random(self.id())
+        self.chance = support.chance_of(self)
         self.device, self.peers = KeeperDevice(self.folder), RtpPeers()
         self.addCleanup(self.device.close)
         self.addCleanup(self.peers.socket.close)
@@ -122,7 +120,7 @@ class KeeperCase(support.FolderCase):
         """Starts a keeper, which opens the device."""
         told = open(self.path('told'), 'ab')
         self.addCleanup(told.close)
-        memory = tempfile.TemporaryDirectory(dir='/dev/shm' if os.path.isdir('/dev/shm') else None)
+        memory = support.in_memory()
         self.addCleanup(memory.cleanup)
         self.memory = memory.name
         words = [sys.executable, '-B', LAUNCHER, '--program', support.program(), '--config', self.config, '--unix',
@@ -229,21 +227,6 @@ class KeeperCase(support.FolderCase):
         """The program is sent a signal when it has answered all, and another one goes on behind that."""
         os.kill(self.program, number)
         self.assertIn(f'behind octet {len(self.heard) * MULTIFRAME}', self.goes_on())
-
-    def followers(self) -> list[str]:
-        """The processes that read the log of a program."""
-        found = []
-        for path in glob.glob('/proc/[0-9]*/cmdline'):
-            try:
-                with open(path, 'rb') as file:
-                    words = file.read().split(b'\0')
-                with open(os.path.join(os.path.dirname(path), 'stat'), encoding='ascii') as file:
-                    parent = int(file.read().rpartition(')')[2].split()[1])
-            except OSError:
-                continue
-            if b'replay' in words[1:2] and parent == self.keeper.pid:
-                found.append(path)
-        return found
 
     def other_program(self, *cases: str) -> str:
         """A program that does what these cases of a shell say, else what the program does."""

@@ -7,7 +7,6 @@ import os
 import signal
 import subprocess
 import sys
-import tempfile
 import unittest
 from typing import Any
 
@@ -27,7 +26,7 @@ class RestartedKeeperCase(KeeperCase):
         super().setUp()
         self.manager = Manager(self.path('notify'))
         self.addCleanup(self.manager.close)
-        memory = tempfile.TemporaryDirectory(dir='/dev/shm' if os.path.isdir('/dev/shm') else None)
+        memory = support.in_memory()
         self.addCleanup(memory.cleanup)
         self.memory = memory.name
         self.words = [sys.executable, '-B', LAUNCHER, '--program', support.program(), '--config', self.config,
@@ -140,8 +139,8 @@ class KilledKeeperTests(RestartedKeeperCase):
         self.settles()
         self.assertLessEqual({*held}, {name.split('-')[0] for name in self.manager.files})
         self.ends()
-        self.assertIn('STOPPING=1', self.manager.told)
         support.until(lambda: not self.manager.files)
+        self.assertIn('STOPPING=1', self.manager.told)
         self.device.line.close()
         self.manager.files['trunk-in'] = os.open(os.devnull, os.O_RDONLY)
         self.again()

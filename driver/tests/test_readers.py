@@ -1,17 +1,14 @@
-"""Who reads pages, the status or events and who asks much has no more than a share."""
+"""Who reads the status or events and who asks much has no more than a share."""
 from __future__ import annotations
 
 import socket
 import unittest
-import urllib.error
-import urllib.request
 
 from .readers import EVENTS
 from .support import SECONDS, until
-from .test_trunk import FOUR, aligned
+from .test_trunk import FOUR
 from .world import World, config_of
 from e1gw.service import commands
-from e1gw.testing.ports import free_port
 
 
 class ControlConnectionTests(unittest.TestCase):
@@ -57,27 +54,6 @@ class ControlConnectionTests(unittest.TestCase):
         while b'"command"' not in told:         # a stall of the machine has a stalled trunk reported before it
             self.assertTrue(piece := lines[1].recv(65536))
             told += piece
-
-
-class TrunkPagesTests(unittest.TestCase):
-    def setUp(self) -> None:
-        self.port = free_port()
-        self.world = World(config_of(FOUR), '--http', f'127.0.0.1:{self.port}', '--metrics', '@/prom')
-        self.addCleanup(self.world.__exit__)
-
-    def get(self, path: str) -> str:
-        with urllib.request.urlopen(f'http://127.0.0.1:{self.port}{path}', timeout=SECONDS) as page:
-            text: str = page.read().decode()
-            return text
-
-    def test_slow_requests_keep_nobody_off(self) -> None:
-        aligned(self.world)
-        for _ in range(200):
-            line = socket.create_connection(('127.0.0.1', self.port))
-            self.addCleanup(line.close)
-            line.sendall(b'GET /metrics HTTP/1.0\r\nX: ')
-        self.assertIn('e1gw_trunk_up', self.get('/metrics'))
-        self.assertIn('answered', self.get('/table'))
 
 
 if __name__ == '__main__':

@@ -3,6 +3,7 @@
 A file of a ring, too, replays from its state. The disk may be full: the calls go on."""
 from __future__ import annotations
 
+import glob
 import json
 import os
 import signal
@@ -16,8 +17,10 @@ from .support import SECONDS
 from .test_keeper import KeeperCase
 from .world import LAUNCHER
 from e1gw.archive import run_last
-from e1gw.kept import kept, note_of, octets_of
+from e1gw.kept import by_time, kept, note_of, octets_of
 from e1gw.session import MULTIFRAME, Kind, records_in
+
+LONG = '96h'                # of a ring whose files have to be of one program each: they are of eight hours
 
 
 class RecorderCase(KeeperCase):
@@ -41,6 +44,20 @@ class RecorderCase(KeeperCase):
 
     def heard_all(self) -> bytes:
         return b''.join(piece or b'' for piece in self.heard)
+
+    def files(self) -> list[str]:
+        """The files of the ring without their endings, in their order."""
+        return sorted((path.removesuffix('.json') for path in glob.glob(self.path('ring/*.json'))), key=by_time)
+
+    def each_file_replays(self) -> list[str]:
+        """Each file of the ring replays from its state to what was heard up to the next one. The files."""
+        fronts = self.files()
+        places = [note_of(f'{front}.e1gw')['place'] for front in fronts]
+        for front, begin, end in zip(fronts, places, [*places[1:], len(self.given_trunk())]):
+            load = ('--load', f'{front}.state') if begin else ()
+            with open(f'{front}.e1gw', 'rb') as file:
+                self.assertEqual(self.answers(file.read(), *load), self.heard_all()[begin:end], begin)
+        return fronts
 
     def handed_over(self, number: int | None, pid: int = 0) -> None:
         """A handover in which nothing is lost: a process is sent a signal, or the trunk is reloaded."""
@@ -137,14 +154,8 @@ class RecordedFileTests(RecorderCase):
 
 
 class RecordedRingTests(RecorderCase):
-    def files(self) -> list[str]:
-        """The files of the ring without their endings, in their order."""
-        names = os.listdir(self.path('ring')) if os.path.exists(self.path('ring')) else []
-        return sorted(os.path.join(self.path('ring'), name.removesuffix('.json'))
-                      for name in names if name.endswith('.json'))
-
-    def starts_ring(self) -> None:
-        self.starts('--session', self.path('ring'), '--keep', '1m', '--name', 'west')
+    def starts_ring(self, keep: str = LONG) -> None:
+        self.starts('--session', self.path('ring'), '--keep', keep, '--name', 'west')
         self.calls()
 
     def test_each_file_replays(self) -> None:
@@ -155,15 +166,9 @@ class RecordedRingTests(RecorderCase):
         self.handed_over(None)
         self.ends()
         self.as_uncut()
-        places = [note_of(f'{front}.e1gw')['place'] for front in self.files()]
-        self.assertEqual([note_of(f'{front}.e1gw')['begins'] for front in self.files()], ['start', 'middle', 'middle'])
-        ends = [*places[1:], len(self.given_trunk())]
-        for front, begin, end in zip(self.files(), places, ends):
-            with open(f'{front}.e1gw', 'rb') as file:
-                octets = file.read()
-            load = ('--load', f'{front}.state') if begin else ()
-            self.assertEqual(self.answers(octets, *load), self.heard_all()[begin:end], begin)
-            self.assertNotIn('slips', note_of(f'{front}.e1gw'))
+        told = [note_of(f'{front}.e1gw') for front in self.each_file_replays()]
+        self.assertEqual([(about['begins'], 'slips' in about) for about in told],
+                         [('start', False), ('middle', False), ('middle', False)])
         self.assertEqual(self.trunk_of(self.path('ring')), self.given_trunk())
 
     def test_what_a_crash_lost(self) -> None:
@@ -173,12 +178,9 @@ class RecordedRingTests(RecorderCase):
         self.goes_on()
         self.step(40)
         self.ends()
-        front = self.files()[1]
-        about = note_of(f'{front}.e1gw')
+        about = note_of(f'{self.each_file_replays()[1]}.e1gw')
         self.assertEqual(about['slips'], [[about['place'], 0.008]])
         self.assertEqual(about['place'], len(self.given_trunk()) - 40 * MULTIFRAME)
-        with open(f'{front}.e1gw', 'rb') as file:
-            self.assertEqual(self.answers(file.read(), '--load', f'{front}.state'), self.heard_all()[about['place']:])
 
     def test_another_configuration(self) -> None:
         """What is read of the ring begins where the configuration changed, with the state."""
@@ -197,21 +199,19 @@ class RecordedRingTests(RecorderCase):
                          self.heard_all()[session.place:])
 
     def test_state_behind_a_file(self) -> None:
-        """A ring that goes on makes the state of its second file from that of its first."""
-        self.starts_ring()
+        """A ring that goes on makes the state of its second file, which begins after five seconds of the clock, from
+        that of its first."""
+        self.starts_ring('1m')
         while len(fronts := self.files()) < 2 or not os.path.exists(f'{fronts[1]}.state'):
             self.step(10)
             time.sleep(0.05)
         self.ends()
-        front = self.files()[1]
-        place = note_of(f'{front}.e1gw')['place']
-        with open(f'{front}.e1gw', 'rb') as file:
-            self.assertEqual(self.answers(file.read(), '--load', f'{front}.state'), self.heard_all()[place:])
+        self.each_file_replays()
 
     def test_a_ring_that_begins_again(self) -> None:
         """With no other program: the file that is begun has the state of a checkpoint, and replays from that."""
         self.write('ring', '')
-        self.starts('--session', self.path('ring'), '--keep', '1m', '--name', 'west', **self.within(reader_AGAIN=0.1))
+        self.starts('--session', self.path('ring'), '--keep', LONG, '--name', 'west', **self.within(reader_AGAIN=0.1))
         self.calls()
         self.awaits('session ended, the calls go on: File exists')
         program = self.program
@@ -221,11 +221,8 @@ class RecordedRingTests(RecorderCase):
         os.kill(program, 0)
         self.as_uncut()
         self.ends()
-        (front,) = self.files()
-        place = note_of(f'{front}.e1gw')['place']
-        self.assertGreater(place, 0)
-        with open(f'{front}.e1gw', 'rb') as file:
-            self.assertEqual(self.answers(file.read(), '--load', f'{front}.state'), self.heard_all()[place:])
+        (front,) = self.each_file_replays()
+        self.assertGreater(note_of(f'{front}.e1gw')['place'], 0)
 
     def test_picture_and_records(self) -> None:
         """Those who read a ring read this one."""

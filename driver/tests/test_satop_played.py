@@ -10,6 +10,7 @@ import unittest
 from . import support
 from .bits import expected, late
 from .far_end import FarEnd
+from .test_ports_asked import waiting_at
 
 SIZE = 256
 JITTER = 4                  # packets, by default
@@ -166,7 +167,8 @@ class SatopClockTests(SatopPlayedCase):
         self.assertEqual(far.played(len(before)).hex(), before.hex())
         for n in range(7):
             far.send(again + n, 0, octets(n))
-            time.sleep(.008)
+            support.until(lambda: not waiting_at(far.near[1]))      # (its time is when the program reads it)
+            time.sleep(.01)
         with far.at_once():
             for n in range(7, 20):
                 far.send(again + n, 0, octets(n))

@@ -16,11 +16,13 @@ from . import support
 from .support import SECONDS
 from .test_keeper import CIRCUITS, KeeperCase
 from .test_keeper_killed import RestartedKeeperCase
+from .world import children
 from e1gw.service.log import STATE_ROOM, TrunkLog, in_memory, take_file
 from e1gw.service.version import VersionRefused, look_up, with_addresses
 from e1gw.session import MULTIFRAME, Codec, codec_record, encode_record, trunk_record
 
 END = encode_record(0x45, 0, b'')
+HANGS = 5.0                 # seconds, which no program takes that does not hang, on a machine that stalls
 
 
 class ServiceSequenceTests(RestartedKeeperCase):
@@ -85,15 +87,18 @@ class ServiceSequenceTests(RestartedKeeperCase):
         """What is heard is what an uncut replay gives, and all calls are up."""
         events = (self.program_dies, self.follower_dies, self.both_die, self.reloaded, self.replaced, self.service_dies,
                   self.client_asks)
-        with mock.patch.dict(os.environ, self.within(keeper_WITHIN=0.0)):   # (no death is taken for a state's harm)
+        done: list[str] = []
+        within = self.within(keeper_WITHIN=0.0)     # (no death is taken for a state's harm)
+        with self.subTest(done=done), mock.patch.dict(os.environ, within):
             self.begins()
             for event in (*events, *self.chance.choices(events, k=43)):
+                done.append(event.__name__)
                 event()
                 self.step(self.chance.randrange(1, 30))
-        self.assertNotIn('no state is known', self.told())
-        self.assertNotIn('the keeper goes on', self.told())
-        self.as_uncut()
-        self.leaves_nothing()
+            self.assertNotIn('no state is known', self.told())
+            self.assertNotIn('the keeper goes on', self.told())
+            self.as_uncut()
+            self.leaves_nothing()
 
 
 class ServiceLogTests(KeeperCase):
@@ -151,7 +156,7 @@ class ServiceFaultTests(KeeperCase):
         self.dies()
         self.assertIn('control does not lead to the process of now: Is a directory', self.told())
         self.step(20)
-        support.until(lambda: len(self.followers()) == 1)
+        support.until(lambda: len(children(self.keeper.pid, 'replay')) == 1)
         self.keeper.terminate()
         self.assertEqual(self.keeper.wait(SECONDS), 0)
 
@@ -217,9 +222,9 @@ class ServiceVersionTests(KeeperCase):
         self.other_program(*cases)
 
     def test_program_that_hangs(self) -> None:
-        self.renewed('trunk) exec sleep 600', keeper_START=1.0)
+        self.renewed('trunk) exec sleep 600', keeper_START=HANGS)
         self.keeper.send_signal(signal.SIGHUP)
-        self.awaits('reload: refused.*does not begin within 1 s')
+        self.awaits(f'reload: refused.*does not begin within {HANGS:g} s')
         self.goes_on()
         self.step(20)
         self.dies()
@@ -228,9 +233,9 @@ class ServiceVersionTests(KeeperCase):
         self.ends()
 
     def test_check_that_hangs(self) -> None:
-        self.renewed('check) exec sleep 600', version_CHECK=1.0)
+        self.renewed('check) exec sleep 600', version_CHECK=HANGS)
         self.keeper.send_signal(signal.SIGHUP)
-        self.awaits('reload: refused.*does not check the configuration within 1 s')
+        self.awaits(f'reload: refused.*does not check the configuration within {HANGS:g} s')
         self.dies()
         self.step(20)
         self.as_uncut()

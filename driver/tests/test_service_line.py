@@ -45,8 +45,12 @@ class LineKilledTests(RestartedKeeperCase):
         found: dict[str, Any] = json.loads(octets)['trunk']
         return found
 
-    def process(self, name: str) -> int:
-        return int(self.line()['processes'][name][0])
+    def process(self, name: str, before: int = 0) -> int:
+        """The process of the line of this name, another one than before, if need be waited for."""
+        def found() -> int:
+            pid = int(self.line()['processes'].get(name, [before])[0])
+            return pid if pid != before else 0
+        return support.until(found)
 
     def dies_meanwhile(self, name: str) -> None:
         """A process of the line is killed while no service is there."""
@@ -55,7 +59,7 @@ class LineKilledTests(RestartedKeeperCase):
         os.kill(process, signal.SIGKILL)
         self.told_from = len(self.told())
         self.comes_back()
-        support.until(lambda: self.process(name) != process)
+        self.process(name, process)
         self.step(20)
 
     def test_align(self) -> None:
@@ -102,7 +106,8 @@ class LineKilledTests(RestartedKeeperCase):
         self.begins('--crc4', '--align', '--reopen')
         check, align = self.process('check'), self.process('align')
         os.kill(align, signal.SIGKILL)
-        support.until(lambda: self.process('align') != align and self.process('check') != check)
+        self.process('align', align)
+        self.process('check', check)
         self.device.line.close()
         self.device.accept()
         self.assertIn(f'behind octet {len(self.heard) * MULTIFRAME}', self.goes_on())

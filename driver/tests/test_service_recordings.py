@@ -15,9 +15,8 @@ from unittest import mock
 
 from . import support, test_service_keeper
 from .test_keeper_killed import RestartedKeeperCase
-from .test_recorder import RecorderCase
+from .test_recorder import LONG, RecorderCase
 from e1gw.clock import TICK, ClockFinding
-from e1gw.kept import note_of
 from e1gw.service import reader, recordings, watch
 from e1gw.service.log import Checkpoint, TrunkLog
 from e1gw.session import MULTIFRAME, Kind, encode_record, trunk_record
@@ -69,7 +68,7 @@ class KilledRecordingTests(RestartedKeeperCase, RecorderCase):
 
     def test_at_any_moment_of_a_reload(self) -> None:
         """The log of a program is noted with the program."""
-        self.begins('--session', self.path('ring'), '--keep', '1h')
+        self.begins('--session', self.path('ring'), '--keep', LONG)
         self.dies_in_reloads()
         self.as_uncut()
         self.ends()
@@ -77,23 +76,17 @@ class KilledRecordingTests(RestartedKeeperCase, RecorderCase):
 
     def test_ring(self) -> None:
         """The same file is written on for each program, and each replays from its state."""
-        self.begins('--session', self.path('ring'), '--keep', '1h')
+        self.begins('--session', self.path('ring'), '--keep', LONG)
         self.service_killed()
         self.assertEqual(self.trunk_of(self.path('ring')), self.given_trunk(), self.told())
-        fronts = sorted(path.removesuffix('.json') for path in glob.glob(self.path('ring/*.json')))
-        places = [note_of(f'{front}.e1gw')['place'] for front in fronts]
-        self.assertEqual(len(places), 3)
-        for front, begin, end in zip(fronts, places, [*places[1:], len(self.given_trunk())]):
-            load = ('--load', f'{front}.state') if begin else ()
-            with open(f'{front}.e1gw', 'rb') as file:
-                self.assertEqual(self.answers(file.read(), *load), self.heard_all()[begin:end], begin)
+        self.assertEqual(len(self.each_file_replays()), 3)
 
 
 class ServiceSequenceRecordingTests(test_service_keeper.ServiceSequenceTests, RecorderCase):
     """Any sequence of what may happen to a trunk: a ring has all of it, once."""
 
     def begins(self, *options: str, **around: str) -> None:
-        super().begins('--session', self.path('ring'), '--keep', '1h', *options, **around)
+        super().begins('--session', self.path('ring'), '--keep', LONG, *options, **around)
 
     def ends(self) -> None:
         super().ends()

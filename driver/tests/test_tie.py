@@ -187,8 +187,10 @@ class TieCallTests(TieCase):
     async def test_operator_blocks(self) -> None:
         """A block of the operator stays, also if the tie is started again; that of a tie does not."""
         await self.both()
+        kept = self.sites[0][0].kept
         self.west.obey(['block', '7'])
-        await asyncio.sleep(0.1)
+        await self.until(lambda: kept.has(7))
+        await kept.close()                      # (a thread writes it, which goes by no clock of this loop)
         await self.kill(self.tasks[:2], self.sites[0][1])
         self.west.obey(['block', '9'])          # with no tie there: nobody's
         self.run_tie(*self.tie('west'))
@@ -236,15 +238,18 @@ class TieCallTests(TieCase):
         """One that the operator seizes without the tie; one that ends at the other end; one whose other site goes."""
         await self.both()
 
-        async def reason(number: int) -> str:
-            await self.until(lambda: len(self.told('east', 'command')) >= number and
-                             self.told('east', 'command')[-1]['command'] == 'clear')
-            return str(self.told('east', 'command')[-1]['why'])
+        async def reason(number: int) -> str | None:
+            """What is told of a command of this number that seizes or clears."""
+            await self.until(lambda: len(found()) == number)
+            return found()[-1].get('why')
+
+        def found() -> list[dict[str, Any]]:
+            return [each for each in self.told('east', 'command') if each['command'] in ('seize', 'clear')]
         self.east.obey(['seize', '1'])
         # (the last that was heard of it may be that it was blocked, before the sites were connected)
-        self.assertRegex(await reason(1), '^the other end has no such call: it is (idle|blocked)$')
+        self.assertRegex(await reason(1) or '', '^the other end has no such call: it is (idle|blocked)$')
         await self.sends(self.west, 3, SEIZED, State.ACKED)
-        self.assertNotIn('why', self.told('east', 'command')[-1])
+        self.assertIsNone(await reason(2))
         await self.sends(self.west, 3, IDLE, State.IDLE)
         self.assertEqual(await reason(3), 'the other end has no such call: it is idle')
         await self.sends(self.west, 5, SEIZED, State.ACKED)
@@ -413,7 +418,8 @@ class TieStatusTests(TieCase):
         self.east.move(1, State.RELEASING)
         await self.until(self.at(1, State.CLEAREDBACK, State.IDLE))
         self.west.obey(['block', '7'])
-        await self.until(lambda: self.sites[0][0].circuits[7].kept)
+        tie = self.sites[0][0]
+        await self.until(lambda: tie.circuits[7].kept and tie.done['clear-back', 'done'] > 0)
 
     async def test_texts(self) -> None:
         await self.busy()

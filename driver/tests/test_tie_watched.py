@@ -5,7 +5,6 @@ from __future__ import annotations
 import asyncio
 import json
 import os
-import subprocess
 import tempfile
 import unittest
 from typing import Any, Callable
@@ -91,21 +90,13 @@ class TieKilledWatcherTests(unittest.IsolatedAsyncioTestCase):
         self.hear(State.ACKED, State.ACKED, name)
         return name
 
-    def begin_again(self, meanwhile: Callable[[], None] = lambda: None) -> None:
-        """Kills the watcher, and starts another one behind what happens meanwhile."""
-        world = self.world
-        world.process.kill()
-        world.process.wait()
-        assert world.process.stderr
-        world.process.stderr.close()
-        meanwhile()
-        words = world.process.args
-        world.process = subprocess.Popen(words, stdin=subprocess.DEVNULL,
-                                         stdout=subprocess.DEVNULL, stderr=subprocess.PIPE)
-
     async def again(self, meanwhile: Callable[[], None] = lambda: None) -> None:
+        """Kills the watcher, and starts another one behind what happens meanwhile."""
         trunks = len([event for event in self.events if event['event'] == 'trunk'])
-        self.begin_again(meanwhile)
+        self.world.process.kill()
+        self.world.process.wait()
+        meanwhile()
+        self.world.begin_again()
         await self.until(lambda: len([event for event in self.events if event['event'] == 'trunk']) > trunks)
         for _ in range(3):      # what it does then comes before this
             await self.tie.trunk.ask('codec 3 pcma 8')

@@ -437,7 +437,7 @@ class RefusedOptionsTests(support.FolderCase):
             config = self.write('peers.toml', f'law = "A"\n{text}')
             with self.subTest(host=host, option=option):
                 status, told = self.run_driver('--config', config, *words, *option)
-                self.assertEqual((status, told.count(f'({said})')), (0, 1))
+                self.assertEqual((status, told.count(f'({said})')), (0, 1), told)
 
     def test_a_file_goes_through(self) -> None:
         trunk = os.path.join(self.folder, 'trunk')

@@ -168,12 +168,14 @@ class WebTests(unittest.TestCase):
             line = socket.create_connection(('127.0.0.1', self.port))
             line.sendall(request)
             lines.append(line)
-        for _ in range(80):
-            lines.append(socket.create_connection(('127.0.0.1', self.port)))
         aligned(self.world)
+        for _ in range(200):
+            lines.append(socket.create_connection(('127.0.0.1', self.port)))
+            lines[-1].sendall(b'GET /metrics HTTP/1.0\r\nX: ')
+        self.assertIn('e1gw_trunk_up', self.get('/metrics'))
         for line in lines:
             line.close()
-        self.assertIn('e1gw_trunk_up', self.get('/metrics'))
+        self.assertIn('answered', self.get('/table'))
 
 
 if __name__ == '__main__':

@@ -5,6 +5,7 @@ import contextlib
 import itertools
 import json
 import os
+import signal
 import socket
 import subprocess
 import sys
@@ -23,38 +24,22 @@ LAUNCHER = support.launcher('trunk')
 ANSWERS_AFTER = 20          # multiframes
 
 
-def of_words(parent: int, word: str) -> list[int]:
-    """The processes that a process has started whose first words have this one."""
+def words_of(pid: int) -> list[str]:
+    """The command line of a process; nothing if it has ended."""
+    with contextlib.suppress(OSError), open(f'/proc/{pid}/cmdline', 'rb') as file:
+        return file.read().decode().split('\0')[:-1]
+    return []
+
+
+def children(parent: int, *words: str) -> list[int]:
+    """The processes that a process has started with these words behind the program's name."""
     found = []
     for name in filter(str.isdecimal, os.listdir('/proc')):
-        try:
-            with open(f'/proc/{name}/stat', encoding='ascii') as about, open(f'/proc/{name}/cmdline', 'rb') as line:
-                is_child = int(about.read().rpartition(')')[2].split()[1]) == parent
-                if is_child and any(word.encode() in each for each in line.read().split(b'\0')[1:4]):
-                    found.append(int(name))
-        except (OSError, ValueError):
-            pass
-    return found
-
-
-def descendant(parent: int, word: str, without: str | None = None) -> int:
-    """A process that another one has started, or one of those has, with this word in its command line, and not that
-    end of one."""
-    parents: dict[int, list[int]] = {}
-    for name in filter(str.isdecimal, os.listdir('/proc')):
-        with contextlib.suppress(OSError), open(f'/proc/{name}/stat', encoding='utf-8') as stat:
-            parents.setdefault(int(stat.read().rpartition(')')[2].split()[1]), []).append(int(name))
-    left = [parent]
-    while left:
-        pid = left.pop()
-        left += parents.get(pid, [])
-        with contextlib.suppress(OSError), open(f'/proc/{pid}/cmdline', 'rb') as file:
-            words = file.read().decode().split('\0')
-            if without and any(each.endswith(without) for each in words):
-                continue
-            if pid != parent and word in [os.path.basename(each) for each in words]:
-                return pid
-    raise AssertionError(f'no process {word}')
+        with contextlib.suppress(OSError), open(f'/proc/{name}/stat', encoding='utf-8', errors='replace') as file:
+            is_child = int(file.read().rpartition(')')[2].split()[1]) == parent
+            if is_child and words_of(int(name))[1:1 + len(words)] == [*words]:
+                found.append(int(name))
+    return sorted(found)
 
 
 def config_of(circuits: range, codec: str = 'pcma', payload: int = 8, prefill: int = 160,
@@ -232,6 +217,12 @@ class World(ServedProgram):
 
     def close(self) -> None:
         self.line.close()
+
+    def kill(self, *words: str, number: int = signal.SIGKILL) -> None:
+        """Sends a signal to the process that was started with these words, and waits until there is another one."""
+        (before,) = support.until(lambda: children(self.process.pid, *words))
+        os.kill(before, number)
+        support.until(lambda: {*children(self.process.pid, *words)} - {before})
 
     def step(self, multiframes: int = 1) -> None:
         """Multiframes to and fro."""

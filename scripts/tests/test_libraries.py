@@ -28,7 +28,7 @@ lib)
   [ "$name" != "$SLOW" ] || exec sleep 30
   [ "$name" != "$REFUSED" ] || { echo 'error: no proof of its goal'; exit 1; }
   [ "$name" != middle ] || cat ../low/out/rlib/made || exit 1
-  sleep 0.3
+  [ "$name" != "$FIRST" ] || until grep -q 'begin other' "$NOTES"; do sleep 0.01; done
   mkdir -p out/rlib
   echo "$name" > out/rlib/made
   echo "end $name" >> "$NOTES"
@@ -78,7 +78,8 @@ class Tree(unittest.TestCase):
             file.write(text)
 
     def begin(self, words: list[str], **given: str) -> subprocess.Popen[str]:
-        paths = {'PATH': f'{self.top}/bin:{os.environ["PATH"]}', 'NOTES': self.notes, 'REFUSED': '', 'SLOW': ''}
+        paths = {'PATH': f'{self.top}/bin:{os.environ["PATH"]}', 'NOTES': self.notes, 'REFUSED': '', 'SLOW': '',
+                 'FIRST': ''}
         return subprocess.Popen([f'{self.top}/tree/scripts/{words[0]}', *words[1:]], stdin=subprocess.DEVNULL,
                                 stdout=subprocess.PIPE, stderr=subprocess.STDOUT, text=True,
                                 env={**os.environ, **paths, **given})
@@ -105,7 +106,7 @@ class Tree(unittest.TestCase):
 
 class Libraries(Tree):
     def test_side_by_side_and_lowest_first(self) -> None:
-        status, told = self.run_to_end(['libraries', '--lanes', '2'])
+        status, told = self.run_to_end(['libraries', '--lanes', '2'], FIRST='low')
         noted = self.noted()
         self.assertEqual(status, 0, told)
         self.assertEqual({*noted[:2]}, {'begin low', 'begin other'})
@@ -175,16 +176,20 @@ class Ahead(unittest.TestCase):
 
 
 class Signals(Tree):
-    def ended(self, words: list[str], number: int) -> None:
-        """A run that this signal ends while it proves `middle`."""
+    def in_middle(self, words: list[str]) -> subprocess.Popen[str]:
+        """A run that proves `middle`."""
         self.write('notes', '')
         process = self.begin(words, SLOW='middle')
-        for _ in range(300):
-            if 'begin middle' in self.noted():
-                break
+        while 'begin middle' not in self.noted():
+            self.assertIsNone(process.poll())
             time.sleep(0.05)
+        return process
+
+    def ended(self, words: list[str], number: int) -> None:
+        """A run that this signal ends."""
+        process = self.in_middle(words)
         process.send_signal(number)
-        process.communicate(timeout=10)
+        process.communicate(timeout=60)
         self.assertEqual(process.returncode, 70)
         self.assertEqual(self.built(), ['low', 'other'])
         self.assertEqual(self.side_trees(), [])
@@ -198,9 +203,7 @@ class Signals(Tree):
         self.ended(['build'], signal.SIGTERM)
 
     def test_put_back(self) -> None:
-        process = self.begin(['libraries'], SLOW='middle')
-        while 'begin middle' not in self.noted():
-            time.sleep(0.05)
+        process = self.in_middle(['libraries'])
         process.kill()
         process.wait()
         self.assertNotEqual(self.side_trees(), [])

@@ -45,6 +45,7 @@ from .watch import TrunkWatch, WatchWants
 
 NAME = 'e1gw-trunk'
 WATCHED = 'control', 'http', 'metrics', 'json', 'calls', 'watch'      # what an operator may want of a trunk
+MEMORY = '/dev/shm'         # where the folder of a trunk is by default
 SIGN = 0.25                 # seconds between two signs of life
 DIGITS = 11                 # octets that the number of a program adds to a socket's path
 
@@ -68,7 +69,7 @@ def parser() -> argparse.ArgumentParser:
     add_calls(kept)
     add_pair(words.add_argument_group('two machines'))
     words.add_argument('--folder', metavar='DIR', help='where its sockets are, in memory [default: '
-                       'RUNTIME_DIRECTORY, or /dev/shm]')
+                       f'RUNTIME_DIRECTORY, or {MEMORY}]')
     words.add_argument('--program-control', metavar='SOCKET', help='where the program takes records, e1gw(1)')
     words.add_argument('--tell', metavar='SOCKET', help='where clients get the state of the trunk, e1gw-tell(5)')
     return words
@@ -86,7 +87,7 @@ def opens_of(asked: argparse.Namespace) -> list[str | None]:
 
 def folder_of(asked: argparse.Namespace) -> str:
     """The folder of this trunk, the same for each start."""
-    within = asked.folder or os.environ.get('RUNTIME_DIRECTORY', '').partition(':')[0] or '/dev/shm'
+    within = asked.folder or os.environ.get('RUNTIME_DIRECTORY', '').partition(':')[0] or MEMORY
     return os.path.join(within, f'{name_of(asked)}-{os.getuid()}-{zlib.crc32(repr(opens_of(asked)).encode()):08x}')
 
 
