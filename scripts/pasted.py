@@ -10,13 +10,18 @@ import shlex
 import shutil
 import subprocess
 import tempfile
+import threading
+import time
 from dataclasses import dataclass, field
 from typing import Iterator
 
 import tree
 from tree import read
 
-MOST_SECONDS = 240
+MOST_SECONDS = 150
+# Pages whose exchanges have timers of their own, which a machine that stalls for longer than the prefill lets run out:
+# what they print is judged only if it did not.
+REAL_TIME, STALL = {'docs/SIGNALLING.md'}, 0.1
 HOSTS = ('192.0.2.10', '198.51.100.20')         # of examples: both are this machine
 # What pages have from elsewhere: lines that come before a page's first.
 EXCHANGE = 'e1gw-config --write trunk1; e1gw-exchange card > seen & sleep 1\n'
@@ -233,6 +238,37 @@ def pasted(page: str, program: str) -> str:
         return done.stdout.decode(errors='replace') + ''.join(kept)
 
 
+class Stalls(threading.Thread):
+    """Measures for how long at most this process did not run while it wanted to."""
+
+    def __init__(self) -> None:
+        super().__init__(daemon=True)
+        self.longest, self._ends = 0.0, threading.Event()
+
+    def run(self) -> None:
+        while not self._ends.is_set():
+            begun = time.monotonic()
+            time.sleep(0.02)
+            self.longest = max(self.longest, time.monotonic() - begun - 0.02)
+
+    def __enter__(self) -> Stalls:
+        self.start()
+        return self
+
+    def __exit__(self, *_: object) -> None:
+        self._ends.set()
+
+
+def judged(page: str, program: str) -> list[str]:
+    """What the commands of a page do otherwise than the page says, unless the machine stalled while they needed it."""
+    with Stalls() as stalls:
+        wrong = [*wrong_output(page, program)]
+    if wrong and page in REAL_TIME and stalls.longest > STALL:
+        print(f'docs: {page}: not judged, the machine stalled for {stalls.longest:.1f} s: {wrong[0]}')
+        return []
+    return wrong
+
+
 def wrong_output(page: str, program: str) -> Iterator[str]:
     """What the commands of a page do otherwise than the page says."""
     said = pasted(page, program)
@@ -334,5 +370,5 @@ def wrong_pages(program: str, some: list[str]) -> Iterator[list[str]]:
     """What is wrong with the commands of each page."""
     yield [*stale_rows()]
     with concurrent.futures.ThreadPoolExecutor(4) as pool:
-        yield from pool.map(lambda page: [*wrong_output(page, program), *wrong_unrun(page, program)],
+        yield from pool.map(lambda page: [*judged(page, program), *wrong_unrun(page, program)],
                             (page for page in pages() if not some or any(word in page for word in some)))
