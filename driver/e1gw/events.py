@@ -6,8 +6,7 @@ from typing import Callable
 from .lines import Event
 
 # What the journal has. An alarm of this end says that alignment was lost, and its end that it was found.
-WARNED = frozenset(('gap', 'ahead', 'stalled', 'ended', 'trunk lost', 'cleared', 'slots', 'disconnected',
-                    'unanswered'))
+WARNED = frozenset(('gap', 'ahead', 'stalled', 'ended', 'trunk lost', 'cleared', 'slots', 'disconnected'))
 NOTICED = frozenset(('alarm', 'remote alarm', 'flows', 'rate', 'renewed', 'satop', 'trunk', 'crc4', 'connected'))
 
 # The alarms of ITU-T G.704, G.706 and G.732, by what has no alignment: at this end, and as the other one tells.
@@ -41,12 +40,10 @@ _WORDS: dict[str, Callable[[Event], str]] = {
     'slots': lambda e: _SLOTS[e['what']].format(e.get('by')),
     'trunk': lambda e: f'trunk open: {e.get("trunk", "")}',
     'trunk lost': lambda e: f'trunk lost: {e["why"]}',
-    'connected': lambda e: f'connected to the {e["to"]}' if 'to' in e else 'a program is connected',
-    'disconnected': lambda e: (f'no connection to the {e["from"]}: {e["why"]}' if 'from' in e else
-                               'the program is gone: ones (AIS) are sent'),
-    'unanswered': lambda e: f'{e["octets"]} octets were not answered: the multiframe before was sent again for them',
+    'connected': lambda e: f'connected to the {e["to"]}',
+    'disconnected': lambda e: f'no connection to the {e["from"]}: {e["why"]}',
     'crc4': lambda e: _CRC4[e['what']].format(over=_over(e), times=_more_than_once(e), **e),
-    'satop': lambda e: f'satop: {e["what"]}{"" if e.get("on", True) else " over"}{_why(e)}',
+    'satop': lambda e: f'satop: {e["what"]}{_over(e)}',
 }
 
 
@@ -60,10 +57,6 @@ def _circuits(event: Event) -> str:
 
 def _more_than_once(event: Event) -> str:
     return f', {event["count"]} times' if event.get('count', 1) > 1 else ''
-
-
-def _why(event: Event) -> str:
-    return f': {event["why"]}' if 'why' in event else ''
 
 
 def _times(event: Event) -> str:

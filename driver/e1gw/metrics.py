@@ -162,7 +162,7 @@ def _of_service(status: Status) -> list[Family]:
          [({'command': row['command'], 'answer': row['answer']}, row['count']) for row in status['commands']]),
         ('e1gw_jitter_buffer_resyncs_total', 'counter', 'Jitter buffers that were resynchronised.',
          [({}, status['renewed'])]),
-        ('e1gw_ended', 'gauge', '1 where something beside the calls has ended.',
+        ('e1gw_ended', 'gauge', '1 where something other than the calls has ended.',
          [({'what': what}, int(why is not None)) for what, why in status['ended'].items()]),
         ('e1gw_uptime_seconds', 'gauge', 'Seconds since the trunk was opened, 0 while it is not.',
          [({}, status['uptime'])]),
@@ -233,9 +233,9 @@ def _crc4_line(status: Status) -> list[str]:
     crc4 = status.get('crc4')
     if crc4 is None:
         return []
-    stands = {True: 'multiframe alignment', False: 'no multiframe alignment', None: 'not counted yet'}[crc4['aligned']]
+    found = {True: 'multiframe alignment', False: 'no multiframe alignment', None: 'not counted yet'}[crc4['aligned']]
     given_up = f', of it {crc4["given_up"]} for 915 errored of 1000' if crc4['given_up'] else ''
-    return [f'CRC-4: {stands}, lost {crc4["multiframes_lost"]}{given_up}; errored {crc4["errored"]} of '
+    return [f'CRC-4: {found}, lost {crc4["multiframes_lost"]}{given_up}; errored {crc4["errored"]} of '
             f'{crc4["submultiframes"]} submultiframes, the other end reports {crc4["far_end_errored"]}']
 
 

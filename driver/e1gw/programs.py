@@ -51,7 +51,7 @@ def add_program(words: argparse.ArgumentParser) -> None:
     words.add_argument('--repeat', type=number(0, 8), default=0, metavar='N',
                        help='sends each datagram again behind the N-th after it, 0 to 8 [default: 0, never]')
     words.add_argument('--seizure-wait', type=number(200, 8000), default=SEIZURE_WAIT, metavar='MS',
-                       help='a seizure that is not acknowledged is released after so many milliseconds, 200 to 8000 '
+                       help='a seizure that is not acknowledged is released after MS milliseconds, 200 to 8000 '
                        '[default: 200]')
     words.add_argument('--totals', action='store_true', help='tells at the end what the programs have counted')
     words.add_argument('--state', metavar='FILE', help='the state is saved there at the end, and loaded at the start '

@@ -62,7 +62,7 @@ def kept(path: str, last: int | None = None) -> KeptSession:
     if len(trunks) > 1:
         raise InputError(f'{path} holds sessions of several trunks: {", ".join(sorted(trunks))}')
     files = [os.path.join(path, name) for name in names]
-    begun = _begun([beside(file) for file in files])
+    begun = _begun([note_of(file) for file in files])
     files = files[begun[-1] if begun else 0:]
     return _told(KeptSession(files[_enough(files, last):] if last else files))
 
@@ -76,8 +76,8 @@ def _begun(abouts: list[dict[str, Any]]) -> list[int]:
 
 def _enough(files: list[str], last: int) -> int:
     """With which of the files to begin for this number of octets at the end: all before it may be left out."""
-    end = beside(files[-1]).get('place', 0)
-    found = [n for n, file in enumerate(files) if state_of(file) and beside(file).get('place', end) + last <= end]
+    end = note_of(files[-1]).get('place', 0)
+    found = [n for n, file in enumerate(files) if state_of(file) and note_of(file).get('place', end) + last <= end]
     return found[-1] if found else 0
 
 
@@ -98,7 +98,7 @@ def state_of(path: str) -> str:
     return state if os.path.exists(state) else ''
 
 
-def beside(path: str) -> dict[str, Any]:
+def note_of(path: str) -> dict[str, Any]:
     """The .json of a file that is kept."""
     return read_object(f'{front_of(path)}.json')
 
@@ -114,7 +114,7 @@ def read_object(path: str) -> dict[str, Any]:
 
 
 def _told(session: KeptSession) -> KeptSession:
-    about = beside(session.files[0])
+    about = note_of(session.files[0])
     session.config = about.get('config')
     session.wait = about.get(WAIT, SEIZURE_WAIT)
     session.begin = about.get('time')
@@ -123,8 +123,8 @@ def _told(session: KeptSession) -> KeptSession:
     session.state = state_of(session.files[0]) if session.middle else ''
     if 'place' in about:
         session.slips = [(place - about['place'], seconds) for file in session.files
-                         for place, seconds in beside(file).get('slips', ()) if seconds < OUTAGE]
-        session.breaks = list(_breaks([beside(file) for file in session.files]))
+                         for place, seconds in note_of(file).get('slips', ()) if seconds < OUTAGE]
+        session.breaks = list(_breaks([note_of(file) for file in session.files]))
     return session
 
 

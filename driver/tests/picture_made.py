@@ -461,7 +461,7 @@ def both_ways(config: str, given: bytes) -> tuple[bytes, Packets, Packets]:
     return b''.join(bare), came, sent
 
 
-def beside(config: str, given: bytes) -> tuple[bytes, bytes]:
+def apart(config: str, given: bytes) -> tuple[bytes, bytes]:
     """A session without its datagrams, and a capture of them."""
     bare, came, sent = both_ways(config, given)
     return bare, pcap(sorted(came + sent))

@@ -35,7 +35,7 @@ class CompletionTests(unittest.TestCase):
                 self.assertEqual(self.offered(line), (sorted(words.split()), ''))
 
     def test_without_argcomplete(self) -> None:
-        """A shell that cannot find it is told the package's name."""
+        """A shell that cannot find it gets the package's name."""
         self.assertIn('python3-argcomplete', self.offered('e1gw-tie --', '/none')[1])
 
 

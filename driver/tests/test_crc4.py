@@ -78,7 +78,7 @@ def frame_alignment(octets: bytes, at: int = 0) -> int:
 
 
 def multiframe_in(octets: bytes, at: int) -> int | None:
-    """Where a CRC multiframe begins of which the signal stands twice in the 8 ms from this alignment on (G.706, 4.2):
+    """Where a CRC multiframe begins that has the signal twice in the 8 ms from this alignment on (G.706, 4.2):
     2 ms apart, or a multiple of it."""
     firsts = [octets[n + FRAME] >> 7 for n in range(at, at + MS_8, 2 * FRAME)]
     for phase in range(8):

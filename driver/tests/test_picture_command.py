@@ -13,7 +13,7 @@ import unittest
 
 from .support import SECONDS, TOP, FolderCase, program, run
 
-from .picture_made import (BEGIN, CAPTURED, PEER, TROUBLES, MadeSession, PictureSender, beside, captured, icmp, pcap,
+from .picture_made import (BEGIN, CAPTURED, PEER, TROUBLES, MadeSession, PictureSender, apart, captured, icmp, pcap,
                            recorded, udp)
 
 from e1gw.packets import BadCapture, datagrams
@@ -381,22 +381,22 @@ class PictureCaptureTests(PictureCommandCase):
     def split(self, name: str) -> tuple[str, bytes, bytes, bytes]:
         """A session with a trouble, its octets and commands alone, and a capture of its datagrams both ways."""
         text, given = recorded(name)
-        bare, capture = beside(text, given)
+        bare, capture = apart(text, given)
         return self.write('trunk.toml', text), given, bare, capture
 
-    def test_beside_a_session(self) -> None:
+    def test_with_a_session(self) -> None:
         for name in ('hold', 'jump', 'jitter'):
             with self.subTest(name):
                 config, given, bare, capture = self.split(name)
                 whole, _ = self.drawn('--config', config, '-', given=given)
-                beside, _ = self.drawn('--config', config, '--capture',
+                joined, _ = self.drawn('--config', config, '--capture',
                                        self.write('call.pcap', capture), '-', given=bare)
                 counts = r'(\d+) sent, (\d+) received, (\d+) discarded'
-                wanted, found = (re.findall(counts, page)[0] for page in (whole, beside))
+                wanted, found = (re.findall(counts, page)[0] for page in (whole, joined))
                 self.assertEqual(wanted[0], found[0])
                 # A microsecond of the capture's times can put a datagram into the frame before.
                 self.assertAlmostEqual(int(wanted[1]), int(found[1]), delta=3)
-                self.assertIn('2023-11-14 22:13:20 UTC', beside)
+                self.assertIn('2023-11-14 22:13:20 UTC', joined)
 
     def test_short_records(self) -> None:
         """Records of half a millisecond, as a device gives them: few octets of answers for as many pieces."""

@@ -13,7 +13,7 @@ import unittest
 from . import support
 from .test_program_killed import KeeperCase
 from e1gw.archive import run_last
-from e1gw.session_files import beside, by_time, kept, octets_of
+from e1gw.session_files import by_time, kept, note_of, octets_of
 from e1gw.session import MULTIFRAME, Kind, records_in
 
 LONG = '96h'                # of a ring whose files have to be of one program each: they are of eight hours
@@ -48,7 +48,7 @@ class RecorderCase(KeeperCase):
     def each_file_replays(self) -> list[str]:
         """Each file of the ring replays from its state as an uncut session up to the next one. The files."""
         fronts, octets = self.files(), b''.join(self.uncut()[0])
-        places = [beside(f'{front}.e1gw')['place'] for front in fronts]
+        places = [note_of(f'{front}.e1gw')['place'] for front in fronts]
         for front, begin, end in zip(fronts, places, [*places[1:], len(self.given_trunk())]):
             load = ('--load', f'{front}.state') if begin else ()
             with open(f'{front}.e1gw', 'rb') as file:
@@ -106,7 +106,7 @@ class RecordedRingTests(RecorderCase):
         self.goes_on()
         self.step(40)
         self.ends()
-        first, about = [beside(f'{front}.e1gw') for front in self.each_file_replays()]
+        first, about = [note_of(f'{front}.e1gw') for front in self.each_file_replays()]
         self.assertEqual((first['begins'], 'slips' in first, about['begins']), ('start', False, 'middle'))
         self.assertEqual(about['slips'], [[about['place'], 0.008]])
         self.assertEqual(about['place'], len(self.given_trunk()) - 40 * MULTIFRAME)
@@ -151,7 +151,7 @@ class RecordedRingTests(RecorderCase):
         self.as_uncut()
         self.ends()
         (front,) = self.each_file_replays()
-        self.assertGreater(beside(f'{front}.e1gw')['place'], 0)
+        self.assertGreater(note_of(f'{front}.e1gw')['place'], 0)
 
     def test_picture_and_records(self) -> None:
         """Those who read a ring read this one."""

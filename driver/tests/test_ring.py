@@ -13,7 +13,7 @@ from unittest import mock
 from . import support
 from e1gw import archive
 from e1gw.ring import MOST_EARLIER, MOST_SLIPS, Ring
-from e1gw.session_files import beside, kept
+from e1gw.session_files import kept, note_of
 
 assert support.TOP
 KEPT = 60           # seconds, in files of five
@@ -116,7 +116,7 @@ class RingTests(support.FolderCase):
             self.play(1, first=run, state=b'state')
             self.day -= 1
         files = kept(self.ring).files
-        self.assertEqual([beside(file)['place'] for file in files], [*range(12)])
+        self.assertEqual([note_of(file)['place'] for file in files], [*range(12)])
         with mock.patch('e1gw.ring.MOST_EARLIER', 3):
             self.play(1, first=12)
         self.assertEqual(self.kept(), [9, 10, 11, 12])

@@ -393,7 +393,7 @@ class TieConnectionTests(TieCase):
         self.assertLessEqual(len(self.told('west', 'no connection')), 10)
 
     async def test_reasons(self) -> None:
-        """Why nobody is let in is told once a minute for each reason, and for ten of them at most."""
+        """Why nobody is let in is reported once a minute for each reason, and for ten of them at most."""
         _, site = self.tie('west')
         with mock.patch.object(site_module, 'MINUTE', 0.6):
             for n in [*range(12)] * 2:

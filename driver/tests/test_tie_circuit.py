@@ -220,7 +220,7 @@ def disagreement(world: TieCircuitWorld, strictly: bool = True) -> str | None:
     near, far = world.near, world.far
     if far.state in CALLED:
         if near.state not in SPEAKING or near.call != far.call or near.over:
-            return 'a call stands at the outgoing end alone'
+            return 'a call is up at the outgoing end alone'
         if far.state is ANSWERED and near.state is not ANSWERED:
             return 'an answer is not passed on'
         if far.state is CLEAREDBACK and near.state is not CLEAREDBACK:
@@ -229,7 +229,7 @@ def disagreement(world: TieCircuitWorld, strictly: bool = True) -> str | None:
             return 'the ends of a call differ'
         return None
     if near.state in (ACKED, ANSWERED):
-        return 'a call stands at the incoming end alone'
+        return 'a call is up at the incoming end alone'
     if near.state is IDLE and far.state is not IDLE:
         return 'a circuit that is out of use can be seized'
     if near.state is BLOCKED and far.state is IDLE and not near.kept:

@@ -6,6 +6,7 @@ import tempfile
 import unittest
 from unittest import mock
 
+import pasted
 import tree
 
 SCRIPTS = os.path.dirname(os.path.dirname(os.path.abspath(__file__)))
@@ -151,6 +152,24 @@ class Tree(unittest.TestCase):
         self.put('docs/TIE.md', '[a](../README.md) [b](OPERATING.md)')
         self.assertEqual(list(self.docs.wrong_links()),
                          ['docs/TIE.md: links to ../README.md, which the package lacks'])
+
+    def test_blocks_with_what_they_print(self) -> None:
+        self.put('docs/A.md', '```sh\ncat a \\\n  b\nls\n```\n\n```\n1 .. 3\n```\n\n'
+                              '```text\n$ who 1\nup 4.2 s (2)\n```\n')
+        self.put('dist/man/a.1', '.Sh EXAMPLES\n.Bd -literal\na \\e\n  b\n.Ed\n.Dl c\n.Sh SEE ALSO\n.Dl d\n')
+        first, second = pasted.blocks_of('docs/A.md')
+        self.assertEqual((first.line, first.lines(), first.shown), (1, ['cat a \\\n  b\n', 'ls\n'], [r'1\ .*\ 3']))
+        self.assertEqual(second.text, 'who 1\n')
+        self.assertRegex('up 17.10 s (3)', second.shown[0])
+        self.assertEqual([block.text for block in pasted.blocks_of('dist/man/a.1')], ['a \\\n  b\n', 'c\n'])
+
+    def test_options_that_a_command_does_not_have(self) -> None:
+        self.put('tools/greet', '#!/bin/sh\necho "--loud  $1"\n')
+        os.chmod(os.path.join(tree.TOP, 'tools/greet'), 0o755)
+        for text, wrong in (('a=b tools/greet --loud | cat --x', []),
+                            ('cat\ntools/greet \\\n --aloud=1 # --x', ['--aloud']),
+                            ('true; e1gw-greet --low', ['--low'])):
+            self.assertEqual([line.split()[-1] for line in pasted.wrong_options('A', text, 'e1gw')], wrong)
 
 
 if __name__ == '__main__':

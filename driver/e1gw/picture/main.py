@@ -78,7 +78,7 @@ def parser() -> argparse.ArgumentParser:
     words.add_argument('--seizure-wait', type=number(200, 8000), metavar='MS',
                        help='as of the gateway [default: that of the kept session, or 200]')
     words.add_argument('--refresh', type=number(1, 3600), metavar='SECONDS',
-                       help='the page is loaded again each so many seconds [default: never]')
+                       help='the page is loaded again after SECONDS [default: never]')
     words.add_argument('--title', metavar='WORDS', help='the title of the page')
     words.add_argument('--program', metavar='E1GW', help='the program [default: that of this repository, or e1gw]')
     return words

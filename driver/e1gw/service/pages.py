@@ -130,7 +130,7 @@ class DrawnPage:
         self._drawing: asyncio.Task[None] | None = None
 
     async def fresh(self) -> bytes:
-        """The page; nothing if it cannot be drawn. Who has waited for some seconds gets the last one, or is told that
+        """The page; nothing if it cannot be drawn. Who has waited for some seconds gets the last one, or the words that
         it is being drawn."""
         if not self._drawing and time.monotonic() >= self._until:
             self._drawing = asyncio.create_task(self._draw())

@@ -58,20 +58,20 @@ def parser() -> argparse.ArgumentParser:
     add_options(words)
     add_program(words)
     add_line(words)
-    told = words.add_argument_group('control and what is told')
+    told = words.add_argument_group('control and reports')
     add_control(told)
     told.add_argument('--picture', type=number(10, 3600, float), metavar='SECONDS',
                       help='/ is a picture of the last seconds, 10 to 3600, of what --keep has; wants both')
     kept = words.add_argument_group('sessions and calls')
     add_session(kept)
     kept.add_argument('--gap', type=number(20, 10_000), default=100, metavar='MS',
-                      help='lost octets of so many milliseconds restart the playout of open calls [default: 100]')
+                      help='lost octets of MS milliseconds restart the playout of open calls [default: 100]')
     add_calls(kept)
     add_pair(words.add_argument_group('two machines'))
     words.add_argument('--folder', metavar='DIR', help='where its sockets are, in memory [default: '
                        f'RUNTIME_DIRECTORY, or {MEMORY}]')
     words.add_argument('--program-control', metavar='SOCKET', help='where the program takes records, e1gw(1)')
-    words.add_argument('--tell', metavar='SOCKET', help='where clients are told how the trunk stands, e1gw-tell(5)')
+    words.add_argument('--tell', metavar='SOCKET', help='where clients get the state of the trunk, e1gw-tell(5)')
     return words
 
 

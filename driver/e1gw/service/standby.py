@@ -106,7 +106,7 @@ class TrunkStandby:
             self._wait = min(MOST_AGAIN, 2 * self._wait)
 
     def _ends(self, why: str) -> None:
-        """Nothing feeds it: this is told once, however often it is tried."""
+        """Nothing feeds it: this is logged once, however often it is tried."""
         if why != self.why:
             logger.warning('not fed by %s:%d: %s', *self._place, why)
         self.why = why

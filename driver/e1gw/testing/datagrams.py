@@ -108,7 +108,7 @@ class UdpCalls:
         return bytes(octet for octet in self.exchange.heard[circuit] if octet != IDLE)
 
     def end(self, sent: int, first: str = '', faults: int = 0) -> Wrongs:
-        """Ends the session, in which so many packets were sent and so many calls of its sockets failed. Yields what is
+        """Ends the session, with these numbers of packets sent and of failed calls of its sockets. Yields what is
         wrong with its end, whose totals stand behind these lines."""
         wanted = (f'{first}records {len(self.serve.given)}\noctets {self.octets}\ndatagrams {sent}\n'
                   f'dropped 0\nport_faults {faults}\n')

@@ -20,7 +20,7 @@ AGAIN = 0.25                # seconds until a connection is retried
 HANDSHAKE = 5.0             # seconds for a connection until it has greeted
 STRANGERS = 8               # connections that have not greeted, and those that the system queues
 MOST_WAITING = 1 << 20      # octets not yet taken by the other site
-MINUTE, MOST_REASONS = 60.0, 10     # seconds in which a reason why nobody is connected is told once, and how many are
+MINUTE, MOST_REASONS = 60.0, 10     # seconds in which a reason for no connection is reported once, and how many are
 
 
 class SiteRefused(Exception):

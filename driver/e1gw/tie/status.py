@@ -1,4 +1,4 @@
-"""How a tie stands: a table for people, JSON and the text of Prometheus for machines, at a socket and over HTTP."""
+"""The status of a tie: a table for people, JSON and the text of Prometheus for machines, at a socket and over HTTP."""
 from __future__ import annotations
 
 import asyncio
@@ -82,7 +82,7 @@ class TieTexts(StatusTexts):
 
 
 class TiePages(TrunkPages):
-    """The texts of how a tie stands now."""
+    """The texts of the status of a tie."""
 
     def __init__(self, tie: Tie) -> None:
         super().__init__(lambda: status_of(tie), lambda: None, [])

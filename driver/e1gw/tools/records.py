@@ -26,7 +26,7 @@ import sys
 from typing import BinaryIO, Iterable, Iterator
 
 from ..faults import words_of_fault
-from ..session_files import InputError, Source, beside, octets_of
+from ..session_files import InputError, Source, note_of, octets_of
 from ..frames import DOUBLE, FAS, REVERSED, SIGNALS, is_frame, raw_words_of
 from ..session import (CIRCUITS, FRAME, OCTETS_A_SECOND, BadPacket, BadSession, Kind, Readable, Record, packet_of,
                        records, trunk_record)
@@ -223,7 +223,7 @@ def read_session(asked: argparse.Namespace, source: Readable) -> None:
     elif asked.until is not None or asked.begin is not None:
         write_records(source, asked.begin or 0, asked.until, sys.stdout.buffer)
     else:
-        print_records(source, beside(asked.file).get('place', 0) if asked.file else 0)
+        print_records(source, note_of(asked.file).get('place', 0) if asked.file else 0)
 
 
 def main() -> None:
