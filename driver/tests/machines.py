@@ -3,6 +3,7 @@ too. A machine dies when all its processes are killed at once."""
 from __future__ import annotations
 
 import contextlib
+import functools
 import os
 import re
 import signal
@@ -12,12 +13,13 @@ import subprocess
 import sys
 import tempfile
 import time
-from typing import Any
+from concurrent.futures import ThreadPoolExecutor
+from typing import Any, Callable
 
 from . import support
 from .support import SECONDS
 from .test_keeper import CIRCUITS, KeeperCase
-from .world import LAUNCHER
+from .world import LAUNCHER, of_words
 from e1gw.session import Kind, packet_of, records_in
 from e1gw.testing.ports import free_port
 from e1gw.testing.service import ask
@@ -25,16 +27,6 @@ from e1gw.testing.service import ask
 ADDRESSES = {'a': '127.0.0.11', 'b': '127.0.0.12'}      # of the machines
 TRUNK, SPEECH = '127.0.0.100', '127.0.0.101'            # of the trunk, wherever it is: SAToP and RTP
 PREFILL = 1200
-
-
-def children(parent: int) -> list[int]:
-    """The processes that a process has started."""
-    found = []
-    for name in filter(str.isdecimal, os.listdir('/proc')):
-        with contextlib.suppress(OSError), open(f'/proc/{name}/stat', encoding='utf-8', errors='replace') as file:
-            if int(file.read().rpartition(')')[2].split()[1]) == parent:
-                found.append(int(name))
-    return found
 
 
 def words_of(pid: int) -> list[str]:
@@ -92,20 +84,15 @@ class Machine:
     def ask(self, command: str) -> str:
         return ask(self.control, command.encode())
 
-    def becomes(self, role: str) -> None:
-        """Waits until it has this role."""
-        support.until(lambda: self.ask('role') == role, 0.01)
-
     def process_of(self, word: str) -> int:
         """The process of it that has this subcommand, if need be waited for."""
-        return support.until(lambda: next((pid for pid in children(self.process.pid) if words_of(pid)[1:2] == [word]),
-                                          0))
+        return support.until(lambda: next(iter(of_words(self.process.pid, word)), 0))
 
     def power_off(self) -> None:
         """Nothing of it goes on."""
         if self.process.poll() is None:
             self.process.send_signal(signal.SIGSTOP)
-            pids = children(self.process.pid)
+            pids = of_words(self.process.pid, '')
             for pid in (self.process.pid, *pids):
                 with contextlib.suppress(ProcessLookupError):
                     os.kill(pid, signal.SIGKILL)
@@ -135,11 +122,18 @@ class PairCase(KeeperCase):
         line.connect(self.path(f'{self.active}.program'))
         return line
 
-    def promoted(self, machine: Machine, name: str) -> None:
+    def promoted(self, machine: Machine, name: str, is_handed: bool = False) -> None:
         """It carries the trunk from now on."""
         self.active = name
-        self.assertEqual(machine.ask('promote'), 'promote: done', machine.told())
+        if not is_handed:
+            self.assertEqual(machine.ask('promote'), 'promote: done', machine.told())
         self.device.accept()
+
+    def asks(self, machine: Machine, word: str) -> Callable[[], str]:
+        """Asks a machine, and goes on; returns what waits for the answer."""
+        pool = ThreadPoolExecutor(1)
+        self.addCleanup(pool.shutdown, False)
+        return functools.partial(pool.submit(machine.ask, word).result, SECONDS)
 
     def send(self, count: int = 1) -> int:
         for _ in range(count):
@@ -204,6 +198,13 @@ class PairCase(KeeperCase):
 def trunk_octets(records: bytes) -> int:
     """The octets of the trunk that records have."""
     return sum(len(record.body) for record in records_in(records) if record.kind is Kind.TRUNK)
+
+
+def unread(address: str) -> int:
+    """The octets that wait in the connections from an address."""
+    own = f'{int.from_bytes(socket.inet_aton(address), sys.byteorder):08X}:'
+    with open('/proc/net/tcp', encoding='ascii') as file:
+        return sum(int(row[4].partition(':')[2], 16) for row in map(str.split, file) if row[1].startswith(own))
 
 
 def others(records: bytes) -> int:
