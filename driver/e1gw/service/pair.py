@@ -15,7 +15,7 @@ from .chain import CarriedTrunk
 from .feed import FRESH, FeedServer
 from .journal import NOTICE
 from .keeper import ANEW, DEMOTED, GRACE, TICK, TrunkKeeper
-from .program import LoggedProgram, TrunkProgram
+from .program import LoggedProgram
 from .slot_trunk import before_signal
 from .standby import FedProgram, TrunkStandby
 from .takeover import CannotBegin
