@@ -41,8 +41,7 @@ class DeathTests(PairCase):
         self.first, self.own_log = len(self.heard), GivenFile(machine.process_of('trunk'), '--record')
 
     def as_uncut_behind(self, others_before: int) -> None:
-        """What was heard since is the end of what one replay of all gives, and behind so many other records no
-        datagram was refused."""
+        """What was heard is the end of one replay of all; no datagram was refused behind a number of other records."""
         own = self.own_log.octets()
         octets, packets, answers = self.replayed(self.fed_log.octets(), own, state=self.state)
         heard = b''.join(each for each in self.heard[self.first:] if each)
@@ -250,8 +249,7 @@ class SatopTests(support.FolderCase):
         return [row[key] for row in json.loads(ask('status json'))['circuits']]
 
     def come_to(self, state: str, *ends: Callable[[str], str], by: str = '') -> None:
-        """Waits until each circuit is in a state at both ends. The first end commands those that are not, again
-        if the trunk has just stood still."""
+        """Waits until each circuit is in a state at both ends. The first end commands those that are not."""
         def there() -> bool:
             found = [self.each(ask) for ask in ends]
             for n in CIRCUITS:
