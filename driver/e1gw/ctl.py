@@ -2,9 +2,10 @@
 
 PATH is the socket of --control of e1gw-trunk, or the name of a trunk, whose socket is /run/e1gw/NAME/control.
 COMMAND is one of e1gw-trunk(1): seize N, clear N, answer N, clear-back N, block N, unblock N, codec N CODEC TYPE,
-status, status N, status json, events, on-loss, role, promote, demote, reload, quit, help. N may be several circuits:
-seize 1-4,7. With a PATH and no command, commands are read from standard input, a line each. --all gives the command to
-each trunk of this machine. Without any word there is a line for each trunk of this machine.
+status, status N, status json, events, on-loss, role, promote, demote, move, reload, quit, help. N may be several
+circuits: seize 1-4,7. move NODE, as root, is for a trunk under Pacemaker, which looks away meanwhile. With a PATH and
+no command, commands are read from standard input, a line each. --all gives the command to each trunk of this machine.
+Without any word there is a line for each trunk of this machine.
 
 Statuses: 0 all was done; 1 a trunk refused something, or does not answer; 2 the command line, or nobody listens at
 PATH.
@@ -13,7 +14,9 @@ from __future__ import annotations
 
 import argparse
 import os
+import re
 import socket
+import subprocess
 import sys
 from contextlib import suppress
 from typing import BinaryIO
@@ -117,6 +120,22 @@ def run_all(words: list[str]) -> int:
     return status
 
 
+def move(path: str, name: str, node: str) -> int:
+    """Moves a trunk to another node of Pacemaker, which looks away meanwhile; returns the status."""
+    crm = ['crm_resource', '--resource', name]
+    where = subprocess.run([*crm, '--locate'], capture_output=True, text=True, check=True).stdout
+    if not re.search(rf'on: {re.escape(node)} *$', where, re.MULTILINE):
+        print(f'move: {node} has no standby of {name}')
+        return 1
+    managed = [*crm, '--meta', '--set-parameter', 'is-managed', '--parameter-value']
+    subprocess.run([*managed, 'false'], stdout=subprocess.DEVNULL, check=True)
+    try:
+        return run(path, ['move'])
+    finally:
+        for words in ([*crm, '--refresh'], [*crm, '--wait'], [*managed, 'true']):
+            subprocess.run(words, stdout=subprocess.DEVNULL, stderr=subprocess.DEVNULL, check=False)
+
+
 def started(asked: argparse.Namespace, parser: argparse.ArgumentParser) -> int:
     """What the words ask for."""
     words = [asked.path] * bool(asked.path) + asked.command
@@ -126,6 +145,8 @@ def started(asked: argparse.Namespace, parser: argparse.ArgumentParser) -> int:
         return run_all(words)
     if asked.command[:1] and asked.command[0] in [name for name, _ in trunks_here()]:
         parser.error(f'{asked.command[0]} is a trunk: a command goes to one of them, and with --all to each')
+    if asked.command[:1] == ['move'] and len(asked.command) == 2:
+        return move(path_of(asked.path), asked.path, asked.command[1])
     return run(path_of(asked.path), asked.command) if asked.path else overview()
 
 
@@ -136,7 +157,8 @@ def next_words(parsed_args: argparse.Namespace, **_: object) -> list[str]:
         return [name for name, _ in trunks_here()]
     match words[not parsed_args.all:]:
         case []:
-            return [*SEVERAL, 'status', 'events', 'on-loss', 'role', 'promote', 'demote', 'reload', 'quit', 'help']
+            return [*SEVERAL, 'status', 'events', 'on-loss', 'role', 'promote', 'demote', 'move', 'reload', 'quit',
+                    'help']
         case ['status']:
             return ['json', *circuits]
         case ['reload']:

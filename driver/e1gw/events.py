@@ -6,8 +6,9 @@ from typing import Callable
 from .lines import Event
 
 # What the journal has. An alarm of this end says that alignment was lost, and its end that it was found.
-WARNED = frozenset(('gap', 'ahead', 'stalled', 'ended', 'trunk lost', 'cleared', 'slots', 'disconnected'))
-NOTICED = frozenset(('alarm', 'remote alarm', 'flows', 'rate', 'renewed', 'satop', 'trunk', 'crc4', 'connected'))
+WARNED = frozenset(('gap', 'ahead', 'stalled', 'ended', 'trunk lost', 'cleared', 'slots', 'disconnected', 'not fed',
+                    'role'))
+NOTICED = frozenset(('alarm', 'remote alarm', 'flows', 'rate', 'renewed', 'satop', 'trunk', 'crc4', 'connected', 'fed'))
 
 # The alarms of ITU-T G.704, G.706 and G.732, by what has no alignment: at this end, and as the other one tells.
 LOSSES = {'frame': 'loss of frame alignment (LFA)', 'multiframe': 'loss of multiframe alignment'}
@@ -37,6 +38,9 @@ _WORDS: dict[str, Callable[[Event], str]] = {
     'ahead': lambda e: f'burst: {e["seconds"]} s of the trunk came too early',
     'rate': lambda e: f'rate: {e["ppm"]:+} ppm relative to this machine\'s clock',
     'ended': lambda e: f'{e["what"]} ended, the calls go on: {e["why"]}',
+    'role': lambda e: f'this machine is to be {e["role"]}',
+    'fed': lambda e: f'fed by {e["by"]}, program {e["program"]} there',
+    'not fed': lambda e: f'not fed by {e["by"]}: {e["why"]}',
     'slots': lambda e: _SLOTS[e['what']].format(e.get('by')),
     'trunk': lambda e: f'trunk open: {e.get("trunk", "")}',
     'trunk lost': lambda e: f'trunk lost: {e["why"]}',

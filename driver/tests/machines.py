@@ -3,6 +3,7 @@ too. A machine dies when all its processes are killed at once."""
 from __future__ import annotations
 
 import contextlib
+import functools
 import os
 import re
 import signal
@@ -11,7 +12,8 @@ import struct
 import subprocess
 import sys
 import time
-from typing import Any
+from concurrent.futures import ThreadPoolExecutor
+from typing import Any, Callable
 
 from . import support
 from .support import SECONDS
@@ -74,10 +76,6 @@ class Machine:
     def ask(self, command: str) -> str:
         return ask(self.control, command.encode())
 
-    def becomes(self, role: str) -> None:
-        """Waits until it has this role."""
-        support.until(lambda: self.ask('role') == role, 0.01)
-
     def process_of(self, word: str) -> int:
         """The process of it that has this subcommand, if need be waited for."""
         return support.until(lambda: next(iter(children(self.process.pid, word)), 0))
@@ -116,11 +114,18 @@ class PairCase(KeeperCase):
         line.connect(self.path(f'{self.active}.program'))
         return line
 
-    def promoted(self, machine: Machine, name: str) -> None:
+    def promoted(self, machine: Machine, name: str, is_handed: bool = False) -> None:
         """It carries the trunk from now on."""
         self.active = name
-        self.assertEqual(machine.ask('promote'), 'promote: done', machine.told())
+        if not is_handed:
+            self.assertEqual(machine.ask('promote'), 'promote: done', machine.told())
         self.device.accept()
+
+    def asks(self, machine: Machine, word: str) -> Callable[[], str]:
+        """Asks a machine, and goes on; returns what waits for the answer."""
+        pool = ThreadPoolExecutor(1)
+        self.addCleanup(pool.shutdown, False)
+        return functools.partial(pool.submit(machine.ask, word).result, SECONDS)
 
     def send(self, count: int = 1) -> int:
         for _ in range(count):
@@ -185,6 +190,13 @@ class PairCase(KeeperCase):
 def trunk_octets(records: bytes) -> int:
     """The octets of the trunk that records have."""
     return sum(len(record.body) for record in records_in(records) if record.kind is Kind.TRUNK)
+
+
+def unread(address: str) -> int:
+    """The octets that wait in the connections from an address."""
+    own = f'{int.from_bytes(socket.inet_aton(address), sys.byteorder):08X}:'
+    with open('/proc/net/tcp', encoding='ascii') as file:
+        return sum(int(row[4].partition(':')[2], 16) for row in map(str.split, file) if row[1].startswith(own))
 
 
 def others(records: bytes) -> int:

@@ -34,8 +34,8 @@ class PagesTests(unittest.TestCase):
             self.assertLessEqual(named, options)
 
     def test_commands(self) -> None:
-        commands = {*control.COMMANDS, 'codec', 'status', 'events', 'on-loss', 'role', 'promote', 'demote', 'reload',
-                    'quit', 'help'}
+        commands = {*control.COMMANDS, 'codec', 'status', 'events', 'on-loss', 'role', 'promote', 'demote', 'move',
+                    'reload', 'quit', 'help'}
         text = page('e1gw-trunk.1').split('.Sh COMMANDS')[1].split('.Sh FILES')[0]
         named = {word for line in re.findall(r'^\.It Ic .*', text, re.M) for word in re.findall(r'Ic ([\w-]+)', line)}
         self.assertEqual(named, commands)

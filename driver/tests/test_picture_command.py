@@ -11,7 +11,7 @@ import struct
 import subprocess
 import unittest
 
-from .support import SECONDS, TOP, FolderCase, program, run
+from .support import SECONDS, TOP, FolderCase, program
 
 from .picture_made import (BEGIN, CAPTURED, PEER, TROUBLES, MadeSession, PictureSender, apart, captured, icmp, pcap,
                            recorded, udp)

@@ -178,6 +178,11 @@ class LineProcessTests(support.FolderCase, unittest.IsolatedAsyncioTestCase):
         await trunk.finish(None)
         self.assertEqual(trunk.note()['processes'], {})
 
+    async def test_it_plays_into_a_full_socket(self) -> None:
+        """It ends as soon as it can look at its input."""
+        trunk = await self.opened('\nimport os\nos.write(1, bytes(1 << 22))\nos.read(0, 1)\n')
+        await trunk.finish(None)
+
     async def test_it_ends_by_itself(self) -> None:
         """The program sees the end of the trunk; with --reopen another one is tried."""
         why = f'{BROKEN}: e1gw satop ended with status 3: e1gw: 127.0.0.1:5000: Address already in use'

@@ -7,14 +7,12 @@ import json
 import os
 import signal
 import socket
-import threading
 import time
 import unittest
 from typing import Callable, Iterator
-from unittest import mock
 
-from . import limits, support
-from .machines import ADDRESSES, TRUNK, GivenFile, Machine, PairCase, others, trunk_octets
+from . import support
+from .machines import ADDRESSES, TRUNK, GivenFile, Machine, PairCase, others, trunk_octets, unread
 from .support import SECONDS
 from .test_program_killed import CIRCUITS
 from e1gw.ctl_all import line_of
@@ -33,19 +31,18 @@ class DeathTests(PairCase):
         pid = machine.process_of('replay')
         self.state, self.fed_log = GivenFile(pid, '--load'), GivenFile(pid, '--follow')
 
-    def takes_over(self, machine: Machine, name: str, since: float, until: float) -> None:
+    def takes_over(self, machine: Machine, name: str, since: float, until: float, is_handed: bool = False) -> None:
         """A machine takes over from one whose octets came last between these times: it gets ones for as long."""
         began = time.monotonic()
-        self.promoted(machine, name)
+        self.promoted(machine, name, is_handed)
         ones = int(machine.awaits(r'promoted: program \d+ goes on after .*, (\d+) of them ones')[1])
         self.assertGreaterEqual(ones, (began - until) * OCTETS_A_SECOND - MULTIFRAME)
-        self.assertLessEqual(ones, ((time.monotonic() - since) * 1.04 + 0.02) * OCTETS_A_SECOND)
+        self.assertLessEqual(ones, (time.monotonic() - since + 0.03) * OCTETS_A_SECOND)
         self.now += ones // MULTIFRAME          # (the peers speak by the trunk's time)
         self.first, self.own_log = len(self.heard), GivenFile(machine.process_of('trunk'), '--record')
 
     def as_uncut_behind(self, others_before: int) -> None:
-        """What was heard since is the end of what one replay of all gives, and behind so many other records no
-        datagram was refused."""
+        """What was heard is the end of one replay of all; no datagram was refused behind a number of other records."""
         own = self.own_log.octets()
         octets, packets, answers = self.replayed(self.fed_log.octets(), own, state=self.state)
         heard = b''.join(each for each in self.heard[self.first:] if each)
@@ -89,12 +86,29 @@ class DeathTests(PairCase):
         self.assertGreater(len(self.state), 0)
         self.before, since = self.last_packets(), time.monotonic()
         self.step(4)
-        self.assertEqual(b.ask('demote'), 'demote: done')
-        self.assertEqual(b.ask('role').partition(',')[0], 'standby')
-        self.assertEqual(self.fed_log.octets(), self.own_log.octets()[-len(self.fed_log):])
-        self.takes_over(a, 'a', since, time.monotonic())
+        support.until(lambda: b.ask('role') == 'active, fed')       # (it hears of that later than the standby)
+        moves = self.asks(b, 'move')
+        support.until(lambda: b.ask('role').startswith('standby'))
+        self.assertIn(self.own_log.octets()[-20_000:], self.fed_log.octets())
+        self.takes_over(a, 'a', since, time.monotonic(), is_handed=True)
         self.all_goes_on()
         self.fed(b)
+        self.assertEqual(moves(), 'move: done')
+
+
+    def test_standby_that_stood_still(self) -> None:
+        """What came while it stood still is as old as it is."""
+        a, b = self.calls_with_standby()
+        since = time.monotonic()
+        b.process.send_signal(signal.SIGSTOP)
+        self.step(4)
+        support.until(lambda: unread(ADDRESSES['b']) >= 4 * MULTIFRAME)
+        a.power_off()
+        until = time.monotonic()
+        time.sleep(SILENCE)
+        b.process.send_signal(signal.SIGCONT)
+        self.takes_over(b, 'b', since, until)
+        self.up_again()
 
 
 class PairTests(PairCase):
@@ -116,9 +130,7 @@ class PairTests(PairCase):
     def test_two_that_are_active(self) -> None:
         """Without fencing the second one has no ports; it is demoted, and is fed again."""
         a, b = self.calls_with_standby()
-        said: list[str] = []
-        asks = threading.Thread(target=lambda: said.append(b.ask('promote')))
-        asks.start()
+        promotes = self.asks(b, 'promote')
         line = self.device.listener.accept()[0]
         support.until(lambda: b.ask('role') == 'active, not fed, no program', 0.01)
         self.as_before()
@@ -128,8 +140,7 @@ class PairTests(PairCase):
         self.as_before()
         for machine, role in ((a, 1), (b, 0)):
             self.shows(machine, f'e1gw_role {role}', 'e1gw_fed 1', f'e1gw_trunk_up {role}')
-        asks.join(SECONDS)
-        self.assertEqual(said, ['promote: refused: the reverse was asked for meanwhile'])
+        self.assertEqual(promotes(), 'promote: refused: the reverse was asked for meanwhile')
         self.assertEqual(b.ask('quit'), 'quit: done')
         self.assertEqual(b.process.wait(SECONDS), 0)
         while a.ask('role') != 'active, not fed':
@@ -217,10 +228,10 @@ class BadFeedTests(PairCase):
                     b.awaits(f'not fed by {ADDRESSES["a"]}:{self.ports["a"]}: {words}')
             gives(b'', 'it carries no trunk')
             gives(good.replace(b'"law": "A"', b'"law": "mu"'), 'its law is mu, and here it is A')
-            gives(good.replace(b'"e1gw_feed": 1', b'"e1gw_feed": 2'), 'a feed of version 2, and this is 1')
+            gives(good.replace(b'"e1gw_feed": 2', b'"e1gw_feed": 3'), 'a feed of version 3, and this is 2')
             gives(b'SSH-2.0-OpenSSH_9.2p1\r\n', 'what comes there is no feed')
             gives(good.replace(b'"place": ', b'"place": 0.5e'), '')
-            gives(b'{"e1gw_feed": 1, "law": "A"}\n', '')
+            gives(b'{"e1gw_feed": 2, "law": "A"}\n', '')
             gives(b'[' * 60_000 + b'\n', '')
             gives(b'x' * 200_000, '')
             head = good.index(b'\n') + 1
@@ -235,33 +246,22 @@ class BadFeedTests(PairCase):
 class SatopTests(support.FolderCase):
     """Over SAToP, in real time, between two machines with one address and an e1gw-trunk at the far end."""
 
-    def setUp(self) -> None:
-        super().setUp()
-        # (`e1gw satop` sees no end while it plays what nobody reads any more)
-        patch = mock.patch.dict(os.environ, limits.around({'service.chain.GRACE': 1.0}))
-        patch.start()
-        self.addCleanup(patch.stop)
-
     def config(self, name: str, role: str) -> str:
         circuits = ''.join(f'[[circuit]]\nnumber = {n}\nrole = "{role}"\n' for n in CIRCUITS)
         return self.write(f'{name}.toml', f'law = "A"\n{circuits}')
 
-    def states(self, ask: Callable[[str], str]) -> list[str]:
-        return [row['state'] for row in json.loads(ask('status json'))['circuits']]
+    def each(self, ask: Callable[[str], str], key: str = 'state') -> list[object]:
+        return [row[key] for row in json.loads(ask('status json'))['circuits']]
 
     def come_to(self, state: str, *ends: Callable[[str], str], by: str = '') -> None:
-        """Waits until each circuit is in a state at both ends. The first end commands those that are not, again
-        if the trunk has just stood still."""
+        """Waits until each circuit is in a state at both ends. The first end commands those that are not."""
         def there() -> bool:
-            found = [self.states(ask) for ask in ends]
+            found = [self.each(ask) for ask in ends]
             for n in CIRCUITS:
                 if by and found[0][n - 1] != state:
                     ends[0](f'{by} {n}')
             return found == [[state] * 30] * len(ends)
         support.until(there, 0.05)
-
-    def seizures(self, ask: Callable[[str], str]) -> list[int]:
-        return [row['seizures'] for row in json.loads(ask('status json'))['circuits']]
 
     def test_takeover(self) -> None:
         ports = {name: free_port(address) for name, address in ADDRESSES.items()}
@@ -278,15 +278,15 @@ class SatopTests(support.FolderCase):
         self.come_to('idle', a.ask, east.ask)
         self.come_to('acked', a.ask, east.ask, by='seize')
         self.come_to('answered', east.ask, a.ask, by='answer')
-        b.becomes('standby, fed')
-        seizures = self.seizures(east.ask)
+        support.until(lambda: b.ask('role') == 'standby, fed')
+        seizures = self.each(east.ask, 'seizures')
         a.power_off()
         self.assertEqual(b.ask('promote'), 'promote: done')
         support.until(lambda: not any(json.loads(b.ask('status json'))['alarm'].values()), 0.05)
         self.come_to('answered', b.ask, east.ask)
-        self.assertEqual(self.seizures(east.ask), seizures)
-        support.until(lambda: self.states(east.ask)[6] == 'idle' or not b.ask('clear 7'), 0.05)
-        self.assertEqual(self.states(east.ask).count('answered'), 29)
+        self.assertEqual(self.each(east.ask, 'seizures'), seizures)
+        support.until(lambda: self.each(east.ask)[6] == 'idle' or not b.ask('clear 7'), 0.05)
+        self.assertEqual(self.each(east.ask).count('answered'), 29)
 
 
 if __name__ == '__main__':

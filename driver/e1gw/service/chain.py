@@ -214,10 +214,13 @@ class CarriedTrunk(TrunkFiles):
         if look := self._tasks.pop('look', None):
             look.cancel()
         self.close()
-        if 'near' in self.files.ends:
-            shut(self.files.ends['near'])
+        if near := self.files.ends.get('near'):
+            shut(near)
+            asyncio.get_running_loop().add_reader(near, drop, near)     # (who cannot write does not look for an end)
         for name in list(self._processes):
             await self._end_process(name, 0.0 if name in self._inward() else GRACE)
+        if near:
+            asyncio.get_running_loop().remove_reader(near)
         self.counts.line_ends(octets if self._why else None)
         self.files.close()
         self._satop = []
@@ -281,6 +284,12 @@ class CarriedTrunk(TrunkFiles):
 
 def tell_failure() -> None:
     logger.exception('the line goes on', extra={'kind': 'fault'})
+
+
+def drop(file: int) -> None:
+    """Takes what a socket has, which nobody reads any more."""
+    with contextlib.suppress(OSError), socket.socket(fileno=os.dup(file)) as line:
+        line.recv(1 << 16, socket.MSG_DONTWAIT)
 
 
 def shut(file: int) -> None:

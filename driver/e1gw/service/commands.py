@@ -12,6 +12,7 @@ A line is answered by one or more lines and an empty one:
   on-loss keep               takes that back
   role                       of a trunk that two machines have: `active, fed`, `standby, not fed` ..
   promote, demote            this machine is to carry it, or the other one
+  move                       the other one is to, which is told so by its feed
   reload                     takes the program and the configuration of now; `reload force` also if that ends
                              more than three calls
   quit                       ends the trunk
@@ -112,14 +113,14 @@ class CommandServer:
                 return (__doc__ or '').partition('\n\n')[2].rstrip('\n')
             case ['reload'] | ['reload', 'force']:
                 return await self._trunk.reloads(words[1:] == ['force'])
-            case ['role' | 'promote' | 'demote' as word]:
+            case ['role' | 'promote' | 'demote' | 'move' as word]:
                 return await self._trunk.roles(word)
             case ['quit']:
                 return self._trunk.ends()
             case [name, *rest] if name in COMMANDS or name == 'codec':
                 return await self._obey_circuit(name, rest)
         return (f'{words[0][:40]}: no such command; there are {", ".join(COMMANDS)}, codec, status, events, on-loss, '
-                'role, promote, demote, reload, quit and help')
+                'role, promote, demote, move, reload, quit and help')
 
     async def _obey_circuit(self, name: str, words: list[str]) -> str:
         trunk = self._trunk

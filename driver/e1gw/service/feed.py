@@ -1,7 +1,7 @@
-"""What a standby at another machine is fed: a head, a state, and from its place on the log of the program, in
-pieces. Nothing waits for a slow standby but the log, which grows. One that is too far behind, or does not answer
-for some seconds, is dropped; it connects again and receives another state, so it has no gap. A feed is of one
-program, and ends behind its last record."""
+"""What a standby at another machine is fed: a head, a state, and from its place on the log of the program, in pieces.
+Nothing waits for a slow standby but the log, which grows. One that is too far behind, or takes nothing for seconds, is
+dropped; it connects again and receives another state, so it has no gap. A feed is of one program, and ends behind its
+last record."""
 from __future__ import annotations
 
 import asyncio
@@ -10,16 +10,18 @@ import logging
 import os
 import struct
 import time
+from contextlib import suppress
 from dataclasses import dataclass, field
 from typing import Any, Callable
 
-from ..faults import named, words_of_fault
+from ..faults import words_of_fault
 from ..lines import law_of, read_config, tables_of
 from .log import Checkpoint, TrunkLog
 from .program import TrunkProgram
 
-FORMAT, VERSION = 'e1gw_feed', 1
-PIECE = struct.Struct('>QI')            # before a piece: where the log ends, and how many octets follow
+FORMAT, VERSION = 'e1gw_feed', 2
+PIECE = struct.Struct('>Qdi')   # before a piece: where the log ends, the time of that, and how many octets follow
+YOURS = -1                      # in place of the latter: the standby is to carry the trunk
 PLACE = struct.Struct('>Q')             # of a standby: up to where it has the log
 MOST_HEAD, MOST_PIECE = 64 << 10, 256 << 10
 MOST_BEHIND = 64 << 20      # octets of the log that a standby may lack: two minutes of thirty calls
@@ -55,7 +57,7 @@ class FeedHead:
     @classmethod
     def of_line(cls, line: bytes) -> FeedHead:
         """FeedRefused if it is none of this version."""
-        try:
+        with suppress(ValueError, TypeError, KeyError, AttributeError, RecursionError):
             fields = dict(json.loads(line))
             if (its := fields.pop(FORMAT)) != VERSION:
                 raise FeedRefused(f'a feed of version {str(its)[:20]}, and this is {VERSION}')
@@ -63,8 +65,6 @@ class FeedHead:
             numbers = [head.program, head.place, head.state, *head.counted.values()]
             if all(type(n) is int and n >= 0 for n in numbers) and isinstance(head.circuits, dict):
                 return head
-        except (ValueError, TypeError, KeyError, AttributeError, RecursionError):
-            pass
         raise FeedRefused('what comes there is no feed of e1gw-trunk')
 
 
@@ -77,8 +77,7 @@ def configured(path: str) -> tuple[str, dict[str, Any]]:
 
 @dataclass(eq=False)
 class StandbyFeed:
-    """A standby that is fed the log of a program. `place` is the octet that is sent next, `has` how many
-    it has."""
+    """A standby that is fed the log of a program. `place` is the octet that is sent next, `has` how many it has."""
 
     writer: asyncio.StreamWriter
     number: int
@@ -87,9 +86,9 @@ class StandbyFeed:
     has: int = 0
     fresh: float = field(default_factory=lambda: time.monotonic() - FRESH)      # when it had all
 
-    def send(self, piece: bytes) -> None:
-        end = self.log.place() if len(piece) == MOST_PIECE else self.place + len(piece)
-        self.writer.write(PIECE.pack(end, len(piece)) + piece)
+    def send(self, piece: bytes, length: int) -> None:
+        end = self.log.place() if length == MOST_PIECE else self.place + len(piece)
+        self.writer.write(PIECE.pack(end, time.monotonic(), length) + piece)
         self.place += len(piece)
 
     def drop(self, why: str) -> None:
@@ -101,25 +100,15 @@ class StandbyFeed:
 class FeedServer:
     """Feeds who connects from one of these addresses, while there is a program that carries the trunk."""
 
-    def __init__(self, place: tuple[str, int], peers: frozenset[str],
-                 program: Callable[[], TrunkProgram | None]) -> None:
-        self._place, self._peers, self._program = place, peers, program
+    def __init__(self, peers: frozenset[str], program: Callable[[], TrunkProgram | None]) -> None:
+        self._peers, self._program = peers, program
+        self.hands_over = False                         # at the end of the program
         self._feeds: dict[str, StandbyFeed] = {}        # by the address of the standby
         self._tasks = set[asyncio.Task[Any]]()
 
-    async def open(self) -> None:
-        """OSError if nobody could connect."""
-        try:
-            await asyncio.start_server(self._came, *self._place)
-        except OSError as fault:
-            raise named(fault, f'--feed {self._place[0]}:{self._place[1]}') from None
-
-    # ---- what is known ----
-
     def age(self) -> float | None:
         """How many seconds ago a standby had all that the log had; None if there is none."""
-        ages = [time.monotonic() - feed.fresh for feed in self._feeds.values() if feed.has]
-        return min(ages, default=None)
+        return min((time.monotonic() - feed.fresh for feed in self._feeds.values() if feed.has), default=None)
 
     def needed(self, program: TrunkProgram) -> int:
         """From where on the log of a program is needed. Who is too far behind is dropped."""
@@ -138,19 +127,18 @@ class FeedServer:
         for feed in [*self._feeds.values()]:
             feed.drop(f'it does not take the rest within {seconds:g} s')
 
-    # ---- a standby ----
-
-    async def _came(self, reader: asyncio.StreamReader, writer: asyncio.StreamWriter) -> None:
+    async def came(self, reader: asyncio.StreamReader, writer: asyncio.StreamWriter) -> None:
+        """Somebody has connected."""
         address = str(writer.get_extra_info('peername')[0])
         if address not in self._peers:
             logger.warning('feed: %s is not --peer, and is fed nothing', address, extra={'kind': 'stranger'})
             writer.transport.abort()
             return
-        task = asyncio.current_task()
-        assert task
+        assert (task := asyncio.current_task())
         self._tasks.add(task)
         try:
             if (program := self._program()) and program.is_up:
+                logger.info('a standby at %s is fed', address)
                 await self._feed(address, program, reader, writer)
         except Exception as fault:      # pylint: disable=broad-exception-caught
             why = words_of_fault(fault) or 'it takes nothing'
@@ -170,10 +158,9 @@ class FeedServer:
         hears = asyncio.create_task(self._hear(feed, reader))
         try:
             writer.write(beginning(program, checkpoint))
-            logger.info('a standby at %s is fed', address)
             while not program.process.over.is_set() or feed.place < feed.log.place():
                 await self._send(feed)
-            feed.send(b'')
+            feed.send(b'', YOURS if self.hands_over else 0)
             async with asyncio.timeout(PATIENCE):
                 while feed.has < feed.place and not hears.done():
                     await asyncio.sleep(TICK)
@@ -184,29 +171,24 @@ class FeedServer:
             feed.log.close()
 
     async def _send(self, feed: StandbyFeed) -> None:
-        """Sends what the log has, or after some time without octets an empty piece, which the standby has to
-        take within some seconds."""
+        """Sends what the log has, or after some time an empty piece; the standby takes it within some seconds."""
         until = time.monotonic() + PULSE
         while not (piece := feed.log.read(feed.place, MOST_PIECE)) and time.monotonic() < until:
             await asyncio.sleep(TICK)
-        feed.send(piece)
+        feed.send(piece, len(piece))
         async with asyncio.timeout(PATIENCE):
             await feed.writer.drain()
         if len(piece) < MOST_PIECE:
             await asyncio.sleep(TICK)
 
     async def _hear(self, feed: StandbyFeed, reader: asyncio.StreamReader) -> None:
-        """What a standby has, as it says; one that says nothing for some seconds is dropped."""
-        try:
+        """What a standby has, as it says. (One that says nothing is not fed, and takes nothing any more either.)"""
+        with suppress(OSError, EOFError):
             while True:
-                async with asyncio.timeout(PATIENCE):
-                    feed.has = PLACE.unpack(await reader.readexactly(PLACE.size))[0]
+                feed.has = PLACE.unpack(await reader.readexactly(PLACE.size))[0]
                 if feed.has + NEAR >= feed.log.place():
                     feed.fresh = time.monotonic()
-        except TimeoutError:
-            feed.drop(f'it has said nothing for {PATIENCE:g} s')
-        except (OSError, EOFError):
-            feed.writer.transport.abort()
+        feed.writer.transport.abort()
 
 
 def beginning(program: TrunkProgram, checkpoint: Checkpoint) -> bytes:

@@ -89,16 +89,12 @@ class LogFollower:
 
     def hangs(self, before: object) -> tuple[object, bool]:
         """What it has done and whether octets wait, and whether that is as it was before though octets wait."""
-        done, waits = self._done(), not self._has(0)
+        done, waits = self._done(), not self.has_all(0)
         return (done, waits), waits and (done, waits) == before
 
-    def _has(self, most: int) -> bool:
+    def has_all(self, most: int = NEAR) -> bool:
         """Whether it has read what the log has, but for this number of octets at most."""
         return self._log.place() - self._place() <= most
-
-    def has_all(self) -> bool:
-        """Whether it has read what the log had a moment ago."""
-        return self._has(NEAR)
 
     def last_words(self) -> str:
         """How it ended: what it has said, or its status."""

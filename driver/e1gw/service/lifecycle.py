@@ -321,7 +321,7 @@ class TrunkKeeper:
                 'trunk': self.trunk.note(), 'read': self.reader and self.reader.note(),
                 'active': self.pair is None or self.pair.is_active}
         if self._handover.put(note, self.files()) and program:
-            others = [each.needed(program) for each in (self.reader, self.pair) if each]
+            others = [each.needed(program) for each in (self.reader, self.pair and self.pair.feed) if each]
             program.log.free(min(program.checkpoint.place, *others))
 
 

@@ -15,7 +15,7 @@ from .chain import CarriedTrunk
 from .feed import FRESH, FeedServer
 from .journal import NOTICE
 from .lifecycle import ANEW, DEMOTED, GRACE, TICK, TrunkKeeper
-from .program import LoggedProgram, TrunkProgram
+from .program import LoggedProgram
 from .slot_trunk import before_signal
 from .standby import FedProgram, TrunkStandby
 from .takeover import CannotBegin
@@ -23,7 +23,6 @@ from .trunk import either
 
 PATIENCE = 30.0             # seconds for a promotion or its reverse
 SOON = 0.002                # seconds between two looks whether it is done
-STANDS_BY = 'standby'
 Place = tuple[str, int]
 
 logger = logging.getLogger(__name__)
@@ -40,24 +39,27 @@ def add_pair(words: argparse._ArgumentGroup) -> None:
 
 
 class TrunkPair:
-    """This machine's part of a trunk. `is_active` is whether it is to carry it."""
+    """This machine's part of a trunk. `is_active` is whether it is to carry it, `own` where it feeds a standby."""
 
-    def __init__(self, standby: TrunkStandby | None, keeper: TrunkKeeper, is_active: bool) -> None:
-        self._standby, self._keeper = standby, keeper
-        self.feed: FeedServer | None = None
+    def __init__(self, keeper: TrunkKeeper, standby: TrunkStandby | None, own: Place | None, peers: frozenset[str],
+                 is_active: bool) -> None:
+        self._standby, self._keeper, self._own = standby, keeper, own
+        self.feed = FeedServer(peers, lambda: keeper.program)
         self.is_active, self._stands = is_active, not is_active
+        if standby:
+            standby.is_handed = lambda: self.goes(True)
 
     async def open(self, goes_on: bool) -> None:
         """CannotBegin if no standby could connect; this ends no trunk that `goes_on`."""
+        host, port = self._own or ('', 0)
         try:
-            if self.feed:
-                await self.feed.open()
+            if self._own:
+                await asyncio.start_server(self.feed.came, host, port)
         except OSError as fault:
+            words = f'cannot listen: {words_of_fault(fault, f"--feed {host}:{port}")}'
             if not goes_on:
-                raise CannotBegin(f'cannot listen: {words_of_fault(fault)}', 2) from None
-            logger.error('cannot listen: %s', words_of_fault(fault))
-
-    # ---- standing by ----
+                raise CannotBegin(words, 2) from None
+            logger.error('%s', words)
 
     def followed(self) -> LoggedProgram | None:
         """The program of the other machine, if this one stands by and knows it."""
@@ -90,80 +92,66 @@ class TrunkPair:
         """The trunk is closed. What is known of it is what this machine had itself, if it carried it."""
         keeper = self._keeper
         await keeper.trunk.finish(keeper.state.counted['octets'])
-        keeper.trunk.fault = STANDS_BY
-        if self.feed:
-            await self.feed.finish(GRACE)
+        keeper.trunk.fault = 'standby'
+        await self.feed.finish(GRACE)
         if keeper.state.state >= 0:
             standby.knows(FedProgram(keeper.versions.now, keeper.state.at_begin()))
         keeper.begins_with(None)
         keeper.ends.clear()
-        keeper.notifier.tell('READY=1', f'STATUS={STANDS_BY}')
+        keeper.notifier.tell('READY=1', 'STATUS=standby')
         logger.log(NOTICE, 'stands by')
 
     async def _take_over(self, standby: TrunkStandby) -> None:
         """The next program begins with the state that this standby has."""
-        keeper, fed = self._keeper, standby.fed
+        keeper = self._keeper
+        keeper.silent = standby.fed.came if standby.fed else time.monotonic()
         state, words = await standby.state()
         keeper.begins_with(state)
         keeper.lost, keeper.why = words if state else f', {words}{ANEW}', 'promoted'
-        line = keeper.wants.line
-        if state and isinstance(keeper.trunk, CarriedTrunk) and line and (line.crc4 or line.law):
+        if state and isinstance(keeper.trunk, CarriedTrunk) and (keeper.trunk.line.crc4 or keeper.trunk.line.law):
             keeper.trunk.origin = await before_signal(keeper.versions.now, state)
         keeper.was_up, keeper.is_whole = True, False
-        keeper.silent = fed.came if fed else time.monotonic()
         standby.knows(None)
 
-    # ---- what is asked ----
+    def goes(self, is_active: bool, hands_over: bool = False) -> None:
+        """This machine is to carry the trunk from now on, or the other one, which is told so if it is handed over."""
+        if is_active is not self.is_active:
+            self.is_active, self.feed.hands_over = is_active, hands_over
+            self._keeper.trunk.tell({'event': 'role', 'role': 'active' if is_active else 'standby'})
+            if not is_active:
+                self._keeper.wanted = DEMOTED
+                self._keeper.ends.set()
+        self._keeper.wake.set()
 
     async def asked(self, word: str) -> str:
-        """The answer to `role`, `promote` or `demote`."""
+        """The answer to `role`, `promote`, `demote` or `move`."""
+        its, lacks = self.facts(), '' if self._stands or self._carries() else ', no program'
         if word == 'role':
-            return ', '.join([self._role(), 'fed' if self._is_fed() else 'not fed',
-                              *(['no program'] if not (self._stands or self._carries()) else [])])
-        if word == 'demote' and not self._standby:
-            return 'demote: refused: no --standby'
-        if word == 'promote':
-            self.is_active = True
-        elif self.is_active:
-            self.is_active, self._keeper.wanted = False, DEMOTED
-            self._keeper.ends.set()
-        self._keeper.wake.set()
+            return f'{its["role"]}, {"fed" if its["fed"] else "not fed"}{lacks}'
+        if word != 'promote' and not self._standby or word == 'move' and (self._stands or lacks or not its['fed']):
+            return f'{word}: refused: {"no standby is fed here" if self._standby else "no --standby"}'
+        self.goes(word == 'promote', word == 'move')
         wanted, until = self.is_active, time.monotonic() + PATIENCE
         while self.is_active is wanted and time.monotonic() < until:
-            if self._carries() if wanted else self._stands:
+            if self._carries() if wanted else self._stands and (word == 'demote' or self.facts()['fed']):
                 return f'{word}: done'
             await asyncio.sleep(SOON)
         return f'{word}: not within {PATIENCE:g} s; it is tried on' if self.is_active is wanted else \
             f'{word}: refused: the reverse was asked for meanwhile'
 
-    def _role(self) -> str:
-        return 'standby' if self._stands else 'active'      # (active until the trunk is closed)
-
-    def _age(self) -> float | None:
-        its = self._standby if self._stands else self.feed
-        return its.age() if its else None
-
-    def _is_fed(self) -> bool:
-        age = self._age()
-        return age is not None and age <= FRESH
-
     def facts(self) -> dict[str, Any]:
-        """Role and feed, as plain values."""
-        age = self._age()
-        found: dict[str, Any] = {'role': self._role(), 'fed': self._is_fed(),
-                                 'feed_age': None if age is None else round(age, 3)}
-        if self._standby and self._stands:
-            fed = self._standby.fed
-            found |= {'feed_fault': self._standby.why or None, 'differs': fed.circuits if fed else []}
+        """Role and feed, as plain values. (It is active until the trunk is closed.)"""
+        standby = self._standby if self._stands else None
+        age = standby.age() if standby else self.feed.age()
+        found: dict[str, Any] = {'role': 'standby' if standby else 'active', 'fed': age is not None and age <= FRESH,
+                                 'feed_age': age and round(age, 3)}
+        if standby:
+            found |= {'feed_fault': standby.why or None, 'differs': standby.fed.circuits if standby.fed else []}
         return found
 
-    def needed(self, program: TrunkProgram) -> int:
-        """From where on the log of a program is needed."""
-        return self.feed.needed(program) if self.feed else program.log.place()
-
     def _carries(self) -> bool:
-        program = self._keeper.program
-        return program is not None and program.is_up and not program.process.over.is_set()
+        its = self._keeper.program
+        return bool(its and its.is_up and not its.process.over.is_set())
 
 
 def feeding_of(asked: argparse.Namespace) -> tuple[Place | None, Place | None, frozenset[str]]:
@@ -182,9 +170,6 @@ def pair_of(asked: argparse.Namespace, keeper: TrunkKeeper, note: dict[str, Any]
     own, other, peers = feeding_of(asked)
     if not (own or other):
         return None
-    standby = TrunkStandby(other, own[0] if own else None, lambda: keeper.versions.now,
-                           keeper.checkpoints) if other else None
-    pair = TrunkPair(standby, keeper, not standby or bool(note and note.get('active', True)))
-    if own:
-        pair.feed = FeedServer(own, peers, lambda: keeper.program)
-    return pair
+    standby = TrunkStandby(other, own[0] if own else None, lambda: keeper.versions.now, keeper.checkpoints,
+                           lambda event: keeper.trunk.tell(event)) if other else None
+    return TrunkPair(keeper, standby, own, peers, not standby or bool(note and note.get('active', True)))
