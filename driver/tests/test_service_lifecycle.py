@@ -22,13 +22,21 @@ from .test_program_killed import CIRCUITS, NO_EFFECT, KeeperCase
 from .test_service_killed import RestartedKeeperCase
 from .test_recorder import LONG, RecorderCase
 from .test_trunk import is_there
-from .world import children
+from .world import children, words_of
 from e1gw.service.log import STATE_ROOM, TrunkLog, in_memory, take_file
 from e1gw.service.version import VersionRefused, look_up, with_addresses
 from e1gw.session import Codec, Kind, codec_record, records_in, trunk_record
 from e1gw.testing.service import ask
 
 HANGS = 5.0                 # seconds, which no program takes that does not hang, on a machine that stalls
+
+
+def refusals(right: str) -> list[tuple[str | None, str]]:
+    """Configurations that are refused, by the program or before it reads them; None is a FIFO."""
+    name = right.replace('peer_port', 'peer_host = "no.such.invalid"\npeer_port', 1)
+    return [(right + 'x = 1\n', 'config 2 UnknownKey at 30: .*trunk.toml'), (name, 'no.such.invalid: '),
+            (right.replace('"A"', '"mu"'), 'state 5 Config at 0'), ('x = ' + '[' * 1200, 'config 1 Syntax'),
+            ('#' * 70_000, '.*more than 65536 octets'), (None, '.*trunk.toml is no file')]
 
 
 class ServiceSequenceTests(RestartedKeeperCase, RecorderCase):
@@ -43,7 +51,9 @@ class ServiceSequenceTests(RestartedKeeperCase, RecorderCase):
         self.is_small = not subprocess.run(mounts, stderr=subprocess.DEVNULL, check=False).returncode
         if self.is_small:
             self.addCleanup(os.system, f'umount -l {self.memory}')
-        self.ended, self.refused = 0, itertools.cycle(self.refusals())
+        with open(self.config, encoding='ascii') as file:
+            self.right = file.read()
+        self.ended, self.refused = 0, itertools.cycle(refusals(self.right))
         own = [word for name in ('state', 'calls', 'json', 'control')
                for word in (f'--{name}', self.path(f'its-{name}'))]
         super().begins('--reopen', '--gap', '10000', '--session', self.path('ring'), *own, *self.keeps, *options)
@@ -92,13 +102,11 @@ class ServiceSequenceTests(RestartedKeeperCase, RecorderCase):
             os.kill(pid, signal.SIGCONT)
 
     def end_is_asked_for(self) -> None:
-        """A client cannot ask for it: its record E closes its connection alone. What others ask for is a death, and
-        loses nothing."""
+        """A client's record E closes its connection alone. What others ask for is a death, and loses nothing."""
         with self.client() as line:
             line.sendall(b'E\0\0\0')
             self.assertEqual(line.recv(1), b'')
-        with open(f'/proc/{self.program}/cmdline', 'rb') as file:
-            words = file.read().decode().split('\0')
+        words = words_of(self.program)
         with open(f'/proc/{self.program}/fd/{words[words.index("--end") + 1]}', 'wb') as end:
             end.write(b'\n')
         self.assertNotIn('at most', self.goes_on())
@@ -112,15 +120,6 @@ class ServiceSequenceTests(RestartedKeeperCase, RecorderCase):
         self.assertNotEqual(self.program, before)
         for line in clients:
             line.close()
-
-    def refusals(self) -> list[tuple[str | None, str]]:
-        """Configurations that are refused, by the program or before it reads them; None is a FIFO."""
-        with open(self.config, encoding='ascii') as file:
-            self.right = file.read()
-        name = self.right.replace('peer_port', 'peer_host = "no.such.invalid"\npeer_port', 1)
-        return [(self.right + 'x = 1\n', 'config 2 UnknownKey at 30: .*trunk.toml'), (name, 'no.such.invalid: '),
-                (self.right.replace('"A"', '"mu"'), 'state 5 Config at 0'), ('x = ' + '[' * 1200, 'config 1 Syntax'),
-                ('#' * 70_000, '.*more than 65536 octets'), (None, '.*trunk.toml is no file')]
 
     def reload_is_refused(self) -> None:
         text, words = next(self.refused)
@@ -321,8 +320,7 @@ class ServiceLogTests(KeeperCase):
         self.starts(**self.within(checkpoints_LOG_ROOM=65_536))
         self.calls()
         self.step(1000)
-        with open(f'/proc/{self.program}/cmdline', 'rb') as file:
-            words = file.read().decode().split('\0')
+        words = words_of(self.program)
         log = os.open(f'/proc/{self.program}/fd/{os.path.basename(words[words.index("--record") + 1])}', os.O_RDONLY)
         self.addCleanup(os.close, log)
         while os.fstat(log).st_blocks * 512 > os.fstat(log).st_size // 2:
@@ -391,8 +389,7 @@ class ServiceVersionTests(KeeperCase):
         text = self.peers.config(prefill=0)
         self.write('trunk.toml', text.replace('prefill = 0', 'peer_host = "localhost"'))
         self.starts()
-        with open(f'/proc/{self.program}/cmdline', 'rb') as file:
-            words = file.read().decode().split('\0')
+        words = words_of(self.program)
         number = os.path.basename(words[words.index('--config') + 1])
         with open(f'/proc/{self.program}/fd/{number}', encoding='ascii') as its:
             text = its.read()
