@@ -28,7 +28,9 @@ lib)
   [ "$name" != "$SLOW" ] || exec sleep 30
   [ "$name" != "$REFUSED" ] || { echo 'error: no proof of its goal'; exit 1; }
   [ "$name" != middle ] || cat ../low/out/rlib/made || exit 1
-  [ "$name" != "$FIRST" ] || until grep -q 'begin other' "$NOTES"; do sleep 0.01; done
+  case " $BOTH " in *" $name "*)
+    for each in $BOTH; do until grep -q "begin $each" "$NOTES"; do sleep 0.01; done; done ;;
+  esac
   mkdir -p out/rlib
   echo "$name" > out/rlib/made
   echo "end $name" >> "$NOTES"
@@ -79,7 +81,7 @@ class Tree(unittest.TestCase):
 
     def begin(self, words: list[str], **given: str) -> subprocess.Popen[str]:
         paths = {'PATH': f'{self.top}/bin:{os.environ["PATH"]}', 'NOTES': self.notes, 'REFUSED': '', 'SLOW': '',
-                 'FIRST': ''}
+                 'BOTH': ''}
         return subprocess.Popen([f'{self.top}/tree/scripts/{words[0]}', *words[1:]], stdin=subprocess.DEVNULL,
                                 stdout=subprocess.PIPE, stderr=subprocess.STDOUT, text=True,
                                 env={**os.environ, **paths, **given})
@@ -106,7 +108,7 @@ class Tree(unittest.TestCase):
 
 class Libraries(Tree):
     def test_side_by_side_and_lowest_first(self) -> None:
-        status, told = self.run_to_end(['libraries', '--lanes', '2'], FIRST='low')
+        status, told = self.run_to_end(['libraries', '--lanes', '2'], BOTH='low other')
         noted = self.noted()
         self.assertEqual(status, 0, told)
         self.assertEqual({*noted[:2]}, {'begin low', 'begin other'})
