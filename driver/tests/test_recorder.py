@@ -51,8 +51,8 @@ class RecorderCase(KeeperCase):
         places = [note_of(f'{front}.e1gw')['place'] for front in fronts]
         for front, begin, end in zip(fronts, places, [*places[1:], len(self.given_trunk())]):
             load = ('--load', f'{front}.state') if begin else ()
-            with open(f'{front}.e1gw', 'rb') as file:
-                self.assertEqual(self.answers(file.read(), *load), octets[begin:end], begin)
+            its = b''.join(octets_of(f'{front}.e1gw'))
+            self.assertEqual(self.answers(its, *load), octets[begin:end], begin)
         return fronts
 
     def handed_over(self, number: int | None, pid: int = 0) -> None:

@@ -3,6 +3,7 @@
 It goes in lock step: what is sent is read back before more is sent. No test waits for a moment to come."""
 from __future__ import annotations
 
+import contextlib
 import array
 import fcntl
 import os
@@ -432,28 +433,36 @@ class LoggedTrunkTests(ServedTrunkCase):
     """What has left a program that dies in an append."""
 
     def test_no_packet_of_what_the_log_lacks(self) -> None:
+        """Each fifth multiframe fills a packet; it dies in the append of one of these."""
         with socket.socket(socket.AF_INET, socket.SOCK_DGRAM) as peer:
             peer.bind(('127.0.0.1', 0))
-            peer.settimeout(SECONDS)
-            ports = f'ptime = 1\nlocal_port = {free_port()}\npeer_port = {peer.getsockname()[1]}\n'
+            peer.setblocking(False)
+            ports = f'ptime = 10\nlocal_port = {free_port()}\npeer_port = {peer.getsockname()[1]}\n'
             self.write('trunk.toml', CONFIG.replace('number = 1\n', f'number = 1\n{ports}'))
+            exchange, sent = support.Exchange(), list[bytes]()
             with TrunkProcess(self.serves('--record', self.recording), '') as trunk:
-                exchange = support.Exchange()
-                for turn in range(60):
-                    if turn == 20:
-                        exchange.pairs[1] = SEIZED
-                    exchange.hear(trunk.passes(exchange.multiframe()))
+                def passes(count: int) -> int:
+                    """How many packets come with multiframes: they are sent before the answer."""
+                    before = len(sent)
+                    for _ in range(count):
+                        exchange.hear(trunk.passes(exchange.multiframe()))
+                        with contextlib.suppress(BlockingIOError):
+                            sent.append(peer.recv(2048))
+                    return len(sent) - before
+                passes(20)
+                exchange.pairs[1] = SEIZED
+                self.assertGreater(passes(100), 10)
                 self.assertEqual(exchange.signals[1], ACKNOWLEDGED)
+                while not passes(1):
+                    pass
+                self.assertEqual(passes(4), 0)
                 most = os.path.getsize(self.recording)
                 resource.prlimit(trunk.serving.pid, resource.RLIMIT_FSIZE, (most, most))
                 trunk.here.sendall(exchange.multiframe())
                 self.assertEqual(trunk.ended()[0], -signal.SIGXFSZ)
             with open(self.recording, 'rb') as file:
                 replayed = support.run('replay', '--config', self.config, given=file.read())
-            logged = [record.body for record in records_in(replayed) if record.kind is Kind.DATAGRAM]
-            self.assertGreater(len(logged), 10)
-            self.assertEqual([peer.recv(2048) for _ in logged], logged)
-            peer.setblocking(False)
+            self.assertEqual([record.body for record in records_in(replayed) if record.kind is Kind.DATAGRAM], sent)
             self.assertRaises(BlockingIOError, peer.recv, 2048)
 
 
