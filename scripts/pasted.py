@@ -18,7 +18,7 @@ from typing import Iterator
 import tree
 from tree import read
 
-MOST_SECONDS = 150
+MOST_SECONDS = 600
 # Pages whose exchanges have timers of their own, which a machine that stalls for longer than the prefill lets run out:
 # what they print is judged only if it did not.
 REAL_TIME, STALL = {'docs/SIGNALLING.md'}, 0.1
@@ -221,12 +221,12 @@ def put_commands(folder: str, program: str) -> None:
         os.symlink(os.path.join(tree.TOP, 'driver', 'launch'), os.path.join(folder, 'bin', f'e1gw-{name}'))
 
 
-def pasted(page: str, program: str) -> str:
-    """What a shell prints that is given the page."""
+def pasted(script: str, program: str) -> str:
+    """What a shell prints that is given this."""
     with tempfile.TemporaryDirectory(prefix='page') as folder:
         put_commands(folder, program)
         words = ['unshare', *([] if os.geteuid() == 0 else ['--map-root-user']), '--net', '--mount', '--pid', '--fork',
-                 '--kill-child', '--mount-proc', 'bash', '-c', script_of(page)]
+                 '--kill-child', '--mount-proc', 'bash', '-c', script]
         around = dict(os.environ, TOP=tree.TOP, E1GW=program, PATH=f'{folder}/bin:{os.environ["PATH"]}')
         try:
             done = subprocess.run(words, cwd=folder, env=around, stdin=subprocess.DEVNULL, stdout=subprocess.PIPE,
@@ -236,6 +236,12 @@ def pasted(page: str, program: str) -> str:
         logs = (os.path.join(folder, name) for name in os.listdir(folder) if name.endswith('.log'))
         kept = [file.read() for file in map(functools.partial(open, encoding='utf-8', errors='replace'), logs)]
         return done.stdout.decode(errors='replace') + ''.join(kept)
+
+
+def lacking(program: str) -> str:
+    """Why no page can be pasted here: a process cannot have a network or mounts of its own. Else nothing."""
+    said = pasted(SHELL.replace('HOSTS', ' '.join(HOSTS)) + 'echo; echo @end\n', program)
+    return '' if '\n@end\n' in said and not failures(said) else said.strip()[-200:] or 'unshare fails'
 
 
 class Stalls(threading.Thread):
@@ -271,7 +277,7 @@ def judged(page: str, program: str) -> list[str]:
 
 def wrong_output(page: str, program: str) -> Iterator[str]:
     """What the commands of a page do otherwise than the page says."""
-    said = pasted(page, program)
+    said = pasted(script_of(page), program)
     if '\n@end\n' not in said:
         yield f'{page}: not pasted to its end: {said[-300:]!r}'
     for trace in re.findall(r'Traceback.*\n(?:.*\n)*?(\w+: .*)', said):
@@ -369,6 +375,8 @@ def stale_rows() -> Iterator[str]:
 def wrong_pages(program: str, some: list[str]) -> Iterator[list[str]]:
     """What is wrong with the commands of each page."""
     yield [*stale_rows()]
+    if why := lacking(program):
+        print(f'docs: no command of a page is run: {why}')
     with concurrent.futures.ThreadPoolExecutor(4) as pool:
-        yield from pool.map(lambda page: [*judged(page, program), *wrong_unrun(page, program)],
+        yield from pool.map(lambda page: [*([] if why else judged(page, program)), *wrong_unrun(page, program)],
                             (page for page in pages() if not some or any(word in page for word in some)))
