@@ -3,12 +3,10 @@
 It goes in lock step: what is sent is read back before more is sent. No test waits for a moment to come."""
 from __future__ import annotations
 
-import contextlib
 import array
 import fcntl
 import os
 import random
-import resource
 import signal
 import socket
 import subprocess
@@ -23,7 +21,6 @@ from . import support
 from .support import SECONDS
 from e1gw.exchange import ACKNOWLEDGED, ANSWERED, IDLE, SEIZED
 from e1gw.session import Codec, Command, CommandRefusal, Kind, codec_record, command_record, records_in, trunk_record
-from e1gw.testing.ports import free_port
 
 CONFIG = 'law = "A"\n' + ''.join(f'[[circuit]]\nnumber = {c}\nrole = "incoming"\n' for c in range(1, 31))
 SLOW = 'output slow: discarding whole multiframes'
@@ -427,43 +424,6 @@ class TrunkClientTests(ServedTrunkCase):
         self.assertNotIn('/dev/full', [os.readlink(os.path.join(descriptors, n)) for n in os.listdir(descriptors)])
         self.assertEqual(len(trunk.passes(bytes(2048))), 2048)
         self.assertEqual(trunk.ends(), (0, ''))
-
-
-class LoggedTrunkTests(ServedTrunkCase):
-    """What has left a program that dies in an append."""
-
-    def test_no_packet_of_what_the_log_lacks(self) -> None:
-        """Each fifth multiframe fills a packet; it dies in the append of one of these."""
-        with socket.socket(socket.AF_INET, socket.SOCK_DGRAM) as peer:
-            peer.bind(('127.0.0.1', 0))
-            peer.setblocking(False)
-            ports = f'ptime = 10\nlocal_port = {free_port()}\npeer_port = {peer.getsockname()[1]}\n'
-            self.write('trunk.toml', CONFIG.replace('number = 1\n', f'number = 1\n{ports}'))
-            exchange, sent = support.Exchange(), list[bytes]()
-            with TrunkProcess(self.serves('--record', self.recording), '') as trunk:
-                def passes(count: int) -> int:
-                    """How many packets come with multiframes: they are sent before the answer."""
-                    before = len(sent)
-                    for _ in range(count):
-                        exchange.hear(trunk.passes(exchange.multiframe()))
-                        with contextlib.suppress(BlockingIOError):
-                            sent.append(peer.recv(2048))
-                    return len(sent) - before
-                passes(20)
-                exchange.pairs[1] = SEIZED
-                self.assertGreater(passes(100), 10)
-                self.assertEqual(exchange.signals[1], ACKNOWLEDGED)
-                while not passes(1):
-                    pass
-                self.assertEqual(passes(4), 0)
-                most = os.path.getsize(self.recording)
-                resource.prlimit(trunk.serving.pid, resource.RLIMIT_FSIZE, (most, most))
-                trunk.here.sendall(exchange.multiframe())
-                self.assertEqual(trunk.ended()[0], -signal.SIGXFSZ)
-            with open(self.recording, 'rb') as file:
-                replayed = support.run('replay', '--config', self.config, given=file.read())
-            self.assertEqual([record.body for record in records_in(replayed) if record.kind is Kind.DATAGRAM], sent)
-            self.assertRaises(BlockingIOError, peer.recv, 2048)
 
 
 class HandedOverTrunkTests(ServedTrunkCase):

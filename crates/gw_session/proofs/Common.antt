@@ -30,7 +30,7 @@ pub use Rattle.gw_session.specs.Exchange.{TakesEvent, Exchanges, ActsOn, Inputs,
 pub use Rattle.gw_session.specs.Exchange.{InputTrace}
 pub use Rattle.gw_session.specs.Exchange.{WatchedTrace, OfFirstInputs}
 pub use Rattle.gw_session.specs.Exchange.{ComesInTurn, SendsPacket, OctetTrace, PacketWriteError, TraceToWriteError}
-pub use Rattle.gw_session.specs.Exchange.{Receiving, RecordsBehind, AreRecorded, IsGiven, FourCome}
+pub use Rattle.gw_session.specs.Exchange.{Receiving, RecordsBehind, IsGiven, FourCome}
 unfoldable pub use Rattle.gw_session.specs.Exchange.{spelled_for, written_for, most_waiting}
 pub use Rattle.gw_session.specs.PacketPorts.{PacketOutput, in_record, no_ports, silent}
 pub use Rattle.gw_session.specs.RecordingLaws.{all_answers, answers_to, command_in, RecordingsAnswerAlike}

@@ -6,7 +6,7 @@ use Rattle.gw_session.proofs.Common.{IsGood, spelled, RunFault, SinkState, Appen
 use Rattle.gw_session.proofs.Common.{Appends-none, Appends-join, events, events_of, all_kinds, Turn, of_circuit}
 use Rattle.gw_session.proofs.Common.{arrivals, coming, events_of_turns, RecordsBehind, TapeState, Recorded, RecordedBut}
 use Rattle.gw_session.proofs.Common.{OnOk, is_err, AppendsPrefix-join, HasEnded, HasLong, AreSpelled, WritesRecords}
-use Rattle.gw_session.proofs.Common.{Taping, taping, Batches, RecordsAll, AreRecorded, flat_map, Datagram}
+use Rattle.gw_session.proofs.Common.{Taping, taping, Batches, RecordsAll, flat_map, Datagram}
 use Rattle.std.proofs.lemmas.List.Elements.{Contains-append_left, Contains-append_right, Contains-push}
 use Rattle.gw_session.proofs.Receiving.{of_more}
 use Rattle.gw_records.proofs.Sessions.{All-join}
@@ -205,25 +205,6 @@ pub records_all : (t u : Taping) (c : TapeState) (es : List Event) → Batches t
 records_all t u c es p w = λ before s.
     let x = p before s in
     rw (x.all) (recorded_join t.tape u.tape c x.first (events x.after) x.recorded (w x.after x.batch_is))
-
--- octets that were heard were recorded, and nothing is left in the batch
-pub behind_all : (t : Taping) (tape : TapeState) (batch heard : List ℕ) (r n : ℕ)
-    → RecordsAll t tape (map Event.Octet (drop r heard)) → AreRecorded batch heard n
-    → RecordsBehind t (taping tape batch) heard r n []
-behind_all t tape batch heard r n p all = record {
-  within = omega (arith, all.1);
-  but = (
-    map Event.Octet (drop r heard),
-    λ before s. record {
-      first = events before ++ map Event.Octet (drop r heard);
-      recorded = p before s;
-      after = [];
-      batch_is = record { good = tt; octets_are = all.0 };
-      all = sym (append-nil (events before ++ map Event.Octet (drop r heard)));
-    },
-    rw (drop_all n heard (omega (arith, all.1))) refl,
-  );
-}
 
 -- no datagram came yet
 pub behind_none : (a : Taping) (heard : List ℕ) (recorded : ℕ) → recorded ≤ length heard

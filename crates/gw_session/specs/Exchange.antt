@@ -67,10 +67,6 @@ pub record RecordsBehind (t t' : Taping) (heard : List ℕ) (recorded recorded' 
   pub within : recorded' ≤ length heard
   pub but : RecordedBut t t' (map Event.Octet (drop recorded heard) ++ happened) (drop recorded' heard)
 
--- all octets that were heard are recorded, and nothing is left in the batch
-abbrev pub AreRecorded : List ℕ → List ℕ → ℕ → Type 0
-AreRecorded batch heard recorded = (batch ≡ []) × (recorded ≡ length heard)
-
 -- datagrams of the circuit whose slot the next octet sends came from the ports, were recorded or put into the
 -- batch behind octets that were heard, and were given to the gateway
 pub record ComesInTurn (s s' : SessionState) (t t' : Taping) (heard : List ℕ)

@@ -59,14 +59,11 @@ pub struct SessionBuffers {
 }
 
 impl SessionBuffers {
-    ghost use Rattle.std.specs.Prelude.{◌≡◌, ◌+◌, ◌<◌, ◌≤◌, ◌^◌, ◌++◌, ◌∷◌, ℕ, List, [], length, map, drop};
-    ghost use Rattle.std.specs.Prelude.{OnOk, OnErr};
+    ghost use Rattle.std.specs.Prelude.{◌≡◌, ◌+◌, ◌<◌, ◌≤◌, ◌^◌, ◌++◌, [], length, OnOk, OnErr};
     ghost use Rattle.gw_records.specs.Outcome.{nothing_counted};
     ghost use Rattle.gw_records.specs.Streams.{CanCount, Puts};
-    ghost use Rattle.gw_switch.specs.Events.{Event};
     ghost use Rattle.gw_session.specs.Exchange.{ComesInTurn, SendsPacket, Hearing, ExchangingAll};
-    ghost use Rattle.gw_session.specs.Exchange.{RecordsBehind, AreRecorded};
-    ghost use Rattle.gw_session.specs.Tape.{taping, RecordsAll};
+    ghost use Rattle.gw_session.specs.Tape.{taping};
     ghost use Rattle.gw_session.specs.World.{state_of, output_of, world_of};
 
     /// Before the first record; a session that answers `at_once` lets nothing wait behind a record.
@@ -88,34 +85,14 @@ impl SessionBuffers {
         }
     }
 
-    // Records the octets that were heard and are not recorded yet, behind the batch. Nothing is left in it.
-    #[inline(never)]
-    fn record_heard<T: Tape>(&mut self, tape: &mut T, heard: &[u8]) -> OnTape
-        requires short { length heard.now < 2 ^ 16 }
-        requires within { self.old.recorded ≤ length heard.now }
-        ensures recorded { RecordsAll (taping (T.tells tape.old) self.old.batch.items) (T.tells tape.new)
-            (map Event.Octet (drop self.old.recorded heard.now)) }
-        ensures all { AreRecorded self.new.batch.items heard.now self.new.recorded }
-        ensures others { self.new
-            ≡ record self.old { recorded = self.new.recorded; batch = self.new.batch } }
-    {
-        let on_tape = record_octets(tape, &mut self.batch, &heard[self.recorded..]);
-        self.recorded = heard.len();
-        on_tape
-    }
-
-    // Sends the packet of a circuit, and counts it, or that it did not go out. All that was heard up to the
-    // octet that it goes with is on the tape, so no packet is sent of what no recording has.
+    // Sends the packet of a circuit, and counts it, or that it did not go out.
     #[inline(never)]
     fn send_packet<O: PacketPorts, K: Sink>(
         &mut self,
-        _recorded: OnTape,
-        heard: &[u8],
         circuit: CircuitNo,
         packet_ports: &mut O,
         sink: &mut K,
     ) -> Result<(), RunFault>
-        requires recorded { AreRecorded self.old.batch.items heard.now self.old.recorded }
         requires writes { CanCount (K.tells sink.old).failures }
         ensures sends { OnOk result (SendsPacket (O.tells packet_ports.old) (O.tells packet_ports.new)
             self.old.totals self.new.totals (Some (circuit, self.old.datagram.items))) }
@@ -134,42 +111,30 @@ impl SessionBuffers {
         Ok(())
     }
 
-    // Gives an octet, the last one that was heard, to the gateway, and returns the octet to send. If a packet
-    // goes with it, all that was heard is recorded, and then the packet is sent.
+    // Gives an octet to the gateway, sends the packet that goes with it, and returns the octet to send.
     #[inline]
-    fn receive_octet<O: PacketPorts, K: Sink, T: Tape>(
+    fn receive_octet<O: PacketPorts, K: Sink>(
         &mut self,
         gateway: &mut Gateway,
         packet_ports: &mut O,
-        tape: &mut T,
-        heard: &[u8],
         octet: u8,
         sink: &mut K,
     ) -> Result<u8, RunFault>
-        requires last { (first : List ℕ) × (heard.now ≡ first ++ octet ∷ []) }
-        requires short { length heard.now < 2 ^ 16 }
-        requires within { self.old.recorded ≤ length heard.now }
         requires writes { CanCount (K.tells sink.old).failures }
         ensures hears { Hearing O.spells
             (state_of (O.tells packet_ports.old) gateway.old self.old.totals)
             (state_of (O.tells packet_ports.new) gateway.new self.new.totals)
             (output_of (K.tells sink.old) self.old.waiting.items)
             (output_of (K.tells sink.new) self.new.waiting.items) octet result }
-        ensures records { OnOk result (RecordsBehind (taping (T.tells tape.old) self.old.batch.items)
-            (taping (T.tells tape.new) self.new.batch.items) heard.now self.old.recorded self.new.recorded
-            []) }
         ensures others { self.new ≡ record self.old {
           totals = self.new.totals;
           waiting = self.new.waiting;
           datagram = self.new.datagram;
-          recorded = self.new.recorded;
-          batch = self.new.batch;
         } }
     {
         let out = gateway.octet_into(octet, &mut self.datagram);
         if let Some(circuit) = out.circuit {
-            let recorded = self.record_heard(tape, heard);
-            self.send_packet(recorded, heard, circuit, packet_ports, sink)?;
+            self.send_packet(circuit, packet_ports, sink)?;
         }
         Ok(out.octet)
     }
@@ -223,8 +188,8 @@ impl SessionBuffers {
 
     /// Gives octets to the gateway, each after the datagrams that wait at the circuit whose slot is sent with
     /// it, and puts the octets to send behind those of the answer. The ports look for datagrams before the
-    /// first octet. What was heard is recorded before a packet is sent, and all when it returns: the octets
-    /// are cut where datagrams came and packets went.
+    /// first octet. All are recorded when it returns, mostly in one write: the octets are cut where datagrams
+    /// came.
     pub fn exchange_all<O: PacketPorts, K: Sink, T: Tape>(
         &mut self,
         gateway: &mut Gateway,
@@ -250,10 +215,9 @@ impl SessionBuffers {
         for i in 0..octets.len() {
             let heard = &octets[..i];
             self.receive_next(gateway, packet_ports, tape, heard);
-            let heard = &octets[..i + 1];
-            let sent = self.receive_octet(gateway, packet_ports, tape, heard, octets[i], sink)?;
+            let sent = self.receive_octet(gateway, packet_ports, octets[i], sink)?;
             self.answer.push(sent);
         }
-        Ok(self.record_heard(tape, octets))
+        Ok(record_octets(tape, &mut self.batch, &octets[self.recorded..]))
     }
 }

@@ -1,9 +1,9 @@
 use Rattle.gw_session.proofs.Common.{◌≡◌, ◌+◌, ◌<◌, ◌++◌, ◌∷◌, [], ap, sym, refl, ◌∙◌, ℕ, List, length, take, drop}
-use Rattle.gw_session.proofs.Common.{get_or, length-append, arith, length-take, take_more}
+use Rattle.gw_session.proofs.Common.{get_or, length-append, arith, length-take, take_rest, take_more}
 use Rattle.gw_session.proofs.Common.{err_from_is_err_and, take-append-drop}
 use Rattle.gw_session.specs.declared.exchange.SessionBuffers.{SessionBuffers}
 use Rattle.gw_session.proofs.PacketsSent.{exchange_is, stops_once}
-use Rattle.gw_session.proofs.Exchanging.{heard_none, heard_more, heard_recorded, heard_all, stops_after}
+use Rattle.gw_session.proofs.Exchanging.{heard_none, heard_more, heard_all, stops_after}
 use Rattle.gw_session.proofs.exchange.SessionBuffers.exchange_all.Goals as goal
 
 -- the first octets, one more, and the rest
@@ -14,10 +14,6 @@ split_at xs i h =
 
 pub loop-i-init : goal.loop-i-init
 loop-i-init g c = record { heard = heard_none _ _ _ _ _ c.clear.ensures; at_once = refl }
-
-pub receive_octet-requires-clause-last : goal.receive_octet-requires-clause-last
-receive_octet-requires-clause-last g c =
-    (take c.loop-i.i c.args.octets.now, take_more c.args.octets.now c.loop-i.i 0 c.loop-i-test.true)
 
 pub push-requires : goal.push-requires
 push-requires g c =
@@ -52,11 +48,12 @@ loop-i-preserved g c =
     let kept : c.receive_octet.new.self.answer
     ≡ c.loop-i.self.answer = ap (λ (s : SessionBuffers). s.answer) c.receive_octet.ensures.others
     ∙ ap (λ (s : SessionBuffers). s.answer) c.receive_next.ensures.others in
+    let same = ap (λ (s : SessionBuffers). s.recorded) c.receive_octet.ensures.others in
+    let batch = ap (λ (s : SessionBuffers). s.batch.items) c.receive_octet.ensures.others in
     let q = exchange_is c.receive_next.ensures.comes (rw waits at c.in_ok-sent.ensures.hears) in
     record {
-      heard = heard_recorded c.args.octets.now (c.loop-i.i + 1) _ _ (heard_more c.args.octets.now c.loop-i.i
-          c.loop-i.self.recorded _ c.in_ok-sent.sent c.loop-i.invariant.heard c.loop-i-test.true q
-          (rw kept at c.push.ensures.items)) c.in_ok-sent.ensures.records;
+      heard = rw (same, batch) (heard_more c.args.octets.now c.loop-i.i c.loop-i.self.recorded _ c.in_ok-sent.sent
+          c.loop-i.invariant.heard c.loop-i-test.true q (rw kept at c.push.ensures.items));
       at_once = ap (λ (s : SessionBuffers). s.at_once) c.receive_octet.ensures.others
           ∙ ap (λ (s : SessionBuffers). s.at_once) c.receive_next.ensures.others ∙ c.loop-i.invariant.at_once;
     }
@@ -67,12 +64,11 @@ returns-in_err-sent-clause-at_once g c =
     ∙ ap (λ (s : SessionBuffers). s.at_once) c.receive_next.ensures.others ∙ c.loop-i.invariant.at_once
 
 pub returns-clause-at_once : goal.returns-clause-at_once
-returns-clause-at_once g c =
-    ap (λ (s : SessionBuffers). s.at_once) c.record_heard.ensures.others ∙ c.loop-i.invariant.at_once
+returns-clause-at_once g c = c.loop-i.invariant.at_once
 
 pub returns-clause-exchanges : goal.returns-clause-exchanges
 returns-clause-exchanges g c =
     let end : c.loop-i.i ≡ length c.args.octets.now = omega (arith, c.loop-i-test.false, c.loop-i.auto.i-end) in
     let heard = rw c.look_for_datagrams.ensures at c.loop-i.invariant.heard in
-    rw c.record_heard.ensures.others
-    (heard_all c.args.octets.now c.loop-i.i c.loop-i.self.recorded heard end c.record_heard.ensures.recorded)
+    heard_all c.args.octets.now _ c.loop-i.i c.loop-i.self.recorded heard end
+    (take_rest c.args.octets.now c.loop-i.self.recorded) c.record_octets.ensures.recorded

@@ -1,19 +1,17 @@
 use Rattle.gw_session.proofs.Common.{sym, ap, refl, append-nil, err_from_is_err_and, Sending, TakesAllButWaiting-none}
 use Rattle.gw_session.proofs.Common.{sending_in}
 use Rattle.gw_session.proofs.PacketsSent.{sends_none}
-use Rattle.gw_session.proofs.Taping.{behind_all, behind_none}
 use Rattle.gw_session.proofs.exchange.SessionBuffers.receive_octet.Goals as goal
 
 pub returns-in_err-send_packet-clause-hears : goal.returns-in_err-send_packet-clause-hears
 returns-in_err-send_packet-clause-hears g c =
     let p = err_from_is_err_and c.from_residual.result c.from_residual.ensures.1 in
-    let e = c.record_heard-recorded.ensures.others in
-    let puts = rw e at c.in_err-send_packet.ensures.puts in
+    let puts = c.in_err-send_packet.ensures.puts in
     rw (p.1, p.2) (
       puts.0,
       record {
         packet = (c.in-Some.circuit, c.octet_into-out.new.room.items);
-        some = rw e at c.in_err-send_packet.ensures.some;
+        some = c.in_err-send_packet.ensures.some;
         kept = c.in_err-send_packet.ensures.kept;
         hears = λ config before h. (
           c.octet_into-out.ensures.stands config before h,
@@ -26,11 +24,10 @@ returns-in_err-send_packet-clause-hears g c =
 pub returns-in_ok-send_packet-clause-hears : goal.returns-in_ok-send_packet-clause-hears
 returns-in_ok-send_packet-clause-hears g c =
     let out = sending_in c.octet_into-out.result c.octet_into-out.new.room.items in
-    let e = c.record_heard-recorded.ensures.others in
-    let puts = rw e at c.in_ok-send_packet.ensures.puts in
+    let puts = c.in_ok-send_packet.ensures.puts in
     record {
       packet = out.packet;
-      sends = rw c.in-Some.is (rw e at c.in_ok-send_packet.ensures.sends);
+      sends = rw c.in-Some.is c.in_ok-send_packet.ensures.sends;
       hears = λ config before h. (
         c.octet_into-out.ensures.stands config before h,
         sym (c.octet_into-out.ensures.reply config before h),
@@ -52,11 +49,3 @@ returns-in_default-clause-hears g c =
       passes = rw c.in_default.is (TakesAllButWaiting-none _ _);
       no_failure = refl;
     }
-
-pub returns-in_ok-send_packet-clause-records : goal.returns-in_ok-send_packet-clause-records
-returns-in_ok-send_packet-clause-records g c =
-    let done = c.record_heard-recorded.ensures in
-    rw c.in_ok-send_packet.ensures.others (behind_all _ _ _ _ _ _ done.recorded done.all)
-
-pub returns-in_default-clause-records : goal.returns-in_default-clause-records
-returns-in_default-clause-records g c = behind_none _ _ _ c.requires.within
