@@ -12,7 +12,7 @@ A line is answered by one or more lines and an empty one:
   on-loss keep               takes that back
   role                       of a trunk that two machines have: `active, fed`, `standby, not fed` ..
   promote, demote            this machine is to carry it, or the other one
-  move                       the other one is to, which is told so by its feed
+  move                       the other one is to: the feed says so at its end
   reload                     takes the program and the configuration of now; `reload force` also if that ends
                              more than three calls
   quit                       ends the trunk

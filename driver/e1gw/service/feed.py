@@ -134,7 +134,8 @@ class FeedServer:
             logger.warning('feed: %s is not --peer, and is fed nothing', address, extra={'kind': 'stranger'})
             writer.transport.abort()
             return
-        assert (task := asyncio.current_task())
+        task = asyncio.current_task()
+        assert task
         self._tasks.add(task)
         try:
             if (program := self._program()) and program.is_up:

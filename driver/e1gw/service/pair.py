@@ -114,7 +114,7 @@ class TrunkPair:
         standby.knows(None)
 
     def goes(self, is_active: bool, hands_over: bool = False) -> None:
-        """This machine is to carry the trunk from now on, or the other one, which is told so if it is handed over."""
+        """This machine is to carry the trunk from now on, or the other one; at `hands_over` its feed says so."""
         if is_active is not self.is_active:
             self.is_active, self.feed.hands_over = is_active, hands_over
             self._keeper.trunk.tell({'event': 'role', 'role': 'active' if is_active else 'standby'})

@@ -173,6 +173,8 @@ class TrunkStandby:
                     end, at, length = PIECE.unpack(await reader.readexactly(PIECE.size))
                     if length > MOST_PIECE:
                         raise FeedRefused('a piece of the feed is too long')
+                    if not math.isfinite(at):
+                        raise FeedRefused('a piece of the feed has no time')
                     piece = await reader.readexactly(max(0, length))
                 if fed.take(end, at, piece) and fed is not self.fed:
                     await self._begins(fed)
