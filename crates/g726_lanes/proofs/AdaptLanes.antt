@@ -1,20 +1,11 @@
 -- The blocks of the adaptation in one lane.
-use Rattle.std.proofs.Common.{◌≡◌, ◌<◌, ◌≤◌, ℕ, zero, suc, ◌+◌, ◌-◌, ◌*◌, ◌/◌, ◌%◌, ◌^◌, min, max, cond, not, ◌&&◌}
-use Rattle.std.proofs.Common.{◌∙◌, ap, sym}
-use Rattle.std.proofs.Common.{pos, negsuc, neg_ℤ, ◌+ℤ◌, ◌-ℤ◌, ◌*ℤ◌, ◌≤ℤ◌, Bool, true, false, to_z, w16, arith, refl}
-use Rattle.std.proofs.Common.{nat_le, nat_lt, ltb, inl, inr, unsigned_abs, bit_and, ap}
-use Rattle.std.specs.Int.{int_shr}
-use Rattle.std.specs.Int.RustNames.{int_lt}
-use Rattle.std.specs.Prelude.{◌==◌}
+use Rattle.g726_lanes.proofs.Common.{◌≡◌, ◌<◌, ◌≤◌, ℕ, zero, suc, ◌+◌, ◌-◌, ◌*◌, ◌/◌, ◌%◌, ◌^◌, min, max, cond, not}
+use Rattle.g726_lanes.proofs.Common.{◌&&◌, ◌∙◌, ap, sym, pos, negsuc, neg_ℤ, ◌+ℤ◌, ◌-ℤ◌, ◌*ℤ◌, ◌≤ℤ◌, Bool, true, false}
+use Rattle.g726_lanes.proofs.Common.{to_z, w16, arith, refl, nat_le, nat_lt, ltb, inl, inr, unsigned_abs, bit_and}
+use Rattle.g726_lanes.proofs.Common.{int_shr, int_lt, ◌==◌, and_mask, ints, clamps, cases_lt, nat_tests, shr_z}
+use Rattle.g726_lanes.proofs.Common.{shr_bounds, least, at_least}
 use Rattle.std.proofs.Math.Nat.{mul-le-mul}
 use Rattle.std.proofs.Math.Pow.{pow_mono}
-use Rattle.std.proofs.lemmas.Nat.{and_mask}
-use Rattle.std.proofs.lemmas.Int.{ints, clamps}
-use Rattle.std.proofs.lemmas.Bool.{cases_lt}
-use Rattle.std.proofs.lemmas.Bool.Decides.{nat_tests}
-use lib.Signed.{shr_z}
-use Rattle.g726_quant.proofs.Shifts.{shr_bounds}
-use Rattle.g726_predict.proofs.LaneProducts.{least, at_least}
 use Rattle.g726_tone.specs.Adaptation.{limb, filtd, filte, filtb, filtc, subtc, mix, lima, dqthr, thr2}
 use Rattle.g726_lanes.proofs.Numbers.{least_is, most_is, raised_is}
 use Rattle.g726_lanes.proofs.PoleLanes.{chosen}

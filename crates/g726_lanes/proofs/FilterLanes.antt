@@ -1,20 +1,10 @@
 -- ACCUM, UPB and TRIGB in one lane.
-use Rattle.std.proofs.Common.{◌≡◌, ◌<◌, ◌≤◌, ℕ, zero, suc, ◌+◌, ◌-◌, ◌*◌, ◌/◌, ◌%◌, ◌^◌, cond, not, nat_le, nat_lt}
-use Rattle.std.proofs.Common.{ℤ, pos, negsuc, ◌+ℤ◌, ◌-ℤ◌, Bool, true, false, to_z, w16, refl, arith, ◌∙◌, sym, inl, inr}
-use Rattle.std.proofs.Common.{◌⊎◌, ◌≤ℤ◌, neg_ℤ, bit_and, unsigned_abs}
-use Rattle.std.specs.Int.{int_wrap, is_negative}
-use Rattle.std.specs.Int.RustNames.{int_lt}
-use Rattle.std.proofs.lemmas.Nat.{and_mask}
-use Rattle.std.specs.Prelude.{◌==◌}
-use Rattle.std.proofs.lemmas.Int.{ints, to_z_pos}
-use Rattle.std.proofs.lemmas.Bool.{cases_lt}
-use Rattle.std.proofs.lemmas.Bool.Decides.{nat_tests}
-use lib.Signed.{shr_z}
-use Rattle.g726_quant.proofs.Shifts.{shr_bounds}
-use Rattle.g726_predict.proofs.LaneProducts.{least}
-use Rattle.g726_predict.specs.Float.{signs_differ}
-use Rattle.g726_predict.specs.Coefficients.{updated_b, upb_change}
-use Rattle.g726_predict.specs.Predictor.{trigb}
+use Rattle.g726_lanes.proofs.Common.{◌≡◌, ◌<◌, ◌≤◌, ℕ, zero, suc, ◌+◌, ◌-◌, ◌*◌, ◌/◌, ◌%◌, ◌^◌, cond, not, nat_le}
+use Rattle.g726_lanes.proofs.Common.{nat_lt, ℤ, pos, negsuc, ◌+ℤ◌, ◌-ℤ◌, Bool, true, false, to_z, w16, refl, arith, ◌∙◌}
+use Rattle.g726_lanes.proofs.Common.{sym, inl, inr, ◌⊎◌, ◌≤ℤ◌, neg_ℤ, bit_and, unsigned_abs, is_negative, int_lt}
+use Rattle.g726_lanes.proofs.Common.{and_mask, ◌==◌, ints, to_z_pos, cases_lt, nat_tests, shr_z, shr_bounds, least}
+use Rattle.g726_lanes.proofs.Common.{signs_differ, updated_b, upb_change, trigb}
+use Rattle.std.specs.Int.{int_wrap}
 use Rattle.g726_lanes.proofs.Numbers.{raised, raised_is, less_is, wrap_is, least_is, sign_is, high_is}
 use Rattle.g726_lanes.proofs.PoleLanes.{chosen}
 

@@ -1,21 +1,14 @@
 -- Magnitudes of 15 bits as floats of 32 bits, and the numbers that lanes read from their upper halves.
-use Rattle.std.proofs.Common.{◌≡◌, ◌<◌, ℕ, ◌+◌, ◌-◌, ◌*◌, ◌/◌, ◌%◌, ◌^◌, pos, Bool, true, false, not, ◌&&◌, ◌||◌}
+use Rattle.g726_lanes.proofs.Common.{◌≡◌, ◌<◌, ℕ, ◌+◌, ◌-◌, ◌*◌, ◌/◌, ◌%◌, ◌^◌, pos, Bool, true, false, not, ◌&&◌, ◌||◌}
+use Rattle.g726_lanes.proofs.Common.{bit_and, below_more, nat_lt, nat_le, to_z, w16, w32, Fits, arith, refl, cond, top}
+use Rattle.g726_lanes.proofs.Common.{agree_below, agree_below_at, and_parts, eqb-true, ltb-true, to_z_pos, nat_tests}
+use Rattle.g726_lanes.proofs.Common.{number_of_bits, exponent, log, antilog, mantissa_of, packed, at_least}
 use Rattle.std.proofs.Common.{◌==◌}
-use Rattle.std.proofs.Common.{bit_and, below_more, nat_lt, nat_le, to_z, w16, w32, Fits, arith, refl, cond}
 use Rattle.std.specs.Int.Count.{count_trailing_zeros}
-use Rattle.std.specs.Simd.Lanes.{top}
-use Rattle.std.proofs.lemmas.Bool.{agree_below, agree_below_at, and_parts, eqb-true, ltb-true}
-use Rattle.std.proofs.lemmas.Int.{to_z_pos}
-use Rattle.std.proofs.lemmas.Bool.Decides.{nat_tests}
 use lib.Dec.{T}
 use lib.Ieee.{Float, of_int, to_bits, is_nan, in_float, round, units, odd, size, span, climb}
 use lib.Ieee.Format.{binary32}
-use Rattle.g726_quant.specs.Arithmetic.{number_of_bits}
-use Rattle.g726_quant.specs.Blocks.{exponent, log, antilog}
-use Rattle.g726_predict.specs.Float.{mantissa_of}
 use Rattle.g726_predict.proofs.Floats.{holds}
-use Rattle.g726_predict.specs.Words.{packed}
-use Rattle.g726_predict.proofs.LaneProducts.{at_least}
 
 -- the upper half of a float's bits
 abbrev pub upper : ℕ → ℕ

@@ -1,3 +1,4 @@
+mod Common
 pub mod Each
 pub mod AdaptLanes
 pub mod Numbers
@@ -10,3 +11,4 @@ pub mod PredictionNumbers
 pub mod AdaptationUpdates
 pub mod Steps
 pub mod Frames
+pub mod SegmentLanes

@@ -1,15 +1,9 @@
 -- Signed numbers of 16 bits in two's complement.
-use Rattle.std.proofs.Common.{◌≡◌, ◌<◌, ◌≤◌, ℕ, zero, suc, ◌+◌, ◌-◌, ◌/◌, ◌%◌, min, max, ltb, nat_le, not}
-use Rattle.std.proofs.Common.{ℤ, pos, negsuc, ◌+ℤ◌, ◌-ℤ◌, ◌≤ℤ◌, true, false, to_z, w16, refl, arith}
-use Rattle.std.proofs.Common.{inl, inr, ap, SFits, unsigned_abs}
-use Rattle.std.specs.Int.{int_wrap, is_negative}
-use Rattle.std.specs.Prelude.{◌==◌}
-use Rattle.std.proofs.lemmas.Int.{ints, to_z_pos, int_wrap_fits}
-use Rattle.std.proofs.lemmas.Bool.{cases_lt}
-use Rattle.std.proofs.lemmas.Bool.Decides.{nat_tests}
-use Rattle.g726_predict.proofs.LaneProducts.{least, at_least, at_least_below, at_least_above}
-use Rattle.g726_predict.specs.Float.{signs_differ}
-use Rattle.g726_predict.specs.Coefficients.{is_zero}
+use Rattle.g726_lanes.proofs.Common.{◌≡◌, ◌<◌, ◌≤◌, ℕ, zero, suc, ◌+◌, ◌-◌, ◌/◌, ◌%◌, min, max, ltb, nat_le, not, ℤ}
+use Rattle.g726_lanes.proofs.Common.{pos, negsuc, ◌+ℤ◌, ◌-ℤ◌, ◌≤ℤ◌, true, false, to_z, w16, refl, arith, inl, inr, ap}
+use Rattle.g726_lanes.proofs.Common.{SFits, unsigned_abs, is_negative, ◌==◌, ints, to_z_pos, int_wrap_fits, cases_lt}
+use Rattle.g726_lanes.proofs.Common.{nat_tests, least, at_least, at_least_below, at_least_above, signs_differ, is_zero}
+use Rattle.std.specs.Int.{int_wrap}
 
 -- a number plus 32768 is a natural one
 abbrev pub raised : ℕ → ℕ

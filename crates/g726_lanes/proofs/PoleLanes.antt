@@ -1,16 +1,8 @@
 -- UPA2, LIMC, UPA1 and LIMD in one lane.
-use Rattle.std.proofs.Common.{◌≡◌, ◌<◌, ◌≤◌, ℕ, ◌+◌, ◌-◌, ◌/◌, ◌%◌, min, max, cond, not}
-use Rattle.std.proofs.Common.{ℤ, pos, negsuc, neg_ℤ, ◌+ℤ◌, ◌-ℤ◌, ◌*ℤ◌, ◌≤ℤ◌, Bool, true, false, to_z, w16, refl, arith}
-use Rattle.std.specs.Int.{is_negative}
-use Rattle.std.specs.Prelude.{◌==◌}
-use Rattle.std.specs.Simd.Lanes.{top}
-use Rattle.std.proofs.lemmas.Int.{ints, clamps}
-use lib.Signed.{shr_z}
-use Rattle.g726_quant.proofs.Shifts.{shr_bounds}
-use Rattle.g726_predict.proofs.LaneProducts.{least, at_least}
-use Rattle.g726_predict.specs.Float.{signs_differ}
-use Rattle.g726_predict.specs.Coefficients.{is_zero, held_within, leaked, upa2_change, upa1_change}
-use Rattle.g726_predict.specs.Coefficients.{updated_a1, updated_a2}
+use Rattle.g726_lanes.proofs.Common.{◌≡◌, ◌<◌, ◌≤◌, ℕ, ◌+◌, ◌-◌, ◌/◌, ◌%◌, min, max, cond, not, ℤ, pos, negsuc, neg_ℤ}
+use Rattle.g726_lanes.proofs.Common.{◌+ℤ◌, ◌-ℤ◌, ◌*ℤ◌, ◌≤ℤ◌, Bool, true, false, to_z, w16, refl, arith, is_negative}
+use Rattle.g726_lanes.proofs.Common.{◌==◌, top, ints, clamps, shr_z, shr_bounds, least, at_least, signs_differ, is_zero}
+use Rattle.g726_lanes.proofs.Common.{held_within, leaked, upa2_change, upa1_change, updated_a1, updated_a2}
 use Rattle.g726_lanes.proofs.Numbers.{raised, raised_is, less_is, same_sign, zero_is, least_is, most_is}
 
 -- what `select` takes by a comparison
@@ -94,12 +86,7 @@ limited left change z u e f left_below change_below =
     let sum = (min left 64767 + change) % 65536 in
     let last : least (at_least 20864 sum) 45440 ≡ min (max sum 20864) 45440 =
     rw (least_is (at_least 20864 sum) 45440, most_is 20864 sum) refl in
-    rw (
-      first,
-      last,
-      less_is (min (max sum 20864) 45440) 33152 (omega arith) (omega arith) (omega arith) (omega
-          arith),
-    )
+    rw (first, last, less_is (min (max sum 20864) 45440) 33152 (omega arith) (omega arith) (omega arith) (omega arith))
     (omega (arith, ints, clamps, e, f))
 
 -- it is UPA2 and LIMC of the numbers

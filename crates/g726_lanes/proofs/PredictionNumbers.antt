@@ -1,13 +1,10 @@
 -- The prediction that has sixteen numbers, as it is put into a lane and taken from it.
-use Rattle.std.proofs.Common.{◌≡◌, ◌<◌, ◌+◌, ◌-◌, ℕ, Bool, List, ◌∷◌, w16, SFits, refl, arith, ◌∙◌, sym, subst}
-use Rattle.std.proofs.Common.{nat_lt, nat_le, true, false, to_z, inl, inr}
-use Rattle.std.specs.Int.{is_negative}
-use Rattle.std.proofs.lemmas.Bool.{cases_lt}
-use Rattle.std.proofs.lemmas.Bool.Decides.{nat_tests}
+use Rattle.g726_lanes.proofs.Common.{◌≡◌, ◌<◌, ◌+◌, ◌-◌, ℕ, Bool, List, ◌∷◌, w16, SFits, refl, arith, ◌∙◌, sym, subst}
+use Rattle.g726_lanes.proofs.Common.{nat_lt, nat_le, true, false, to_z, inl, inr, get_or, is_negative, cases_lt}
+use Rattle.g726_lanes.proofs.Common.{nat_tests}
 use Rattle.g726_predict.specs.Saved.{PredictionFits, WordFits}
 use Rattle.g726_predict.specs.Saved as saved
 use Rattle.g726_predict.proofs.Saved.{numbered, saved-numbered, first, of-six, of-two, unpacked-fits}
-use Rattle.std.proofs.Common.{get_or}
 use Rattle.g726_lanes.proofs.Each.{each_lane}
 use Rattle.g726_lanes.proofs.Numbers.{number_fits, sign_is}
 

@@ -1,24 +1,13 @@
 -- The blocks of the quantiser in one lane.
-use Rattle.std.proofs.Common.{◌≡◌, ◌<◌, ◌≤◌, ℕ, zero, suc, ◌+◌, ◌-◌, ◌*◌, ◌/◌, ◌%◌, ◌^◌, cond, ◌||◌, ◌&&◌}
-use Rattle.std.proofs.Common.{ℤ, pos, negsuc, ◌+ℤ◌, ◌≤ℤ◌, Bool, true, false, to_z, w16, arith, refl, ◌∙◌, ap}
-use Rattle.std.proofs.Common.{nat_le, nat_lt, inl, inr, unsigned_abs, bit_and}
-use Rattle.std.specs.Prelude.{◌==◌}
+use Rattle.g726_lanes.proofs.Common.{◌≡◌, ◌<◌, ◌≤◌, ℕ, zero, suc, ◌+◌, ◌-◌, ◌*◌, ◌/◌, ◌%◌, ◌^◌, cond, ◌||◌, ◌&&◌, ℤ}
+use Rattle.g726_lanes.proofs.Common.{pos, negsuc, ◌+ℤ◌, ◌≤ℤ◌, Bool, true, false, to_z, w16, arith, refl, ◌∙◌, ap}
+use Rattle.g726_lanes.proofs.Common.{nat_le, nat_lt, inl, inr, unsigned_abs, bit_and, List, [], ◌∷◌, length, take}
+use Rattle.g726_lanes.proofs.Common.{get_or, ◌==◌, IsTrue, and_mask, ints, int_rem_euclid_is, int_le, count_by}
+use Rattle.g726_lanes.proofs.Common.{list_all, length-take, cases_lt, and_parts, nat_tests, RateTables, magnitudes}
+use Rattle.g726_lanes.proofs.Common.{is_within, is_in_range, adda, word_magnitude, word_is_negative, quan_word, subtb}
+use Rattle.g726_lanes.proofs.Common.{least}
 use Rattle.std.proofs.Math.Nat.{div-lt_iff_lt-mul, le-div_iff_mul-le}
-use Rattle.std.proofs.lemmas.Nat.{and_mask}
-use Rattle.std.proofs.lemmas.Int.{ints, int_rem_euclid_is}
-use Rattle.std.proofs.Common.{List, [], ◌∷◌, length, take, get_or}
-use Rattle.std.specs.Int.RustNames.{int_le}
-use Rattle.std.specs.List.{count_by}
 use Rattle.std.proofs.lemmas.List.Sums.{sum_by-cons, count_by-le-length}
-use Rattle.std.proofs.lemmas.List.{length-take}
-use Rattle.std.proofs.lemmas.Bool.{cases_lt}
-use Rattle.std.proofs.lemmas.Bool.Decides.{nat_tests}
-use Rattle.std.specs.Prelude.{IsTrue}
-use Rattle.std.specs.List.{list_all}
-use Rattle.std.proofs.lemmas.Bool.{and_parts}
-use Rattle.g726_quant.specs.Tables.{RateTables, magnitudes, is_within, is_in_range}
-use Rattle.g726_quant.specs.Blocks.{adda, word_magnitude, word_is_negative, quan_word, subtb}
-use Rattle.g726_predict.proofs.LaneProducts.{least}
 use Rattle.g726_lanes.proofs.Numbers.{raised, raised_is, least_is}
 use Rattle.g726_lanes.proofs.PoleLanes.{chosen}
 

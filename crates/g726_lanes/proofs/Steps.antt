@@ -1,17 +1,12 @@
 -- The variables of one circuit after a word.
-use Rattle.std.proofs.Common.{◌≡◌, ◌<◌, ℕ, ℤ, ◌+ℤ◌, Bool, refl}
-use Rattle.std.proofs.Common.{pos, negsuc, ◌≤ℤ◌}
+use Rattle.g726_lanes.proofs.Common.{◌≡◌, ◌<◌, ℕ, ℤ, ◌+ℤ◌, Bool, List, refl, pos, negsuc, ◌≤ℤ◌, signed, wrap16, antilog}
+use Rattle.g726_lanes.proofs.Common.{adda, word_magnitude, word_is_negative, RateTables, Prediction, se, tone, updated}
+use Rattle.g726_lanes.proofs.Common.{Variables, addb, lanes, variables, adaptation, predictor}
 use Rattle.g726_predict.proofs.LaneSums.{half_bounds}
-use Rattle.g726_quant.specs.Arithmetic.{signed, wrap16}
-use Rattle.g726_quant.specs.Blocks.{antilog, adda, reconst, reconstructed, word_magnitude, word_is_negative}
-use Rattle.g726_quant.specs.Tables.{RateTables}
+use Rattle.g726_quant.specs.Blocks.{reconst, reconstructed}
 use Rattle.g726_tone.specs.Adaptation.{Adaptation, scale, trans, adapted}
-use Rattle.g726_predict.specs.Predictor.{Prediction, se, tone, updated}
-use Rattle.g726_codec.specs.Codec.{Variables, addb}
 use Rattle.g726_codec.specs.Codec as codec
-use Rattle.g726_lanes.specs.Lanes.{lanes}
-use Rattle.g726_lanes.specs.States.{variables}
-use Rattle.g726_lanes.proofs.Each.{each_lane}
+use Rattle.g726_lanes.proofs.Each.{lanes_at}
 
 -- the magnitude of DQ
 pub magnitude_is : (r : RateTables) (word y : ℕ) {places log magnitude : ℕ} {level : ℤ}
@@ -21,23 +16,22 @@ unfolding reconstructed
 magnitude_is r word y e f g h = rw (h, g, f, e) refl
 
 -- SR
-pub signal_is : (r : RateTables) (s : Variables) (word : ℕ) {negative : Bool} {magnitude y : ℕ} {all sr : ℤ}
-    → negative ≡ word_is_negative r.bits word → y ≡ scale s.adaptation → magnitude ≡ reconstructed r word y
+pub signal_is : (r : RateTables) {now s : Variables} (word : ℕ) {negative : Bool} {magnitude y : ℕ} {all sr : ℤ}
+    → now ≡ s → negative ≡ word_is_negative r.bits word → y ≡ scale s.adaptation → magnitude ≡ reconstructed r word y
     → all ≡ se s.prediction → sr ≡ wrap16 (signed negative magnitude +ℤ all)
-    → sr ≡ addb r s word
-signal_is r s word n e m a g = rw (g, a, m, e, n) refl
+    → sr ≡ addb r now word
+signal_is r word is n e m a g = rw (is, g, a, m, e, n) refl
 
 -- all variables
-pub stepped_is : (r : RateTables) (s : Variables) (word : ℕ) {negative tr new_tone : Bool} {places magnitude y :
-    ℕ} {sr : ℤ}
-    {a : Adaptation} {p : Prediction}
+pub stepped_is : (r : RateTables) {now s : Variables} (word : ℕ) {negative tr new_tone : Bool}
+    {places magnitude y : ℕ} {sr : ℤ} {a : Adaptation} {p : Prediction} → now ≡ s
     → places ≡ word_magnitude r.bits word → negative ≡ word_is_negative r.bits word → y ≡ scale s.adaptation
-    → magnitude ≡ reconstructed r word y → sr ≡ addb r s word
+    → magnitude ≡ reconstructed r word y → sr ≡ addb r now word
     → tr ≡ trans s.adaptation magnitude → new_tone ≡ tone s.prediction negative magnitude
     → a ≡ adapted r s.adaptation places new_tone tr → p ≡ updated r.leak s.prediction negative magnitude sr tr
-    → record { adaptation = a; prediction = p } ≡ codec.stepped r s word
+    → record { adaptation = a; prediction = p } ≡ codec.stepped r now word
 unfolding codec.stepped
-stepped_is r s word e n y m g t f a p = rw (a, p, t, f, g, m, y, n, e) refl
+stepped_is r word is e n y m g t f a p = rw (a, p, t, f, g, m, y, n, e, is) refl
 
 -- variables of an adaptation and a prediction
 abbrev pub made : Adaptation → Prediction → Variables
@@ -47,33 +41,11 @@ made a p = record { adaptation = a; prediction = p }
 pub made_same : {a b : Adaptation} {p q : Prediction} → a ≡ b → p ≡ q → made a p ≡ made b q
 made_same e f = rw (e, f) refl
 
--- the variables in a lane
-pub picked : (f : ℕ → Variables) (i : ℕ) → i < 8 → variables (lanes f) i ≡ f i
-picked f = each_lane (λ i. variables (lanes f) i ≡ f i) (
-  refl,
-  (
-    refl,
-    (
-      refl,
-      (
-        refl,
-        (
-          refl,
-          (
-            refl,
-            (
-              refl,
-              (
-                refl,
-                tt,
-              ),
-            ),
-          ),
-        ),
-      ),
-    ),
-  ),
-)
+-- the variables of a circuit are those in its lane
+pub is_in_lane : (a : List Adaptation) (p : List Prediction) {states : List Variables}
+    → lanes (λ k. made (adaptation a k) (predictor p k)) ≡ states → (k : ℕ) → k < 8
+    → variables states k ≡ made (adaptation a k) (predictor p k)
+is_in_lane a p e k h = rw (← e) (lanes_at (λ k. made (adaptation a k) (predictor p k)) codec.at_reset k h)
 
 -- an estimate has fifteen bits
 pub se_low : (p : Prediction) → negsuc 16383 ≤ℤ se p

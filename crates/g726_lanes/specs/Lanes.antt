@@ -1,7 +1,5 @@
 -- Vectors of eight lanes: lane k is circuit k.
-use Rattle.std.specs.Prelude.{ℕ, ◌<◌, ◌^◌, ℤ, Bool, nat_lt, map, List, [], ◌∷◌, All, slice_index_or}
-use Rattle.g726_codec.specs.Kinds.{bits_of}
-use Rattle.g726_codec.specs.declared.CodecKind.{CodecKind}
+use Rattle.std.specs.Prelude.{ℕ, ◌<◌, ℤ, Bool, nat_lt, List, [], ◌∷◌, slice_index_or}
 use Rattle.std.specs.Int.{cast_signed, is_negative, w16}
 
 -- the number in a lane, and as a signed number
@@ -23,13 +21,9 @@ is_set n = nat_lt 0 n
 abbrev pub EachLane : (ℕ → Type 0) → Type 0
 EachLane P = (k : ℕ) → k < 8 → P k
 
--- the numbers in a lane of frames, one from each
-abbrev pub column : List (List ℕ) → ℕ → List ℕ
-column frames k = map (λ frame. lane frame k) frames
-
--- the numbers in each lane of frames are words of a kind
-abbrev pub AllFit : CodecKind → List (List ℕ) → Type 0
-AllFit kind frames = EachLane (λ k. All (λ word. word < 2 ^ bits_of kind) (column frames k))
+-- the numbers of a lane, of eight rows
+abbrev pub row_at : List (List ℕ) → ℕ → List ℕ
+row_at rows k = slice_index_or rows k []
 
 -- a value for each lane
 abbrev pub lanes : {A : Type 0} → (ℕ → A) → List A

@@ -1,8 +1,8 @@
-//! Eight encoders or decoders of one kind, which code sixteen octets or words each at once (`Bundle`).
+//! Eight encoders or decoders of one kind, which code some octets or words each at once (`Bundle`).
 
-ghost use Rattle.std.specs.Prelude.{◌≡◌, ◌≢◌, ◌<◌, length};
+ghost use Rattle.std.specs.Prelude.{◌≡◌, ◌≢◌, ◌<◌, ◌≤◌, length, take};
 ghost use Rattle.g726_codec.specs.Kinds.{rate_tables, words_by, octets_by, after_by};
-ghost use Rattle.g726_lanes.specs.Lanes.{lane, column, EachLane, AllFit};
+ghost use Rattle.g726_lanes.specs.Lanes.{row_at, EachLane};
 ghost use Rattle.g726_lanes.specs.States.{variables};
 
 use crate::lanes::Lanes;
@@ -10,11 +10,11 @@ use e1_g711::Law;
 use g726_codec::{CodecKind, State};
 use g726_quant::{R16, R24, R32, R40};
 
-/// How many octets of each encoder, or words of each decoder, are coded at once.
-pub const FRAMES: usize = 16;
+/// How many octets of each encoder, or words of each decoder, are coded at once at most.
+pub const FRAMES: usize = 32;
 
-/// The encoders of eight circuits of one kind and law, circuit k in lane k, 0 to 7, with sixteen octets of
-/// each, or their decoders with sixteen words of each.
+/// The encoders of eight circuits of one kind and law, circuit k in lane k, 0 to 7, with as many octets of
+/// each, or their decoders with as many words of each.
 ///
 /// A lane that is not loaded is coded like the others.
 #[derive(Drop)]
@@ -23,115 +23,101 @@ pub struct Bundle {
     pub law: Law,
     /// The kind.
     pub kind: CodecKind,
+    /// How many octets or words each circuit has.
+    pub count: usize,
     /// The states.
     pub lanes: Lanes,
-    /// The octets, or once they are encoded their words, and the other way round for decoders: a frame has
-    /// one of each circuit.
-    pub frames: [[u8; 8]; 16],
+    /// The octets of each circuit, or once they are encoded their words; the other way round for decoders.
+    pub octets: [[u8; 32]; 8],
     /// The words that were decoded.
-    pub words: [[u8; 8]; 16],
+    pub words: [[u8; 32]; 8],
+    ghost few: { count ≤ 32 },
 }
 
-// The octets of a frame with that in lane k replaced.
-#[inline(always)]
-fn with_octet(frame: [u8; 8], k: usize, octet: u8) -> [u8; 8]
-    requires { k < 8 }
-    ensures own { lane result k ≡ octet }
-    ensures others { EachLane (λ j. j ≢ k → lane result j ≡ lane frame j) }
+// Puts octets at the begin of a row.
+fn put_row(numbers: &mut [u8; 32], octets: &[u8])
+    requires { length octets.now ≤ 32 }
+    ensures { take (length octets.now) numbers.new ≡ octets.now }
 {
-    let mut frame = frame;
-    frame[k] = octet;
-    frame
-}
-
-// Puts the octets of one circuit into its lane of the frames.
-fn put_column(frames: &mut [[u8; 8]; 16], k: usize, octets: &[u8])
-    requires lane { k < 8 }
-    requires sixteen { length octets.now ≡ 16 }
-    ensures own { column frames.new k ≡ octets.now }
-    ensures others { EachLane (λ j. j ≢ k → column frames.new j ≡ column frames.old j) }
-{
-    for i in 0..FRAMES {
-        frames[i] = with_octet(frames[i], k, octets[i]);
-    }
-}
-
-// The octets in one lane of the frames.
-fn column_of(frames: &[[u8; 8]; 16], k: usize) -> [u8; 16]
-    requires { k < 8 }
-    ensures { result ≡ column frames.now k }
-{
-    let mut octets = [0; FRAMES];
-    for i in 0..FRAMES {
-        octets[i] = frames[i][k];
-    }
-    octets
+    numbers[..octets.len()].copy_from_slice(octets);
 }
 
 impl Bundle {
-    /// Eight encoders or decoders of a kind at reset, with octets or words that are 0.
-    pub fn new(law: Law, kind: CodecKind) -> Bundle
-        ensures kind { (result.law ≡ law) × (result.kind ≡ kind) }
-        ensures fit { AllFit kind result.frames }
+    ghost use Rattle.std.specs.Prelude.{◌≡◌, ◌≢◌, ◌<◌, ◌≤◌, length, take};
+    ghost use Rattle.g726_codec.specs.Kinds.{rate_tables, words_by, octets_by, after_by};
+    ghost use Rattle.g726_lanes.specs.Lanes.{EachLane};
+    ghost use Rattle.g726_lanes.specs.States.{variables};
+    ghost use Rattle.g726_lanes.specs.Bundles.{lane_octets, lane_words, AllFit};
+
+    /// Eight encoders or decoders of a kind at reset, with this many octets or words each, which are 0.
+    pub fn new(law: Law, kind: CodecKind, count: usize) -> Bundle
+        requires { count ≤ 32 }
+        ensures kind { (result.law ≡ law) × (result.kind ≡ kind) × (result.count ≡ count) }
+        ensures fit { AllFit result }
     {
         Bundle {
             law,
             kind,
+            count,
             lanes: Lanes::reset(),
-            frames: [[0; 8]; FRAMES],
-            words: [[0; 8]; FRAMES],
+            octets: [[0; 32]; 8],
+            words: [[0; 32]; 8],
         }
     }
 
-    /// Puts the state of an encoder and its next sixteen octets, or of a decoder and its next sixteen words,
-    /// into lane `k`, 0 to 7. The other lanes stay as they are.
+    /// Puts the state of an encoder and its next octets, or of a decoder and its next words, into lane `k`, 0
+    /// to 7. The other lanes stay as they are.
     pub fn load(&mut self, k: usize, state: &State, octets: &[u8])
         requires lane { k < 8 }
-        requires sixteen { length octets.now ≡ 16 }
+        requires count { length octets.now ≡ self.old.count }
         ensures state { variables self.new.lanes k ≡ state.now }
-        ensures octets { column self.new.frames k ≡ octets.now }
+        ensures octets { lane_octets self.new k ≡ octets.now }
         ensures states { EachLane (λ j. j ≢ k → variables self.new.lanes j ≡ variables self.old.lanes j) }
-        ensures frames { EachLane (λ j. j ≢ k → column self.new.frames j ≡ column self.old.frames j) }
-        ensures kept { (self.new.law ≡ self.old.law) × (self.new.kind ≡ self.old.kind) }
+        ensures others { EachLane (λ j. j ≢ k → lane_octets self.new j ≡ lane_octets self.old j) }
+        ensures kept { (self.new.law ≡ self.old.law) × (self.new.kind ≡ self.old.kind)
+            × (self.new.count ≡ self.old.count) }
     {
         self.lanes.load(k, state);
-        put_column(&mut self.frames, k, octets);
+        put_row(&mut self.octets[k], octets);
     }
 
-    /// Codes the octets of each lane: its frames then have their words, and its state is that after them.
+    /// Codes the octets of each lane, which then has their words, and the state after them.
     pub fn encode(&mut self)
-        ensures words { EachLane (λ k. column self.new.frames k ≡ words_by (rate_tables self.old.kind)
-            self.old.law (variables self.old.lanes k) (column self.old.frames k)) }
+        ensures words { EachLane (λ k. lane_octets self.new k ≡ words_by (rate_tables self.old.kind)
+            self.old.law (variables self.old.lanes k) (lane_octets self.old k)) }
         ensures states { EachLane (λ k. variables self.new.lanes k ≡ after_by (rate_tables self.old.kind)
-            (variables self.old.lanes k) (column self.new.frames k)) }
-        ensures kept { (self.new.law ≡ self.old.law) × (self.new.kind ≡ self.old.kind) }
+            (variables self.old.lanes k) (lane_octets self.new k)) }
+        ensures kept { (self.new.law ≡ self.old.law) × (self.new.kind ≡ self.old.kind)
+            × (self.new.count ≡ self.old.count) }
     {
+        let (law, count) = (self.law, self.count);
         match self.kind {
             CodecKind::G711 => {}
-            CodecKind::G16 => self.lanes.encode_frames::<R16>(self.law, &mut self.frames),
-            CodecKind::G24 => self.lanes.encode_frames::<R24>(self.law, &mut self.frames),
-            CodecKind::G32 => self.lanes.encode_frames::<R32>(self.law, &mut self.frames),
-            CodecKind::G40 => self.lanes.encode_frames::<R40>(self.law, &mut self.frames),
+            CodecKind::G16 => self.lanes.encode_rows::<R16>(law, &mut self.octets, count),
+            CodecKind::G24 => self.lanes.encode_rows::<R24>(law, &mut self.octets, count),
+            CodecKind::G32 => self.lanes.encode_rows::<R32>(law, &mut self.octets, count),
+            CodecKind::G40 => self.lanes.encode_rows::<R40>(law, &mut self.octets, count),
         }
     }
 
-    /// Decodes the words of each lane, below `2^bits`: its frames then have their octets, and its state is
-    /// that after the words.
+    /// Decodes the words of each lane, below `2^bits`, which then has their octets, and the state after the
+    /// words.
     pub fn decode(&mut self)
-        requires { AllFit self.old.kind self.old.frames }
-        ensures octets { EachLane (λ k. column self.new.frames k ≡ octets_by (rate_tables self.old.kind)
-            self.old.law (variables self.old.lanes k) (column self.new.words k)) }
+        requires { AllFit self.old }
+        ensures octets { EachLane (λ k. lane_octets self.new k ≡ octets_by (rate_tables self.old.kind)
+            self.old.law (variables self.old.lanes k) (lane_words self.new k)) }
         ensures states { EachLane (λ k. variables self.new.lanes k ≡ after_by (rate_tables self.old.kind)
-            (variables self.old.lanes k) (column self.new.words k)) }
-        ensures words { self.new.words ≡ self.old.frames }
+            (variables self.old.lanes k) (lane_words self.new k)) }
+        ensures words { EachLane (λ k. lane_words self.new k ≡ lane_octets self.old k) }
     {
-        self.words = self.frames;
+        self.words = self.octets;
+        let (law, count) = (self.law, self.count);
         match self.kind {
             CodecKind::G711 => {}
-            CodecKind::G16 => self.lanes.decode_frames::<R16>(self.law, &mut self.frames),
-            CodecKind::G24 => self.lanes.decode_frames::<R24>(self.law, &mut self.frames),
-            CodecKind::G32 => self.lanes.decode_frames::<R32>(self.law, &mut self.frames),
-            CodecKind::G40 => self.lanes.decode_frames::<R40>(self.law, &mut self.frames),
+            CodecKind::G16 => self.lanes.decode_rows::<R16>(law, &mut self.octets, count),
+            CodecKind::G24 => self.lanes.decode_rows::<R24>(law, &mut self.octets, count),
+            CodecKind::G32 => self.lanes.decode_rows::<R32>(law, &mut self.octets, count),
+            CodecKind::G40 => self.lanes.decode_rows::<R40>(law, &mut self.octets, count),
         }
     }
 
@@ -143,19 +129,19 @@ impl Bundle {
         self.lanes.store(k)
     }
 
-    /// The octets in lane `k`, 0 to 7, or once they are encoded their words.
-    pub fn octets(&self, k: usize) -> [u8; 16]
+    /// The row of lane `k`, 0 to 7, which begins with its octets, or once they are encoded with their words.
+    pub fn octets(&self, k: usize) -> [u8; 32]
         requires { k < 8 }
-        ensures { result ≡ column self.now.frames k }
+        ensures { take self.now.count result ≡ lane_octets self.now k }
     {
-        column_of(&self.frames, k)
+        self.octets[k]
     }
 
-    /// The words that were decoded in lane `k`, 0 to 7.
-    pub fn words(&self, k: usize) -> [u8; 16]
+    /// The row of lane `k`, 0 to 7, which begins with the words that were decoded.
+    pub fn words(&self, k: usize) -> [u8; 32]
         requires { k < 8 }
-        ensures { result ≡ column self.now.words k }
+        ensures { take self.now.count result ≡ lane_words self.now k }
     {
-        column_of(&self.words, k)
+        self.words[k]
     }
 }

@@ -20,14 +20,12 @@ pub(crate) fn lane(numbers: [u16; 8], k: usize) -> u16
     numbers[k]
 }
 
-// The numbers with that in lane k replaced.
+// Puts a number into lane k.
 #[inline(always)]
-pub(crate) fn with_lane(numbers: [u16; 8], k: usize, number: u16) -> [u16; 8]
+pub(crate) fn put_lane(numbers: &mut [u16; 8], k: usize, number: u16)
     requires { k < 8 }
-    ensures own { lane result k ≡ number }
-    ensures others { EachLane (λ j. j ≢ k → lane result j ≡ lane numbers j) }
+    ensures own { lane numbers.new k ≡ number }
+    ensures others { EachLane (λ j. j ≢ k → lane numbers.new j ≡ lane numbers.old j) }
 {
-    let mut numbers = numbers;
     numbers[k] = number;
-    numbers
 }

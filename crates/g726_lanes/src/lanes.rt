@@ -11,7 +11,8 @@ mod frames;
 mod loading;
 
 use crate::adaptations::Adaptations;
-use crate::decoding::{adjusted_codes, codes_of};
+use crate::compressor::codes_of;
+use crate::decoding::adjusted_codes;
 use crate::encoding::{samples_of, subta};
 use crate::filter::addc;
 use crate::logs::antilog;

@@ -6,8 +6,10 @@
 mod adapt;
 mod adaptations;
 mod bundle;
+mod compressor;
 mod decoding;
 mod encoding;
+mod entries;
 mod filter;
 mod lane;
 mod lanes;

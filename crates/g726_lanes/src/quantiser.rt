@@ -7,39 +7,11 @@ ghost use Rattle.g726_quant.specs.Blocks.{adda, word_magnitude, word_is_negative
 ghost use Rattle.g726_quant.specs.Blocks.{quan_magnitude, quan_word, quantised, subtb};
 ghost use Rattle.g726_lanes.specs.Lanes.{lane, number, is_set, EachLane};
 
+use crate::entries::{entries, small_entries};
 use crate::filter::parts_of;
-use crate::lane::bits_of;
 use crate::logs::log;
 use g726_quant::Rate;
 use std::simd::prelude::*;
-
-// The entry of a table at a place, in two's complement.
-#[inline(always)]
-fn entry(table: &[i16], place: u16) -> u16
-    requires { place < length table.now }
-    ensures { cast_signed w16 result ≡ slice_index_or table.now place (pos 0) }
-{
-    bits_of(table[place as usize])
-}
-
-// The entries of a table at the places of eight lanes.
-#[inline(always)]
-#[tactic(auto, using(crate::proofs::Each::each_lane))]
-pub(crate) fn entries(table: &[i16], places: [u16; 8]) -> [u16; 8]
-    requires { EachLane (λ k. lane places k < length table.now) }
-    ensures { EachLane (λ k. number result k ≡ slice_index_or table.now (lane places k) (pos 0)) }
-{
-    [
-        entry(table, places[0]),
-        entry(table, places[1]),
-        entry(table, places[2]),
-        entry(table, places[3]),
-        entry(table, places[4]),
-        entry(table, places[5]),
-        entry(table, places[6]),
-        entry(table, places[7]),
-    ]
-}
 
 // The word of all ones.
 #[inline(always)]
@@ -143,24 +115,6 @@ pub(crate) fn quan_word<R: Rate>(negative: [u16; 8], counts: [u16; 8]) -> [u16; 
         .simd_eq(u16x8::splat(none))
         .select(u16x8::splat(all_ones::<R>()) - counts, counts)
         .to_array()
-}
-
-// The entries of a table of octets at the places of eight lanes.
-#[inline(always)]
-pub(crate) fn small_entries(table: &[u8], places: [u16; 8]) -> [u16; 8]
-    requires { EachLane (λ k. lane places k < length table.now) }
-    ensures { EachLane (λ k. lane result k ≡ slice_index_or table.now (lane places k) 0) }
-{
-    [
-        table[places[0] as usize] as u16,
-        table[places[1] as usize] as u16,
-        table[places[2] as usize] as u16,
-        table[places[3] as usize] as u16,
-        table[places[4] as usize] as u16,
-        table[places[5] as usize] as u16,
-        table[places[6] as usize] as u16,
-        table[places[7] as usize] as u16,
-    ]
 }
 
 // FUNCTW: WI, in two's complement.

@@ -1,8 +1,6 @@
 -- What is left of a number without a part of it.
-use Rattle.std.proofs.Common.{ℕ, ◌≤◌, ◌/◌, ℤ, pos, negsuc, ◌-ℤ◌, ◌≤ℤ◌, w16, w32, SFits, arith}
-use Rattle.std.proofs.lemmas.Int.{ints}
+use Rattle.g726_predict.proofs.Common.{ℕ, ◌≤◌, ◌/◌, ℤ, pos, negsuc, ◌-ℤ◌, ◌≤ℤ◌, w16, w32, SFits, arith, ints, shr_z}
 use Rattle.std.proofs.Math.Nat.{div-le_self}
-use lib.Signed.{shr_z}
 
 -- the part and what is left have 32 bits, and what is left is at most 32767 on either side
 pub record Left (z : ℤ) (divisor : ℕ) : Type 0 where

@@ -1,18 +1,19 @@
 -- The variables as numbers of 16 bits, and back.
-use Rattle.std.proofs.Common.{◌≡◌, refl, sym, ap, ◌∙◌, subst, ℕ, ◌+◌, ◌<◌, ◌≤◌, ℤ, pos, Bool, true, false}
-use Rattle.std.proofs.Common.{nat_le, nat_lt, ◌-◌, take, drop, List, [], ◌∷◌, ◌++◌, length, map, get_or, All, arith}
-use Rattle.std.proofs.Common.{SFits, w16, to_z, of_z}
-use Rattle.std.proofs.lemmas.Bool.Decides.{nat_tests}
-use Rattle.std.proofs.lemmas.Int.{to_z-of_z, of_z-to_z}
-use Rattle.std.proofs.lemmas.List.{ext_get_or, get_or-take, get_or-drop, length-take-le, length-drop}
+use Rattle.g726_predict.proofs.Common.{◌≡◌, refl, sym, ap, ◌∙◌, subst, ℕ, ◌+◌, ◌<◌, ◌≤◌, ℤ, pos, Bool, true, false}
+use Rattle.g726_predict.proofs.Common.{nat_le, nat_lt, ◌-◌, take, drop, List, [], ◌∷◌, ◌++◌, length, map, get_or, All}
+use Rattle.g726_predict.proofs.Common.{arith, SFits, w16, to_z, of_z, nat_tests, to_z-of_z, Prediction, packed}
+use Rattle.g726_predict.proofs.Common.{unpacked}
+use Rattle.std.proofs.lemmas.Int.{of_z-to_z}
+use Rattle.std.proofs.lemmas.List.{ext_get_or, get_or-take, get_or-drop, length-take-le, length-drop, take_all}
+use Rattle.std.proofs.lemmas.List.{length-append, length-map}
+use Rattle.std.proofs.lemmas.List.Sums.{list_all-from_AllPass}
+use Rattle.std.proofs.Math.Seq.{drop-append_seam}
 use Rattle.std.proofs.lemmas.List.FromFn.{get_or-map-range_with_len, length-map-range_with_len}
-use Rattle.std.proofs.lemmas.List.Elements.{All-cons, All-append}
+use Rattle.std.proofs.lemmas.List.Elements.{All-cons, All-append, All-map, All-weaker}
 use Rattle.std.proofs.lemmas.List.Folds.{list_all_at}
 use Rattle.std.specs.List.{range_with_len, list_all}
 use Rattle.g726_predict.specs.Float.{FloatWord}
-use Rattle.g726_predict.specs.Predictor.{Prediction}
 use Rattle.g726_predict.specs.Saved.{saved_numbers, word_number, PredictionFits, WordFits}
-use Rattle.g726_predict.specs.Words.{packed, unpacked}
 use Rattle.g726_predict.proofs.LaneProducts.{bits_below}
 use Rattle.g726_predict.proofs.Packing.{unpacked-packed}
 
@@ -117,31 +118,11 @@ numbered-varied b a1 a2 dq sr pk1 pk2 b_fits a1_fits a2_fits dq_fits sr_fits = r
 pub is-varied : (s : Prediction) → PredictionFits s
     → varied (λ i. get_or s.b i (pos 0)) s.a1 s.a2 (λ i. get_or s.dq i (unpacked 0))
     (λ i. get_or s.sr i (unpacked 0)) s.pk1 s.pk2 ≡ s
-is-varied s fits =
-    ap (λ (b : List ℤ). record {
-      a1 = s.a1;
-      a2 = s.a2;
-      b = b;
-      dq = first 6 (λ i. get_or s.dq i
-          (unpacked 0));
-      sr = first 2 (λ i. get_or s.sr i (unpacked 0));
-      pk1 = s.pk1;
-      pk2 = s.pk2;
-    })
-    (listed (pos 0) 6 s.b fits.b_count)
-    ∙ ap (λ (dq : List FloatWord). record {
-      a1 = s.a1;
-      a2 = s.a2;
-      b = s.b;
-      dq = dq;
-      sr = first 2 (λ i. get_or s.sr i
-          (unpacked 0));
-      pk1 = s.pk1;
-      pk2 = s.pk2;
-    })
-    (listed (unpacked 0) 6 s.dq fits.dq_count)
-    ∙ ap (λ (sr : List FloatWord). record { a1 = s.a1; a2 = s.a2; b = s.b; dq = s.dq; sr = sr; pk1 = s.pk1; pk2 = s.pk2 })
-    (listed (unpacked 0) 2 s.sr fits.sr_count)
+is-varied s fits = rw (
+  listed (pos 0) 6 s.b fits.b_count,
+  listed (unpacked 0) 6 s.dq fits.dq_count,
+  listed (unpacked 0) 2 s.sr fits.sr_count,
+) refl
 
 -- the variables of the numbers of any variables of their width are these
 pub numbered-saved : (s : Prediction) → PredictionFits s
@@ -175,33 +156,21 @@ words-known ns long all i low high = go (nat_lt (get_or ns i 0) 2048) refl
         (ap (λ n. nat_lt n 2048) same ∙ is) in
         absurd cc
 
--- the number of a word passes the test
-number-passes : (w : FloatWord) → WordFits w → nat_lt (word_number w) 2048 ≡ true
-number-passes w fits = let below = number-below w fits in grind (arith, nat_tests)
-
--- so do those of variables by their items
-varied-words : (b : ℕ → ℤ) (a1 a2 : ℤ) (dq sr : ℕ → FloatWord) (pk1 pk2 : Bool)
-    → ((i : ℕ) → i < 6 → WordFits (dq i)) → ((i : ℕ) → i < 2 → WordFits (sr i))
-    → are_words (saved_numbers (varied b a1 a2 dq sr pk1 pk2)) ≡ true
-varied-words b a1 a2 dq sr pk1 pk2 dq_fits sr_fits = rw (
-  number-passes (dq 0) (dq_fits 0 (omega arith)),
-  number-passes (dq 1) (dq_fits 1 (omega arith)),
-  number-passes (dq 2) (dq_fits 2 (omega arith)),
-  number-passes (dq 3) (dq_fits 3 (omega arith)),
-  number-passes (dq 4) (dq_fits 4 (omega arith)),
-  number-passes (dq 5) (dq_fits 5 (omega arith)),
-  number-passes (sr 0) (sr_fits 0 (omega arith)),
-  number-passes (sr 1) (sr_fits 1 (omega arith)),
-) refl
-
 -- the numbers of variables of their width pass it
 pub saved-words : (s : Prediction) → PredictionFits s → are_words (saved_numbers s) ≡ true
 saved-words s fits =
-    subst (λ (t : Prediction). are_words (saved_numbers t) ≡ true) (is-varied s fits)
-    (varied-words (λ i. get_or s.b i (pos 0)) s.a1 s.a2 (λ i. get_or s.dq i (unpacked 0))
-    (λ i. get_or s.sr i (unpacked 0)) s.pk1 s.pk2
-    (λ i less. fits.dq i (unpacked 0) (omega (arith, fits.dq_count)))
-    (λ i less. fits.sr i (unpacked 0) (omega (arith, fits.sr_count))))
+    let front = map (of_z w16) (s.b ++ s.a1 ∷ s.a2 ∷ []) in
+    let words = map word_number (s.dq ++ s.sr) in
+    let eight : length front ≡ 8 = simp (length-map, length-append) (omega (arith, fits.b_count)) in
+    let last : length words ≤ 8 = simp (length-map, length-append) (omega (arith, fits.dq_count, fits.sr_count)) in
+    let behind : drop 8 (front ++ words) ≡ words = rw eight at (drop-append_seam front words) in
+    rw (behind, take_all 8 words last) (list_all-from_AllPass (λ n. nat_lt n 2048) words
+    (All-map (λ n. nat_lt n 2048 ≡ true) word_number (s.dq ++ s.sr)
+    (All-weaker WordFits (λ w. nat_lt (word_number w) 2048 ≡ true) passes (s.dq ++ s.sr)
+    (All-append WordFits s.dq s.sr fits.dq fits.sr))))
+  where
+    passes : (w : FloatWord) → WordFits w → nat_lt (word_number w) 2048 ≡ true
+    passes w fits = let below = number-below w fits in grind (arith, nat_tests)
 
 -- a word of a number has its width
 pub unpacked-fits : (n : ℕ) → WordFits (unpacked n)
@@ -218,40 +187,19 @@ of-six P a b c d e f one two three four five six =
     All-cons P a (b ∷ c ∷ d ∷ e ∷ f ∷ []) one (All-cons P b (c ∷ d ∷ e ∷ f ∷ []) two
     (All-cons P c (d ∷ e ∷ f ∷ []) three (All-cons P d (e ∷ f ∷ []) four (of-two P e f five six))))
 
--- the numbers of variables by their items are sixteen of 16 bits
-varied-fit : (b : ℕ → ℤ) (a1 a2 : ℤ) (dq sr : ℕ → FloatWord) (pk1 pk2 : Bool)
-    → ((i : ℕ) → i < 6 → SFits w16 (b i)) → SFits w16 a1 → SFits w16 a2
-    → ((i : ℕ) → i < 6 → WordFits (dq i)) → ((i : ℕ) → i < 2 → WordFits (sr i))
-    → (length (saved_numbers (varied b a1 a2 dq sr pk1 pk2)) ≡ 16)
-    × All (λ n. n < 65536) (saved_numbers (varied b a1 a2 dq sr pk1 pk2))
-varied-fit b a1 a2 dq sr pk1 pk2 b_fits a1_fits a2_fits dq_fits sr_fits = (
-  refl,
-  All-append (λ n. n < 65536) (map (of_z w16) (first 6 b ++ a1 ∷ a2 ∷ []))
-      (map word_number (first 6 dq ++ first 2 sr))
-      (All-append (λ n. n < 65536) (map (of_z w16) (first 6 b)) (map (of_z w16) (a1 ∷ a2 ∷ []))
-      (of-six (λ n. n < 65536) _ _ _ _ _ _
-      (bits_below (b 0) (b_fits 0 (omega arith))) (bits_below (b 1) (b_fits 1 (omega arith)))
-      (bits_below (b 2) (b_fits 2 (omega arith))) (bits_below (b 3) (b_fits 3 (omega arith)))
-      (bits_below (b 4) (b_fits 4 (omega arith))) (bits_below (b 5) (b_fits 5 (omega arith))))
-      (of-two (λ n. n < 65536) _ _ (bits_below a1 a1_fits) (bits_below a2 a2_fits)))
-      (All-append (λ n. n < 65536) (map word_number (first 6 dq)) (map word_number (first 2 sr))
-      (of-six (λ n. n < 65536) _ _ _ _ _ _ (few (dq 0) (dq_fits 0 (omega arith))) (few (dq 1) (dq_fits 1 (omega arith)))
-      (few (dq 2) (dq_fits 2 (omega arith))) (few (dq 3) (dq_fits 3 (omega arith)))
-      (few (dq 4) (dq_fits 4 (omega arith))) (few (dq 5) (dq_fits 5 (omega arith))))
-      (of-two (λ n. n < 65536) _ _ (few (sr 0) (sr_fits 0 (omega arith))) (few (sr 1) (sr_fits 1 (omega arith))))),
+-- the numbers of variables of their width are sixteen of 16 bits
+pub numbers-fit : (s : Prediction) → PredictionFits s
+    → (length (saved_numbers s) ≡ 16) × All (λ n. n < 65536) (saved_numbers s)
+numbers-fit s fits = (
+  simp (length-append, length-map) (omega (arith, fits.b_count, fits.dq_count, fits.sr_count)),
+  All-append (λ n. n < 65536) (map (of_z w16) (s.b ++ s.a1 ∷ s.a2 ∷ [])) (map word_number (s.dq ++ s.sr))
+      (All-map (λ n. n < 65536) (of_z w16) (s.b ++ s.a1 ∷ s.a2 ∷ [])
+      (All-weaker (SFits w16) (λ z. of_z w16 z < 65536) bits_below (s.b ++ s.a1 ∷ s.a2 ∷ [])
+      (All-append (SFits w16) s.b (s.a1 ∷ s.a2 ∷ []) fits.b (of-two (SFits w16) s.a1 s.a2 fits.a1 fits.a2))))
+      (All-map (λ n. n < 65536) word_number (s.dq ++ s.sr)
+      (All-weaker WordFits (λ w. word_number w < 65536) few (s.dq ++ s.sr)
+      (All-append WordFits s.dq s.sr fits.dq fits.sr))),
 )
   where
     few : (w : FloatWord) → WordFits w → word_number w < 65536
     few w fits = let below = number-below w fits in omega arith
-
--- so are those of variables of their width
-pub numbers-fit : (s : Prediction) → PredictionFits s
-    → (length (saved_numbers s) ≡ 16) × All (λ n. n < 65536) (saved_numbers s)
-numbers-fit s fits =
-    subst (λ (t : Prediction). (length (saved_numbers t) ≡ 16) × All (λ n. n < 65536) (saved_numbers t))
-    (is-varied s fits)
-    (varied-fit (λ i. get_or s.b i (pos 0)) s.a1 s.a2 (λ i. get_or s.dq i (unpacked 0))
-    (λ i. get_or s.sr i (unpacked 0)) s.pk1 s.pk2
-    (λ i less. fits.b i (pos 0) (omega (arith, fits.b_count))) fits.a1 fits.a2
-    (λ i less. fits.dq i (unpacked 0) (omega (arith, fits.dq_count)))
-    (λ i less. fits.sr i (unpacked 0) (omega (arith, fits.sr_count))))

@@ -1,14 +1,9 @@
 -- Decoders that are ahead of the words that were played.
-use Rattle.std.proofs.Common.{◌≡◌, ◌≤◌, ◌<◌, ◌+◌, ℕ, Bool, List, [], ◌∷◌, length, take, cond, inl, inr, refl}
-use Rattle.std.proofs.Common.{sym, ap, ◌∙◌, arith}
-use Rattle.std.specs.Prelude.{slice_index}
+use Rattle.gw_circuit.proofs.Common.{◌≡◌, ◌≤◌, ◌<◌, ◌+◌, ℕ, Bool, List, [], ◌∷◌, length, take, cond, refl, sym, ap, ◌∙◌}
+use Rattle.gw_circuit.proofs.Common.{arith, slice_index, take_all, Law, Variables, CodecKind, CodecState, rate_tables}
+use Rattle.gw_circuit.proofs.Common.{octet_by, after_by, after_decoding, DecodersContinue}
+use Rattle.std.proofs.Common.{inl, inr}
 use Rattle.std.proofs.lemmas.Bool.{lt-ltb, le-ltb, cases_lt}
-use Rattle.std.proofs.lemmas.List.{take_all}
-use Rattle.e1_g711.specs.declared.Law.{Law}
-use Rattle.g726_codec.specs.Codec.{Variables}
-use Rattle.g726_codec.specs.declared.CodecKind.{CodecKind}
-use Rattle.g726_codec.specs.Kinds.{CodecState, rate_tables, octet_by, after_by, after_decoding}
-use Rattle.g726_codec.specs.Laws.{DecodersContinue}
 use Rattle.gw_circuit.specs.Ahead.{as_played, IsAhead}
 
 -- decoders continue what they decoded
@@ -16,55 +11,53 @@ abbrev pub Continue : Type 0
 Continue = (kind : CodecKind) (law : Law) (s : Variables) → DecodersContinue (rate_tables kind) law s
 
 -- while words are left, the decoder is that after the played ones
-pub some-left : (codec : CodecState) (base : Variables) (words : List ℕ) (played : ℕ) → played < 16
+pub some-left : (codec : CodecState) (base : Variables) (words : List ℕ) (played : ℕ) → played < length words
     → as_played codec base words played
     ≡ record codec { decoder = after_by (rate_tables codec.kind) base (take played words) }
 some-left codec base words played left =
     ap (λ (b : Bool). record codec {
       decoder = cond b (after_by (rate_tables codec.kind) base (take played words)) codec.decoder;
-    }) (lt-ltb played 16 left)
+    }) (lt-ltb played (length words) left)
 
 -- once none is left, nothing is ahead
-pub none-left : (codec : CodecState) (base : Variables) (words : List ℕ) (played : ℕ) → 16 ≤ played
+pub none-left : (codec : CodecState) (base : Variables) (words : List ℕ) (played : ℕ) → length words ≤ played
     → as_played codec base words played ≡ codec
 none-left codec base words played all =
     ap (λ (b : Bool). record codec {
       decoder = cond b (after_by (rate_tables codec.kind) base (take played words)) codec.decoder;
-    }) (le-ltb played 16 all)
+    }) (le-ltb played (length words) all)
 
 -- the octet that is kept of the next word is its octet
 pub kept-octet : Continue → (codec : CodecState) (base : Variables) (words octets : List ℕ) (played word : ℕ)
-    → IsAhead codec base words octets → played < 16 → slice_index words played ≡ word
+    → IsAhead codec base words octets → played < length words → slice_index words played ≡ word
     → slice_index octets played
     ≡ octet_by (rate_tables codec.kind) codec.law (as_played codec base words played).decoder word
 kept-octet continue codec base words octets played word ahead left same =
     let t = rate_tables codec.kind in
-    let within : played < length words = omega (arith, left, ahead.sixteen) in
     let now : (as_played codec base words played).decoder ≡ after_by t base (take played words) =
     ap (λ (c : CodecState). c.decoder) (some-left codec base words played left) in
     ap (λ (os : List ℕ). slice_index os played) ahead.decoded
-    ∙ (continue codec.kind codec.law base).octets words played within
+    ∙ (continue codec.kind codec.law base).octets words played left
     ∙ rw (now, same) refl
 
 -- and the decoder behind it is that after one word more
 pub one-more-played : Continue → (codec : CodecState) (base : Variables) (words octets : List ℕ) (played word : ℕ)
-    → IsAhead codec base words octets → played < 16 → slice_index words played ≡ word
+    → IsAhead codec base words octets → played < length words → slice_index words played ≡ word
     → as_played codec base words (played + 1) ≡ after_decoding (as_played codec base words played) (word ∷ [])
 one-more-played continue codec base words octets played word ahead left same =
     let t = rate_tables codec.kind in
-    let within : played < length words = omega (arith, left, ahead.sixteen) in
     let more : after_by t base (take (played + 1) words)
     ≡ after_by t (after_by t base (take played words)) (word ∷ []) =
-    (continue codec.kind codec.law base).states words played within
+    (continue codec.kind codec.law base).states words played left
     ∙ ap (λ (w : ℕ). after_by t (after_by t base (take played words)) (w ∷ [])) same in
     let now = some-left codec base words played left in
     let then : as_played codec base words (played + 1)
     ≡ record codec { decoder = after_by t base (take (played + 1) words) } =
-    elim (cases_lt (played + 1) 16) [
+    elim (cases_lt (played + 1) (length words)) [
       | inl some ↦ some-left codec base words (played + 1) some
       | inr none ↦ none-left codec base words (played + 1) none
           ∙ ap (λ (s : Variables). record codec { decoder = s }) (ahead.decoder
-          ∙ ap (after_by t base) (sym (take_all (played + 1) words (omega (arith, none, ahead.sixteen)))))
+          ∙ ap (after_by t base) (sym (take_all (played + 1) words none)))
     ] in
     then ∙ ap (λ (s : Variables). record codec { decoder = s }) more
     ∙ ap (λ (c : CodecState). after_decoding c (word ∷ [])) (sym now)

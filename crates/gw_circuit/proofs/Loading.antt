@@ -1,34 +1,18 @@
 -- Speech and circuits as octets, and back.
-use Rattle.std.proofs.Common.{◌≡◌, ◌<◌, ◌≤◌, ◌*◌, ◌%◌, ◌^◌, ℕ, true, List, [], ◌∷◌, ◌++◌, length, refl, sym, ap, ◌∙◌}
-use Rattle.std.proofs.Common.{append_assoc, All, OnOk}
+use Rattle.gw_circuit.proofs.Common.{◌≡◌, ◌<◌, ◌≤◌, ◌*◌, ◌%◌, ◌^◌, ℕ, true, List, [], ◌∷◌, ◌++◌, length, refl, sym, ap}
+use Rattle.gw_circuit.proofs.Common.{◌∙◌, append_assoc, Option, Some, None, Bool, false, arith, nat_lt, Result, Ok, Err}
+use Rattle.gw_circuit.proofs.Common.{list_all, CodecKind, G711, G16, G24, G32, G40, bits_of, saved_playout, Law, Line}
+use Rattle.gw_circuit.proofs.Common.{saved_line, CircuitConfig, Circuit, Speech, CircuitEvent, CodedPacket}
+use Rattle.gw_circuit.proofs.Common.{format_after, SpeechHistory, packet_size, saved_coding, saved_packet, saved_speech}
+use Rattle.gw_circuit.proofs.Common.{saved_numbers, saved_circuit, HasHistory}
+use Rattle.std.proofs.Common.{All, OnOk, is_some, not, IfSome, IfNone, subst}
 use mathlib.Core.HLevel.{is_prop→PathP}
 use Rattle.std.proofs.Props.{props}
-use Rattle.std.proofs.Common.{Option, Some, None, Bool, false, is_some, not, IfSome, IfNone, subst}
-use Rattle.std.specs.Prelude.{nat_lt, Result, Ok, Err}
-use Rattle.std.specs.List.{list_all}
 use Rattle.std.proofs.lemmas.Bool.Decides.{nat_tests}
 use Rattle.std.proofs.lemmas.List.Elements.{All-head, All-tail}
-use Rattle.std.proofs.Common.{arith}
-use Rattle.g726_codec.specs.declared.CodecKind.{CodecKind}
-use Rattle.g726_codec.specs.declared.CodecKind.TheVariants.{G711, G16, G24, G32, G40}
-use Rattle.g726_codec.specs.Kinds.{bits_of}
-use Rattle.rtp_playout.specs.Saved.{saved_playout}
 use Rattle.rtp_playout.specs.Standing.{IsBelow}
-use Rattle.e1_g711.specs.declared.Law.{Law}
-use Rattle.q421_line.specs.declared.signalling.Line.{Line}
 use Rattle.q421_line.specs.Line as line
-use Rattle.q421_line.specs.Saved.{saved_line}
-use Rattle.gw_circuit.specs.declared.config.CircuitConfig.{CircuitConfig}
-use Rattle.gw_circuit.specs.declared.circuit.Circuit.{Circuit}
 use Rattle.gw_circuit.specs.declared.circuit.saving.Numbers.{Numbers}
-use Rattle.gw_circuit.specs.declared.speech.Speech.{Speech}
-use Rattle.gw_circuit.specs.Items.{CircuitEvent}
-use Rattle.gw_circuit.specs.Coder.{CodedPacket}
-use Rattle.gw_circuit.specs.Coding.{format_after}
-use Rattle.gw_circuit.specs.Speech.{SpeechHistory}
-use Rattle.gw_circuit.specs.Replies.{packet_size}
-use Rattle.gw_circuit.specs.Saved.{saved_coding, saved_packet, saved_speech, saved_numbers, saved_circuit}
-use Rattle.gw_circuit.specs.Standing.{HasHistory}
 use Rattle.gw_circuit.proofs.Spells.{stretch-none}
 use Rattle.gw_circuit.proofs.Turns.{keeps-of, with_parts, stands-new}
 

@@ -1,28 +1,17 @@
 -- Worked figures, as the definitions compute them.
-use Rattle.std.proofs.Common.{◌≡◌, ℕ, List, [], ◌∷◌, ◌++◌, Some, None, Ok, Err, refl, replicate, true, arith}
+use Rattle.gw_circuit.proofs.Common.{◌≡◌, ℕ, List, [], ◌∷◌, ◌++◌, Some, None, refl, true, arith, G711, G32, enc, dec}
+use Rattle.gw_circuit.proofs.Common.{read_of, plain_datagram, octets_of, words_of, due, offer_answer, take_answer}
+use Rattle.gw_circuit.proofs.Common.{drawn_words, is_open, sent_pair, next_state, signalling, CircuitConfig}
+use Rattle.gw_circuit.proofs.Common.{PayloadType, CircuitEvent, Slot, Signal, Datagram, Codec, count, since, fits}
+use Rattle.gw_circuit.proofs.Common.{format_after, codec_reply, open_after, spell, stretch, is_full, payload_of}
+use Rattle.gw_circuit.proofs.Common.{sound_of, slot_reply, signal_reply, datagram_reply, completes, header_after}
+use Rattle.std.proofs.Common.{Ok, Err, replicate}
 use Rattle.e1_g711.specs.declared.Law.TheVariants.{A, Mu}
-use Rattle.g726_codec.specs.declared.CodecKind.TheVariants.{G711, G32}
-use Rattle.g726_codec.specs.Kinds.{enc, dec}
-use Rattle.rtp_packet.specs.Read.{read_of, parts_of, header_of, marker_of, extension_of, padding_len}
-use Rattle.rtp_packet.specs.Rtp.{plain_datagram}
-use Rattle.rtp_pack.specs.Payload.{octets_of, words_of}
-use Rattle.rtp_playout.specs.Due.{due, offer_answer, take_answer}
-use Rattle.rtp_playout.specs.Order.{drawn_words}
+use Rattle.rtp_packet.specs.Read.{parts_of, header_of, marker_of, extension_of, padding_len}
 use Rattle.rtp_playout.specs.Order.{take_answers}
 use Rattle.q421_line.specs.declared.Role.TheVariants.{Incoming}
 use Rattle.q421_line.specs.Recognition.{recognised}
-use Rattle.q421_line.specs.Tables.{is_open, sent_pair, next_state}
-use Rattle.q421_line.specs.Signalling.{signalling}
-use Rattle.gw_circuit.specs.declared.config.CircuitConfig.{CircuitConfig}
-use Rattle.gw_circuit.specs.declared.CodecFault.TheVariants.{PayloadType}
 use Rattle.gw_circuit.specs.declared.Dropped.TheVariants.{NotOpen}
-use Rattle.gw_circuit.specs.Items.{CircuitEvent, Slot, Signal, Datagram, Codec}
-use Rattle.gw_circuit.specs.Histories.{count, since}
-use Rattle.gw_circuit.specs.Coding.{fits, format_after, codec_reply}
-use Rattle.gw_circuit.specs.Spells.{open_after, spell, stretch}
-use Rattle.gw_circuit.specs.Packets.{is_full, payload_of, sound_of}
-use Rattle.gw_circuit.specs.Replies.{slot_reply, signal_reply, datagram_reply, completes}
-use Rattle.gw_circuit.specs.Replies.{header_after}
 
 -- an incoming circuit, payload type 8, 10 ms, no prefill, SSRC 9, first numbers 0
 abbrev config : CircuitConfig

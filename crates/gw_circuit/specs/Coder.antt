@@ -5,7 +5,7 @@ use Rattle.g726_codec.specs.Kinds.{after_encoding, codec_after}
 use Rattle.g726_codec.specs.Codec.{Variables}
 use Rattle.g726_codec.specs.declared.CodecKind.{CodecKind}
 use Rattle.e1_g711.specs.declared.Law.{Law}
-use Rattle.g726_lanes.specs.Lanes.{column}
+use Rattle.g726_lanes.specs.Bundles.{lane_octets}
 use Rattle.g726_lanes.specs.States.{variables}
 use Rattle.g726_lanes.specs.declared.bundle.Bundle.{Bundle}
 
@@ -50,7 +50,7 @@ pub record IsDone (c : CodedPacket) (s : Variables) (words : List ℕ) : Type 0 
 
 -- the same of a lane of a bundle
 abbrev pub IsInLane : CodedPacket → Bundle → ℕ → Type 0
-IsInLane c b k = IsWork c b.kind b.law (variables b.lanes k) (column b.frames k)
+IsInLane c b k = IsWork c b.kind b.law (variables b.lanes k) (lane_octets b k)
 
 abbrev pub IsCodedInLane : CodedPacket → Bundle → ℕ → Type 0
-IsCodedInLane c b k = IsDone c (variables b.lanes k) (column b.frames k)
+IsCodedInLane c b k = IsDone c (variables b.lanes k) (lane_octets b k)

@@ -3,7 +3,8 @@
 ghost use Rattle.std.specs.Prelude.{◌≡◌, ◌≢◌, ◌<◌, ◌^◌, ◌∷◌, [], length, true, All};
 ghost use Rattle.g726_codec.specs.Kinds.{bits_of, rate_tables, words_by, octet_by, after_by, codec_after};
 ghost use Rattle.g726_codec.specs.Kinds.{after_encoding, after_decoding};
-ghost use Rattle.g726_lanes.specs.Lanes.{AllFit, EachLane};
+ghost use Rattle.g726_lanes.specs.Lanes.{EachLane};
+ghost use Rattle.g726_lanes.specs.Bundles.{AllFit};
 ghost use Rattle.g726_lanes.specs.States.{variables};
 ghost use Rattle.gw_circuit.specs.Ahead.{as_played, IsDecoderInLane, IsDecodedInLane};
 
@@ -11,9 +12,6 @@ use e1_g711::Law;
 use g726_codec::{AnyCodec, CodecKind, State};
 use g726_lanes::{Bundle, FRAMES};
 use std::marker::Model;
-
-// How many words are decoded ahead.
-const WORDS: u8 = FRAMES as u8;
 
 // A codec, with words that were decoded before they are played, and their octets. Of G.711 there are none.
 //
@@ -23,9 +21,10 @@ pub(crate) struct AheadCodec {
     codec: AnyCodec,
     // the decoder's state before the words
     base: State,
-    words: [u8; 16],
-    octets: [u8; 16],
-    // how many of the words were played; once all were, the decoder is not ahead
+    words: [u8; 32],
+    octets: [u8; 32],
+    // how many words there are, and how many of them were played; once all were, the decoder is not ahead
+    known: u8,
     played: u8,
 }
 
@@ -34,12 +33,12 @@ impl Model for AheadCodec {
 
     ghost Value = { CodecState };
 
-    ghost use Rattle.std.specs.Prelude.{◌<◌};
-    ghost use Rattle.gw_circuit.specs.Ahead.{as_played, IsAhead};
+    ghost use Rattle.std.specs.Prelude.{take};
+    ghost use Rattle.gw_circuit.specs.Ahead.{as_played, IsKeptAhead};
 
-    ghost view = { λ a. as_played a.codec a.base a.words a.played };
+    ghost view = { λ a. as_played a.codec a.base (take a.known a.words) a.played };
 
-    ghost invariant = { λ a. a.played < 16 → IsAhead a.codec a.base a.words a.octets };
+    ghost invariant = { λ a. IsKeptAhead a.codec a.base a.words a.octets a.known a.played };
 }
 
 // Decodes words from a state on.
@@ -57,12 +56,13 @@ fn decode_from(codec: &mut AnyCodec, base: &State, words: &[u8])
 }
 
 // Takes a decoder that is ahead back to the words that were played.
-fn go_back(codec: &mut AnyCodec, base: &State, words: &[u8; 16], played: u8)
-    requires kind { played < 16 → codec.old.kind ≢ CodecKind.G711 }
-    requires words { played < 16 → All (λ word. word < 2 ^ bits_of codec.old.kind) words.now }
+fn go_back(codec: &mut AnyCodec, base: &State, words: &[u8], played: u8)
+    requires kind { played < length words.now → codec.old.kind ≢ CodecKind.G711 }
+    requires words { played < length words.now
+        → All (λ word. word < 2 ^ bits_of codec.old.kind) words.now }
     ensures { codec.new ≡ as_played codec.old base.now words.now played }
 {
-    if played < WORDS {
+    if usize::from(played) < words.len() {
         decode_from(codec, base, &words[..usize::from(played)]);
     }
 }
@@ -77,7 +77,8 @@ impl AheadCodec {
             base: State::reset(),
             words: [0; FRAMES],
             octets: [0; FRAMES],
-            played: WORDS,
+            known: 0,
+            played: 0,
         }
     }
 
@@ -97,7 +98,7 @@ impl AheadCodec {
         ensures { self.new ≡ codec_after self.old.law self.old.kind [] [] }
     {
         self.codec.reset();
-        self.played = WORDS;
+        self.known = 0;
     }
 
     pub(crate) fn encoder(&self) -> &State
@@ -128,7 +129,12 @@ impl AheadCodec {
         ensures { result ≡ self.now }
     {
         let mut codec = self.codec.copy();
-        go_back(&mut codec, &self.base, &self.words, self.played);
+        go_back(
+            &mut codec,
+            &self.base,
+            &self.words[..usize::from(self.known)],
+            self.played,
+        );
         codec
     }
 
@@ -156,7 +162,7 @@ impl AheadCodec {
     {
         g726_codec::laws::decoders_continue();
         let next = usize::from(self.played);
-        if self.played < WORDS && self.words[next] == word {
+        if self.played < self.known && self.words[next] == word {
             self.played += 1;
             return self.octets[next];
         }
@@ -170,24 +176,26 @@ impl AheadCodec {
         ensures octet { result ≡ octet_by (rate_tables self.old.kind) self.old.law self.old.decoder word }
         ensures state { self.new ≡ after_decoding self.old (word ∷ []) }
     {
-        go_back(&mut self.codec, &self.base, &self.words, self.played);
-        self.played = WORDS;
+        let known = &self.words[..usize::from(self.known)];
+        go_back(&mut self.codec, &self.base, known, self.played);
+        self.known = 0;
         self.codec.decode(word)
     }
 
     // Whether a decoder of G.726 is not ahead.
     #[inline(always)]
     pub(crate) fn has_played_all(&self) -> bool {
-        self.played >= WORDS && self.codec.kind() != CodecKind::G711
+        self.codec.kind() != CodecKind::G711 && self.played >= self.known
     }
 
     // Puts the decoder and these words into lane `k`, 0 to 7, and returns true, if it is one of the bundle's
     // kind and law that is not ahead.
-    pub(crate) fn load_words(&self, k: usize, words: &[u8; 16], bundle: &mut Bundle) -> bool
+    pub(crate) fn load_words(&self, k: usize, words: &[u8], bundle: &mut Bundle) -> bool
         requires lane { k < 8 }
+        requires count { length words.now ≡ bundle.old.count }
         requires words { All (λ word. word < 2 ^ bits_of self.now.kind) words.now }
         ensures loaded { result ≡ true → IsDecoderInLane self.now bundle.new k }
-        ensures fit { AllFit bundle.old.kind bundle.old.frames → AllFit bundle.old.kind bundle.new.frames }
+        ensures fit { AllFit bundle.old → AllFit bundle.new }
         ensures states { EachLane (λ j. j ≢ k
             → variables bundle.new.lanes j ≡ variables bundle.old.lanes j) }
         ensures kept { (bundle.new.law ≡ bundle.old.law) × (bundle.new.kind ≡ bundle.old.kind) }
@@ -196,7 +204,7 @@ impl AheadCodec {
         if kind == CodecKind::G711 || kind != bundle.kind || self.codec.law() != bundle.law {
             return false;
         }
-        if self.played < WORDS {
+        if self.played < self.known {
             return false;
         }
         bundle.load(k, self.codec.decoder(), words);
@@ -210,12 +218,13 @@ impl AheadCodec {
         ensures { self.new ≡ self.old }
     {
         g726_codec::laws::decoders_continue();
-        if self.codec.kind() == CodecKind::G711 || self.played < WORDS {
+        if self.codec.kind() == CodecKind::G711 || self.played < self.known {
             return;
         }
         self.base = self.codec.replace_decoder(bundle.state(k));
         self.words = bundle.words(k);
         self.octets = bundle.octets(k);
+        self.known = bundle.count as u8;
         self.played = 0;
     }
 }

@@ -1,18 +1,21 @@
 //! A codec with the packet that it fills, whose last octets may wait to be coded (`Coder`).
 
-ghost use Rattle.std.specs.Prelude.{◌≡◌, ◌≢◌, ◌≤◌, ◌<◌, ◌^◌, ◌+◌, ◌++◌, ◌∷◌, [], length, take, true, All};
-ghost use Rattle.g726_codec.specs.Kinds.{bits_of, rate_tables, octet_by, codec_after, after_decoding};
-ghost use Rattle.g726_lanes.specs.Lanes.{column, AllFit, EachLane};
+ghost use Rattle.std.specs.Prelude.{◌≡◌, ◌≢◌, ◌≤◌, ◌<◌, ◌^◌, ◌+◌, ◌++◌, ◌∷◌, [], length, take};
+ghost use Rattle.std.specs.Prelude.{drop, true, All};
+ghost use Rattle.g726_codec.specs.Kinds.{bits_of, rate_tables, octet_by, codec_after};
+ghost use Rattle.g726_codec.specs.Kinds.{after_encoding, after_decoding};
+ghost use Rattle.g726_lanes.specs.Lanes.{EachLane};
+ghost use Rattle.g726_lanes.specs.Bundles.{lane_octets, AllFit};
 ghost use Rattle.g726_lanes.specs.States.{variables};
 ghost use Rattle.gw_circuit.specs.Ahead.{IsDecoderInLane, IsDecodedInLane};
-ghost use Rattle.gw_circuit.specs.Coder.{next_word, with_word, empty_packet, as_coded};
+ghost use Rattle.gw_circuit.specs.Coder.{next_word, next_words, with_word, empty_packet, as_coded};
 ghost use Rattle.gw_circuit.specs.Coder.{IsInLane, IsCodedInLane};
 
 use crate::ahead::AheadCodec;
 use arrayvec::ArrayVec;
 use e1_g711::Law;
 use g726_codec::{AnyCodec, CodecKind};
-use g726_lanes::{Bundle, FRAMES};
+use g726_lanes::Bundle;
 use std::marker::Model;
 use std::mem;
 
@@ -51,11 +54,33 @@ fn code_rest(codec: &mut AheadCodec, packet: &mut ArrayVec<u8, 240>, coded: u8)
     codec.encode_all(&mut packet.as_mut_slice()[usize::from(coded)..]);
 }
 
+// Codes the octets of a slice that are behind this many words.
+fn code_behind(codec: &mut AheadCodec, octets: &mut [u8], coded: u8)
+    requires { coded ≤ length octets.old }
+    ensures octets { octets.new ≡ take coded octets.old ++ next_words codec.old (drop coded octets.old) }
+    ensures len { length octets.new ≡ length octets.old }
+    ensures state { codec.new ≡ after_encoding codec.old (next_words codec.old (drop coded octets.old)) }
+{
+    codec.encode_all(&mut octets[usize::from(coded)..]);
+}
+
+// Codes the octets of a slice that are behind this many words, and before this place.
+fn code_before(codec: &mut AheadCodec, octets: &mut [u8], coded: u8, end: usize)
+    requires begin { coded ≤ end }
+    requires end { end ≤ length octets.old }
+    ensures octets { octets.new ≡ take coded (take end octets.old)
+        ++ (next_words codec.old (drop coded (take end octets.old)) ++ drop end octets.old) }
+    ensures len { length octets.new ≡ length octets.old }
+    ensures state { codec.new
+        ≡ after_encoding codec.old (next_words codec.old (drop coded (take end octets.old))) }
+{
+    code_behind(codec, &mut octets[..end], coded);
+}
+
 // Puts words behind this many.
-fn put_words(packet: &mut ArrayVec<u8, 240>, coded: u8, words: &[u8; 16])
-    requires { length packet.old.items ≡ coded + 16 }
-    ensures items { packet.new.items ≡ take coded packet.old.items ++ words.now }
-    ensures sixteen { length words.now ≡ 16 }
+fn put_words(packet: &mut ArrayVec<u8, 240>, coded: u8, words: &[u8])
+    requires { length packet.old.items ≡ coded + length words.now }
+    ensures { packet.new.items ≡ take coded packet.old.items ++ words.now }
 {
     packet.as_mut_slice()[usize::from(coded)..].copy_from_slice(words);
 }
@@ -134,37 +159,45 @@ impl Coder {
         mem::replace(&mut self.packet, ArrayVec::new())
     }
 
-    // Codes what waits.
-    pub(crate) fn code(&mut self)
+    // Codes what waits, but for the last octets, this many.
+    pub(crate) fn code(&mut self, last: usize)
         ensures { self.new ≡ self.old }
     {
         g726_codec::laws::codecs_continue();
-        code_rest(&mut self.codec, &mut self.packet, self.coded);
-        self.coded = self.packet.len() as u8;
+        let end = self.packet.len().saturating_sub(last);
+        if usize::from(self.coded) < end {
+            code_before(&mut self.codec, self.packet.as_mut_slice(), self.coded, end);
+            self.coded = end as u8;
+        }
     }
 
-    // Whether octets of G.726 wait.
+    // How many octets of G.726 wait.
     #[inline(always)]
-    pub(crate) fn waits(&self) -> bool {
-        usize::from(self.coded) < self.packet.len() && self.codec.kind() != CodecKind::G711
+    pub(crate) fn waiting(&self) -> usize {
+        match self.codec.kind() {
+            CodecKind::G711 => 0,
+            _ => self.packet.len() - usize::from(self.coded),
+        }
     }
 
-    // Puts the encoder and what waits into lane `k`, 0 to 7, and returns true, if sixteen octets wait for an
-    // encoder of the bundle's kind and law.
-    pub(crate) fn load_lane(&self, k: usize, bundle: &mut Bundle) -> bool
+    // Puts the encoder and the last octets into lane `k`, 0 to 7, and returns true, if as many wait as the
+    // bundle has of each circuit, for an encoder of its kind and law. The octets before them are coded first.
+    pub(crate) fn load_lane(&mut self, k: usize, bundle: &mut Bundle) -> bool
         requires { k < 8 }
-        ensures loaded { result ≡ true → IsInLane self.now bundle.new k }
+        ensures state { self.new ≡ self.old }
+        ensures loaded { result ≡ true → IsInLane self.new bundle.new k }
         ensures states { EachLane (λ j. j ≢ k
             → variables bundle.new.lanes j ≡ variables bundle.old.lanes j) }
-        ensures frames { EachLane (λ j. j ≢ k → column bundle.new.frames j ≡ column bundle.old.frames j) }
+        ensures octets { EachLane (λ j. j ≢ k → lane_octets bundle.new j ≡ lane_octets bundle.old j) }
         ensures kept { (bundle.new.law ≡ bundle.old.law) × (bundle.new.kind ≡ bundle.old.kind) }
     {
         let kind = self.codec.kind();
         if kind == CodecKind::G711 || kind != bundle.kind || self.codec.law() != bundle.law {
             return false;
         }
+        self.code(bundle.count);
         let octets = &self.packet.as_slice()[usize::from(self.coded)..];
-        if octets.len() != FRAMES {
+        if octets.len() != bundle.count {
             return false;
         }
         bundle.load(k, self.codec.encoder(), octets);
@@ -179,11 +212,12 @@ impl Coder {
     {
         g726_codec::laws::codecs_continue();
         let from = usize::from(self.coded);
-        if self.codec.kind() == CodecKind::G711 || self.packet.len() != from + FRAMES {
+        if self.codec.kind() == CodecKind::G711 || self.packet.len() != from + bundle.count {
             return;
         }
         self.codec.set_encoder(bundle.state(k));
-        put_words(&mut self.packet, self.coded, &bundle.octets(k));
+        let row = bundle.octets(k);
+        put_words(&mut self.packet, self.coded, &row[..bundle.count]);
         self.coded = self.packet.len() as u8;
     }
 
@@ -219,11 +253,12 @@ impl Coder {
 
     // Puts the decoder and these words into lane `k`, 0 to 7, and returns true, if it is one of the bundle's
     // kind and law that is not ahead.
-    pub(crate) fn load_words(&self, k: usize, words: &[u8; 16], bundle: &mut Bundle) -> bool
+    pub(crate) fn load_words(&self, k: usize, words: &[u8], bundle: &mut Bundle) -> bool
         requires lane { k < 8 }
+        requires count { length words.now ≡ bundle.old.count }
         requires words { All (λ word. word < 2 ^ bits_of self.now.codec.kind) words.now }
         ensures loaded { result ≡ true → IsDecoderInLane self.now.codec bundle.new k }
-        ensures fit { AllFit bundle.old.kind bundle.old.frames → AllFit bundle.old.kind bundle.new.frames }
+        ensures fit { AllFit bundle.old → AllFit bundle.new }
         ensures states { EachLane (λ j. j ≢ k
             → variables bundle.new.lanes j ≡ variables bundle.old.lanes j) }
         ensures kept { (bundle.new.law ≡ bundle.old.law) × (bundle.new.kind ≡ bundle.old.kind) }

@@ -1,8 +1,6 @@
 -- The circuits of a gateway as octets, and back.
-use Rattle.std.proofs.Common.{◌≡◌, ◌≢◌, ◌<◌, ◌≤◌, ◌+◌, ℕ, List, length, arith, sym, ◌∙◌}
-use Rattle.std.proofs.Common.{slice_set, slice_index_or, get_or-set_other, subst}
-use Rattle.gw_switch.specs.declared.circuits.BoxedCircuit.{BoxedCircuit}
-use Rattle.gw_switch.specs.Saved.{IsAlike, AreAlike}
+use Rattle.gw_switch.proofs.Common.{◌≡◌, ◌≢◌, ◌<◌, ◌≤◌, ◌+◌, ℕ, List, length, arith, sym, ◌∙◌, slice_set}
+use Rattle.gw_switch.proofs.Common.{slice_index_or, get_or-set_other, subst, BoxedCircuit, IsAlike, AreAlike}
 
 -- the circuits behind the one that was read are as they were
 pub same-behind : (first mine : List BoxedCircuit) (i : ℕ) (x : BoxedCircuit)

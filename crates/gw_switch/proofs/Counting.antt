@@ -1,37 +1,31 @@
 -- Searches for multiframe alignment, counted over the whole trunk.
-use Rattle.std.proofs.Common.{◌≡◌, ℕ, zero, suc, ◌+◌, ◌-◌, ◌<◌, ◌≤◌, Bool, true, false, cond, eqb}
-use Rattle.std.proofs.Common.{List, [], ◌∷◌, ◌++◌, length, drop, get_or, Option, Some, None, refl, sym, ap, ◌∙◌, arith}
-use Rattle.std.proofs.Common.{append_assoc, append-nil, length-append, inl, inr, subst}
-use Rattle.std.specs.Prelude.{◌&&◌, option_map, nat_le, All}
+use Rattle.gw_switch.proofs.Common.{◌≡◌, ℕ, zero, suc, ◌+◌, ◌-◌, ◌<◌, ◌≤◌, Bool, true, false, cond, eqb, List, [], ◌∷◌}
+use Rattle.gw_switch.proofs.Common.{◌++◌, length, drop, get_or, Option, Some, None, refl, sym, ap, ◌∙◌, arith}
+use Rattle.gw_switch.proofs.Common.{append_assoc, append-nil, inl, inr, subst, ◌&&◌, option_map, nat_le, cases_Bool}
+use Rattle.gw_switch.proofs.Common.{cases_lt, false≢true, get_or-drop, recursion_from_All, All-weaker, alignments_in}
+use Rattle.gw_switch.proofs.Common.{IsAlikeAlong, IsAlignedAlike, Place, Hunting, Slot, place, place_alike, multiframes}
+use Rattle.gw_switch.proofs.Common.{with_octet, slot16_octets, octets}
+use Rattle.std.proofs.Common.{length-append}
+use Rattle.std.specs.Prelude.{All}
 use Rattle.std.specs.List.{AllByRecursion}
-use Rattle.std.proofs.lemmas.Bool.{cases_Bool, cases_lt, false≢true, and_left, lt-leb, le-leb, lt-ltb}
+use Rattle.std.proofs.lemmas.Bool.{and_left, lt-leb, le-leb, lt-ltb}
 use Rattle.std.proofs.lemmas.Option.{same_Some}
-use Rattle.std.proofs.lemmas.List.{get_or-drop}
-use Rattle.std.proofs.lemmas.List.Elements.{recursion_from_All, All-weaker}
 use Rattle.g704_framing.specs.Least.{least}
 use Rattle.g704_framing.specs.Alignment.{AlignmentSpan, loss, alignments_from, alignments_of, after_search, after_loss}
 use Rattle.g704_framing.specs.Alignment.{search_ends_of}
 use Rattle.g704_framing.specs.Age.{is_standing, age_in}
 use Rattle.g704_framing.specs.Laws.{IsLostAlike}
-use Rattle.g704_framing.specs.Places.{alignments_in, IsAlikeAlong, IsAlignedAlike}
 use Rattle.g704_framing.proofs.Leasts.{IsLeast, least-is}
 use Rattle.g704_framing.proofs.Turns.{alignments_turns}
 use Rattle.g704_framing.proofs.Ages.{age_in-over}
 use Rattle.g704_framing.proofs.Moves.{same_alignment}
 use Rattle.g704_framing.proofs.Agrees.{loss-alike, up_to_loss-earlier}
 use Rattle.g704_framing.proofs.Settles.{ages_are_settled, search-from, loss-not_before, age-after_loss}
-use Rattle.g704_align.specs.declared.alignment.Place.{Place}
-use Rattle.g704_align.specs.declared.alignment.Place.TheVariants.{Hunting, Slot}
-use Rattle.g704_align.specs.Placing.{place}
-use Rattle.g704_align.proofs.Callers.{place_alike}
 use Rattle.g704_cas.specs.Search.{is_mfas, is_found_at}
 use Rattle.g704_cas.specs.Loss.{is_second_wrong, multiframe_alignment}
-use Rattle.g704_cas.specs.Placing.{multiframes}
 use Rattle.g704_cas.proofs.LeastSearch.{search_is_least}
 use Rattle.g704_cas.proofs.Searches.{multiframe_is_framing}
 use Rattle.g704_cas.proofs.Wrongs.{is_second_wrong-alike}
-use Rattle.gw_switch.specs.Hearing.{with_octet, slot16_octets}
-use Rattle.gw_switch.specs.Events.{octets}
 use Rattle.gw_switch.specs.Laws.{is_first, is_slot16, ends_search, SearchesAreOfTheTrunk}
 use Rattle.gw_switch.proofs.SameWorlds.{slot16_octets-length, with_slot}
 

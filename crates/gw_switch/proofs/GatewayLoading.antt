@@ -1,17 +1,8 @@
 -- A gateway as octets, and back.
-use Rattle.std.proofs.Common.{◌≡◌, ◌++◌, ◌+◌, ◌-◌, ◌<◌, ◌≤◌, ℕ, List, length, arith, sym, subst, append_assoc}
-use Rattle.std.proofs.Common.{slice_index_or}
-use Rattle.gw_switch.specs.declared.GatewayConfig.{GatewayConfig}
-use Rattle.gw_switch.specs.declared.circuits.BoxedCircuit.{BoxedCircuit}
-use Rattle.gw_switch.specs.declared.gateway.Gateway.{Gateway}
-use Rattle.gw_switch.specs.declared.trunk.Trunk.{Trunk}
-use Rattle.gw_switch.specs.Events.{Event, octets, view}
-use Rattle.gw_switch.specs.Trunk.{HasHeard}
-use Rattle.gw_switch.specs.Standing.{HasHistory, CircuitsStand}
-use Rattle.gw_switch.specs.Saved.{saved_gateway, saved_trunk, saved_circuits, GatewayFits, IsSame, AreAlike}
-use Rattle.gw_switch.specs.Saved.{AreConfiguredAlike}
-use Rattle.gw_switch.specs.Whole.{spare_config}
-use Rattle.gw_switch.specs.Lives.{config_after, life}
+use Rattle.gw_switch.proofs.Common.{◌≡◌, ◌++◌, ◌+◌, ◌-◌, ◌<◌, ◌≤◌, ℕ, List, length, arith, sym, subst, append_assoc}
+use Rattle.gw_switch.proofs.Common.{slice_index_or, GatewayConfig, BoxedCircuit, Gateway, Trunk, Event, octets, view}
+use Rattle.gw_switch.proofs.Common.{HasHeard, HasHistory, CircuitsStand, saved_gateway, saved_trunk, saved_circuits}
+use Rattle.gw_switch.proofs.Common.{GatewayFits, IsSame, AreAlike, AreConfiguredAlike, spare_config, config_after, life}
 
 -- the octets of a gateway begin with those of its trunk
 pub gateway-octets : (g : Gateway) (all rest : List ℕ) → all ≡ saved_gateway g ++ rest

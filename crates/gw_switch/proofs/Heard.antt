@@ -1,15 +1,10 @@
 -- One octet more is heard.
-use Rattle.std.proofs.Common.{◌≡◌, ◌≢◌, ℕ, suc, ◌+◌, ◌-◌, ◌%◌, ◌<◌, ◌≤◌, List, length, [], ◌∷◌, ◌++◌}
-use Rattle.std.proofs.Common.{Option, None, get_or, refl, ◌∙◌, arith}
-use Rattle.std.proofs.lemmas.List.{length_push}
-use Rattle.g704_align.specs.declared.alignment.Place.{Place}
+use Rattle.gw_switch.proofs.Common.{◌≡◌, ◌≢◌, ℕ, suc, ◌+◌, ◌-◌, ◌%◌, ◌<◌, ◌≤◌, List, length, [], ◌∷◌, ◌++◌, Option}
+use Rattle.gw_switch.proofs.Common.{None, get_or, refl, ◌∙◌, arith, length_push, Place, place, slot_of, Trunk, latest}
+use Rattle.gw_switch.proofs.Common.{speech, abcd, slot16_octets, since, nibble_turn, HasHeard, AwaitsTurn, HasTurn}
+use Rattle.gw_switch.proofs.Common.{HearsAt}
 use Rattle.g704_align.specs.declared.alignment.Aligner.{Aligner}
-use Rattle.g704_align.specs.Placing.{place}
 use Rattle.g704_align.specs.Aligner as aligner
-use Rattle.g704_cas.specs.Numbers.{slot_of}
-use Rattle.gw_switch.specs.declared.trunk.Trunk.{Trunk}
-use Rattle.gw_switch.specs.Hearing.{latest, speech, abcd, slot16_octets}
-use Rattle.gw_switch.specs.Trunk.{since, nibble_turn, HasHeard, AwaitsTurn, HasTurn, HearsAt}
 use Rattle.gw_switch.proofs.Rounds.{next_in_round, slot_at}
 use Rattle.gw_switch.proofs.HearingLemmas.{octet_mid, nibble_mid, slot16_octets_now}
 use Rattle.gw_switch.proofs.HearingLemmas.{remote_frame_stands, remote_multiframe_stands}

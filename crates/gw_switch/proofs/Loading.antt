@@ -1,20 +1,15 @@
 -- Slots and nibbles as octets, and back.
-use Rattle.std.proofs.Common.{◌≡◌, ◌++◌, ◌∷◌, [], ◌<◌, ◌≤◌, ◌+◌, ℕ, List, length, All, flat_map, take, refl, arith}
-use Rattle.std.proofs.Common.{sym, ap, subst, ◌∙◌, append_assoc, slice_set, slice_index_or, drop, add-one, drop-cons}
-use Rattle.std.proofs.Common.{Option, Some, None, IfSome}
+use Rattle.gw_switch.proofs.Common.{◌≡◌, ◌++◌, ◌∷◌, [], ◌<◌, ◌≤◌, ◌+◌, ℕ, List, length, All, flat_map, take, refl}
+use Rattle.gw_switch.proofs.Common.{arith, sym, ap, subst, ◌∙◌, append_assoc, slice_set, slice_index_or, drop, add-one}
+use Rattle.gw_switch.proofs.Common.{drop-cons, Option, Some, None, IfSome, take_all, length-take-le, All-push, Trunk}
+use Rattle.gw_switch.proofs.Common.{saved_slot, saved_nibble, saved_slots, saved_nibbles, saved_alarms, IsNibble}
+use Rattle.gw_switch.proofs.Common.{saved_signalling, saved_trunk, two_octets, three-parts, read-three}
 use Rattle.std.proofs.lemmas.Grind.{take-set_at, take_at_read}
-use Rattle.std.proofs.lemmas.List.{take_all, length-take-le}
-use Rattle.std.proofs.lemmas.List.Elements.{All-push}
-use Rattle.gw_switch.specs.declared.trunk.Trunk.{Trunk}
 use Rattle.gw_switch.specs.declared.trunk.signalling.Signalling.{Signalling}
 use Rattle.gw_switch.specs.declared.trunk.saving.RemoteAlarms.{RemoteAlarms}
-use Rattle.gw_switch.specs.Saved.{saved_slot, saved_nibble, saved_slots, saved_nibbles, saved_alarms, IsNibble}
-use Rattle.gw_switch.specs.Saved.{saved_signalling, saved_trunk}
 use Rattle.g704_align.specs.Saved.{saved_aligner}
 use Rattle.g704_cas.specs.Saved.{saved_mf_aligner}
-use Rattle.saved_octets.specs.Numbers.{two_octets}
 use Rattle.saved_octets.proofs.Items.{Tells, saved-push, next-item, all-read}
-use Rattle.gw_circuit.proofs.Loading.{three-parts, read-three}
 
 -- the octets of a slot, and of what is behind it, tell both
 pub slot-tells : Tells (λ slot. Unit {0}) saved_slot

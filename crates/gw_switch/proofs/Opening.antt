@@ -1,12 +1,7 @@
 -- Circuits that are opened one after another.
-use Rattle.std.proofs.Common.{◌≡◌, ◌<◌, ◌+◌, ℕ, List, [], ◌∷◌, ◌++◌, length, slice_index_or, inl, inr, arith}
-use Rattle.std.proofs.Math.Seq.{get_or-append_seam}
-use Rattle.std.proofs.lemmas.Bool.{cases_eq}
-use Rattle.std.proofs.lemmas.List.{get_or_append_left}
-use Rattle.e1_g711.specs.declared.Law.{Law}
-use Rattle.gw_circuit.specs.declared.config.CircuitConfig.{CircuitConfig}
+use Rattle.gw_switch.proofs.Common.{◌≡◌, ◌<◌, ◌+◌, ℕ, List, [], ◌∷◌, ◌++◌, length, slice_index_or, inl, inr, arith}
+use Rattle.gw_switch.proofs.Common.{get_or-append_seam, cases_eq, get_or_append_left, Law, CircuitConfig, BoxedCircuit}
 use Rattle.gw_circuit.specs.Standing.{HasHistory}
-use Rattle.gw_switch.specs.declared.circuits.BoxedCircuit.{BoxedCircuit}
 
 -- with a circuit more that is opened, one more is
 pub one-more-open : (items : List BoxedCircuit) (configs : List CircuitConfig) (law : Law) (new : BoxedCircuit)

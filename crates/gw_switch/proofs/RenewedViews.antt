@@ -1,12 +1,7 @@
 -- What circuits see of a gateway that is reconfigured.
-use Rattle.std.proofs.Common.{◌≡◌, ◌≢◌, ℕ, zero, suc, ◌<◌, ◌≤◌, List, [], ◌∷◌, ◌++◌, inl, inr, refl, sym, ap, ◌∙◌}
-use Rattle.std.proofs.Common.{append_assoc, append-nil, arith}
-use Rattle.std.proofs.lemmas.Bool.{cases_eq}
-use Rattle.gw_circuit.specs.Items.{CircuitEvent}
-use Rattle.gw_switch.specs.declared.GatewayConfig.{GatewayConfig}
-use Rattle.gw_switch.specs.Events.{Event, octets, view}
-use Rattle.gw_switch.specs.Whole.{config_of}
-use Rattle.gw_switch.specs.Reconfigured.{IsRenewal, AreRenewals, RenewalsAreApart}
+use Rattle.gw_switch.proofs.Common.{◌≡◌, ◌≢◌, ℕ, zero, suc, ◌<◌, ◌≤◌, List, [], ◌∷◌, ◌++◌, inl, inr, refl, sym, ap, ◌∙◌}
+use Rattle.gw_switch.proofs.Common.{append_assoc, append-nil, arith, cases_eq, CircuitEvent, GatewayConfig, Event}
+use Rattle.gw_switch.proofs.Common.{octets, view, config_of, IsRenewal, AreRenewals, RenewalsAreApart}
 use Rattle.gw_switch.proofs.Views.{view-given, view-join, octets-push_other}
 
 -- what circuit c has seen of what happened to it

@@ -1,19 +1,9 @@
 -- A gateway whose circuits are configured one after the other.
-use Rattle.std.proofs.Common.{◌≡◌, ◌≢◌, ◌⊎◌, ℕ, zero, suc, ◌+◌, ◌-◌, ◌<◌, ◌≤◌, List, [], ◌∷◌, ◌++◌, inl, inr, refl, sym}
-use Rattle.std.proofs.Common.{ap, ◌∙◌}
-use Rattle.std.proofs.Common.{append_assoc, append-nil, arith, slice_index_or, length}
-use Rattle.std.proofs.lemmas.List.{get_or_default}
-use Rattle.std.proofs.Common.{Option, Some, None, SomeIff}
-use Rattle.std.proofs.lemmas.Bool.{cases_eq}
-use Rattle.std.proofs.lemmas.List.Sums.{fold-append}
-use Rattle.gw_circuit.specs.declared.config.CircuitConfig.{CircuitConfig}
-use Rattle.gw_circuit.specs.Items.{CircuitEvent}
-use Rattle.gw_switch.specs.declared.GatewayConfig.{GatewayConfig}
-use Rattle.gw_switch.specs.declared.gateway.Gateway.{Gateway}
-use Rattle.gw_switch.specs.Events.{Event, view}
-use Rattle.gw_switch.specs.Lives.{next_config}
-use Rattle.gw_switch.specs.Whole.{config_of, config_in, spare_config}
-use Rattle.gw_switch.specs.Reconfigured.{IsRenewal, AreRenewals, HasTaken, RenewalsConfigure}
+use Rattle.gw_switch.proofs.Common.{◌≡◌, ◌≢◌, ◌⊎◌, ℕ, zero, suc, ◌+◌, ◌-◌, ◌<◌, ◌≤◌, List, [], ◌∷◌, ◌++◌, inl, inr}
+use Rattle.gw_switch.proofs.Common.{refl, sym, ap, ◌∙◌, append_assoc, append-nil, arith, slice_index_or, length, Option}
+use Rattle.gw_switch.proofs.Common.{Some, None, SomeIff, get_or_default, cases_eq, fold-append, CircuitConfig}
+use Rattle.gw_switch.proofs.Common.{CircuitEvent, GatewayConfig, Gateway, Event, view, next_config, config_of}
+use Rattle.gw_switch.proofs.Common.{config_in, spare_config, IsRenewal, AreRenewals, HasTaken, RenewalsConfigure}
 use Rattle.gw_switch.proofs.Views.{view-given}
 
 -- the configuration of a circuit after a configuration that is its own, or another's

@@ -1,6 +1,6 @@
 -- The answers to takes before which there is no offer.
 use Rattle.std.proofs.Common.{◌≡◌, ◌+◌, ◌<◌, ℕ, zero, suc, List, [], ◌∷◌, Option, Some, None, refl, sym, ap, ◌∙◌}
-use Rattle.std.proofs.Common.{arith, fold, replicate, All, IfSome, IfNone, length, slice_get, slice_index_or}
+use Rattle.std.proofs.Common.{arith, fold, replicate, All, length, slice_get, slice_index_or}
 use Rattle.std.specs.Prelude.{slice_index}
 use Rattle.std.specs.Option.{option_flatten}
 use Rattle.std.proofs.lemmas.List.Sums.{fold-append}
@@ -10,7 +10,6 @@ use Rattle.rtp_playout.specs.Calls.{PlayoutCall, Takes}
 use Rattle.rtp_playout.specs.Due.{PlacedOffer, PlayoutState, at_first, word_due, after_call, due, take_answer}
 use Rattle.rtp_playout.specs.Due.{later_answer}
 use Rattle.rtp_playout.specs.Standing.{HasHistory, IsBelow}
-use Rattle.rtp_playout.proofs.Keeping.{keeps-of}
 
 -- the word that is due after takes is that of a later place
 after-takes : (prefill : ℕ) (placed : List PlacedOffer) (now k : ℕ)
@@ -31,7 +30,7 @@ later-held playout prefill calls k h =
     let s = fold (after_call prefill) at_first calls in
     let whole = fold-append (after_call prefill) at_first calls (replicate k Takes) in
     ap (λ (t : PlayoutState). word_due t.placed t.now) whole ∙ after-takes prefill s.placed s.now k
-    ∙ sym ((keeps-of playout prefill calls h).held k)
+    ∙ sym (h.keeps.held k)
 
 -- what is got of a place, as what it holds
 pub got-is-held : (items : List (Option ℕ)) (i : ℕ) → option_flatten (slice_get items i) ≡ slice_index_or items i None
@@ -40,29 +39,24 @@ got-is-held (x ∷ items) zero = refl
 got-is-held (x ∷ items) (suc i) = got-is-held items i
 
 -- the words of the first places are the next answers
-pub words-later : (playout : Playout) (prefill : ℕ) (calls : List PlayoutCall) → HasHistory playout prefill calls
-    → (result : Option (List ℕ)) → IfSome result (λ words. (k : ℕ) → k < 16
-    → slice_index_or playout.window.items k None ≡ Some (slice_index words k))
-    → IfSome result (λ words. (k : ℕ) → k < 16 → later_answer prefill calls k ≡ Some (slice_index words k))
-words-later playout prefill calls h None held = tt
-words-later playout prefill calls h (Some words) held =
-    λ k within. later-held playout prefill calls k h ∙ held k within
+pub words-later : (playout : Playout) (prefill : ℕ) (calls : List PlayoutCall) (words : List ℕ)
+    → HasHistory playout prefill calls
+    → ((k : ℕ) → k < length words → slice_index_or playout.window.items k None ≡ Some (slice_index words k))
+    → (k : ℕ) → k < length words → later_answer prefill calls k ≡ Some (slice_index words k)
+words-later playout prefill calls words h held k within = later-held playout prefill calls k h ∙ held k within
 
 -- if one of them holds nothing, so does its take
-pub none-later : (playout : Playout) (prefill : ℕ) (calls : List PlayoutCall) → HasHistory playout prefill calls
-    → (result : Option (List ℕ))
-    → IfNone result ((k : ℕ) × (k < 16) × (slice_index_or playout.window.items k None ≡ None))
-    → IfNone result ((k : ℕ) × (k < 16) × (later_answer prefill calls k ≡ None))
-none-later playout prefill calls h None (k, within, none) =
+pub none-later : (playout : Playout) (prefill : ℕ) (calls : List PlayoutCall) (words : List ℕ)
+    → HasHistory playout prefill calls
+    → (k : ℕ) × (k < length words) × (slice_index_or playout.window.items k None ≡ None)
+    → (k : ℕ) × (k < length words) × (later_answer prefill calls k ≡ None)
+none-later playout prefill calls words h (k, within, none) =
     (k, within, later-held playout prefill calls k h ∙ none)
-none-later playout prefill calls h (Some words) none = tt
 
 -- each of these words is below a bound, if the queued ones are
-pub words-below : (playout : Playout) (bound : ℕ) → IsBelow bound playout → (result : Option (List ℕ))
-    → IfSome result (λ words. (k : ℕ) → k < 16
-    → slice_index_or playout.window.items k None ≡ Some (slice_index words k))
-    → IfSome result (λ words. length words ≡ 16) → IfSome result (λ words. All (λ word. word < bound) words)
-words-below playout bound below None held sixteen = tt
-words-below playout bound below (Some words) held sixteen =
+pub words-below : (playout : Playout) (bound : ℕ) (words : List ℕ) → IsBelow bound playout
+    → ((k : ℕ) → k < length words → slice_index_or playout.window.items k None ≡ Some (slice_index words k))
+    → All (λ word. word < bound) words
+words-below playout bound words below held =
     All-from_get_or (λ word. word < bound) words 0
-    (λ i within. below.each i (slice_index words i) (held i (omega (arith, within, sixteen))))
+    (λ i within. below.each i (slice_index words i) (held i within))

@@ -5,7 +5,7 @@ ghost use Rattle.g726_lanes.specs.Lanes.{EachLane};
 ghost use Rattle.g726_lanes.specs.States.{adaptation};
 
 use crate::adaptations::Adaptations;
-use crate::lane::with_lane;
+use crate::lane::put_lane;
 use g726_tone::{Adapt, AdaptNumbers};
 
 impl Adaptations {
@@ -15,16 +15,14 @@ impl Adaptations {
         ensures others { EachLane (λ j. j ≢ k → adaptation self.new j ≡ adaptation self.old j) }
     {
         let numbers = adapt.numbers();
-        *self = Adaptations {
-            yu: with_lane(self.yu, k, numbers.yu),
-            whole: with_lane(self.whole, k, (numbers.yl / 64) as u16),
-            fraction: with_lane(self.fraction, k, (numbers.yl % 64) as u16),
-            dms: with_lane(self.dms, k, numbers.dms),
-            dml: with_lane(self.dml, k, numbers.dml),
-            ap: with_lane(self.ap, k, numbers.ap),
-            td: with_lane(self.td, k, u16::from(numbers.td)),
-            y: with_lane(self.y, k, adapt.scale()),
-        };
+        put_lane(&mut self.yu, k, numbers.yu);
+        put_lane(&mut self.whole, k, (numbers.yl / 64) as u16);
+        put_lane(&mut self.fraction, k, (numbers.yl % 64) as u16);
+        put_lane(&mut self.dms, k, numbers.dms);
+        put_lane(&mut self.dml, k, numbers.dml);
+        put_lane(&mut self.ap, k, numbers.ap);
+        put_lane(&mut self.td, k, u16::from(numbers.td));
+        put_lane(&mut self.y, k, adapt.scale());
     }
 
     pub(crate) fn store(&self, k: usize) -> Adapt

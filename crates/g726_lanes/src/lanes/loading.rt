@@ -4,9 +4,10 @@ ghost use Rattle.std.specs.Prelude.{◌≡◌, ◌≢◌, ◌<◌};
 ghost use Rattle.g726_lanes.specs.Lanes.{EachLane};
 ghost use Rattle.g726_lanes.specs.States.{variables};
 
-use crate::lane::{bits_of, with_lane};
+use crate::lane::{bits_of, lane, put_lane};
 use crate::lanes::Lanes;
 use g726_codec::State;
+use g726_predict::Predictor;
 
 impl Lanes {
     /// Puts the state of an encoder or a decoder into lane `k`, 0 to 7. The other lanes stay as they are.
@@ -18,8 +19,8 @@ impl Lanes {
         let (sez, se) = state.predictor().estimate();
         self.adaptations.load(k, state.adapt());
         self.predictions.load(k, state.predictor());
-        self.zeros = with_lane(self.zeros, k, bits_of(sez));
-        self.all = with_lane(self.all, k, bits_of(se));
+        put_lane(&mut self.zeros, k, bits_of(sez));
+        put_lane(&mut self.all, k, bits_of(se));
     }
 
     /// The state in lane `k`, 0 to 7.
@@ -27,6 +28,9 @@ impl Lanes {
         requires { k < 8 }
         ensures { result ≡ variables self.now k }
     {
-        State::new(self.adaptations.store(k), self.predictions.store(k))
+        let zeros = lane(self.zeros, k).cast_signed();
+        let all = lane(self.all, k).cast_signed();
+        let predictor = Predictor::of_filter(self.predictions.store(k), zeros, all);
+        State::new(self.adaptations.store(k), predictor)
     }
 }

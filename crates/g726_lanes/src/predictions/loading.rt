@@ -5,9 +5,9 @@ ghost use Rattle.std.specs.Int.{cast_signed, is_negative, w16};
 ghost use Rattle.g726_lanes.specs.Lanes.{EachLane};
 ghost use Rattle.g726_lanes.specs.States.{predictor};
 
-use crate::lane::{lane, with_lane};
+use crate::lane::{lane, put_lane};
 use crate::predictions::Predictions;
-use g726_predict::Predictor;
+use g726_predict::{Filter, Predictor};
 
 // A number whose sign is that of P.
 fn signed(negative: bool) -> u16
@@ -23,29 +23,27 @@ impl Predictions {
         ensures others { EachLane (λ j. j ≢ k → predictor self.new j ≡ predictor self.old j) }
     {
         let (numbers, pk1, pk2) = from.numbers();
-        *self = Predictions {
-            b1: with_lane(self.b1, k, numbers[0]),
-            b2: with_lane(self.b2, k, numbers[1]),
-            b3: with_lane(self.b3, k, numbers[2]),
-            b4: with_lane(self.b4, k, numbers[3]),
-            b5: with_lane(self.b5, k, numbers[4]),
-            b6: with_lane(self.b6, k, numbers[5]),
-            a1: with_lane(self.a1, k, numbers[6]),
-            a2: with_lane(self.a2, k, numbers[7]),
-            dq1: with_lane(self.dq1, k, numbers[8]),
-            dq2: with_lane(self.dq2, k, numbers[9]),
-            dq3: with_lane(self.dq3, k, numbers[10]),
-            dq4: with_lane(self.dq4, k, numbers[11]),
-            dq5: with_lane(self.dq5, k, numbers[12]),
-            dq6: with_lane(self.dq6, k, numbers[13]),
-            sr1: with_lane(self.sr1, k, numbers[14]),
-            sr2: with_lane(self.sr2, k, numbers[15]),
-            p1: with_lane(self.p1, k, signed(pk1)),
-            p2: with_lane(self.p2, k, signed(pk2)),
-        };
+        put_lane(&mut self.b1, k, numbers[0]);
+        put_lane(&mut self.b2, k, numbers[1]);
+        put_lane(&mut self.b3, k, numbers[2]);
+        put_lane(&mut self.b4, k, numbers[3]);
+        put_lane(&mut self.b5, k, numbers[4]);
+        put_lane(&mut self.b6, k, numbers[5]);
+        put_lane(&mut self.a1, k, numbers[6]);
+        put_lane(&mut self.a2, k, numbers[7]);
+        put_lane(&mut self.dq1, k, numbers[8]);
+        put_lane(&mut self.dq2, k, numbers[9]);
+        put_lane(&mut self.dq3, k, numbers[10]);
+        put_lane(&mut self.dq4, k, numbers[11]);
+        put_lane(&mut self.dq5, k, numbers[12]);
+        put_lane(&mut self.dq6, k, numbers[13]);
+        put_lane(&mut self.sr1, k, numbers[14]);
+        put_lane(&mut self.sr2, k, numbers[15]);
+        put_lane(&mut self.p1, k, signed(pk1));
+        put_lane(&mut self.p2, k, signed(pk2));
     }
 
-    pub(crate) fn store(&self, k: usize) -> Predictor
+    pub(crate) fn store(&self, k: usize) -> Filter
         requires { k < 8 }
         ensures { result ≡ predictor self.now k }
     {
@@ -67,6 +65,6 @@ impl Predictions {
             lane(self.sr1, k),
             lane(self.sr2, k),
         ];
-        Predictor::of_numbers(numbers, lane(self.p1, k) > 32767, lane(self.p2, k) > 32767).unwrap()
+        Filter::of_numbers(numbers, lane(self.p1, k) > 32767, lane(self.p2, k) > 32767).unwrap()
     }
 }

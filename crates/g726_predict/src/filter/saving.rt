@@ -62,8 +62,9 @@ impl Filter {
         ]
     }
 
-    // The variables with these numbers; None if a number is not that of a word.
-    pub(crate) fn of_numbers(numbers: [u16; 16], pk1: bool, pk2: bool) -> Option<Filter>
+    /// The variables with these numbers, B1 to B6, A1 and A2 in two's complement, then the words DQ1 to DQ6,
+    /// SR1 and SR2; None if one of the last eight is not below 2048, as words are.
+    pub fn of_numbers(numbers: [u16; 16], pk1: bool, pk2: bool) -> Option<Filter>
         ensures loaded { (s : Prediction) → PredictionFits s → numbers ≡ saved_numbers s → pk1 ≡ s.pk1
             → pk2 ≡ s.pk2 → result ≡ Some s }
         ensures read { IfSome result (λ s. (numbers ≡ saved_numbers s) × (pk1 ≡ s.pk1) × (pk2 ≡ s.pk2)) }

@@ -1,7 +1,7 @@
 //! The variables of the predictor as numbers of 16 bits, and the predictor that has such numbers.
 
 ghost use Rattle.std.specs.Prelude.{◌≡◌, IfSome, Some};
-ghost use Rattle.g726_predict.specs.Predictor.{Prediction};
+ghost use Rattle.g726_predict.specs.Predictor.{Prediction, sez, se};
 ghost use Rattle.g726_predict.specs.Saved.{saved_numbers, PredictionFits};
 
 use crate::filter::Filter;
@@ -27,5 +27,18 @@ impl Predictor {
         let filter = Filter::of_numbers(numbers, pk1, pk2)?;
         let (sez, se) = filter.estimates();
         Some(Predictor { filter, sez, se })
+    }
+
+    /// The predictor with these variables, and SEZ and SE of them.
+    pub fn of_filter(filter: Filter, zeros: i16, all: i16) -> Predictor
+        requires zeros { zeros ≡ sez filter }
+        requires all { all ≡ se filter }
+        ensures { result ≡ filter }
+    {
+        Predictor {
+            filter,
+            sez: zeros,
+            se: all,
+        }
     }
 }

@@ -3,8 +3,9 @@
 //!
 //! Contracts see a circuit as if nothing waited and nothing were decoded early: nothing here changes it.
 
-ghost use Rattle.std.specs.Prelude.{◌≡◌, ◌≢◌, ◌<◌, true};
-ghost use Rattle.g726_lanes.specs.Lanes.{column, AllFit, EachLane};
+ghost use Rattle.std.specs.Prelude.{◌≡◌, ◌≢◌, ◌<◌, ◌≤◌, true};
+ghost use Rattle.g726_lanes.specs.Lanes.{EachLane};
+ghost use Rattle.g726_lanes.specs.Bundles.{lane_octets, AllFit};
 ghost use Rattle.g726_lanes.specs.States.{variables};
 ghost use Rattle.gw_circuit.specs.Ahead.{IsDecoderInLane, IsDecodedInLane};
 ghost use Rattle.gw_circuit.specs.Coder.{IsInLane, IsCodedInLane};
@@ -12,35 +13,49 @@ ghost use Rattle.gw_circuit.specs.Coder.{IsInLane, IsCodedInLane};
 use crate::circuit::Circuit;
 use g726_lanes::Bundle;
 
+// How many octets are encoded at once at most.
+const MOST: usize = 16;
+
 impl Circuit {
-    /// Whether octets of G.726 wait to be coded.
+    /// How many octets of G.726 wait to be coded, in whole fours, and sixteen if more wait.
     #[inline(always)]
-    pub fn waits(&self) -> bool {
-        self.speech.coder.waits()
+    pub fn waiting(&self) -> usize
+        ensures { result ≤ 16 }
+    {
+        let waiting = self.speech.coder.waiting();
+        (waiting - waiting % 4).min(MOST)
     }
 
-    /// A bundle for encoders or decoders of the circuit's law and kind.
-    pub fn bundle(&self) -> Bundle
-        ensures { AllFit result.kind result.frames }
+    /// Whether octets of G.726 wait, and the packet is full after this many slots or before.
+    #[inline(always)]
+    pub fn fills_within(&self, slots: usize) -> bool {
+        self.speech.fills_within(slots)
+    }
+
+    /// A bundle for encoders or decoders of the circuit's law and kind, with this many octets or words each.
+    pub fn bundle(&self, count: usize) -> Bundle
+        requires { count ≤ 32 }
+        ensures { AllFit result }
     {
-        Bundle::new(self.law, self.speech.kind())
+        Bundle::new(self.law, self.speech.kind(), count)
     }
 
     /// Codes what waits.
     pub fn code(&mut self)
         ensures { self.new ≡ self.old }
     {
-        self.speech.coder.code();
+        self.speech.coder.code(0);
     }
 
-    /// Puts the encoder and what waits into lane `k`, 0 to 7, and returns true, if sixteen octets wait for an
-    /// encoder of the bundle's kind and law.
-    pub fn load_lane(&self, k: usize, bundle: &mut Bundle) -> bool
+    /// Puts the encoder and the last octets into lane `k`, 0 to 7, and returns true, if as many wait as the
+    /// bundle has of each circuit, for an encoder of its kind and law.
+    pub fn load_lane(&mut self, k: usize, bundle: &mut Bundle) -> bool
         requires { k < 8 }
-        ensures loaded { result ≡ true → IsInLane self.now.speech.coder bundle.new k }
+        ensures state { self.new ≡ self.old }
+        ensures loaded { result ≡ true → IsInLane self.new.speech.coder bundle.new k }
         ensures states { EachLane (λ j. j ≢ k
             → variables bundle.new.lanes j ≡ variables bundle.old.lanes j) }
-        ensures frames { EachLane (λ j. j ≢ k → column bundle.new.frames j ≡ column bundle.old.frames j) }
+        ensures octets { EachLane (λ j. j ≢ k → lane_octets bundle.new j ≡ lane_octets bundle.old j) }
         ensures kept { (bundle.new.law ≡ bundle.old.law) × (bundle.new.kind ≡ bundle.old.kind) }
     {
         self.speech.coder.load_lane(k, bundle)
@@ -55,18 +70,20 @@ impl Circuit {
         self.speech.coder.store_lane(k, bundle);
     }
 
-    /// Whether words of G.726 are at hand to be decoded before they are due.
+    /// How many words of G.726 are at hand to be decoded before they are due: 32, 16 or none.
     #[inline(always)]
-    pub fn has_words(&self) -> bool {
-        self.speech.has_words()
+    pub fn words_at_hand(&self) -> usize
+        ensures { result ≤ 32 }
+    {
+        self.speech.words_at_hand()
     }
 
-    /// Puts the decoder, and the words that are due next, into lane `k`, 0 to 7, and returns true, if sixteen
-    /// words are at hand for a decoder of the bundle's kind and law that is not ahead.
+    /// Puts the decoder, and the words that are due next, into lane `k`, 0 to 7, and returns true, if as many
+    /// are at hand as the bundle has of each circuit, for a decoder of its kind and law that is not ahead.
     pub fn load_words(&self, k: usize, bundle: &mut Bundle) -> bool
         requires { k < 8 }
         ensures loaded { result ≡ true → IsDecoderInLane self.now.speech.coder.codec bundle.new k }
-        ensures fit { AllFit bundle.old.kind bundle.old.frames → AllFit bundle.old.kind bundle.new.frames }
+        ensures fit { AllFit bundle.old → AllFit bundle.new }
         ensures states { EachLane (λ j. j ≢ k
             → variables bundle.new.lanes j ≡ variables bundle.old.lanes j) }
         ensures kept { (bundle.new.law ≡ bundle.old.law) × (bundle.new.kind ≡ bundle.old.kind) }

@@ -1,9 +1,6 @@
-use Rattle.std.proofs.Common.{rules, ◌<◌, ℕ}
-use Rattle.g726_predict.proofs.Lanes.{eight, all_lanes}
-use Rattle.g726_lanes.specs.Lanes.{lane}
+use Rattle.g726_lanes.proofs.Common.{rules, ◌<◌, ℕ, ◌/◌, ◌≤◌, arith, eight, all_lanes, lane}
 use Rattle.g726_lanes.proofs.Each.{each_lane}
 use Rattle.g726_lanes.proofs.AdaptLanes.{threshold_is}
-use Rattle.std.proofs.Common.{◌/◌, ◌≤◌, arith}
 use Rattle.g726_lanes.proofs.adapt.dqthr.Goals as goal
 
 few : (n : ℕ) → n ≤ 5120 → n / 512 < 16

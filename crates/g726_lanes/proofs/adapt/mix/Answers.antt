@@ -1,11 +1,7 @@
-use Rattle.std.proofs.Common.{rules, ◌<◌, ℕ}
-use Rattle.g726_predict.proofs.Lanes.{eight, all_lanes}
-use Rattle.g726_lanes.specs.Lanes.{lane}
+use Rattle.g726_lanes.proofs.Common.{rules, ◌<◌, ℕ, ◌*◌, ◌/◌, ◌%◌, arith, Fits, w16, ◌+◌, ◌-◌, eight, all_lanes, lane}
+use Rattle.g726_lanes.proofs.Common.{least, at_least}
 use Rattle.g726_lanes.proofs.Each.{each_lane}
 use Rattle.g726_lanes.proofs.AdaptLanes.{y_is, y_within}
-use Rattle.std.proofs.Common.{◌*◌, ◌/◌, ◌%◌, arith, Fits, w16}
-use Rattle.std.proofs.Common.{◌+◌, ◌-◌}
-use Rattle.g726_predict.proofs.LaneProducts.{least, at_least}
 use Rattle.g726_lanes.proofs.adapt.mix.Goals as goal
 
 few : (m : ℕ) → Fits w16 (m % 4294967296 / 65536)
@@ -22,11 +18,7 @@ pub returns : goal.returns
 returns c =
     let at = λ (i : ℕ) (h : i < 8). y_within (lane c.args.yu i) (lane c.args.whole i) (lane c.args.ap i)
     (c.requires.yu_low i h) (c.requires.yu_high i h) (c.requires.low i h) (c.requires.high i h) in
-    rw (
-      eight 0 c.args.yu (search rules),
-      eight 0 c.args.whole (search rules),
-      eight 0 c.args.ap (search rules),
-    )
+    rw (eight 0 c.args.yu (search rules), eight 0 c.args.whole (search rules), eight 0 c.args.ap (search rules))
     (record {
       value = each_lane _ (all_lanes (λ i h. y_is (lane c.args.yu i) (lane c.args.whole i) (lane c.args.ap i)
           (c.requires.yu_low i h) (c.requires.yu_high i h) (c.requires.low i h) (c.requires.high i h)));

@@ -1,6 +1,4 @@
-use Rattle.std.proofs.Common.{rules}
-use Rattle.g726_predict.proofs.Lanes.{eight, all_lanes}
-use Rattle.g726_lanes.specs.Lanes.{lane}
+use Rattle.g726_lanes.proofs.Common.{rules, eight, all_lanes, lane}
 use Rattle.g726_lanes.proofs.Each.{each_lane}
 use Rattle.g726_lanes.proofs.AdaptLanes.{rises_is}
 use Rattle.g726_lanes.proofs.adapt.subtc.Goals as goal

@@ -1,11 +1,6 @@
-use Rattle.std.proofs.Common.{rules, ◌≡◌, ◌<◌, ◌+◌, ◌%◌, ℕ, ◌+ℤ◌, w16, to_z, of_z}
+use Rattle.g726_lanes.proofs.Common.{rules, ◌≡◌, ◌<◌, ◌+◌, ◌%◌, ℕ, ◌+ℤ◌, w16, to_z, of_z, wrapping_add_onto, fmult}
+use Rattle.g726_lanes.proofs.Common.{unpacked, eight, all_lanes, fmult_fits, lane}
 use Rattle.std.specs.Int.{int_wrap}
-use Rattle.std.proofs.lemmas.Int.{wrapping_add_onto}
-use Rattle.g726_predict.specs.Float.{fmult}
-use Rattle.g726_predict.specs.Words.{unpacked}
-use Rattle.g726_predict.proofs.Lanes.{eight, all_lanes}
-use Rattle.g726_predict.proofs.LaneProducts.{fmult_fits}
-use Rattle.g726_lanes.specs.Lanes.{lane}
 use Rattle.g726_lanes.proofs.Each.{each_lane}
 use Rattle.g726_lanes.proofs.Numbers.{number_fits}
 use Rattle.g726_lanes.proofs.filter.accumulate.Goals as goal

@@ -1,8 +1,5 @@
-use Rattle.std.proofs.Common.{rules, ◌≡◌, ◌<◌, ◌%◌, ◌+◌, ◌*◌, ◌/◌, ◌^◌, ℕ, bit_and, arith, Fits, w16}
-use Rattle.std.proofs.lemmas.Nat.{and_mask}
-use Rattle.g726_quant.specs.Blocks.{antilog}
-use Rattle.g726_predict.proofs.Lanes.{eight, all_lanes}
-use Rattle.g726_lanes.specs.Lanes.{lane}
+use Rattle.g726_lanes.proofs.Common.{rules, ◌≡◌, ◌<◌, ◌%◌, ◌+◌, ◌*◌, ◌/◌, ◌^◌, ℕ, bit_and, arith, Fits, w16, and_mask}
+use Rattle.g726_lanes.proofs.Common.{antilog, eight, all_lanes, lane}
 use Rattle.g726_lanes.proofs.Each.{each_lane}
 use Rattle.g726_lanes.proofs.Floats.{antilog_is, lane_antilog}
 use Rattle.g726_lanes.proofs.logs.antilog.Goals as goal

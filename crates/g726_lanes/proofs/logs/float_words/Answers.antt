@@ -1,12 +1,7 @@
-use Rattle.std.proofs.Common.{rules, ◌≡◌, ◌<◌, ◌+◌, ◌*◌, ◌%◌, ℕ, zero, suc, arith, nat_lt}
-use Rattle.g726_quant.specs.Arithmetic.{number_of_bits}
+use Rattle.g726_lanes.proofs.Common.{rules, ◌≡◌, ◌<◌, ◌+◌, ◌*◌, ◌%◌, ℕ, zero, suc, arith, nat_lt, number_of_bits}
+use Rattle.g726_lanes.proofs.Common.{float_word, mantissa_of, unpacked, packed, eight, all_lanes, mantissa_below, lane}
 use Rattle.g726_quant.proofs.Bits.{number_of_bits_least}
-use Rattle.g726_predict.specs.Float.{float_word, mantissa_of}
-use Rattle.g726_predict.specs.Words.{unpacked, packed}
-use Rattle.g726_predict.proofs.Lanes.{eight, all_lanes}
-use Rattle.g726_predict.proofs.LaneProducts.{mantissa_below}
 use Rattle.g726_predict.proofs.Packing.{unpacked-packed}
-use Rattle.g726_lanes.specs.Lanes.{lane}
 use Rattle.g726_lanes.proofs.Each.{each_lane}
 use Rattle.g726_lanes.proofs.Floats.{exact, number, half_fits, half_is, float_is, lane_half, half_word}
 use Rattle.g726_lanes.proofs.logs.float_words.Goals as goal

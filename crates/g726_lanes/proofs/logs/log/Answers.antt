@@ -1,8 +1,5 @@
-use Rattle.std.proofs.Common.{rules, ◌≡◌, ◌<◌, ℕ}
-use Rattle.g726_quant.specs.Blocks.{log}
+use Rattle.g726_lanes.proofs.Common.{rules, ◌≡◌, ◌<◌, ℕ, log, eight, all_lanes, lane}
 use Rattle.g726_quant.proofs.Logarithms.{log_below}
-use Rattle.g726_predict.proofs.Lanes.{eight, all_lanes}
-use Rattle.g726_lanes.specs.Lanes.{lane}
 use Rattle.g726_lanes.proofs.Each.{each_lane}
 use Rattle.g726_lanes.proofs.Floats.{exact, number, half_fits, half_is, float_is, lane_half, half_log}
 use Rattle.g726_lanes.proofs.logs.log.Goals as goal

@@ -1,5 +1,4 @@
-use Rattle.std.proofs.Common.{◌≡◌, arith, refl}
-use Rattle.g726_quant.proofs.Places.{few_bits}
+use Rattle.g726_lanes.proofs.Common.{◌≡◌, arith, refl, few_bits}
 use Rattle.g726_lanes.proofs.QuantLanes.{power, few_bits as powers}
 use Rattle.g726_lanes.proofs.quantiser.all_ones.Goals as goal
 

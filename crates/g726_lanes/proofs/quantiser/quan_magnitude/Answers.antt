@@ -1,10 +1,6 @@
-use Rattle.std.proofs.Common.{rules, ◌≡◌, ◌<◌, ◌+◌, ℕ, ℤ, pos, ◌+ℤ◌, length, get_or, take, nat_le, ◌≤◌, ◌%◌, ap, ◌∙◌}
-use Rattle.std.proofs.Common.{sym, arith, cond, refl, suc, SFits, w16}
-use Rattle.std.specs.Int.RustNames.{int_le}
-use Rattle.std.specs.List.{count_by}
-use Rattle.std.proofs.lemmas.Int.{to_z-of_z}
-use Rattle.g726_predict.proofs.Lanes.{eight, all_lanes}
-use Rattle.g726_lanes.specs.Lanes.{lane}
+use Rattle.g726_lanes.proofs.Common.{rules, ◌≡◌, ◌<◌, ◌+◌, ℕ, ℤ, pos, ◌+ℤ◌, length, get_or, take, nat_le, ◌≤◌, ◌%◌, ap}
+use Rattle.g726_lanes.proofs.Common.{◌∙◌, sym, arith, cond, refl, suc, SFits, w16, int_le, count_by, to_z-of_z, eight}
+use Rattle.g726_lanes.proofs.Common.{all_lanes, lane}
 use Rattle.g726_lanes.proofs.Each.{each_lane}
 use Rattle.std.proofs.lemmas.List.{take_all}
 use Rattle.g726_lanes.proofs.PoleLanes.{chosen}

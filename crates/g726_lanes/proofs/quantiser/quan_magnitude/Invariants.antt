@@ -1,6 +1,4 @@
-use Rattle.std.proofs.Common.{◌≡◌, ◌<◌, ◌+ℤ◌, ℕ, ℤ, pos, length, get_or, take}
-use Rattle.std.specs.Int.RustNames.{int_le}
-use Rattle.std.specs.List.{count_by}
+use Rattle.g726_lanes.proofs.Common.{◌≡◌, ◌<◌, ◌+ℤ◌, ℕ, ℤ, pos, length, get_or, take, int_le, count_by}
 use Rattle.g726_lanes.proofs.quantiser.quan_magnitude.Given as goal
 
 -- in each lane as many as there are among the thresholds before the index

@@ -1,10 +1,7 @@
-use Rattle.std.proofs.Common.{◌≡◌, ◌<◌, ◌%◌, ℕ, ℤ, Bool, ap, ◌∙◌, arith, unsigned_abs}
-use Rattle.std.specs.Int.{is_negative}
-use Rattle.std.specs.Int.RustNames.{int_le}
+use Rattle.g726_lanes.proofs.Common.{◌≡◌, ◌<◌, ◌%◌, ℕ, ℤ, Bool, ap, ◌∙◌, arith, unsigned_abs, is_negative, int_le}
+use Rattle.g726_lanes.proofs.Common.{quan_word, subtb, log, few_bits, thresholds_count, few_magnitudes, lane, number}
 use Rattle.std.proofs.lemmas.List.Sums.{count_by-le-length}
-use Rattle.g726_quant.specs.Blocks.{quantised, quan_word, quan_magnitude, subtb, log}
-use Rattle.g726_quant.proofs.Places.{few_bits, thresholds_count, few_magnitudes}
-use Rattle.g726_lanes.specs.Lanes.{lane, number}
+use Rattle.g726_quant.specs.Blocks.{quantised, quan_magnitude}
 use Rattle.g726_lanes.proofs.QuantLanes.{thresholds_within}
 use Rattle.g726_lanes.proofs.quantiser.quantise.Goals as goal
 

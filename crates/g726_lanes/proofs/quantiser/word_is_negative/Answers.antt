@@ -1,7 +1,4 @@
-use Rattle.std.proofs.Common.{rules, ◌≡◌, ◌<◌, ◌*◌, ◌%◌, ◌^◌, ℕ, arith}
-use Rattle.g726_predict.proofs.Lanes.{eight, all_lanes}
-use Rattle.g726_quant.proofs.Places.{few_bits}
-use Rattle.g726_lanes.specs.Lanes.{lane}
+use Rattle.g726_lanes.proofs.Common.{rules, ◌≡◌, ◌<◌, ◌*◌, ◌%◌, ◌^◌, ℕ, arith, eight, all_lanes, few_bits, lane}
 use Rattle.g726_lanes.proofs.Each.{each_lane}
 use Rattle.g726_lanes.proofs.QuantLanes.{sign_is, power}
 use Rattle.g726_lanes.proofs.quantiser.word_is_negative.Goals as goal

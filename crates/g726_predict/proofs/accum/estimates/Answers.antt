@@ -1,4 +1,4 @@
-use Rattle.std.proofs.Common.{◌≡◌, pos, length, rules, get_or, ◌∙◌, SFits, w16, map, of_z, ℕ, ◌<◌}
+use Rattle.g726_predict.proofs.Common.{◌≡◌, pos, length, rules, get_or, ◌∙◌, SFits, w16, map, of_z, ℕ, ◌<◌}
 use Rattle.g726_predict.proofs.Lanes.{eight, eight_of, all_lanes, at_lane}
 use Rattle.g726_predict.proofs.LaneProducts.{bits_below}
 use Rattle.g726_predict.proofs.LaneSums.{product, product_fits, products_are, all_sum, zeros_sum, half_is}

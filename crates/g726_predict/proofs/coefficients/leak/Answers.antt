@@ -1,5 +1,4 @@
-use Rattle.std.proofs.Common.{◌^◌, refl}
-use Rattle.std.proofs.lemmas.Int.{to_z-of_z}
+use Rattle.g726_predict.proofs.Common.{◌^◌, refl, to_z-of_z}
 use Rattle.g726_predict.proofs.LaneUpdates.{brought_in}
 use Rattle.g726_predict.proofs.Leaks.{left}
 use Rattle.g726_predict.proofs.coefficients.leak.Goals as goal

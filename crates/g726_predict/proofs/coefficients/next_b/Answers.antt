@@ -1,7 +1,6 @@
-use Rattle.std.proofs.Common.{◌≡◌, ℕ, pos, rules, get_or, SFits, nat_le, ℤ, Bool, to_z, of_z, w16, w32}
-use Rattle.std.proofs.lemmas.Int.{to_z-of_z}
+use Rattle.g726_predict.proofs.Common.{◌≡◌, ℕ, pos, rules, get_or, SFits, nat_le, ℤ, Bool, to_z, of_z, w16, w32}
+use Rattle.g726_predict.proofs.Common.{to_z-of_z, trigb}
 use Rattle.g726_predict.specs.Coefficients.{updated_b}
-use Rattle.g726_predict.specs.Predictor.{trigb}
 use Rattle.g726_predict.proofs.Lanes.{eight, same_lanes, all_lanes, at_lane}
 use Rattle.g726_predict.proofs.LaneUpdates.{brought_in, taken_out, wide, updated_fits}
 use Rattle.g726_predict.proofs.coefficients.next_b.Goals as goal

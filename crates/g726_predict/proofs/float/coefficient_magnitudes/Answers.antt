@@ -1,4 +1,4 @@
-use Rattle.std.proofs.Common.{◌<◌, get_or}
+use Rattle.g726_predict.proofs.Common.{◌<◌, get_or}
 use Rattle.g726_predict.proofs.Lanes.{eight, same_lanes, at_lane}
 use Rattle.g726_predict.proofs.LaneProducts.{magnitude_is}
 use Rattle.g726_predict.proofs.float.coefficient_magnitudes.Goals as goal

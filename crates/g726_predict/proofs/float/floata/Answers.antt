@@ -1,4 +1,4 @@
-use Rattle.std.proofs.Common.{ℕ, ◌<◌, get_or}
+use Rattle.g726_predict.proofs.Common.{ℕ, ◌<◌, get_or}
 use Rattle.g726_predict.proofs.Lanes.{eight, same_lanes, all_lanes, at_lane}
 use Rattle.g726_predict.proofs.Floats.{exact, number, half_fits, exponent_lane, mantissa_lane}
 use Rattle.g726_predict.proofs.float.floata.Goals as goal

@@ -1,4 +1,4 @@
-use Rattle.std.proofs.Common.{◌<◌, get_or}
+use Rattle.g726_predict.proofs.Common.{◌<◌, get_or}
 use Rattle.g726_predict.proofs.Lanes.{eight, same_lanes, all_lanes, at_lane}
 use Rattle.g726_predict.proofs.LaneProducts.{fmult_is, coefficient_below}
 use Rattle.g726_predict.proofs.float.fmult.Goals as goal

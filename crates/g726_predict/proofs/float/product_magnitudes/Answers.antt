@@ -1,4 +1,4 @@
-use Rattle.std.proofs.Common.{ℕ, ◌<◌, get_or}
+use Rattle.g726_predict.proofs.Common.{ℕ, ◌<◌, get_or}
 use Rattle.g726_predict.proofs.Lanes.{eight, same_lanes, all_lanes, at_lane}
 use Rattle.g726_predict.proofs.LaneProducts.{product_is, places_below, magnitude_fits}
 use Rattle.g726_predict.proofs.float.product_magnitudes.Goals as goal

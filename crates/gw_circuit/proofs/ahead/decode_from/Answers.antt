@@ -1,4 +1,4 @@
-use Rattle.std.proofs.Common.{◌∙◌}
+use Rattle.gw_circuit.proofs.Common.{◌∙◌}
 use Rattle.gw_circuit.proofs.AheadDecoders.{none-decoded, one-more-decoded, all-decoded}
 use Rattle.gw_circuit.proofs.ahead.decode_from.Goals as goal
 

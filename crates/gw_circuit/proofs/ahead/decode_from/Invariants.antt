@@ -1,5 +1,4 @@
-use Rattle.std.proofs.Common.{◌≡◌, take}
-use Rattle.g726_codec.specs.Kinds.{rate_tables, after_by}
+use Rattle.gw_circuit.proofs.Common.{◌≡◌, take, rate_tables, after_by}
 use Rattle.gw_circuit.proofs.ahead.decode_from.Given as goal
 
 -- the words before the index are decoded

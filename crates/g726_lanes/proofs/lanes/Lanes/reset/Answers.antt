@@ -1,5 +1,4 @@
-use Rattle.g726_codec.specs.Codec.{encoded, after_octets, after_words}
-use Rattle.g726_predict.proofs.Lanes.{all_lanes}
+use Rattle.g726_lanes.proofs.Common.{encoded, after_octets, after_words, all_lanes}
 use Rattle.g726_lanes.proofs.Each.{each_lane}
 use Rattle.g726_lanes.proofs.Steps.{made_same}
 use Rattle.g726_lanes.proofs.lanes.Lanes.reset.Goals as goal

@@ -1,13 +1,14 @@
-use Rattle.std.proofs.Common.{◌≡◌, ℕ, sym, ◌∙◌}
-use Rattle.g726_codec.specs.Codec.{Variables}
-use Rattle.g726_lanes.specs.States.{variables, adaptation, predictor}
-use Rattle.g726_lanes.proofs.Steps.{made, made_same, picked}
+use Rattle.g726_lanes.proofs.Common.{sym, ◌∙◌, rules, SFits, w16, to_z-of_z}
+use Rattle.g726_lanes.proofs.Steps.{made_same, is_in_lane}
 use Rattle.g726_lanes.proofs.lanes.Lanes.store.Goals as goal
+
+pub of_filter-predictor-requires-clause-zeros : goal.of_filter-predictor-requires-clause-zeros
+of_filter-predictor-requires-clause-zeros c =
+    let fits : SFits w16 c.cast_signed-zeros.result = search rules in
+    rw (to_z-of_z w16 c.cast_signed-zeros.result fits, c.cast_signed-zeros.ensures, c.lane.ensures, c.store.ensures)
+    (c.self.invariant.zeros_are c.args.k c.requires)
 
 pub returns : goal.returns
 returns c =
-    let s = c.self.inside in
-    let old : ℕ → Variables = λ i. made (adaptation s.adaptations i) (predictor s.predictions i) in
-    let is_old : variables c.args.self.now c.args.k ≡ old c.args.k =
-    rw (← c.self.view_is) (picked old c.args.k c.requires) in
-    c.new.ensures ∙ (made_same c.store.ensures c.store-2.ensures ∙ sym is_old)
+    c.new.ensures ∙ made_same c.store-2.ensures (c.of_filter-predictor.ensures ∙ c.store.ensures)
+    ∙ sym (is_in_lane c.self.inside.adaptations c.self.inside.predictions c.self.view_is c.args.k c.requires)

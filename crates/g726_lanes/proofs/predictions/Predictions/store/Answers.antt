@@ -1,10 +1,8 @@
-use Rattle.std.proofs.Common.{rules, ◌≡◌, ◌<◌, ◌+◌, ℕ, Some, get_or, [], ◌∷◌, sym, ◌∙◌, refl}
-use Rattle.g726_predict.specs.Predictor.{Prediction}
+use Rattle.g726_lanes.proofs.Common.{rules, ◌≡◌, ◌<◌, ◌+◌, ℕ, Some, get_or, [], ◌∷◌, sym, ◌∙◌, refl, lane, minus}
+use Rattle.g726_lanes.proofs.Common.{predictor}
 use Rattle.g726_predict.proofs.Saved.{numbered}
-use Rattle.g726_lanes.specs.Lanes.{lane, minus}
-use Rattle.g726_lanes.specs.States.{predictor}
-use Rattle.g726_lanes.proofs.Each.{each_lane}
-use Rattle.g726_lanes.proofs.PredictionUpdates.{picked}
+use Rattle.g726_lanes.proofs.Each.{of_eight}
+use Rattle.g726_lanes.proofs.PredictionUpdates.{in_lane, is_in_lane}
 use Rattle.g726_lanes.proofs.PredictionNumbers.{few-of, numbered-fits, numbers-again, negative_is}
 use Rattle.g726_lanes.proofs.predictions.Predictions.store.Goals as goal
 use Rattle.g726_lanes.proofs.predictions.Predictions.store.Goals.{After-of_numbers}
@@ -22,67 +20,24 @@ stored c =
     c.lane-10.result ∷ c.lane-11.result ∷ c.lane-12.result ∷ c.lane-13.result ∷ c.lane-14.result ∷
     c.lane-15.result ∷ c.lane-16.result ∷ []) (search rules) (search rules) (search rules) (search rules)
     (search rules) (search rules) (search rules) (search rules) in
-    let words : (i : ℕ) → i < 8 → n (8 + i) < 2048 = each_lane _ (
-      (rw c.lane-9.ensures (c.self.invariant.0
-          c.args.k c.requires)),
-      (
-        (rw c.lane-10.ensures (c.self.invariant.1.0 c.args.k c.requires)),
-        (
-          (rw
-              c.lane-11.ensures (c.self.invariant.1.1.0 c.args.k c.requires)),
-          (
-            (rw c.lane-12.ensures
-                (c.self.invariant.1.1.1.0 c.args.k c.requires)),
-            (
-              (rw c.lane-13.ensures (c.self.invariant.1.1.1.1.0 c.args.k
-                  c.requires)),
-              (
-                (rw c.lane-14.ensures (c.self.invariant.1.1.1.1.1.0 c.args.k c.requires)),
-                (
-                  (rw
-                      c.lane-15.ensures (c.self.invariant.1.1.1.1.1.1.0 c.args.k c.requires)),
-                  (
-                    (rw c.lane-16.ensures
-                        (c.self.invariant.1.1.1.1.1.1.1.0 c.args.k c.requires)),
-                    tt,
-                  ),
-                ),
-              ),
-            ),
-          ),
-        ),
-      ),
-    ) in
-    let old : ℕ → Prediction = λ k. numbered (λ i. get_or (lane s.b1 k ∷ lane s.b2 k ∷ lane s.b3 k ∷ lane s.b4 k
-    ∷ lane s.b5 k ∷ lane s.b6 k ∷ lane s.a1 k ∷ lane s.a2 k ∷ lane s.dq1 k ∷ lane s.dq2 k ∷ lane s.dq3 k ∷ lane
-    s.dq4 k ∷ lane s.dq5 k ∷ lane s.dq6 k ∷ lane s.sr1 k ∷ lane s.sr2 k ∷ []) i 0) (minus s.p1 k) (minus s.p2 k)
-    in
-    let is_old : predictor c.args.self.now c.args.k ≡ old c.args.k =
-    rw (← c.self.view_is) (picked old c.args.k c.requires) in
-    let same : numbered n (minus s.p1 c.args.k) (minus s.p2 c.args.k) ≡ old c.args.k = rw (
-      c.lane.ensures,
-      c.lane-2.ensures,
-      c.lane-3.ensures,
-      c.lane-4.ensures,
-      c.lane-5.ensures,
-      c.lane-6.ensures,
-      c.lane-7.ensures,
-      c.lane-8.ensures,
-      c.lane-9.ensures,
-      c.lane-10.ensures,
-      c.lane-11.ensures,
-      c.lane-12.ensures,
-      c.lane-13.ensures,
-      c.lane-14.ensures,
-      c.lane-15.ensures,
-      c.lane-16.ensures,
-    ) refl in
-    let pk1 = minus s.p1 c.args.k in
-    let pk2 = minus s.p2 c.args.k in
-    rw (is_old, ← same) (c.of_numbers.ensures.loaded (numbered n pk1 pk2) (numbered-fits n pk1 pk2 few)
-    (numbers-again n pk1 pk2 few words) (rw c.lane-17.ensures (negative_is (lane s.p1 c.args.k) (rw (←
-    c.lane-17.ensures) (search rules))))
-    (rw c.lane-18.ensures (negative_is (lane s.p2 c.args.k) (rw (← c.lane-18.ensures) (search rules)))))
+    let k = c.args.k in
+    let h = c.requires in
+    let kept = c.self.invariant in
+    let words : (i : ℕ) → i < 8 → n (8 + i) < 2048 = of_eight _ (rw c.lane-9.ensures (kept.0 k h))
+    (rw c.lane-10.ensures (kept.1.0 k h)) (rw c.lane-11.ensures (kept.1.1.0 k h))
+    (rw c.lane-12.ensures (kept.1.1.1.0 k h)) (rw c.lane-13.ensures (kept.1.1.1.1.0 k h))
+    (rw c.lane-14.ensures (kept.1.1.1.1.1.0 k h)) (rw c.lane-15.ensures (kept.1.1.1.1.1.1.0 k h))
+    (rw c.lane-16.ensures (kept.1.1.1.1.1.1.1.0 k h)) in
+    let same : numbered n (minus s.p1 k) (minus s.p2 k) ≡ in_lane s k =
+    rw (c.lane.ensures, c.lane-2.ensures, c.lane-3.ensures, c.lane-4.ensures, c.lane-5.ensures, c.lane-6.ensures)
+    (rw (c.lane-7.ensures, c.lane-8.ensures, c.lane-9.ensures, c.lane-10.ensures, c.lane-11.ensures)
+    (rw (c.lane-12.ensures, c.lane-13.ensures, c.lane-14.ensures, c.lane-15.ensures, c.lane-16.ensures) refl)) in
+    let pk1 = minus s.p1 k in
+    let pk2 = minus s.p2 k in
+    rw (is_in_lane s c.self.view_is k h, ← same) (c.of_numbers.ensures.loaded (numbered n pk1 pk2)
+    (numbered-fits n pk1 pk2 few) (numbers-again n pk1 pk2 few words)
+    (rw c.lane-17.ensures (negative_is (lane s.p1 k) (rw (← c.lane-17.ensures) (search rules))))
+    (rw c.lane-18.ensures (negative_is (lane s.p2 k) (rw (← c.lane-18.ensures) (search rules)))))
 
 pub unwrap-requires : goal.unwrap-requires
 unwrap-requires c = rw (stored c) refl

@@ -1,4 +1,4 @@
-use Rattle.std.proofs.Common.{[], ◌∷◌, flat_map, append_assoc, ◌∙◌}
+use Rattle.g726_predict.proofs.Common.{[], ◌∷◌, flat_map, append_assoc, ◌∙◌}
 use Rattle.saved_octets.specs.Numbers.{flag_octet, two_octets}
 use Rattle.g726_predict.specs.Saved.{saved_prediction, saved_numbers}
 use Rattle.std.proofs.lemmas.Option.{same_Some}

@@ -1,5 +1,4 @@
-use Rattle.std.proofs.Common.{rules, w16, SFits, refl}
-use Rattle.std.proofs.lemmas.Int.{to_z-of_z}
+use Rattle.g726_predict.proofs.Common.{rules, w16, SFits, refl, to_z-of_z}
 use Rattle.g726_predict.specs.Saved.{WordFits}
 use Rattle.g726_predict.proofs.Saved.{packed-unpacked, unpacked-fits, of-two, of-six}
 use Rattle.g726_predict.proofs.filter.Filter.numbers.Goals as goal

@@ -1,8 +1,8 @@
-use Rattle.std.proofs.Common.{rules, ◌≡◌, ◌<◌, ℕ, length, get_or, true, Some, ap, sym, ◌∙◌, refl, w16, arith}
-use Rattle.std.proofs.lemmas.Int.{to_z-of_z}
-use Rattle.g726_predict.specs.Predictor.{Prediction}
+use Rattle.g726_predict.proofs.Common.{rules, ◌≡◌, ◌<◌, ◌+◌, ℕ, length, get_or, true, Some, ap, sym, ◌∙◌, refl, w16}
+use Rattle.g726_predict.proofs.Common.{arith, to_z-of_z, Prediction}
 use Rattle.g726_predict.proofs.Saved.{numbered, numbered-saved, saved-numbered, saved-words, words-known, are_words}
 use Rattle.g726_predict.proofs.Saved.{listed}
+use Rattle.g726_predict.proofs.Lanes.{all_lanes}
 use Rattle.g726_predict.proofs.filter.Filter.of_numbers.Goals as goal
 
 pub returns-then-not-are_words-clause-loaded : goal.returns-then-not-are_words-clause-loaded
@@ -16,28 +16,7 @@ pub invariant_of-result : goal.invariant_of-result
 invariant_of-result c =
     let long : length c.args.numbers ≡ 16 = search rules in
     let all : are_words c.args.numbers ≡ true = sym c.are_words.ensures ∙ c.if-not-are_words.false in
-    let word = words-known c.args.numbers long all in (
-      word 8 (omega arith) (omega arith),
-      (
-        word 9 (omega arith) (omega arith),
-        (
-          word 10 (omega arith) (omega arith),
-          (
-            word 11 (omega arith) (omega arith),
-            (
-              word 12 (omega arith) (omega arith),
-              (
-                word 13 (omega arith) (omega arith),
-                (
-                  word 14 (omega arith) (omega arith),
-                  (word 15 (omega arith) (omega arith), tt),
-                ),
-              ),
-            ),
-          ),
-        ),
-      ),
-    )
+    all_lanes (λ i h. words-known c.args.numbers long all (8 + i) (omega arith) (omega arith))
 
 pub returns-clause-loaded : goal.returns-clause-loaded
 returns-clause-loaded c = λ s fits e p q.

@@ -1,5 +1,4 @@
-use Rattle.gw_circuit.specs.Coding.{format_after}
-use Rattle.gw_circuit.specs.Replies.{packet_size, heard_in, calls_in}
+use Rattle.gw_circuit.proofs.Common.{format_after, packet_size, heard_in, calls_in}
 use Rattle.gw_circuit.proofs.Loading.{stands-cleared}
 use Rattle.gw_circuit.proofs.Turns.{keeps-of}
 use Rattle.gw_circuit.proofs.circuit.Circuit.clear.Goals as goal

@@ -1,4 +1,4 @@
-use Rattle.gw_circuit.specs.Spells.{line_items}
+use Rattle.gw_circuit.proofs.Common.{line_items}
 use Rattle.gw_circuit.proofs.Turns.{keeps-of}
 use Rattle.gw_circuit.proofs.circuit.Circuit.configure.Goals as goal
 

@@ -1,4 +1,4 @@
-use Rattle.std.proofs.Common.{refl}
+use Rattle.gw_circuit.proofs.Common.{refl}
 use Rattle.gw_circuit.proofs.Loading.{same-coder}
 use Rattle.gw_circuit.proofs.circuit.Circuit.keep_octets.Goals as goal
 

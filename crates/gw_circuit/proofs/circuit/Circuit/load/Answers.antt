@@ -1,10 +1,6 @@
-use Rattle.std.proofs.Common.{◌++◌, [], refl, sym, ap, ◌∙◌}
-use Rattle.q421_line.specs.Saved.{saved_line}
-use Rattle.gw_circuit.specs.declared.config.CircuitConfig.{CircuitConfig}
-use Rattle.gw_circuit.specs.declared.circuit.Circuit.{Circuit}
-use Rattle.gw_circuit.specs.Coding.{format_after}
-use Rattle.gw_circuit.specs.Replies.{packet_size, heard_in, calls_in}
-use Rattle.gw_circuit.specs.Saved.{saved_circuit, saved_clocks, saved_counts, saved_speech}
+use Rattle.gw_circuit.proofs.Common.{◌++◌, [], refl, sym, ap, ◌∙◌, saved_line, CircuitConfig, Circuit, format_after}
+use Rattle.gw_circuit.proofs.Common.{packet_size, heard_in, calls_in, saved_circuit, saved_clocks, saved_counts}
+use Rattle.gw_circuit.proofs.Common.{saved_speech}
 use Rattle.gw_circuit.proofs.Loading.{circuit-octets, numbers-told, same-circuit, stands-reset, none-holds, none-says}
 use Rattle.gw_circuit.proofs.Loading.{some-says, some-is-there, read-three}
 use Rattle.gw_circuit.proofs.Spells.{stretch-none}

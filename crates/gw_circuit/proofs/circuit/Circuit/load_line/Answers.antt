@@ -1,4 +1,4 @@
-use Rattle.std.proofs.Common.{refl}
+use Rattle.gw_circuit.proofs.Common.{refl}
 use Rattle.gw_circuit.proofs.circuit.Circuit.load_line.Goals as goal
 
 pub returns-then-loaded-clause-loaded : goal.returns-then-loaded-clause-loaded

@@ -1,5 +1,4 @@
-use Rattle.q421_line.specs.Saved.{saved_line}
-use Rattle.gw_circuit.specs.Saved.{saved_circuit, saved_numbers, saved_speech}
+use Rattle.gw_circuit.proofs.Common.{saved_line, saved_circuit, saved_numbers, saved_speech}
 use Rattle.gw_circuit.proofs.Loading.{append-three}
 use Rattle.gw_circuit.proofs.circuit.Circuit.save.Goals as goal
 

@@ -1,4 +1,4 @@
-use Rattle.gw_circuit.specs.Saved.{saved_clocks, saved_counts}
+use Rattle.gw_circuit.proofs.Common.{saved_clocks, saved_counts}
 use Rattle.gw_circuit.proofs.Loading.{append-two}
 use Rattle.gw_circuit.proofs.circuit.Circuit.save_numbers.Goals as goal
 

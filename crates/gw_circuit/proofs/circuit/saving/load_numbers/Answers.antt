@@ -1,5 +1,4 @@
-use Rattle.std.proofs.Common.{◌++◌, ◌∙◌, append_assoc}
-use Rattle.gw_circuit.specs.Saved.{saved_clocks, saved_counts}
+use Rattle.gw_circuit.proofs.Common.{◌++◌, ◌∙◌, append_assoc, saved_clocks, saved_counts}
 use Rattle.gw_circuit.proofs.circuit.saving.load_numbers.Goals as goal
 
 pub returns-in_err-counts-clause-loaded : goal.returns-in_err-counts-clause-loaded

@@ -1,5 +1,4 @@
-use Rattle.std.proofs.Common.{◌≡◌, ap, ◌∙◌, [], rules}
-use Rattle.gw_circuit.specs.Coder.{CodedPacket, next_word, with_word}
+use Rattle.gw_circuit.proofs.Common.{◌≡◌, ap, ◌∙◌, [], rules, CodedPacket, next_word, with_word}
 use Rattle.gw_circuit.proofs.Coders.{one-more-waits, none-waits}
 use Rattle.gw_circuit.proofs.coder.Coder.fill.Goals as goal
 

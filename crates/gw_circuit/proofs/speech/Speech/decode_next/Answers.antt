@@ -1,6 +1,4 @@
-use Rattle.std.proofs.Common.{sym, ap, ◌∙◌}
-use Rattle.rtp_playout.specs.Order.{drawn_words}
-use Rattle.gw_circuit.specs.Coder.{CodedPacket}
+use Rattle.gw_circuit.proofs.Common.{sym, ap, ◌∙◌, drawn_words, CodedPacket}
 use Rattle.gw_circuit.proofs.Playing.{sounds, silent, drawn-some, decodes-next}
 use Rattle.gw_circuit.proofs.speech.Speech.decode_next.Goals as goal
 

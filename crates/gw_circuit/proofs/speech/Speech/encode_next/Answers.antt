@@ -1,6 +1,4 @@
-use Rattle.std.proofs.Common.{arith, ap, ◌∙◌}
-use Rattle.rtp_playout.specs.Order.{drawn_words}
-use Rattle.gw_circuit.specs.Coder.{CodedPacket}
+use Rattle.gw_circuit.proofs.Common.{arith, ap, ◌∙◌, drawn_words, CodedPacket}
 use Rattle.gw_circuit.proofs.Hearing.{heard-short, encodes-next}
 use Rattle.gw_circuit.proofs.speech.Speech.encode_next.Goals as goal
 

@@ -1,9 +1,6 @@
-use Rattle.std.proofs.Common.{◌≡◌, ◌++◌, ◌<◌, ◌*◌, ◌%◌, ◌^◌, [], length, refl, ap, sym, ◌∙◌, arith}
-use Rattle.g726_codec.specs.Kinds.{CodecState, bits_of}
-use Rattle.rtp_playout.specs.Saved.{saved_playout}
+use Rattle.gw_circuit.proofs.Common.{◌≡◌, ◌++◌, ◌<◌, ◌*◌, ◌%◌, ◌^◌, [], length, refl, ap, sym, ◌∙◌, arith, CodecState}
+use Rattle.gw_circuit.proofs.Common.{bits_of, saved_playout, CodedPacket, saved_coding, saved_packet, saved_speech}
 use Rattle.rtp_playout.specs.Standing.{IsBelow}
-use Rattle.gw_circuit.specs.Coder.{CodedPacket}
-use Rattle.gw_circuit.specs.Saved.{saved_coding, saved_packet, saved_speech}
 use Rattle.gw_circuit.proofs.Loading.{bound-of, read-three, speech-octets, same-speech}
 use Rattle.gw_circuit.proofs.speech.Speech.load.Goals as goal
 

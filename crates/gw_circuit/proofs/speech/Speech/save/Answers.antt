@@ -1,5 +1,4 @@
-use Rattle.gw_circuit.specs.Saved.{saved_coding, saved_packet, saved_speech}
-use Rattle.rtp_playout.specs.Saved.{saved_playout}
+use Rattle.gw_circuit.proofs.Common.{saved_coding, saved_packet, saved_speech, saved_playout}
 use Rattle.gw_circuit.proofs.Loading.{append-three}
 use Rattle.gw_circuit.proofs.speech.Speech.save.Goals as goal
 

@@ -1,8 +1,4 @@
-use Rattle.std.proofs.Common.{◌≡◌, ap, ◌∙◌, rules, arith}
-use Rattle.rtp_pack.specs.Payload.{octets_of}
-use Rattle.rtp_packet.specs.Rtp.{plain_datagram}
-use Rattle.rtp_playout.specs.Order.{drawn_words}
-use Rattle.gw_circuit.specs.Coder.{CodedPacket}
+use Rattle.gw_circuit.proofs.Common.{◌≡◌, ap, ◌∙◌, rules, arith, octets_of, plain_datagram, drawn_words, CodedPacket}
 use Rattle.gw_circuit.proofs.Hearing.{heard-full, encodes-next}
 use Rattle.gw_circuit.proofs.speech.Speech.send.Goals as goal
 

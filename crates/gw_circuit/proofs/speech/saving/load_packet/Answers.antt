@@ -1,6 +1,4 @@
-use Rattle.std.proofs.Common.{◌≡◌, ◌^◌, ◌*◌, ◌%◌, rules, ◌++◌, length, true}
-use Rattle.std.specs.Prelude.{nat_lt}
-use Rattle.std.specs.List.{list_all}
+use Rattle.gw_circuit.proofs.Common.{◌≡◌, ◌^◌, ◌*◌, ◌%◌, rules, ◌++◌, length, true, nat_lt, list_all}
 use Rattle.gw_circuit.proofs.Loading.{words-pass}
 use Rattle.gw_circuit.proofs.speech.saving.load_packet.Goals as goal
 

@@ -1,4 +1,4 @@
-use Rattle.std.proofs.Common.{◌≡◌}
+use Rattle.gw_switch.proofs.Common.{◌≡◌}
 use Rattle.gw_switch.proofs.circuits.Circuits.code_all.Given as goal
 
 -- nothing is changed

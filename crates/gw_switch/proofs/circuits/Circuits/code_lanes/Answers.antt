@@ -3,5 +3,4 @@ use Rattle.gw_switch.proofs.circuits.Circuits.code_lanes.Goals as goal
 
 pub store_lanes-requires : goal.store_lanes-requires
 store_lanes-requires c =
-    all-coded c.args.self.now.channels.items c.load_lanes-places.result.items _ _ c.load_lanes-places.ensures
-    c.encode.ensures.words c.encode.ensures.states
+    all-coded c.load_lanes-places.ensures.loaded c.encode.ensures.words c.encode.ensures.states

@@ -1,6 +1,5 @@
-use Rattle.std.proofs.Common.{◌++◌, ◌+◌, ◌∙◌, ◌<◌, length, drop, arith, refl}
-use Rattle.std.proofs.lemmas.Bool.{false≢true}
-use Rattle.gw_switch.specs.Saved.{saved_channel, saved_circuits}
+use Rattle.gw_switch.proofs.Common.{◌++◌, ◌+◌, ◌∙◌, ◌<◌, length, drop, arith, refl, false≢true, saved_channel}
+use Rattle.gw_switch.proofs.Common.{saved_circuits}
 use Rattle.gw_switch.proofs.Loading.{one-read, next-saved, same-front}
 use Rattle.gw_switch.proofs.CircuitsLoading.{same-behind, alike-at}
 use Rattle.gw_switch.proofs.circuits.Circuits.load.Goals as goal

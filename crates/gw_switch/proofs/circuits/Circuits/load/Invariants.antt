@@ -1,6 +1,5 @@
-use Rattle.std.proofs.Common.{◌≡◌, ◌++◌, ℕ, ◌≤◌, List, take, drop, slice_index_or}
-use Rattle.gw_switch.specs.declared.circuits.BoxedCircuit.{BoxedCircuit}
-use Rattle.gw_switch.specs.Saved.{saved_circuits, AreAlike}
+use Rattle.gw_switch.proofs.Common.{◌≡◌, ◌++◌, ℕ, ◌≤◌, List, take, drop, slice_index_or, BoxedCircuit, saved_circuits}
+use Rattle.gw_switch.proofs.Common.{AreAlike}
 use Rattle.gw_switch.proofs.circuits.Circuits.load.Given as goal
 
 abbrev pub invariant-loop-number : goal.invariant-loop-number

@@ -1,5 +1,4 @@
-use Rattle.std.proofs.Common.{◌≡◌, ◌<◌, length, slice_index_or, sym, arith, rules}
-use Rattle.std.proofs.lemmas.List.{get_or_default}
+use Rattle.gw_switch.proofs.Common.{◌≡◌, ◌<◌, length, slice_index_or, sym, arith, rules, get_or_default}
 use Rattle.gw_switch.proofs.Opening.{one-more-open}
 use Rattle.gw_switch.proofs.circuits.Circuits.open.Goals as goal
 

@@ -1,6 +1,4 @@
-use Rattle.std.proofs.Common.{◌≡◌, ◌≤◌, ℕ, slice_index_or}
-use Rattle.gw_switch.specs.declared.circuits.BoxedCircuit.{BoxedCircuit}
-use Rattle.gw_switch.specs.Circuits.{TakesWait}
+use Rattle.gw_switch.proofs.Common.{◌≡◌, ◌≤◌, ℕ, slice_index_or, BoxedCircuit, TakesWait}
 use Rattle.gw_switch.proofs.circuits.Circuits.release_after.Given as goal
 
 -- the first circuits were given the wait, and the others are as they were

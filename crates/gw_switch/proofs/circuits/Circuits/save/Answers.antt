@@ -1,6 +1,4 @@
-use Rattle.std.proofs.Common.{List, slice_index_or, ap, ◌∙◌, arith}
-use Rattle.gw_switch.specs.declared.circuits.BoxedCircuit.{BoxedCircuit}
-use Rattle.gw_switch.specs.Saved.{saved_channel, ChannelFits}
+use Rattle.gw_switch.proofs.Common.{List, slice_index_or, ap, ◌∙◌, arith, BoxedCircuit, saved_channel, ChannelFits}
 use Rattle.gw_switch.proofs.Loading.{one-saved, one-fits}
 use Rattle.gw_switch.proofs.circuits.Circuits.save.Goals as goal
 

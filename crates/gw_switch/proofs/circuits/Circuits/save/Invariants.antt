@@ -1,5 +1,4 @@
-use Rattle.std.proofs.Common.{◌≡◌, ◌++◌, take, All}
-use Rattle.gw_switch.specs.Saved.{saved_circuits, ChannelFits}
+use Rattle.gw_switch.proofs.Common.{◌≡◌, ◌++◌, take, All, saved_circuits, ChannelFits}
 use Rattle.gw_switch.proofs.circuits.Circuits.save.Given as goal
 
 abbrev pub invariant-loop-channel : goal.invariant-loop-channel

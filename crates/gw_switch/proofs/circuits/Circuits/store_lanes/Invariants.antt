@@ -1,4 +1,4 @@
-use Rattle.std.proofs.Common.{◌≡◌}
+use Rattle.gw_switch.proofs.Common.{◌≡◌}
 use Rattle.gw_switch.proofs.circuits.Circuits.store_lanes.Given as goal
 
 -- nothing is changed

@@ -1,4 +1,4 @@
-use Rattle.gw_circuit.specs.Items.{CircuitEvent}
+use Rattle.gw_switch.proofs.Common.{CircuitEvent}
 use Rattle.gw_switch.proofs.Views.{stands_given}
 use Rattle.gw_switch.proofs.gateway.Gateway.configure.Goals as goal
 

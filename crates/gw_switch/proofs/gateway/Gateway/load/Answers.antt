@@ -1,5 +1,4 @@
-use Rattle.std.proofs.Common.{◌++◌}
-use Rattle.gw_switch.specs.Saved.{saved_circuits}
+use Rattle.gw_switch.proofs.Common.{◌++◌, saved_circuits}
 use Rattle.gw_switch.proofs.GatewayLoading.{gateway-octets, same-stands, are-alike}
 use Rattle.gw_switch.proofs.gateway.Gateway.load.Goals as goal
 

@@ -1,6 +1,4 @@
-use Rattle.std.proofs.Common.{arith}
-use Rattle.gw_switch.specs.Events.{octets}
-use Rattle.gw_switch.specs.Standing.{HasHistory}
+use Rattle.gw_switch.proofs.Common.{arith, octets, HasHistory}
 use Rattle.gw_switch.proofs.gateway.Gateway.octet_slow_path.Goals as goal
 
 pub returns-in-None : goal.returns-in-None

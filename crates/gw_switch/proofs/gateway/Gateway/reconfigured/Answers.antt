@@ -1,4 +1,4 @@
-use Rattle.std.proofs.Common.{◌++◌, ◌<◌, length, rules, add-one}
+use Rattle.gw_switch.proofs.Common.{◌++◌, ◌<◌, length, rules, add-one}
 use Rattle.gw_switch.proofs.Renewing.{more-taken, more-are, config-behind, some-number}
 use Rattle.gw_switch.proofs.gateway.Gateway.reconfigured.Goals as goal
 

@@ -1,6 +1,4 @@
-use Rattle.std.proofs.Common.{List}
-use Rattle.gw_switch.specs.Events.{Event}
-use Rattle.gw_switch.specs.Reconfigured.{AreRenewals, HasTaken}
+use Rattle.gw_switch.proofs.Common.{List, Event, AreRenewals, HasTaken}
 use Rattle.gw_switch.proofs.gateway.Gateway.reconfigured.Given as goal
 
 abbrev pub invariant-loop-number : goal.invariant-loop-number

@@ -1,6 +1,4 @@
-use Rattle.std.proofs.Common.{inr, refl, [], ◌∷◌}
-use Rattle.gw_circuit.specs.Items.{CircuitEvent}
-use Rattle.gw_switch.specs.Events.{Event}
+use Rattle.gw_switch.proofs.Common.{inr, refl, [], ◌∷◌, CircuitEvent, Event}
 use Rattle.gw_switch.proofs.gateway.Gateway.renew.Goals as goal
 
 pub returns : goal.returns

@@ -1,7 +1,5 @@
-use Rattle.std.proofs.Common.{◌≡◌, ℕ, ◌<◌, ◌≤◌, ◌/◌, ◌%◌, ◌++◌, ◌∷◌, [], length, refl, sym, ap, ◌∙◌, arith}
-use Rattle.gw_switch.specs.Events.{Event, octets}
-use Rattle.gw_switch.specs.Whole.{octet_reply}
-use Rattle.gw_switch.specs.Standing.{HasHistory}
+use Rattle.gw_switch.proofs.Common.{◌≡◌, ℕ, ◌<◌, ◌≤◌, ◌/◌, ◌%◌, ◌++◌, ◌∷◌, [], length, refl, sym, ap, ◌∙◌, arith, Event}
+use Rattle.gw_switch.proofs.Common.{octets, octet_reply, HasHistory}
 use Rattle.gw_switch.proofs.Rounds.{none_in_zero, none_in_first, frame_with-not0}
 use Rattle.gw_switch.proofs.Sendings.{sent_at, sends_frame, sends_multiframe, slot_of-not16, slot_of-not0}
 use Rattle.gw_switch.proofs.Views.{stay, octets-append, sees_nothing, sees_no_abcd}

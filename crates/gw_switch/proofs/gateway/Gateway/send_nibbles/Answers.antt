@@ -1,16 +1,7 @@
-use Rattle.std.proofs.Common.{◌≡◌, ℕ, ◌+◌, ◌-◌, ◌≤◌, ◌/◌, ◌%◌, List, Option, ◌++◌, ◌∷◌, [], length}
-use Rattle.std.proofs.Common.{refl, sym, ap, ◌∙◌, arith}
-use Rattle.gw_circuit.specs.Items.{CircuitEvent}
+use Rattle.gw_switch.proofs.Common.{◌≡◌, ℕ, ◌+◌, ◌-◌, ◌≤◌, ◌/◌, ◌%◌, List, Option, ◌++◌, ◌∷◌, [], length, refl, sym, ap}
+use Rattle.gw_switch.proofs.Common.{◌∙◌, arith, CircuitEvent, frame_with, GatewayConfig, StandsAt, with_circuit}
+use Rattle.gw_switch.proofs.Common.{signalled, Event, octets, life, octet_reply, config_in, nibble_sent, HasHistory}
 use Rattle.gw_circuit.specs.Replies as alone
-use Rattle.g704_cas.specs.Numbers.{frame_with}
-use Rattle.gw_switch.specs.declared.GatewayConfig.{GatewayConfig}
-use Rattle.gw_switch.specs.Circuits.{StandsAt}
-use Rattle.gw_switch.specs.Lending.{with_circuit}
-use Rattle.gw_switch.specs.Hearing.{signalled}
-use Rattle.gw_switch.specs.Events.{Event, octets}
-use Rattle.gw_switch.specs.Lives.{life}
-use Rattle.gw_switch.specs.Whole.{octet_reply, config_in, nibble_sent}
-use Rattle.gw_switch.specs.Standing.{HasHistory}
 use Rattle.gw_switch.proofs.Rounds.{frame_with-low, frame_with-high}
 use Rattle.gw_switch.proofs.Sendings.{sent_at, sends_abcd, slot_of-not16, frame_with-only}
 use Rattle.gw_switch.proofs.Views.{CircuitsStand-push, both_go, octets-append, sees_abcd, sees_no_abcd, sees_some}

@@ -1,12 +1,7 @@
-use Rattle.std.proofs.Common.{◌≡◌, ◌-◌, ◌%◌, ◌++◌, ◌∷◌, [], length, sym, ap, ◌∙◌, arith}
-use Rattle.gw_circuit.specs.Items.{CircuitEvent}
+use Rattle.gw_switch.proofs.Common.{◌≡◌, ◌-◌, ◌%◌, ◌++◌, ◌∷◌, [], length, sym, ap, ◌∙◌, arith, CircuitEvent, slot_of}
+use Rattle.gw_switch.proofs.Common.{circuit_in, heard, Event, octets, life, octet_reply, config_in, speech_out}
+use Rattle.gw_switch.proofs.Common.{HasHistory}
 use Rattle.gw_circuit.specs.Replies as alone
-use Rattle.g704_cas.specs.Numbers.{slot_of, circuit_in}
-use Rattle.gw_switch.specs.Hearing.{heard}
-use Rattle.gw_switch.specs.Events.{Event, octets}
-use Rattle.gw_switch.specs.Lives.{life}
-use Rattle.gw_switch.specs.Whole.{octet_reply, config_in, speech_out}
-use Rattle.gw_switch.specs.Standing.{HasHistory}
 use Rattle.gw_switch.proofs.Sendings.{sends_speech, circuit_in-slot_of, slot_of-not0, slot_of-not16}
 use Rattle.gw_switch.proofs.Heard.{slot_of-turn}
 use Rattle.gw_switch.proofs.Views.{CircuitsStand-push, goes_by, octets-append, sees_slot, sees_nothing, sees_some}

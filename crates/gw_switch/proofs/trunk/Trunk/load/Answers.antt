@@ -1,6 +1,4 @@
-use Rattle.std.proofs.Common.{◌++◌}
-use Rattle.saved_octets.specs.Numbers.{two_octets}
-use Rattle.gw_switch.specs.Saved.{saved_signalling, saved_slots}
+use Rattle.gw_switch.proofs.Common.{◌++◌, two_octets, saved_signalling, saved_slots}
 use Rattle.gw_switch.proofs.Loading.{trunk-octets, same-trunk, trunk-read}
 use Rattle.gw_switch.proofs.trunk.Trunk.load.Goals as goal
 

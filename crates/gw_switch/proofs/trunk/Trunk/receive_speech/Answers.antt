@@ -1,4 +1,4 @@
-use Rattle.std.proofs.Common.{◌∙◌, sym}
+use Rattle.gw_switch.proofs.Common.{◌∙◌, sym}
 use Rattle.gw_switch.proofs.Heard.{hears_next}
 use Rattle.gw_switch.proofs.trunk.Trunk.receive_speech.Goals as goal
 

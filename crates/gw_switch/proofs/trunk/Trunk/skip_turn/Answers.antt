@@ -1,4 +1,4 @@
-use Rattle.std.proofs.Common.{arith}
+use Rattle.gw_switch.proofs.Common.{arith}
 use Rattle.gw_switch.proofs.Heard.{turn_over}
 use Rattle.gw_switch.proofs.HearingLemmas.{octet_kept, nibble_kept}
 use Rattle.gw_switch.proofs.trunk.Trunk.skip_turn.Goals as goal

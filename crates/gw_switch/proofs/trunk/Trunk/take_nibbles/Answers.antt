@@ -1,6 +1,4 @@
-use Rattle.std.proofs.Common.{◌≤◌, sym, ap, ◌∙◌, arith}
-use Rattle.g704_cas.specs.Numbers.{frame_with}
-use Rattle.gw_switch.specs.Hearing.{signalled}
+use Rattle.gw_switch.proofs.Common.{◌≤◌, sym, ap, ◌∙◌, arith, frame_with, signalled}
 use Rattle.gw_switch.proofs.Rounds.{frame_with-low, frame_with-high, frame_with-small, place_in_round}
 use Rattle.gw_switch.proofs.Heard.{turn_over}
 use Rattle.gw_switch.proofs.HearingLemmas.{octet_kept, nibble_heard, nibble_taken}

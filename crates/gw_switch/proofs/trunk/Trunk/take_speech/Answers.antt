@@ -1,6 +1,4 @@
-use Rattle.std.proofs.Common.{get_or, None, sym, ◌∙◌, ap}
-use Rattle.g704_cas.specs.Numbers.{slot_of, frame_with}
-use Rattle.gw_switch.specs.Hearing.{heard}
+use Rattle.gw_switch.proofs.Common.{get_or, None, sym, ◌∙◌, ap, slot_of, frame_with, heard}
 use Rattle.gw_switch.proofs.Rounds.{slot_of-small, slot_of-speech, frame_with-small, elsewhere}
 use Rattle.gw_switch.proofs.Sendings.{slot_of-not16}
 use Rattle.gw_switch.proofs.Heard.{turn_over}

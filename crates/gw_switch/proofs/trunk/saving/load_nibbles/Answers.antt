@@ -1,7 +1,5 @@
-use Rattle.std.proofs.Common.{◌++◌, ℕ, Option, arith, refl, rules}
-use Rattle.std.proofs.Math.ListN.{length-set}
-use Rattle.std.proofs.lemmas.List.{take_all}
-use Rattle.gw_switch.specs.Saved.{saved_nibble, saved_nibbles, IsNibble}
+use Rattle.gw_switch.proofs.Common.{◌++◌, ℕ, Option, arith, refl, rules, length-set, take_all, saved_nibble}
+use Rattle.gw_switch.proofs.Common.{saved_nibbles, IsNibble}
 use Rattle.gw_switch.proofs.Loading.{nibble-tells, one-read, one-more, one-left, none-left}
 use Rattle.gw_switch.proofs.trunk.saving.load_nibbles.Goals as goal
 

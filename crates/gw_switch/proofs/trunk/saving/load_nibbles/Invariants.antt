@@ -1,5 +1,4 @@
-use Rattle.std.proofs.Common.{◌≡◌, ◌++◌, length, take, All}
-use Rattle.gw_switch.specs.Saved.{saved_nibbles, IsNibble}
+use Rattle.gw_switch.proofs.Common.{◌≡◌, ◌++◌, length, take, All, saved_nibbles, IsNibble}
 use Rattle.gw_switch.proofs.trunk.saving.load_nibbles.Given as goal
 
 abbrev pub invariant-loop-i : goal.invariant-loop-i

@@ -1,7 +1,4 @@
-use Rattle.std.proofs.Common.{◌++◌, ℕ, Option, arith, refl, rules}
-use Rattle.std.proofs.Math.ListN.{length-set}
-use Rattle.std.proofs.lemmas.List.{take_all}
-use Rattle.gw_switch.specs.Saved.{saved_slot, saved_slots}
+use Rattle.gw_switch.proofs.Common.{◌++◌, ℕ, Option, arith, refl, rules, length-set, take_all, saved_slot, saved_slots}
 use Rattle.gw_switch.proofs.Loading.{slot-tells, one-read, one-left, none-left}
 use Rattle.gw_switch.proofs.trunk.saving.load_slots.Goals as goal
 

@@ -1,5 +1,4 @@
-use Rattle.std.proofs.Common.{◌≡◌, ◌++◌, length, take}
-use Rattle.gw_switch.specs.Saved.{saved_slots}
+use Rattle.gw_switch.proofs.Common.{◌≡◌, ◌++◌, length, take, saved_slots}
 use Rattle.gw_switch.proofs.trunk.saving.load_slots.Given as goal
 
 abbrev pub invariant-loop-i : goal.invariant-loop-i

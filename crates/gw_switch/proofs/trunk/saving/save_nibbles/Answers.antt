@@ -1,6 +1,4 @@
-use Rattle.std.proofs.Common.{slice_index_or, arith, append-nil, refl, sym}
-use Rattle.std.proofs.lemmas.List.{take_all}
-use Rattle.gw_switch.specs.Saved.{saved_nibble, IsNibble}
+use Rattle.gw_switch.proofs.Common.{slice_index_or, arith, append-nil, refl, sym, take_all, saved_nibble, IsNibble}
 use Rattle.gw_switch.proofs.Loading.{one-saved, one-fits}
 use Rattle.gw_switch.proofs.trunk.saving.save_nibbles.Goals as goal
 

@@ -1,5 +1,4 @@
-use Rattle.std.proofs.Common.{◌≡◌, ◌++◌, take, All}
-use Rattle.gw_switch.specs.Saved.{saved_nibbles, IsNibble}
+use Rattle.gw_switch.proofs.Common.{◌≡◌, ◌++◌, take, All, saved_nibbles, IsNibble}
 use Rattle.gw_switch.proofs.trunk.saving.save_nibbles.Given as goal
 
 abbrev pub invariant-loop-nibble : goal.invariant-loop-nibble

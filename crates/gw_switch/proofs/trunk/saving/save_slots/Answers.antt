@@ -1,6 +1,4 @@
-use Rattle.std.proofs.Common.{None, slice_index_or, arith, refl}
-use Rattle.std.proofs.lemmas.List.{take_all}
-use Rattle.gw_switch.specs.Saved.{saved_slot}
+use Rattle.gw_switch.proofs.Common.{None, slice_index_or, arith, refl, take_all, saved_slot}
 use Rattle.gw_switch.proofs.Loading.{one-saved}
 use Rattle.gw_switch.proofs.trunk.saving.save_slots.Goals as goal
 

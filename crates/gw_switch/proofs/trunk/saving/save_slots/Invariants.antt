@@ -1,5 +1,4 @@
-use Rattle.std.proofs.Common.{◌≡◌, ◌++◌, take}
-use Rattle.gw_switch.specs.Saved.{saved_slots}
+use Rattle.gw_switch.proofs.Common.{◌≡◌, ◌++◌, take, saved_slots}
 use Rattle.gw_switch.proofs.trunk.saving.save_slots.Given as goal
 
 abbrev pub invariant-loop-slot : goal.invariant-loop-slot

@@ -1,7 +1,8 @@
 use Rattle.std.proofs.Common.{◌≡◌, ℕ, Option, Bool, true, Some, None, is_some, not, false, IfNone, refl, sym, ap, ◌∙◌}
 use Rattle.circular_buffer.specs.Buffer.{buffer}
 use Rattle.rtp_playout.specs.Saved.{saved_playout}
-use Rattle.rtp_playout.proofs.Keeping.{keeps-of, stands-nothing, new-below}
+use Rattle.rtp_playout.proofs.Places.{nothing-below}
+use Rattle.rtp_playout.proofs.Keeping.{stands-nothing}
 use Rattle.rtp_playout.proofs.Loading.{each-below, same-playout}
 use Rattle.rtp_playout.proofs.playout.Playout.load.Goals as goal
 
@@ -14,7 +15,7 @@ not-none (Some done) false is e f = absurd (cc f)
 pub returns-then-is_none-clause-loaded : goal.returns-then-is_none-clause-loaded
 unfolding saved_playout
 returns-then-is_none-clause-loaded c = λ other prefill calls before rest stood below fits stands e.
-    let one = keeps-of other prefill calls stood in
+    let one = stood.keeps in
     let told = c.load_parts-loaded.ensures.loaded other.stream other.window.items rest fits
     (one.places ∙ sym c.args.self.now.memory) (each-below c.args.bound other.window.items below.each) e in
     absurd (not-none c.load_parts-loaded.result c.is_none.result told.0 c.is_none.ensures c.if-is_none.true)
@@ -26,22 +27,18 @@ if-emptied (Some done) P p = tt
 
 pub returns-then-is_none-clause-none : goal.returns-then-is_none-clause-none
 returns-then-is_none-clause-none c = λ prefill before stands.
-    let mine = keeps-of c.args.self.now prefill before stands in
     if-emptied c.load_parts-loaded.result _
-    (stands-nothing _ prefill c.load_parts-loaded.new.self.window.capacity
-    (c.load_parts-loaded.ensures.prefill ∙ mine.prefill_is) c.empty.ensures refl)
+    (stands-nothing _ _ (c.load_parts-loaded.ensures.prefill ∙ stands.keeps.prefill_is) c.empty.ensures refl)
 
 pub returns-then-is_none-clause-none_below : goal.returns-then-is_none-clause-none_below
 returns-then-is_none-clause-none_below c = λ any.
-    if-emptied c.load_parts-loaded.result _ (record {
-      each = new-below any c.empty.new.window c.load_parts-loaded.new.self.window.capacity c.empty.ensures;
-    })
+    if-emptied c.load_parts-loaded.result _ (record { each = rw c.empty.ensures (nothing-below any _) })
 
 pub returns-else-is_none-clause-loaded : goal.returns-else-is_none-clause-loaded
 unfolding saved_playout
 returns-else-is_none-clause-loaded c = λ other prefill calls before rest stood below fits stands e.
-    let one = keeps-of other prefill calls stood in
-    let mine = keeps-of c.args.self.now prefill before stands in
+    let one = stood.keeps in
+    let mine = stands.keeps in
     let told = c.load_parts-loaded.ensures.loaded other.stream other.window.items rest fits
     (one.places ∙ sym c.args.self.now.memory) (each-below c.args.bound other.window.items below.each) e in
     let room : c.args.self.now.window.capacity ≡ other.window.capacity = c.args.self.now.memory ∙ sym other.memory in (

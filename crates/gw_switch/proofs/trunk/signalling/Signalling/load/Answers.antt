@@ -1,6 +1,4 @@
-use Rattle.std.proofs.Common.{◌++◌, refl}
-use Rattle.gw_switch.specs.Saved.{saved_signalling, saved_nibbles, saved_alarms}
-use Rattle.gw_circuit.proofs.Loading.{read-three}
+use Rattle.gw_switch.proofs.Common.{◌++◌, refl, saved_signalling, saved_nibbles, saved_alarms, read-three}
 use Rattle.gw_switch.proofs.Loading.{signalling-octets, same-signalling}
 use Rattle.gw_switch.proofs.trunk.signalling.Signalling.load.Goals as goal
 

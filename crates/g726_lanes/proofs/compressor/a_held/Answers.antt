@@ -1,0 +1,10 @@
+use Rattle.g726_lanes.proofs.Common.{rules, eight, all_lanes, lane}
+use Rattle.g726_lanes.proofs.Each.{each_lane}
+use Rattle.g726_lanes.proofs.SegmentLanes.{a_held_is}
+use Rattle.g726_lanes.proofs.compressor.a_held.Goals as goal
+
+pub returns : goal.returns
+returns c =
+    rw (eight 0 c.args.magnitudes (search rules), eight 0 c.args.negative (search rules))
+    (each_lane _ (all_lanes (λ i h. a_held_is (lane c.args.magnitudes i) (lane c.args.negative i) (search rules)
+    (c.requires i h))))
