@@ -1,6 +1,6 @@
 -- The words of the command line: what is named by each, and what stands where one is left out.
 use Rattle.std.specs.Prelude.{◌≡◌, ◌^◌, ◌<◌, ◌≤◌, ◌+◌, ◌/◌, ℕ, List, Option, Some, None, codes}
-use Rattle.std.specs.Prelude.{IsSomeAnd, MatchOption}
+use Rattle.std.specs.Prelude.{Bool, true, IsSomeAnd, MatchOption}
 use Rattle.std.specs.Str.Parse.{IsNumeral, digits_value, without_leading_plus}
 use Rattle.clap.specs.Words.{Row, first_of, one_of}
 use Rattle.e1_g711.specs.declared.Law.{Law}
@@ -120,6 +120,11 @@ IsRequest command requests.Satop = IsSatop command
 abbrev pub text_in : List ℕ → Option (List ℕ × List Row) → Option (List ℕ)
 text_in id None = None
 text_in id (Some (name, options)) = first_of id options
+
+-- whether a subcommand has a flag
+abbrev pub HasFlag : List ℕ → Option (List ℕ × List Row) → Bool → Type 0
+HasFlag flag command is = (text_in flag command ≡ Some (codes "true") → is ≡ true)
+    × (is ≡ true → text_in flag command ≡ Some (codes "true"))
 
 -- the first value of an option of a subcommand is this number
 abbrev pub SaysNumberIn : ℕ → List ℕ → Option (List ℕ × List Row) → ℕ → Type 0

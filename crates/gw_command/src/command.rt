@@ -7,7 +7,7 @@ ghost use Rattle.gw_speech.specs.declared.spec.StreamSpec.{StreamSpec};
 ghost use Rattle.gw_command.specs.Command.{law_name, codec_name, job_name, job_spec, usual_payload};
 ghost use Rattle.gw_command.specs.Command.{IsStream, IsJob, IsSession, session_name};
 ghost use Rattle.gw_command.specs.Command.{IsFilter, filter_name, IsTrunk, IsSatop, IsRequest, text_in};
-ghost use Rattle.gw_command.specs.Command.{SaysNumberIn, IsWaitOf, SaysWait};
+ghost use Rattle.gw_command.specs.Command.{HasFlag, SaysNumberIn, IsWaitOf, SaysWait};
 ghost use Rattle.gw_command.specs.declared.command.Filter.{Filter};
 ghost use Rattle.gw_command.specs.declared.command.SpeechJob.{SpeechJob};
 ghost use Rattle.gw_command.specs.declared.command.Request.{Request};
@@ -74,12 +74,10 @@ pub fn arguments<R: Env + AllocGlobal>(rt: &R) -> io::Result<Vec<String>> {
 }
 
 /// Whether the totals are asked for.
-pub fn wants_totals(matches: &ArgMatches<'_>) -> bool {
-    match matches.subcommand() {
-        Some(("satop", _)) => false,
-        Some((_, options)) => options.get_flag("totals"),
-        None => false,
-    }
+pub fn wants_totals(matches: &ArgMatches<'_>) -> bool
+    ensures { HasFlag (codes "totals") (subcommand_rows_of matches.now) result }
+{
+    asks(matches, "totals")
 }
 
 // The law `a` or `mu` by its name.
@@ -393,8 +391,7 @@ pub fn save_of<'m>(matches: &'m ArgMatches<'_>) -> Option<&'m str>
 
 // Whether the matches of a subcommand have a flag.
 fn asks(matches: &ArgMatches<'_>, flag: &str) -> bool
-    ensures yes { text_in flag.now (subcommand_rows_of matches.now) ≡ Some (codes "true") → result ≡ true }
-    ensures no { result ≡ true → text_in flag.now (subcommand_rows_of matches.now) ≡ Some (codes "true") }
+    ensures { HasFlag flag.now (subcommand_rows_of matches.now) result }
 {
     match text_of(matches, flag) {
         Some("true") => true,
@@ -402,22 +399,23 @@ fn asks(matches: &ArgMatches<'_>, flag: &str) -> bool
     }
 }
 
+/// Whether the octets of a trunk are to be aligned to its time slots.
+pub fn asks_align(matches: &ArgMatches<'_>) -> bool
+    ensures { HasFlag (codes "align") (subcommand_rows_of matches.now) result }
+{
+    asks(matches, "align")
+}
+
 /// Whether CRC-4 multiframes are to be checked in place of sent.
 pub fn asks_check(matches: &ArgMatches<'_>) -> bool
-    ensures yes { text_in (codes "check") (subcommand_rows_of matches.now) ≡ Some (codes "true")
-        → result ≡ true }
-    ensures no { result ≡ true
-        → text_in (codes "check") (subcommand_rows_of matches.now) ≡ Some (codes "true") }
+    ensures { HasFlag (codes "check") (subcommand_rows_of matches.now) result }
 {
     asks(matches, "check")
 }
 
 /// Whether the counts of CRC-4 multiframes are to be written after each second of the trunk.
 pub fn asks_live(matches: &ArgMatches<'_>) -> bool
-    ensures yes { text_in (codes "live") (subcommand_rows_of matches.now) ≡ Some (codes "true")
-        → result ≡ true }
-    ensures no { result ≡ true
-        → text_in (codes "live") (subcommand_rows_of matches.now) ≡ Some (codes "true") }
+    ensures { HasFlag (codes "live") (subcommand_rows_of matches.now) result }
 {
     asks(matches, "live")
 }
@@ -431,11 +429,10 @@ pub fn reports_of<'m>(matches: &'m ArgMatches<'_>) -> Option<&'m str>
 }
 
 /// Whether a recording may be written over an old file.
-pub fn records_over(matches: &ArgMatches<'_>) -> bool {
-    match matches.subcommand() {
-        Some(("serve" | "trunk", options)) => options.get_flag("record-over"),
-        _ => false,
-    }
+pub fn records_over(matches: &ArgMatches<'_>) -> bool
+    ensures { HasFlag (codes "record-over") (subcommand_rows_of matches.now) result }
+{
+    asks(matches, "record-over")
 }
 
 /// The host and port of the SAToP socket here.
@@ -494,4 +491,14 @@ pub fn rtp_of(matches: &ArgMatches<'_>) -> Option<u8>
 {
     let (_, options) = matches.subcommand()?;
     options.get_one("rtp")
+}
+
+/// The number of the first packet that the matches ask for, if they do.
+pub fn sequence_of(matches: &ArgMatches<'_>) -> Option<u16>
+    ensures found { IfSome result (SaysNumberIn 16 (codes "sequence") (subcommand_rows_of matches.now)) }
+    ensures none { IfNone result ((n : ℕ)
+        → ¬ SaysNumberIn 16 (codes "sequence") (subcommand_rows_of matches.now) n) }
+{
+    let (_, options) = matches.subcommand()?;
+    options.get_one("sequence")
 }

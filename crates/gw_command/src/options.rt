@@ -34,7 +34,7 @@ them.
 
 With --follow the records come from a log, which may grow: a file or /dev/fd/N.
 At its end more is waited for, until standard input ends. Then what is there yet
-is read; a part of a record at the end is left.
+is read; a part of a record at the end is left. Nothing is answered.
 
 Example: e1gw replay --config trunk.toml < session.rec > answers.rec";
 
@@ -138,11 +138,16 @@ const FROM_TEXT: &str = "With --follow: the octet of the log at which its first 
 const CHECKPOINT_TEXT: &str =
     "File to which the state is written after each 5 s of the trunk,\nwith its place in the input";
 
+const ALIGN_TEXT: &str = "Take octets whose bits stand at any offset, as e1gw align";
+
 const SIZE_TEXT: &str = "Octets in a packet, 32 to 1280, a multiple of 32";
 
 const JITTER_TEXT: &str = "Packets waited for after one that is due, 0 to 500";
 
 const RTP_TEXT: &str = "Payload type of an RTP header in each packet, 0 to 127; none\nwithout it";
+
+const NUMBER_TEXT: &str =
+    "Sequence number of the first packet, 0 to 65535; a random one\nwithout it";
 
 const FILL_TEXT: &str =
     "What replaces lost packets: again, the octets one multiframe\nbefore; or ones";
@@ -171,6 +176,7 @@ enum OptionName {
     SeizureWait,
     Control,
     End,
+    Align,
     Tell,
     Checkpoint,
     Follow,
@@ -183,6 +189,7 @@ enum OptionName {
     Size,
     Jitter,
     Rtp,
+    Number,
     Fill,
     Clock,
 }
@@ -254,6 +261,7 @@ const OF_TRUNK: &[OptionName] = &[
     OptionName::SeizureWait,
     OptionName::Control,
     OptionName::End,
+    OptionName::Align,
 ];
 
 // The options of an emulated circuit.
@@ -263,6 +271,7 @@ const OF_SATOP: &[OptionName] = &[
     OptionName::Size,
     OptionName::Jitter,
     OptionName::Rtp,
+    OptionName::Number,
     OptionName::Fill,
     OptionName::Clock,
 ];
@@ -531,6 +540,13 @@ fn rtp_option<'a>(alloc: Global) -> Arg<'a> {
         .value_parser(value_parser!(u8).range(0..=127))
 }
 
+// The number of the first packet.
+fn number_option<'a>(alloc: Global) -> Arg<'a> {
+    option(alloc, "sequence", NUMBER_TEXT)
+        .value_name("NUMBER")
+        .value_parser(value_parser!(u16))
+}
+
 // The option `--fill`: what replaces lost packets.
 fn fill_option<'a>(alloc: Global) -> Arg<'a> {
     option(alloc, "fill", FILL_TEXT)
@@ -568,6 +584,7 @@ fn declared<'a>(alloc: Global, option: OptionName) -> Arg<'a> {
         OptionName::SeizureWait => seizure_wait_option(alloc),
         OptionName::Control => control_option(alloc),
         OptionName::End => end_option(alloc),
+        OptionName::Align => flag(alloc, "align", ALIGN_TEXT),
         OptionName::Tell => tell_option(alloc),
         OptionName::Checkpoint => checkpoint_option(alloc),
         OptionName::Follow => follow_option(alloc),
@@ -590,9 +607,18 @@ fn declared<'a>(alloc: Global, option: OptionName) -> Arg<'a> {
         OptionName::Size => size_option(alloc),
         OptionName::Jitter => jitter_option(alloc),
         OptionName::Rtp => rtp_option(alloc),
+        OptionName::Number => number_option(alloc),
         OptionName::Fill => fill_option(alloc),
         OptionName::Clock => clock_option(alloc),
     }
+}
+
+// An option with those that it needs.
+fn needing(option: OptionName, arg: Arg<'_>) -> Result<Arg<'_>, AllocError> {
+    if let OptionName::End = option {
+        return arg.requires_arg("control");
+    }
+    Ok(arg)
 }
 
 // A subcommand with its options.
@@ -602,7 +628,7 @@ fn with_options<'a>(alloc: Global, asked: &Subcommand) -> Result<Command<'a>, Al
         .after_help(asked.after_help)
         .next_line_help(true);
     for option in asked.options {
-        command = command.arg(declared(alloc, *option))?;
+        command = command.arg(needing(*option, declared(alloc, *option))?)?;
     }
     Ok(command)
 }

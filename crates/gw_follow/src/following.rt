@@ -1,7 +1,7 @@
 //! When a log is read again at its end, and when its reading ends (`Following`).
 
-ghost use Rattle.std.specs.Prelude.{◌≡◌, ◌⊎◌, ◌<◌, ◌≤◌, ℕ, List, [], length, true, Some, Option, Result};
-ghost use Rattle.std.specs.Prelude.{Ok, Err, IfOk, OnErr};
+ghost use Rattle.std.specs.Prelude.{◌≡◌, ◌⊎◌, ◌<◌, ◌≤◌, ◌+◌, ◌^◌, ℕ, List, [], length, true, Some};
+ghost use Rattle.std.specs.Prelude.{Option, Result, Ok, Err, IfOk, OnErr};
 ghost use Rattle.std.specs.Io.KnownBytes.{Consumes, ReadConsumes};
 ghost use Rattle.gw_records.specs.declared.streams.SourceFault.{SourceFault};
 
@@ -29,13 +29,17 @@ pub trait Waiter {
     /// Holds once no more is waited for.
     ghost is_over: { Self → Type 0 };
 
+    /// How many times it waited.
+    ghost waits: { Self → ℕ };
+
     /// Waits a while, and returns whether no more is waited for.
     fn wait(&mut self) -> bool
-        ensures { result ≡ true → is_over self.new };
+        ensures over { result ≡ true → is_over self.new }
+        ensures waits { waits self.new ≡ waits self.old + 1 };
 }
 
 // Reads on, and waits at the end of the log. It returns 0 only if no more was waited for when the log was
-// read last, and this gave nothing.
+// read last, and this gave nothing. It fails only if a read fails, or after 2^63 waits.
 #[tactic(auto, using(crate::proofs::Known::consumes_none, crate::proofs::Known::consumes_then, crate::proofs::Known::keeps_then, crate::proofs::Known::keeps_none))]
 fn read_on<R: LogReader, W: Waiter>(
     reader: &mut R,
@@ -49,7 +53,8 @@ fn read_on<R: LogReader, W: Waiter>(
     ensures over { over.new ≡ true → ∥ W.is_over waiter.new ∥₁ }
     ensures last { IfOk result (λ n. n ≡ 0 → 0 < length room.new → (over.new ≡ true)
         × R.has_read reader.new (Ok 0)) }
-    ensures err { OnErr result (R.has_read reader.new (Err record {}) ⊎ R.has_read reader.new (Ok 0)) }
+    ensures err { OnErr result (R.has_read reader.new (Err record {})
+        ⊎ (R.has_read reader.new (Ok 0) × (2 ^ 63 ≤ W.waits waiter.new))) }
 {
     'reading: for turn in 0..u64::MAX {
         prove!(turn < u64::MAX);

@@ -1,8 +1,10 @@
 //! How the end of standard input is found while a log is followed (`InputEnd`).
 
+ghost use Rattle.std.specs.Prelude.{◌≡◌, length};
 ghost use Rattle.gw_follow.specs.System.{SystemEnded};
 
 use crate::following::Waiter;
+use gw_records::Log;
 use mio::unix::SourceFd;
 use mio::{Events, Interest, Poll, Token};
 use std::io::{self, ErrorKind, Read};
@@ -24,6 +26,8 @@ pub struct InputEnd {
     poll: Poll,
     events: Events,
     input: Stdin,
+    // An octet for each wait.
+    waits: Log,
 }
 
 impl InputEnd {
@@ -39,12 +43,15 @@ impl InputEnd {
             poll,
             events,
             input: rt.stdin(),
+            waits: Log::new(),
         })
     }
 
     // Waits until something has come at standard input, and returns whether it can be read now. (It is
     // registered again each time, so that the system reports what came before.)
-    fn is_ready(&mut self) -> bool {
+    fn is_ready(&mut self) -> bool
+        ensures { self.new.waits ≡ self.old.waits }
+    {
         let registry = self.poll.registry();
         let source = &mut SourceFd(&STDIN);
         if registry
@@ -61,8 +68,11 @@ impl InputEnd {
 impl Waiter for InputEnd {
     ghost is_over = { SystemEnded };
 
+    ghost waits = { λ e. length e.waits.octets };
+
     #[tactic(auto, unfolding(crate::specs::System::SystemEnded))]
     fn wait(&mut self) -> bool {
+        self.waits.append(&[0], 1);
         if !self.is_ready() {
             return false;
         }

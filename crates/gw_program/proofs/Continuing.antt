@@ -50,7 +50,7 @@ serve_on law cut first config before a a' b b' gateway gateway' next_gateway nex
 
 -- a replay that begins with a state that was saved recovers the state of the live session
 pub saved_recover : LoadedGatewaysGoOn → SavedStatesRecover
-saved_recover law first config before a a' gateway live saved recovered end ended passed octets behind loaded source
-    source' sink sink' served has stood there s replayed only =
+saved_recover law first config before a a' gateway live saved recovered end ended passed octets behind holds loaded
+    source source' sink sink' served has stood there s replayed only =
     let c = continues law first config config saved (before ++ events passed) loaded there s in
-    replayed.recovers a a' gateway live end passed octets behind first before served has only stood (c.unchanged refl)
+    replayed.recovers a a' gateway live end passed octets behind first before served.1 has only stood (c.unchanged refl)

@@ -9,6 +9,7 @@ use Rattle.gw_command.specs.declared.command.Filter.{Filter}
 use Rattle.gw_program.specs.declared.program_fault.ProgramFault.{ProgramFault}
 use Rattle.gw_program.specs.Filters.{DoesFilter, DoesFilterUntil, HasChecked, HasCheckedUntil}
 use Rattle.gw_program.specs.Performing.{Ended, told_as}
+use Rattle.gw_program.specs.ReportsFile.{LacksReportsAt}
 use Rattle.gw_program.specs.Requests.{RunsFilter, ChecksCrc4}
 use Rattle.gw_program.proofs.Streams.{on_new}
 
@@ -43,11 +44,11 @@ pub is_named : (path : List ℕ) → Some path ≢ None
 is_named path e = none-some path (sym e)
 
 -- The file of reports can't be opened, and a filter does not run.
-pub no_reports_to_run : (path : List ℕ) (filter : Filter) (fault : ProgramFault)
+pub no_reports_to_run : (path : List ℕ) (filter : Filter) (fault : ProgramFault) → LacksReportsAt path fault
     → RunsFilter (Some path) filter (Err fault)
-no_reports_to_run path filter fault =
-    inl (record { program_fault = fault; is_named = is_named path; told_is = refl })
+no_reports_to_run path filter fault why = inl (record { program_fault = fault; why = why; told_is = refl })
 
 -- Nor is anything checked.
-pub no_reports_to_check : (path : List ℕ) (fault : ProgramFault) → ChecksCrc4 (Some path) (Err fault)
-no_reports_to_check path fault = inl (record { program_fault = fault; is_named = is_named path; told_is = refl })
+pub no_reports_to_check : (path : List ℕ) (fault : ProgramFault) → LacksReportsAt path fault
+    → ChecksCrc4 (Some path) (Err fault)
+no_reports_to_check path fault why = inl (record { program_fault = fault; why = why; told_is = refl })

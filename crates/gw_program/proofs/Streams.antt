@@ -1,6 +1,6 @@
 -- Commands on new streams.
 use Rattle.std.proofs.Common.{◌≡◌, ◌⊎◌, inl, inr, ℕ, List, [], Option, None, Some, Result, Err, refl, sym, subst}
-use Rattle.std.specs.Prelude.{⊤, MatchOption, option_map}
+use Rattle.std.specs.Prelude.{⊤, MatchOption}
 use Rattle.gw_config.specs.declared.config.Config.{Config}
 use Rattle.gw_records.specs.declared.outcome.Totals.{Totals}
 use Rattle.gw_switch.specs.declared.GatewayConfig.{GatewayConfig}
@@ -18,8 +18,8 @@ use Rattle.gw_program.specs.declared.program_fault.ProgramFault.TheVariants as p
 use Rattle.gw_program.specs.Performing.{EndedSaved, NotBegun, RunsSession, Performed, LacksSession, SystemFiles}
 use Rattle.gw_program.specs.Performing.Performed.{Lacked, Done}
 use Rattle.gw_program.specs.Performing.{WithEnds}
-use Rattle.gw_program.specs.State.{HasBegun, BeginsWaiting, IsSaved, LacksGateway}
-use Rattle.gw_program.specs.Requests.{AsksWait, CommandLine, DoesSession, EndsSession, FollowsLog}
+use Rattle.gw_program.specs.State.{BeginsWaiting, HasBegun, IsFromState, IsSaved, LacksGateway}
+use Rattle.gw_program.specs.Requests.{AsksPlace, AsksWait, CommandLine, DoesSession, EndsSession, FollowsLog}
 use Rattle.gw_program.specs.Requests.{OnNewStreams, TakesAsked, config_in, files_in, follow_in, load_in, save_in}
 use Rattle.gw_program.specs.Setup.{IsMeant, LacksConfigAt, PathGives}
 
@@ -121,57 +121,86 @@ session_so command session lacks lacks' told is = go (follow_in command)
       ];
     })
 
--- the path that is named is told as its text
-begun_at : {X : Type 0} (f : X → List ℕ) (path : Option X) (config : GatewayConfig) (gateway : Gateway)
-    → HasBegun config path gateway → HasBegun config (option_map f path) gateway
-begun_at f None config gateway begun = begun
-begun_at f (Some path) config gateway begun = begun
+-- what was loaded at a place was loaded at what this was asked by
+loaded_at : (place : Option ℕ) (at : Option ℕ → Type 0) (given : List ℕ → Type 0) (config : GatewayConfig)
+    (gateway : Gateway) → at place → IsFromState given (λ asked. asked ≡ place) config gateway
+    → IsFromState given at config gateway
+loaded_at place at given config gateway is b = record {
+  loaded = b.loaded;
+  was = record {
+    octets = b.was.octets;
+    given = b.was.given;
+    place = b.was.place;
+    at = subst at (sym b.was.at) is;
+    fits = b.was.fits;
+    state = b.was.state;
+    inside = b.was.inside;
+    is = b.was.is;
+  };
+  told = b.told;
+  gateway_is = b.gateway_is;
+}
 
--- .. and the wait that is asked for as what it was asked by
-waiting_at : {X : Type 0} (f : X → List ℕ) (path : Option X) (wait : Option ℕ) (asks : Option ℕ → Type 0)
-    (config : GatewayConfig) (gateway : Gateway) → asks wait
-    → BeginsWaiting config path (λ asked. asked ≡ wait) gateway → BeginsWaiting config (option_map f path) asks gateway
-waiting_at f path wait asks config gateway is b = record {
+-- .. and so is what a session begins with
+begun_at : (path : Option (List ℕ)) (place : Option ℕ) (at : Option ℕ → Type 0) (config : GatewayConfig)
+    (gateway : Gateway) → at place → HasBegun config path (λ asked. asked ≡ place) gateway
+    → HasBegun config path at gateway
+begun_at None place at config gateway is b = b
+begun_at (Some path) place at config gateway is b = loaded_at place at (PathGives path) config gateway is b
+
+-- .. or lacks
+lacks_at : (path : Option (List ℕ)) (place : Option ℕ) (at : Option ℕ → Type 0) (config : GatewayConfig)
+    (fault : ProgramFault) → at place → LacksGateway config path (λ asked. asked ≡ place) fault
+    → LacksGateway config path at fault
+lacks_at None place at config fault is b = b
+lacks_at (Some path) place at config fault is (inl refused) = inl refused
+lacks_at (Some path) place at config fault is (inr (inl many)) = inr (inl many)
+lacks_at (Some path) place at config fault is (inr (inr (inl (other, e, there)))) = inr (inr (inl (
+  other,
+  e,
+  record {
+    octets = there.octets;
+    given = there.given;
+    checkpoint = there.checkpoint;
+    stands = there.stands;
+    asked = there.asked;
+    at = subst at (sym there.at) is;
+    other = there.other;
+  },
+)))
+lacks_at (Some path) place at config fault is (inr (inr (inr were))) = inr (inr (inr were))
+
+-- the place and the wait that are asked for are told as what they were asked by
+waiting_at : (path : Option (List ℕ)) (place wait : Option ℕ) (at asks : Option ℕ → Type 0)
+    (config : GatewayConfig) (gateway : Gateway) → at place → asks wait
+    → BeginsWaiting config path (λ asked. asked ≡ place) (λ asked. asked ≡ wait) gateway
+    → BeginsWaiting config path at asks gateway
+waiting_at path place wait at asks config gateway there is b = record {
   first = b.first;
-  begun = begun_at f path config b.first b.begun;
+  begun = begun_at path place at config b.first there b.begun;
   wait = b.wait;
   asked = subst asks (sym b.asked) is;
   waits = b.waits;
 }
 
--- where nothing is to be saved is told as its text
-saved_at : {X : Type 0} (f : X → List ℕ) (path : Option X) (saved : Result (Unit {0}) ProgramFault)
-    → IsSaved path saved → IsSaved (option_map f path) saved
-saved_at f None saved is = is
-saved_at f (Some path) saved is = is
-
--- the path of a state is told as its text
-lacks_gateway_at : {X : Type 0} (f : X → List ℕ) (config : GatewayConfig) (path : Option X) (fault : ProgramFault)
-    → LacksGateway config path fault → LacksGateway config (option_map f path) fault
-lacks_gateway_at f config None fault lacks = lacks
-lacks_gateway_at f config (Some path) program_faults.OutOfMemory lacks = lacks
-lacks_gateway_at f config (Some path) program_faults.NoState lacks = lacks
-lacks_gateway_at f config (Some path) (program_faults.State fault) lacks = lacks
-lacks_gateway_at f config (Some path) _ lacks = absurd lacks
-
--- A system whose paths and wait are those of the command takes what the command names.
-pub takes_asked : {X : Type 0} (f : X → List ℕ) (command : CommandLine) (path : List ℕ) (load save : Option X)
-    (wait : Option ℕ) → config_in command ≡ Some path → option_map f load ≡ load_in command
-    → option_map f save ≡ save_in command → AsksWait command wait
+-- A system whose paths, place and wait are those of the command takes what the command names.
+pub takes_asked : (command : CommandLine) (path : List ℕ) (load save : Option (List ℕ))
+    (place wait : Option ℕ) → config_in command ≡ Some path → load ≡ load_in command
+    → save ≡ save_in command → AsksPlace command place → AsksWait command wait
     → TakesAsked command (record {
       reads = IsMeant (PathGives path);
       lacks_config = LacksConfigAt path;
-      starts = λ config. BeginsWaiting config.gateway load (λ asked. asked ≡ wait);
-      lacks_gateway = λ config. LacksGateway config.gateway load;
-      saves = λ config gateway. IsSaved save;
+      starts = λ config. BeginsWaiting config.gateway load (λ asked. asked ≡ place) (λ asked. asked ≡ wait);
+      lacks_gateway = λ config. LacksGateway config.gateway load (λ asked. asked ≡ place);
+      saves = λ config. IsSaved save config.gateway;
     })
-takes_asked f command path load save wait named loads saves asks = record {
+takes_asked command path load save place wait named loads saves at asks = record {
   read = λ config meant. rw named meant;
   unread = λ fault lacks. rw named lacks;
-  begun = λ config gateway begun. rw (← loads) (waiting_at f load wait (AsksWait command) config.gateway gateway asks
-      begun);
-  unbegun = λ config fault lacks. rw (← loads) (lacks_gateway_at f config.gateway load fault lacks);
-  saved = λ config gateway saved is. rw (← saves) (saved_at f save saved is);
+  begun = λ config gateway begun. rw (← loads) (waiting_at load place wait (AsksPlace command) (AsksWait command)
+      config.gateway gateway at asks begun);
+  unbegun = λ config fault lacks. rw (← loads) (lacks_at load place (AsksPlace command) config.gateway fault at lacks);
+  saved = λ config gateway saved is. rw (← saves) is;
 }
 
 -- What a system that takes what the command names lacks for a session, the command lacks.
@@ -196,7 +225,8 @@ lacks_so files more more' is fault (inr (config, read, inr (gateway, begun, none
 -- how the state was saved is told of its path
 pub saved_told : {command : CommandLine} {files : SystemFiles} → TakesAsked command files
     → {ends : Result Totals RunFault → Type 0} {told : Result Totals ProgramFault} (config : Config) (gateway : Gateway)
-    → EndedSaved ends (files.saves config gateway) told → EndedSaved ends (IsSaved (save_in command)) told
+    → EndedSaved ends (files.saves config gateway) told
+    → EndedSaved ends (IsSaved (save_in command) config.gateway gateway) told
 saved_told takes config gateway e = record {
   end = e.end;
   done = e.done;

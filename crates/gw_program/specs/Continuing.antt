@@ -1,5 +1,5 @@
 -- Sessions that go on from a saved state (module `laws`).
-use Rattle.std.specs.Prelude.{◌≡◌, ℕ, List, [], ◌++◌, Result}
+use Rattle.std.specs.Prelude.{◌≡◌, ℕ, Bool, List, [], ◌++◌, Result}
 use Rattle.std.specs.Io.KnownBytes.{Appends}
 use Rattle.gw_switch.specs.declared.GatewayConfig.{GatewayConfig}
 use Rattle.gw_switch.specs.declared.gateway.Gateway.{Gateway}
@@ -79,8 +79,9 @@ LoadedServingsGoOn = (first config : GatewayConfig) (before : List Event) (a a' 
 abbrev pub SavedStatesRecover : Type 0
 SavedStatesRecover = (first config : GatewayConfig) (before : List Event) (a a' : SessionStreams)
     (gateway live saved recovered : Gateway) (end ended : Result Totals RunFault) (passed : List Record)
-    (octets behind : List ℕ) (loaded : Loaded) (source source' : SourceState) (sink sink' : SinkState)
-    → Serves a a' end gateway live → HasRecorded a.tape a'.tape passed octets behind
+    (octets behind : List ℕ) (holds : Bool) (loaded : Loaded) (source source' : SourceState)
+    (sink sink' : SinkState)
+    → Serves holds a a' end gateway live → HasRecorded a.tape a'.tape passed octets behind
     → HasHistory first gateway before → HasHistory first saved (before ++ events passed)
     → IsSavedAndLoaded first config config saved (before ++ events passed) loaded
     → Runs source source' sink sink' ended loaded.gateway recovered

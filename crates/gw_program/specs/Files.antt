@@ -30,3 +30,31 @@ SystemReads file octets = ⊤
 -- a read of a file failed with this error
 unfoldable pub SystemFailsToRead : {F : Type 0} → F → Error → Type 0
 SystemFailsToRead file error = ⊤
+
+-- a file was created at this path, with these permissions, or emptied
+unfoldable pub SystemCreates : {F : Type 0} → List ℕ → ℕ → F → Type 0
+SystemCreates path mode file = ⊤
+
+-- a file was created at this path, with these permissions, where there was none
+unfoldable pub SystemCreatesNew : {F : Type 0} → List ℕ → ℕ → F → Type 0
+SystemCreatesNew path mode file = ⊤
+
+-- what is at this path was opened to be appended to
+unfoldable pub SystemAppends : {F : Type 0} → List ℕ → F → Type 0
+SystemAppends path file = ⊤
+
+-- a file took all of these octets, one after another
+unfoldable pub SystemTakes : {F : Type 0} → F → F → List ℕ → Type 0
+SystemTakes file file' octets = ⊤
+
+-- what a file took is kept by the disk
+unfoldable pub SystemSyncs : {F : Type 0} → F → Type 0
+SystemSyncs file = ⊤
+
+-- a write of a file, or its syncing, failed with this error
+unfoldable pub SystemFailsToWrite : {F : Type 0} → F → Error → Type 0
+SystemFailsToWrite file error = ⊤
+
+-- the file at the first path was given the second one
+unfoldable pub SystemRenames : List ℕ → List ℕ → Type 0
+SystemRenames from to = ⊤

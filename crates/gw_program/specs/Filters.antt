@@ -9,6 +9,7 @@ use Rattle.gw_filter.specs.Check.{ChecksMultiframes, ChecksMultiframesUntil}
 use Rattle.gw_filter.specs.declared.checking.Checked.{Checked}
 use Rattle.gw_program.specs.declared.program_fault.ProgramFault.{ProgramFault}
 use Rattle.gw_program.specs.declared.program_fault.ProgramFault.TheVariants as program_faults
+use Rattle.gw_program.specs.Report.{CountsArePrinted}
 use Rattle.gw_command.specs.declared.command.Filter.{Filter}
 use Rattle.gw_command.specs.declared.command.Filter.TheVariants.{Align, Crc4}
 
@@ -25,12 +26,13 @@ abbrev pub DoesFilterUntil : Option (List ℕ) → Filter → SourceState → So
 DoesFilterUntil reports Align = AlignsUntil
 DoesFilterUntil reports Crc4 = SendsMultiframesUntil reports
 
--- CRC-4 multiframes were checked in the whole of the source, with these totals, and errored submultiframes
--- reported.
+-- CRC-4 multiframes were checked in the whole of the source, with these totals, errored submultiframes
+-- reported, and the counts printed.
 pub record HasChecked (source source' : SourceState) (sink sink' : SinkState) (totals : Totals) : Type 0 where
   pub checked : Checked
   pub reports : List ℕ
   pub done : ChecksMultiframes source source' sink sink' reports checked
+  pub printed : CountsArePrinted checked
   pub totals_are : totals ≡ checked.totals
 
 -- Checking ended with this fault.

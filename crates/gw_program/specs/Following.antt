@@ -25,16 +25,10 @@ pub record EndsBefore (path : List ℕ) (place : ℕ) : Type 0 where
 abbrev pub IsRefusedAt : List ℕ → ℕ → Error → Type 0
 IsRefusedAt path place error = SystemRefusesFile path error ⊎ SystemRefusesSeek place error
 
--- Std says nothing of waits and of what is printed, so these two relations hold of all; but each is unfolded
--- only where the system is asked or a place reported, so for all others they hold of what was done.
-
--- a wait for standard input was refused with this error
+-- A wait for standard input was refused with this error. Std says nothing of waits, so this holds of all; but
+-- it is unfolded only where the system is asked, so for all others it holds of errors received.
 unfoldable pub SystemRefusesInput : Error → Type 0
 SystemRefusesInput error = ⊤
-
--- this place was reported, if totals are asked for
-unfoldable pub SystemIsTold : ℕ → Type 0
-SystemIsTold place = ⊤
 
 -- why the log at this path is not followed from this octet on: the system refused it or the wait for standard
 -- input, it has no such octet, or memory was refused

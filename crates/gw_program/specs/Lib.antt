@@ -13,3 +13,6 @@ pub mod Files
 pub mod Following
 pub mod Recording
 pub mod Places
+pub mod ReportsFile
+pub mod Standard
+pub mod Renewals

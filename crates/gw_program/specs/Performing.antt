@@ -1,12 +1,15 @@
 -- What a command does on its streams, and its result (module `performing`).
-use Rattle.std.specs.Prelude.{◌≡◌, ◌⊎◌, ℕ, false, [], Option, Some, None, Result, Ok, Err}
+use Rattle.std.specs.Prelude.{◌≡◌, ◌⊎◌, ℕ, false, [], map, Option, Some, None, Result, Ok, Err}
 use Rattle.gw_config.specs.declared.config.Config.{Config}
 use Rattle.gw_records.specs.declared.outcome.Totals.{Totals}
 use Rattle.gw_records.specs.declared.outcome.RunFault.{RunFault}
 use Rattle.gw_records.specs.Ports.{PortsState}
 use Rattle.gw_session.specs.PacketPorts.{no_ports}
 use Rattle.gw_session.specs.Serve.{SessionStreams}
+use Rattle.gw_session.specs.Answers.{events_of}
 use Rattle.gw_session.specs.Tape.{TapeState, no_tape}
+use Rattle.gw_session.specs.Watch as watches
+use Rattle.gw_session.specs.Watch.{RunsWatched, Watched}
 use Rattle.gw_switch.specs.declared.gateway.Gateway.{Gateway}
 use Rattle.gw_command.specs.declared.command.SessionKind.{SessionKind}
 use Rattle.gw_command.specs.declared.command.SessionKind.TheVariants.{Replay, Check, Serve}
@@ -102,6 +105,19 @@ WithEnds Serve Opens Begins ports_tell tape_tells does = HasServed Opens Begins 
     does (ports_tell ports) (ports_tell ports') (tape_tells tape) (tape_tells tape'))
 WithEnds session Opens Begins ports_tell tape_tells does = does no_ports no_ports no_tape no_tape
 
+-- A watch that was opened so was shown each record of a session that a gateway has acted on, with its reply
+-- and the gateway behind it, and then ended so. Where a write failed, it may lack the last one.
+pub record IsWatched {W : Type 0} (Opens : W → Type 0) (Ends : W → W → Type 0) (shows : watches.Shows W)
+    (a a' : SessionStreams) (gateway gateway' : Gateway) : Type 0 where
+  pub first : W
+  pub last : W
+  pub left : W
+  pub end : Result Totals RunFault
+  pub opened : Opens first
+  pub watched : RunsWatched a a' gateway gateway'
+      (λ records. Watched shows gateway first last records (map events_of records)) (last ≡ first) end
+  pub ended : Ends last left
+
 -- what a session does, by its kind
 abbrev pub by_session : SessionKind → Type 0 → Type 0 → Type 0 → Type 0
 by_session Replay replays checks serves = replays
@@ -123,9 +139,10 @@ RunsSession Replay a a' gateway gateway' from place end =
     × EndsAt a.source a'.source gateway gateway' from place end
 RunsSession Check a a' gateway gateway' from place end =
     Checks a.source a'.source a.sink a'.sink end gateway gateway'
-RunsSession Serve a a' gateway gateway' from place end = Serves a a' end gateway gateway'
+RunsSession Serve a a' gateway gateway' from place end = Serves false a a' end gateway gateway'
 
 -- a recording that is asked for is begun, and has taken nothing; where none is asked for nothing is recorded
 abbrev pub IsBegun : {X : Type 0} → Option X → TapeState → Type 0
 IsBegun None tape = tape ≡ no_tape
-IsBegun (Some asked) tape = tape ≡ record { ended = false; failures = 0; taken = Some [] }
+IsBegun (Some asked) tape =
+    tape ≡ record { ended = false; failures = 0; taken = Some []; acts = None }

@@ -1,5 +1,6 @@
 -- At which place of its input a replay has left a gateway (modules `place`, `sessions`).
-use Rattle.std.specs.Prelude.{◌≡◌, ◌+◌, ◌++◌, ⊤, ℕ, List, length, flat_map, Result, Err}
+use Rattle.std.specs.Prelude.{◌≡◌, ◌+◌, ◌++◌, ⊤, if◌then◌else◌, nat_le, ℕ, List, length, flat_map, Result}
+use Rattle.std.specs.Prelude.{Err}
 use Rattle.gw_records.specs.Records.{Record, Reads, spelled}
 use Rattle.gw_records.specs.Streams.{SourceState, GivesOctets, at_most}
 use Rattle.gw_records.specs.declared.outcome.RunFault.{RunFault}
@@ -16,6 +17,10 @@ use Rattle.gw_switch.specs.Standing.{HasHistory}
 -- the octets of a trunk in 5 s
 abbrev pub seconds_5 : ℕ
 seconds_5 = 1280000
+
+-- the octets since the last checkpoint behind this many more: none where one is due
+abbrev pub since_after : ℕ → ℕ → ℕ
+since_after since octets = if nat_le seconds_5 (since + octets) then 0 else since + octets
 
 -- The octets that a source gave are whole records, and perhaps others behind them. The gateway has acted on
 -- these records. If the first octet has the place `from`, the octet behind them has the place `place`.

@@ -18,8 +18,10 @@ use Rattle.gw_command.specs.declared.command.SessionKind.{SessionKind}
 use Rattle.gw_program.specs.declared.program_fault.ProgramFault.{ProgramFault}
 use Rattle.gw_program.specs.declared.program_fault.ProgramFault.TheVariants as program_faults
 use Rattle.gw_program.specs.Filters.{DoesFilter, DoesFilterUntil, HasChecked, HasCheckedUntil}
-use Rattle.gw_program.specs.Following.{IsLogged, LacksLog, SystemIsTold}
+use Rattle.gw_program.specs.Following.{IsLogged, LacksLog}
 use Rattle.gw_program.specs.Jobs.{Does, DoesUntil}
+use Rattle.gw_program.specs.Report.{SystemPrints}
+use Rattle.gw_program.specs.ReportsFile.{LacksReportsAt}
 use Rattle.gw_program.specs.Performing.{Ended, EndedSaved, Performed, RunsSession, SystemFiles}
 use Rattle.gw_program.specs.Setup.{IsConfigAt, LacksConfigAt}
 use Rattle.gw_program.specs.State.{BeginsWaiting, IsSaved, LacksGateway}
@@ -82,7 +84,7 @@ reports_path_in command = text_in (codes "reports") command
 -- a file of reports is named and can't be opened, and this is returned
 pub record LacksReports (named : Option (List ℕ)) (told : Result Totals ProgramFault) : Type 0 where
   pub program_fault : ProgramFault
-  pub is_named : named ≢ None
+  pub why : IsSomeAnd named (λ path. LacksReportsAt path program_fault)
   pub told_is : told ≡ Err program_fault
 
 -- this was done with the reports that came from the file, and none came where no file is named
@@ -118,15 +120,29 @@ save_in command = text_in (codes "save") command
 abbrev pub AsksWait : CommandLine → Option ℕ → Type 0
 AsksWait command wait = MatchOption wait ((signals : ℕ) → ¬ SaysWait command signals) (SaysWait command)
 
--- The files that the command names. A gateway is begun from a state if one is named, with the wait that is
--- asked for.
+-- the log that the command names to be followed
+abbrev pub follow_in : CommandLine → Option (List ℕ)
+follow_in command = text_in (codes "follow") command
+
+-- the octet that the command names, from which on the log is read
+abbrev pub IsFrom : CommandLine → ℕ → Type 0
+IsFrom command place = SaysNumberIn 64 (codes "from") command place
+
+-- .. if it names a log to be followed; none if it does not
+abbrev pub AsksPlace : CommandLine → Option ℕ → Type 0
+AsksPlace command place = MatchOption place
+    ((follow_in command ≡ None) ⊎ ((octet : ℕ) → ¬ IsFrom command octet))
+    (λ octet. (follow_in command ≢ None) × IsFrom command octet)
+
+-- The files that the command names. A gateway is begun from a state if one is named, at the place and with
+-- the wait that are asked for.
 abbrev pub files_in : CommandLine → SystemFiles
 files_in command = record {
   reads = IsConfigAt (config_in command);
   lacks_config = λ fault. IsSomeAnd (config_in command) (λ path. LacksConfigAt path fault);
-  starts = λ config. BeginsWaiting config.gateway (load_in command) (AsksWait command);
-  lacks_gateway = λ config. LacksGateway config.gateway (load_in command);
-  saves = λ config gateway. IsSaved (save_in command);
+  starts = λ config. BeginsWaiting config.gateway (load_in command) (AsksPlace command) (AsksWait command);
+  lacks_gateway = λ config. LacksGateway config.gateway (load_in command) (AsksPlace command);
+  saves = λ config. IsSaved (save_in command) config.gateway;
 }
 
 -- the files of a system are those that the command names
@@ -141,34 +157,32 @@ pub record TakesAsked (command : CommandLine) (files : SystemFiles) : Type 0 whe
       → files.saves config gateway saved → (files_in command).saves config gateway saved
 
 -- A session with the files that the command names was not begun for such a reason, and nothing was read or
--- written; or this was done with a gateway.
+-- written; or this was done with a configuration and a gateway.
 abbrev pub ByGateway : SessionStreams → SessionStreams → CommandLine → (ProgramFault → Type 0)
-    → Result Totals ProgramFault → (Gateway → Gateway → Type 0) → Type 0
-ByGateway a a' command lacks told does = Performed a a' (files_in command) lacks (λ config. does) told
+    → Result Totals ProgramFault → (Config → Gateway → Gateway → Type 0) → Type 0
+ByGateway a a' command lacks told does = Performed a a' (files_in command) lacks does told
 
 -- The session that the command names ended with this result, or was not begun for such a reason, and this is
 -- known of its source. A replay began at the place `from`, and ended at the place `place`.
 abbrev pub EndsSession : CommandLine → SessionKind → (ProgramFault → Type 0) → (SourceState → Type 0) → ℕ → ℕ
     → Result Totals ProgramFault → Type 0
 EndsSession command session lacks Given from place told = OnNewStreams (λ a a'. Given a'.source
-    × ByGateway a a' command lacks told (λ gateway gateway'.
-    EndedSaved (RunsSession session a a' gateway gateway' from place) (IsSaved (save_in command)) told))
+    × ByGateway a a' command lacks told (λ config gateway gateway'.
+    EndedSaved (RunsSession session a a' gateway gateway' from place)
+    (IsSaved (save_in command) config.gateway gateway') told))
 
--- the log that the command names to be followed
-abbrev pub follow_in : CommandLine → Option (List ℕ)
-follow_in command = text_in (codes "follow") command
-
--- the octet that the command names, from which on the log is read
-abbrev pub IsFrom : CommandLine → ℕ → Type 0
-IsFrom command place = SaysNumberIn 64 (codes "from") command place
+-- a value was printed with its name, if the command asks for totals
+abbrev pub IsPrinted : CommandLine → List ℕ → ℕ → Type 0
+IsPrinted command name value =
+    text_in (codes "totals") command ≡ Some (codes "true") → SystemPrints name value
 
 -- The session was given the octets of the log at this path from this octet on, and ended with this result.
--- The place at which a replay ended was reported, if it ended well.
+-- The place at which a replay ended was printed, if it ended well and totals are asked for.
 pub record EndsOnLog (command : CommandLine) (session : SessionKind) (lacks : ProgramFault → Type 0)
     (path : List ℕ) (from : ℕ) (told : Result Totals ProgramFault) : Type 0 where
   pub place : ℕ
   pub ends : EndsSession command session lacks (IsLogged path from) from place told
-  pub tells : OnOk told (SystemIsTold place)
+  pub tells : OnOk told (IsPrinted command (codes "place") place)
 
 -- so did the session on the log from the octet on that the command names, or the log was not opened
 pub record HasFollowed (command : CommandLine) (session : SessionKind) (lacks : ProgramFault → Type 0)

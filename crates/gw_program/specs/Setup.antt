@@ -19,7 +19,7 @@ Says (Err (program_faults.Config fault)) meaning = Fails fault meaning
 Says (Err program_fault) meaning = (program_fault ≡ program_faults.File)
     ⊎ (program_fault ≡ program_faults.OutOfMemory)
 
--- a file that was opened at this path gave these octets: all of it, or the first 65,537
+-- a file that was opened at this path gave these octets: all of it, or as many as were asked for
 pub record PathGives (path octets : List ℕ) : Type 0 where
   pub file : File
   pub opened : SystemOpens path file

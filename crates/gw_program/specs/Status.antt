@@ -56,6 +56,7 @@ program_fault_status program_faults.Log = 2
 program_fault_status program_faults.Reports = 2
 program_fault_status program_faults.NoState = 2
 program_fault_status (program_faults.State fault) = load_status fault
+program_fault_status (program_faults.OtherPlace place) = 2
 program_fault_status program_faults.NotSaved = 1
 program_fault_status program_faults.Control = 2
 program_fault_status program_faults.Tell = 2

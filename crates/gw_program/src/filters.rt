@@ -64,7 +64,7 @@ pub fn perform_crc4_check<
     );
     match crc4_check_stream(&mut checker, source, sink) {
         Ok(checked) => {
-            print_receiver_counts(rt, &checked.receiver_counts);
+            print_receiver_counts(rt, &checked);
             if tells.unreported {
                 print_unreported(rt, checked.unreported);
             }

@@ -9,7 +9,7 @@ ghost use Rattle.gw_session.specs.Tape.{no_tape};
 ghost use Rattle.gw_program.specs.Jobs.{Does, DoesUntil};
 ghost use Rattle.gw_program.specs.Performing.{Ended, NotBegun, Performed, HasServed, RunsSession, WithEnds};
 ghost use Rattle.gw_program.specs.Performing.{LacksMore, LacksSession, LacksTapeOrPorts};
-ghost use Rattle.gw_program.specs.Performing.{told_as, IsTold, EndedSaved};
+ghost use Rattle.gw_program.specs.Performing.{told_as, IsTold, IsWatched, EndedSaved};
 
 use crate::jobs::do_job;
 use crate::place::PlaceWatch;
@@ -59,8 +59,17 @@ pub trait System {
     /// Holds of a configuration and the fault if its ports were not opened.
     ghost lacks_ports: { Self → Config → ProgramFault → Type 0 };
 
+    /// Holds of a watch that was opened for a configuration and the gateway that a replay begins with.
+    ghost watches: { Self → Config → Gateway → Self.Watch → Type 0 };
+
+    /// Relates a watch before and after it was ended.
+    ghost ends_watch: { Self.Watch → Self.Watch → Type 0 };
+
     /// Holds of the fault if the watch of a replay was not opened.
     ghost lacks_watch: { Self → ProgramFault → Type 0 };
+
+    /// Relates a system and a fault that it reported.
+    ghost reports: { Self → ProgramFault → Type 0 };
 
     /// Reads the configuration of the session.
     fn read_config(&self) -> Result<Config, ProgramFault>
@@ -92,13 +101,16 @@ pub trait System {
 
     /// Opens the watch of a replay that begins with this gateway.
     fn open_watch(&self, config: &Config, gateway: &Gateway) -> Result<Self::Watch, ProgramFault>
-        ensures { IfErr result (λ program_fault. lacks_watch self.now program_fault) };
+        ensures ok { IfOk result (watches self.now config.now gateway.now) }
+        ensures err { IfErr result (λ program_fault. lacks_watch self.now program_fault) };
 
     /// Ends the watch of a replay.
-    fn end_watch(&self, watch: &mut Self::Watch);
+    fn end_watch(&self, watch: &mut Self::Watch)
+        ensures { ends_watch watch.old watch.new };
 
     /// Reports the end of a session, beyond its result.
-    fn tell(&self, program_fault: &ProgramFault);
+    fn tell(&self, program_fault: &ProgramFault)
+        ensures { reports self.now program_fault.now };
 }
 
 // The report of the end of a job or a session.
@@ -148,7 +160,9 @@ pub fn end_session<Y: System>(
     gateway: &Gateway,
     ended: Result<Totals, RunFault>,
 ) -> Result<Totals, ProgramFault>
-    ensures { IsTold ((Y.files system.now).saves config.now gateway.now) ended result }
+    ensures told { IsTold ((Y.files system.now).saves config.now gateway.now) ended result }
+    ensures reported { IfErr ended (λ fault. (result ≡ Err (ProgramFault.Session fault))
+        ⊎ Y.reports system.now (ProgramFault.Session fault)) }
 {
     match system.save_gateway(config, gateway) {
         Ok(()) => told_as(ended),
@@ -178,12 +192,17 @@ fn perform_replay<Y: System, S: Source, K: Sink>(
     ends: &mut SessionEnds<S, K>,
 ) -> Result<Totals, ProgramFault>
     requires { CanBegin (S.tells ends.old.source) (K.tells ends.old.sink) }
-    ensures { NotBegun ends.old ends.new (Y.lacks_watch system.now) result
+    ensures replays { NotBegun ends.old ends.new (Y.lacks_watch system.now) result
         ⊎ EndedSaved (RunsSession Replay
         (around (S.tells ends.old.source) (K.tells ends.old.sink) no_ports no_tape)
         (around (S.tells ends.new.source) (K.tells ends.new.sink) no_ports no_tape)
         gateway.old gateway.new ends.old.place ends.new.place)
         ((Y.files system.now).saves config.now gateway.new) result }
+    ensures watched { NotBegun ends.old ends.new (Y.lacks_watch system.now) result
+        ⊎ IsWatched (Y.watches system.now config.now gateway.old) Y.ends_watch Y.Watch.shows
+        (around (S.tells ends.old.source) (K.tells ends.old.sink) no_ports no_tape)
+        (around (S.tells ends.new.source) (K.tells ends.new.sink) no_ports no_tape)
+        gateway.old gateway.new }
 {
     let watch = system.open_watch(config, gateway)?;
     let mut watch = PlaceWatch::new(system, config, watch, ends.place);

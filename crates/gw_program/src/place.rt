@@ -4,7 +4,7 @@ ghost use Rattle.std.specs.Prelude.{◌≡◌, ◌+◌, ◌≤◌, length};
 ghost use Rattle.gw_records.specs.Records.{named, spelled};
 ghost use Rattle.gw_records.specs.Streams.{at_most};
 ghost use Rattle.gw_session.specs.Running.{trunk_octets};
-ghost use Rattle.gw_program.specs.Places.{seconds_5};
+ghost use Rattle.gw_program.specs.Places.{seconds_5, since_after};
 
 use crate::performing::System;
 use gw_config::Config;
@@ -96,7 +96,8 @@ impl<Y: System> Watch for PlaceWatch<'_, Y> {
     ghost shows = { λ old new r code gateway. (new.place ≡ at_most (old.place + length (spelled r)))
         × Y.Watch.shows old.watch new.watch r code gateway
         × (seconds_5 ≤ old.since + length (trunk_octets r)
-        → Y.keeps old.system.now old.config.now gateway new.place) };
+        → Y.keeps old.system.now old.config.now gateway new.place)
+        × (new.since ≡ since_after old.since (length (trunk_octets r))) };
 
     fn after(&mut self, head: &RecordHead, body: &[u8], code: u8, gateway: &Gateway) {
         self.watch.after(head, body, code, gateway);

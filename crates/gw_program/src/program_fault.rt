@@ -66,6 +66,9 @@ pub enum ProgramFault {
     /// The file has no state of this configuration.
     #[error("{0}")]
     State(LoadFault),
+    /// The checkpoint is of this octet of the log, and another one is asked for.
+    #[error("error: --load is of octet {0} of the log: give --from {0}")]
+    OtherPlace(u64),
     /// The state can't be saved.
     #[error("cannot save the state")]
     NotSaved,
@@ -119,6 +122,7 @@ impl ProgramFault {
             | ProgramFault::Reports
             | ProgramFault::NoState
             | ProgramFault::State(_)
+            | ProgramFault::OtherPlace(_)
             | ProgramFault::Control
             | ProgramFault::Tell
             | ProgramFault::Config(_) => REFUSED,

@@ -1,10 +1,12 @@
 //! The totals, CRC-4 counts and skipped datagrams that are printed on standard error.
 
-ghost use Rattle.std.specs.Prelude.{◌≡◌};
-ghost use Rattle.gw_program.specs.Report.{passed_over};
+ghost use Rattle.std.specs.Prelude.{◌≡◌, codes};
+ghost use Rattle.gw_program.specs.Report.{passed_over, ArePrinted, CountsArePrinted, SystemPrints};
+ghost use Rattle.gw_program.specs.Report.{SystemTells};
 
+use crate::program_fault::ProgramFault;
 use gw_command::SpeechJob;
-use gw_filter::{CountsTeller, ReceiverCounts};
+use gw_filter::{Checked, CountsTeller, ReceiverCounts};
 use gw_session::Totals;
 use thiserror::Error;
 
@@ -31,33 +33,58 @@ pub fn passed_over(job: &SpeechJob, totals: &Totals) -> Option<Skipped>
     }
 }
 
+// Prints a name and a value on standard error, as a line.
+#[tactic(auto, unfolding(crate::specs::Report::SystemPrints))]
+fn print_row(rt: &impl Eprint, name: &str, value: u64)
+    ensures { SystemPrints name.now value }
+{
+    let _ = eprintln!(rt; "{} {}", name, value);
+}
+
+/// Prints the line of a fault on standard error.
+#[tactic(auto, unfolding(crate::specs::Report::SystemTells))]
+pub fn print_fault(rt: &impl Eprint, program_fault: &ProgramFault)
+    ensures { SystemTells program_fault.now }
+{
+    let _ = eprintln!(rt; "{}", program_fault);
+}
+
 /// Prints the totals of a session on standard error, one name and value a line.
-pub fn print_totals(rt: &impl Eprint, totals: &Totals) {
-    let _ = eprintln!(rt; "records {}", totals.records);
-    let _ = eprintln!(rt; "octets {}", totals.octets);
-    let _ = eprintln!(rt; "datagrams {}", totals.datagrams);
-    let _ = eprintln!(rt; "dropped {}", totals.dropped);
-    let _ = eprintln!(rt; "port_faults {}", totals.port_faults);
+pub fn print_totals(rt: &impl Eprint, totals: &Totals)
+    ensures { ArePrinted totals.now }
+{
+    print_row(rt, "records", totals.records);
+    print_row(rt, "octets", totals.octets);
+    print_row(rt, "datagrams", totals.datagrams);
+    print_row(rt, "dropped", totals.dropped);
+    print_row(rt, "port_faults", totals.port_faults);
 }
 
 /// Prints the place in a log behind which a state stands on standard error, in the form of the totals.
-pub fn print_place(rt: &impl Eprint, place: u64) {
-    let _ = eprintln!(rt; "place {}", place);
+pub fn print_place(rt: &impl Eprint, place: u64)
+    ensures { SystemPrints (codes "place") place }
+{
+    print_row(rt, "place", place);
 }
 
 /// Prints the number of discarded multiframes of a trunk on standard error, in the form of the totals.
-pub fn print_discarded(rt: &impl Eprint, discarded: u64) {
-    let _ = eprintln!(rt; "discarded_multiframes {}", discarded);
+pub fn print_discarded(rt: &impl Eprint, discarded: u64)
+    ensures { SystemPrints (codes "discarded_multiframes") discarded }
+{
+    print_row(rt, "discarded_multiframes", discarded);
 }
 
 /// Prints what was counted of CRC-4 multiframes on standard error, one name and value a line.
-pub fn print_receiver_counts(rt: &impl Eprint, receiver_counts: &ReceiverCounts) {
-    let _ = eprintln!(rt; "submultiframes {}", receiver_counts.submultiframes);
-    let _ = eprintln!(rt; "errored {}", receiver_counts.errored);
-    let _ = eprintln!(rt; "far_end_errored {}", receiver_counts.far_end_errored);
-    let _ = eprintln!(rt; "multiframes_found {}", receiver_counts.found);
-    let _ = eprintln!(rt; "multiframes_lost {}", receiver_counts.lost);
-    let _ = eprintln!(rt; "given_up {}", receiver_counts.given_up);
+pub fn print_receiver_counts(rt: &impl Eprint, checked: &Checked)
+    ensures { CountsArePrinted checked.now }
+{
+    let counts = &checked.receiver_counts;
+    print_row(rt, "submultiframes", counts.submultiframes);
+    print_row(rt, "errored", counts.errored);
+    print_row(rt, "far_end_errored", counts.far_end_errored);
+    print_row(rt, "multiframes_found", counts.found);
+    print_row(rt, "multiframes_lost", counts.lost);
+    print_row(rt, "given_up", counts.given_up);
 }
 
 /// Prints how many errored submultiframes were not reported on standard error, in the form of the counts.

@@ -1,14 +1,32 @@
 //! How the FIFO of `--reports` is opened, between `crc4 --check` and `crc4`.
 
+ghost use Rattle.std.specs.Prelude.{IfOk, IfErr};
+ghost use Rattle.gw_program.specs.Files.{SystemRefusesFile};
+ghost use Rattle.gw_program.specs.Recording.{SystemNeverWaits};
+ghost use Rattle.gw_program.specs.ReportsFile.{AreNotOpened, AreOpenAt, LacksReportsAt, SystemOpensBoth};
+
 use crate::files::file_len;
 use crate::program_fault::ProgramFault;
 use crate::recording::never_wait;
 use std::fs::{File, OpenOptions};
 use std::io;
 
-// Opens the file for both, so that the opening of a FIFO waits for nobody.
-fn open(rt: &HostRuntime, path: &str) -> io::Result<File> {
-    let file = OpenOptions::new().read(true).write(true).open(rt, path)?;
+// Opens the file for both, so that the opening of a FIFO waits for nobody. The error is the system's.
+#[tactic(auto, unfolding(crate::specs::ReportsFile::SystemOpensBoth, crate::specs::Files::SystemRefusesFile))]
+fn open_both(rt: &HostRuntime, path: &str) -> io::Result<File>
+    ensures opens { IfOk result (SystemOpensBoth path.now) }
+    ensures err { IfErr result (SystemRefusesFile path.now) }
+{
+    OpenOptions::new().read(true).write(true).open(rt, path)
+}
+
+// Opens the file for both, so that no call of it waits. The error is the system's.
+fn open(rt: &HostRuntime, path: &str) -> io::Result<File>
+    ensures opens { IfOk result (SystemOpensBoth path.now) }
+    ensures never_waits { IfOk result (λ file. SystemNeverWaits file) }
+    ensures err { IfErr result (AreNotOpened path.now) }
+{
+    let file = open_both(rt, path)?;
     never_wait(&file)?;
     Ok(file)
 }
@@ -18,11 +36,17 @@ fn open(rt: &HostRuntime, path: &str) -> io::Result<File> {
 /// # Errors
 ///
 /// [`ProgramFault::Reports`] if it can't be opened or is a regular file, or want of memory.
-pub fn open_reports(rt: &HostRuntime, path: &str) -> Result<File, ProgramFault> {
-    let found = file_len(rt, path);
-    let found = found.map_err(|error| ProgramFault::of(&error, ProgramFault::Reports))?;
-    if found.is_some() {
-        return Err(ProgramFault::Reports);
+pub fn open_reports(rt: &HostRuntime, path: &str) -> Result<File, ProgramFault>
+    ensures ok { IfOk result (AreOpenAt path.now) }
+    ensures err { IfErr result (LacksReportsAt path.now) }
+{
+    match file_len(rt, path) {
+        Ok(None) => {}
+        Ok(Some(_)) => return Err(ProgramFault::Reports),
+        Err(error) => return Err(ProgramFault::of(&error, ProgramFault::Reports)),
     }
-    open(rt, path).map_err(|error| ProgramFault::of(&error, ProgramFault::Reports))
+    match open(rt, path) {
+        Ok(file) => Ok(file),
+        Err(error) => Err(ProgramFault::of(&error, ProgramFault::Reports)),
+    }
 }

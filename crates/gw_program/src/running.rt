@@ -1,11 +1,10 @@
 //! What runs between standard input and standard output for the command line: a job, a filter or a session.
 
-ghost use Rattle.std.specs.Prelude.{ℕ, OnOk, Some, None, ⊤};
+ghost use Rattle.std.specs.Prelude.{ℕ, OnOk, Some, None, ⊤, codes};
 ghost use Rattle.clap.specs.Words.{subcommand_rows_of};
-ghost use Rattle.gw_program.specs.Following.{SystemIsTold};
 ghost use Rattle.gw_program.specs.Performing.{LacksMore, LacksSession, LacksTapeOrPorts};
 ghost use Rattle.gw_program.specs.Requests.{DoesJob, RunsFilter, ChecksCrc4, DoesSession, TakesAsked};
-ghost use Rattle.gw_program.specs.Requests.{reports_path_in, files_in, EndsSession, FollowsLog};
+ghost use Rattle.gw_program.specs.Requests.{reports_path_in, files_in, EndsSession, FollowsLog, IsPrinted};
 
 use crate::filters::{do_filter, perform_crc4_check};
 use crate::following::open_log;
@@ -19,6 +18,7 @@ use gw_command::{
 };
 use gw_filter::{NoReports, ReportingSender, ToReports};
 use gw_session::{FromRead, ToWrite, Totals};
+use std::io;
 
 /// Encodes or decodes standard input to standard output, and reports skipped datagrams.
 pub fn run_job(rt: &HostRuntime, job: &SpeechJob) -> Result<Totals, ProgramFault>
@@ -144,9 +144,8 @@ fn run_on_input<Y: System>(
 }
 
 // Reports a place on standard error, if the matches ask for totals.
-#[tactic(auto, unfolding(crate::specs::Following::SystemIsTold))]
 fn tell_place(rt: &HostRuntime, matches: &ArgMatches<'_>, place: u64)
-    ensures { SystemIsTold place }
+    ensures { IsPrinted (subcommand_rows_of matches.now) (codes "place") place }
 {
     if wants_totals(matches) {
         print_place(rt, place);
@@ -160,14 +159,14 @@ fn tell_end(
     ended: &Result<Totals, ProgramFault>,
     place: u64,
 )
-    ensures { OnOk ended.now (SystemIsTold place) }
+    ensures { OnOk ended.now (IsPrinted (subcommand_rows_of matches.now) (codes "place") place) }
 {
     if ended.is_ok() {
         tell_place(rt, matches, place);
     }
 }
 
-// Runs a session on the log at the path, from the octet on that the matches name.
+// Runs a session on the log at the path, from the octet on that the matches name. Its answers go nowhere.
 fn run_on_log<Y: System>(
     rt: &HostRuntime,
     matches: &ArgMatches<'_>,
@@ -189,9 +188,10 @@ fn run_on_log<Y: System>(
         Ok(source) => source,
         Err(fault) => return Err(fault),
     };
+    // (Nobody reads the answers, and each would be a call of the system.)
     let mut ends = SessionEnds {
         source,
-        sink: ToWrite::new(rt.stdout()),
+        sink: ToWrite::new(io::sink()),
         place: from,
     };
     let ended = perform_session(system, rt.alloc(), session, &mut ends);
@@ -199,8 +199,8 @@ fn run_on_log<Y: System>(
     ended
 }
 
-/// Runs a session to standard output, with what the system takes for the command line: from standard input,
-/// or on the log that the matches name to be followed.
+/// Runs a session with what the system takes for the command line: from standard input to standard output,
+/// or on the log that the matches name to be followed, without answers.
 ///
 /// # Errors
 ///

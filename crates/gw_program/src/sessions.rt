@@ -1,6 +1,6 @@
 //! Which session `replay`, `check` and `serve` run, and what `check` lists after a fault.
 
-ghost use Rattle.std.specs.Prelude.{◌≡◌, ◌≤◌, ◌-◌, ◌^◌, ◌<◌, None, map};
+ghost use Rattle.std.specs.Prelude.{◌≡◌, ◌≤◌, ◌-◌, ◌^◌, ◌<◌, None, map, false};
 ghost use Rattle.gw_records.specs.Streams.{CanBegin};
 ghost use Rattle.gw_session.specs.Answers.{events_of};
 ghost use Rattle.gw_session.specs.PacketPorts.{no_ports};
@@ -124,7 +124,8 @@ pub fn serve_through<S: Source, P: Ports, K: Sink, T: Tape>(
     tape: &mut T,
 ) -> Result<Totals, RunFault>
     requires { CanBegin (S.tells source.old) (K.tells sink.old) }
-    ensures { Serves (around (S.tells source.old) (K.tells sink.old) (P.tells ports.old) (T.tells tape.old))
+    ensures { Serves false
+        (around (S.tells source.old) (K.tells sink.old) (P.tells ports.old) (T.tells tape.old))
         (around (S.tells source.new) (K.tells sink.new) (P.tells ports.new) (T.tells tape.new)) result
         gateway.old gateway.new }
 {

@@ -24,9 +24,9 @@ fn meaning_of(alloc: Global, octets: &[u8]) -> Result<Config, ProgramFault>
     gw_config::read(alloc, octets).map_err(ProgramFault::Config)
 }
 
-/// The text that a configuration is read from. The relation belongs to the type. A generic caller has it only
-/// for a read that failed.
-trait Text: Drop {
+/// The text that a configuration or a state is read from. The relation belongs to the type. A generic caller
+/// has it only for a read that failed.
+pub(crate) trait Text: Drop {
     /// The octets up to the end, where they are known.
     ghost holds: { Self → Option (List ℕ) };
 

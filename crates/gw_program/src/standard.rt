@@ -3,8 +3,8 @@
 //! While 0, 1 or 2 is closed, the next file or socket takes its number, and records would be read from it, or
 //! answers written to it.
 
-ghost use Rattle.std.specs.Prelude.{◌≤ℤ◌, pos, IfSome};
-ghost use Rattle.std.specs.Fd.{file_raw_fd};
+ghost use Rattle.std.specs.Prelude.{pos, true, false};
+ghost use Rattle.gw_program.specs.Standard.{IsReserved, IsUpTo, SystemOpensNull};
 
 use std::fs::{File, OpenOptions};
 use std::os::fd::{AsRawFd, RawFd};
@@ -22,11 +22,25 @@ pub struct ReservedDescriptors {
     error: Option<File>,
 }
 
-// The opened file, if its descriptor is at most this standard one.
-fn up_to(most: RawFd, opened: io::Result<File>) -> Option<File>
-    ensures { IfSome result (λ file. file_raw_fd file ≤ℤ most) }
+// Opens the file that replaces a descriptor, to be written or to be read.
+#[tactic(auto, unfolding(crate::specs::Standard::SystemOpensNull))]
+fn open_null(rt: &HostRuntime, for_writing: bool) -> io::Result<File>
+    ensures { SystemOpensNull for_writing result }
 {
-    let file = opened.ok()?;
+    if for_writing {
+        OpenOptions::new().write(true).open(rt, NULL)
+    } else {
+        fs::open(rt, NULL)
+    }
+}
+
+// The opened file, exactly if its descriptor is at most this standard one.
+fn up_to(most: RawFd, opened: io::Result<File>) -> Option<File>
+    ensures { IsUpTo most opened result }
+{
+    let Ok(file) = opened else {
+        return None;
+    };
     if file.as_raw_fd() <= most {
         Some(file)
     } else {
@@ -36,13 +50,13 @@ fn up_to(most: RawFd, opened: io::Result<File>) -> Option<File>
 
 /// Opens a file for each of 0, 1 and 2 that is closed. If the system cannot open one, it stays closed.
 pub fn reserve_descriptors(rt: &HostRuntime) -> ReservedDescriptors
-    ensures input { IfSome result.input (λ file. file_raw_fd file ≤ℤ pos 0) }
-    ensures output { IfSome result.output (λ file. file_raw_fd file ≤ℤ pos 2) }
-    ensures error { IfSome result.error (λ file. file_raw_fd file ≤ℤ pos 2) }
+    ensures input { IsReserved (pos 0) true result.input }
+    ensures output { IsReserved (pos 2) false result.output }
+    ensures error { IsReserved (pos 2) false result.error }
 {
     ReservedDescriptors {
-        input: up_to(0, OpenOptions::new().write(true).open(rt, NULL)),
-        output: up_to(2, fs::open(rt, NULL)),
-        error: up_to(2, fs::open(rt, NULL)),
+        input: up_to(0, open_null(rt, true)),
+        output: up_to(2, open_null(rt, false)),
+        error: up_to(2, open_null(rt, false)),
     }
 }

@@ -1,3 +1,4 @@
+pub mod Calls
 pub mod Streams
 pub mod Octets
 pub mod Records

@@ -1,11 +1,12 @@
 //! Sources and sinks of octets (`Source`, `Sink`), also over readers and writers of std.
-ghost use Rattle.std.specs.Prelude.{◌≡◌, ◌<◌, ◌≤◌, ◌++◌, ℕ, List, [], length, IfOk, Some};
+ghost use Rattle.std.specs.Prelude.{◌≡◌, ◌<◌, ◌≤◌, ◌++◌, ℕ, List, [], length, IfOk, OnErr, Some};
+ghost use Rattle.gw_records.specs.Calls.{HasFailedToRead, HasFailedToWrite, SystemGave, SystemTookSome};
 ghost use Rattle.std.specs.Io.KnownBytes.{ReadConsumes, WriteAppends};
 ghost use Rattle.gw_records.specs.Streams.{SourceState, SinkState, CountsRead, CountsTurn, CountsWrite};
 ghost use Rattle.gw_records.specs.Streams.{or_none};
 
 use crate::log::{AtStart, Log};
-use std::io::{Read, Write};
+use std::io::{ErrorKind, Read, Write};
 use thiserror::Error;
 
 /// A read failed.
@@ -48,6 +49,32 @@ pub trait Sink {
         ensures counts { CountsWrite (tells self.old).failures (tells self.new).failures result octets.now };
 }
 
+// Reads octets to the front of `room`, and returns how many.
+#[tactic(auto, unfolding(crate::specs::Calls::SystemGave))]
+fn read_once<R: Read>(reader: &mut R, room: &mut [u8]) -> Result<usize, ErrorKind>
+    ensures bound { IfOk result (λ n. n ≤ length room.new) }
+    ensures octets { ReadConsumes (R.remaining reader.old) (R.remaining reader.new) result room.new }
+    ensures read { SystemGave reader.new result }
+{
+    match reader.read(room) {
+        Ok(n) => Ok(n),
+        Err(error) => Err(error.kind()),
+    }
+}
+
+// Writes octets from the front of `octets`, and returns how many.
+#[tactic(auto, unfolding(crate::specs::Calls::SystemTookSome))]
+fn write_once<W: Write>(writer: &mut W, octets: &[u8]) -> Result<usize, ErrorKind>
+    ensures bound { IfOk result (λ n. n ≤ length octets.now) }
+    ensures octets { WriteAppends (W.contents writer.old) (W.contents writer.new) result octets.now }
+    ensures wrote { SystemTookSome writer.new result }
+{
+    match writer.write(octets) {
+        Ok(n) => Ok(n),
+        Err(error) => Err(error.kind()),
+    }
+}
+
 /// A std reader as a source.
 ///
 /// Each error of the reader is a failure, also an interruption. The octets that its calls gave are known of
@@ -87,8 +114,16 @@ impl<R: Read> Source for FromRead<R> {
       to_come = R.remaining s.reader;
     } };
 
-    fn read(&mut self, buf: &mut [u8]) -> Result<usize, SourceFault> {
-        match self.reader.read(buf) {
+    fn read(&mut self, buf: &mut [u8]) -> Result<usize, SourceFault>
+        ensures bound { IfOk result (λ n. n ≤ length buf.new) }
+        ensures gives { WriteAppends (Some self.old.log.octets) (Some self.new.log.octets) result buf.new }
+        ensures consumes { ReadConsumes (R.remaining self.old.reader) (R.remaining self.new.reader)
+            result buf.new }
+        ensures counts { CountsRead self.old.failed self.new.failed result }
+        ensures turns { CountsTurn self.old.reads self.new.reads result }
+        ensures fails { OnErr result (HasFailedToRead self.new.reader) }
+    {
+        match read_once(&mut self.reader, buf) {
             Ok(n) => {
                 self.log.append(buf, n);
                 self.reads = self.reads.saturating_add(1);
@@ -141,8 +176,14 @@ impl<W: Write> Sink for ToWrite<W> {
       taken = Some (or_none (W.contents s.start.value) ++ s.log.octets);
     } };
 
-    fn write(&mut self, octets: &[u8]) -> Result<usize, SinkFault> {
-        match self.writer.write(octets) {
+    fn write(&mut self, octets: &[u8]) -> Result<usize, SinkFault>
+        ensures bound { IfOk result (λ n. n ≤ length octets.now) }
+        ensures takes { WriteAppends (Some (or_none (W.contents self.old.start.value) ++ self.old.log.octets))
+            (Some (or_none (W.contents self.new.start.value) ++ self.new.log.octets)) result octets.now }
+        ensures counts { CountsWrite self.old.failed self.new.failed result octets.now }
+        ensures fails { OnErr result (HasFailedToWrite self.new.writer) }
+    {
+        match write_once(&mut self.writer, octets) {
             Ok(n) => {
                 self.log.append(octets, n);
                 if n == 0 && !octets.is_empty() {

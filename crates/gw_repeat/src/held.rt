@@ -1,7 +1,8 @@
 //! Which datagrams of a circuit wait for their repetition, and which is due (`RecentDatagrams`).
 
 ghost use Rattle.std.specs.Prelude.{◌≡◌, ◌<◌, ◌≤◌, ◌++◌, [], length, take, drop, option_to_list};
-ghost use Rattle.std.specs.Prelude.{IfOk, IfSome};
+ghost use Rattle.std.specs.Prelude.{IfOk, IfSome, OnErr};
+ghost use Rattle.gw_state.specs.Memory.{MemoryIsRefused};
 ghost use Rattle.std.specs.VecDeque.{deque_capacity};
 ghost use Rattle.gw_repeat.specs.Repetition.{timestamp_of, continues, with_next};
 ghost use Rattle.gw_repeat.specs.Ports.{held_octets};
@@ -27,9 +28,11 @@ fn timestamp_of(datagram: &[u8]) -> u32
 }
 
 impl RecentDatagrams {
-    // An empty queue with room for this many datagrams.
+    // An empty queue with room for this many datagrams. The error is that memory was refused.
+    #[tactic(auto, unfolding(gw_state::specs::Memory::MemoryIsRefused))]
     pub(crate) fn open(alloc: Global, count: u8) -> Result<RecentDatagrams, AllocError>
-        ensures { IfOk result (λ h. (h.packets.items ≡ []) × (deque_capacity h.packets ≡ count)) }
+        ensures ok { IfOk result (λ h. (h.packets.items ≡ []) × (deque_capacity h.packets ≡ count)) }
+        ensures err { OnErr result MemoryIsRefused }
     {
         let packets = VecDeque::with_capacity(alloc, usize::from(count))?;
         Ok(RecentDatagrams { packets })

@@ -1,7 +1,8 @@
 //! When a datagram of a circuit is sent again, behind a later one (`Repeating`).
 
 ghost use Rattle.std.specs.Prelude.{◌≡◌, ◌<◌, ◌≤◌, ◌-◌, ◌+◌, [], length, drop, vec_len, slice_index};
-ghost use Rattle.std.specs.Prelude.{slice_index_or, take, ℕ, IfOk, IfSome, vec_capacity};
+ghost use Rattle.std.specs.Prelude.{slice_index_or, take, ℕ, IfOk, IfSome, OnErr, vec_capacity};
+ghost use Rattle.gw_state.specs.Memory.{MemoryIsRefused};
 ghost use Rattle.gw_records.specs.Ports.{Receives, Sends, CountsFault, KeepsSends, KeepsReceives, IfKnown};
 ghost use Rattle.gw_repeat.specs.declared.held.RecentDatagrams.{RecentDatagrams};
 ghost use Rattle.gw_repeat.specs.Words.{HasPacketWords};
@@ -82,6 +83,16 @@ pub fn packet_words(circuits: &[CircuitConfig; 30]) -> [u8; 30]
     words
 }
 
+// Room for the queue of each circuit. The error is that memory was refused.
+#[tactic(auto, unfolding(gw_state::specs::Memory::MemoryIsRefused))]
+fn open_room(alloc: Global) -> Result<Vec<RecentDatagrams>, AllocError>
+    ensures empty { IfOk result (λ room. room.items ≡ []) }
+    ensures memory { IfOk result (λ room. vec_capacity room ≡ 30) }
+    ensures err { OnErr result MemoryIsRefused }
+{
+    Vec::with_capacity(alloc, CIRCUITS)
+}
+
 impl<P: Ports + Drop> Repeating<P> {
     /// Wraps ports so that each datagram is sent twice.
     ///
@@ -93,10 +104,11 @@ impl<P: Ports + Drop> Repeating<P> {
         count: u8,
         words: [u8; 30],
     ) -> Result<Repeating<P>, AllocError>
-        ensures { IfOk result (λ r. (r.ports ≡ ports) × (r.opened.value ≡ ports) × (r.count ≡ count)
+        ensures ok { IfOk result (λ r. (r.ports ≡ ports) × (r.opened.value ≡ ports) × (r.count ≡ count)
             × (r.words ≡ words) × (r.log.calls ≡ [])) }
+        ensures err { OnErr result MemoryIsRefused }
     {
-        let mut held = Vec::with_capacity(alloc, CIRCUITS)?;
+        let mut held = open_room(alloc)?;
         for _circuit in 0..CIRCUITS {
             held.push_reserved(RecentDatagrams::open(alloc, count)?);
         }

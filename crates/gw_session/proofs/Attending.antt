@@ -13,7 +13,9 @@ use Rattle.gw_session.proofs.Common.{OfFirstInputs, written_for, written_by, Act
 use Rattle.gw_session.proofs.Common.{SessionState}
 use Rattle.gw_session.proofs.Common.{Output, drop-take, named, TakesAllButWaiting-start, InputTrace}
 use Rattle.gw_records.specs.declared.records.FirstRecord.{FirstRecord}
-use Rattle.gw_session.proofs.Turns.{TurnsTrace-none, TurnsTrace-join, counted-more, octets-append, turns_have_octets}
+use Rattle.gw_session.proofs.Common.{Bool, PortCall, AreCalls, AreCallsFor, are_held, Act, AreActs, acts_for, Recorded}
+use Rattle.gw_session.proofs.Turns.{TurnsTrace-none, TurnsTrace-join, Extends-none, Extends-join, counted-more}
+use Rattle.gw_session.proofs.Turns.{octets-append, turns_have_octets}
 use Rattle.gw_session.proofs.Turns.{through-append}
 use Rattle.gw_session.proofs.Taping.{recorded_none, recorded_join}
 
@@ -44,11 +46,33 @@ inputs_octets (input ∷ inputs) =
     ∙ length-append (octets (events_in input)) (octets (events_through inputs))
     ∙ omega (arith, input_octets input, inputs_octets inputs, length-append (turns_of input) (turns inputs))
 
+-- the calls for inputs, and then those for one more
+calls_more : (holds : Bool) (inputs : List SessionInput) (input : SessionInput) (xs ys : List PortCall)
+    → AreCallsFor holds inputs xs → AreCalls (are_held holds (turns_of input)) (turns_of input) ys
+    → AreCallsFor holds (inputs ++ input ∷ []) (xs ++ ys)
+calls_more holds [] input xs ys p q = (ys, [], rw (p, append-nil) refl, q, refl)
+calls_more holds (i ∷ inputs) input xs ys p q =
+    (p.0, p.1 ++ ys, rw (p.2, append_assoc) refl, p.3, calls_more holds inputs input p.1 ys p.4 q)
+
+-- the acts for inputs, and then those for one more
+acts_more : (holds : Bool) (a b c : TapeState) (inputs : List SessionInput) (input : SessionInput) (acts : List Act)
+    → AreActs holds a b inputs acts → Recorded b c (events_in input)
+    → AreActs holds a c (inputs ++ input ∷ []) (acts ++ acts_for holds c input)
+acts_more holds a b c [] input acts p q =
+    (c, [], rw (p.0) at q, rw (p.1, append-nil) refl, (refl, refl))
+acts_more holds a b c (i ∷ inputs) input acts p q = (
+  p.0,
+  p.1 ++ acts_for holds c input,
+  p.2,
+  rw (p.3, append_assoc) refl,
+  acts_more holds p.0 b c inputs input p.1 p.4 q,
+)
+
 -- inputs that were done, and then the input of one record more
 follows_more : {s s' s'' : SessionState} {x y z : TapeState} {inputs : List SessionInput} {r : Record}
     → Follows s s' x y inputs
     → (q : ActsOn s' s'' y z r) → Follows s s'' x z (inputs ++ q.input ∷ [])
-follows_more {s = s} {inputs = inputs} p q = record {
+follows_more {s = s} {s' = s'} {s'' = s''} {x = x} {y = y} {z = z} {inputs = inputs} p q = record {
   goes = rw (← flat_map_more turns_of [] inputs q.input, ← flat_map_more events_in [] inputs q.input)
       (TurnsTrace-join _ _ _ _ _ _ _ (inputs_octets inputs) p.goes q.goes);
   records = rw (length-append inputs (q.input ∷ []))
@@ -56,6 +80,17 @@ follows_more {s = s} {inputs = inputs} p q = record {
   trunk_octets = rw (← flat_map_more turns_of [] inputs q.input, length-append (turns inputs) (turns_of q.input))
       (counted-more s.totals.octets _ _ (length (turns inputs)) (length (turns_of q.input)) p.trunk_octets q.octets);
   recorded = rw (← flat_map_more events_in [] inputs q.input) (recorded_join _ _ _ _ _ p.recorded q.recorded);
+  logs = (
+    p.logs.0 ++ acts_for s.holds z q.input,
+    Extends-join x.acts y.acts z.acts p.logs.0 _ p.logs.1 (rw (p.same) at q.acts),
+    acts_more s.holds x y z inputs q.input p.logs.0 p.logs.2 q.recorded,
+  );
+  calls = (
+    p.calls.0 ++ q.calls.0,
+    Extends-join s.ports.calls s'.ports.calls s''.ports.calls p.calls.0 q.calls.0 p.calls.1 q.calls.1,
+    calls_more s.holds inputs q.input p.calls.0 q.calls.0 p.calls.2 (rw (p.same) at q.calls.2),
+  );
+  same = q.same ∙ p.same;
 }
 
 -- the last of inputs is the one that came last
@@ -106,7 +141,15 @@ through_none spells Seen seen none = (
   record {
     inputs = [];
     told_are = refl;
-    follows = record { goes = TurnsTrace-none _; records = refl; trunk_octets = refl; recorded = recorded_none _ };
+    follows = record {
+      goes = TurnsTrace-none _;
+      records = refl;
+      trunk_octets = refl;
+      recorded = recorded_none _;
+      logs = ([], Extends-none _, (refl, refl));
+      calls = ([], Extends-none _, refl);
+      same = refl;
+    };
     took = λ config before at. TakesAllButWaiting-start _ _ none;
   },
   seen,

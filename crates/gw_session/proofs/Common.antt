@@ -29,7 +29,8 @@ pub use Rattle.gw_session.specs.Answers.{sent_with}
 pub use Rattle.gw_session.specs.Exchange.{TakesEvent, Exchanges, ActsOn, Inputs, written_by, StopsAt, CutTrace}
 pub use Rattle.gw_session.specs.Exchange.{InputTrace}
 pub use Rattle.gw_session.specs.Exchange.{WatchedTrace, OfFirstInputs}
-pub use Rattle.gw_session.specs.Exchange.{ComesInTurn, SendsPacket, OctetTrace, PacketWriteError, TraceToWriteError}
+pub use Rattle.gw_session.specs.Exchange.{ComesInTurn, GoToPorts, OctetTrace, PacketWriteError, TraceToWriteError}
+pub use Rattle.gw_session.specs.Exchange.{IsSilent, packets_held}
 pub use Rattle.gw_session.specs.Exchange.{Receiving, RecordsBehind, IsGiven, FourCome}
 unfoldable pub use Rattle.gw_session.specs.Exchange.{spelled_for, written_for, most_waiting}
 pub use Rattle.gw_session.specs.PacketPorts.{PacketOutput, in_record, no_ports, silent}
@@ -44,16 +45,18 @@ pub use Rattle.gw_session.specs.Serve.{turns, Follows, SessionTrace, events_of_t
 pub use Rattle.gw_session.specs.Serve.{FirstFour, first_four, Stop, StopsSo, last_receive, LeavesOut, SessionStreams}
 pub use Rattle.gw_session.specs.Serve.{Served}
 pub use Rattle.gw_session.specs.Serve.{ServesAll, ServesUntil, InTurn, served_kinds, IsFew, ComeFirst, IsStopped}
-pub use Rattle.gw_session.specs.Serve.{GatewayTrace, TurnsTrace}
+pub use Rattle.gw_session.specs.Serve.{GatewayTrace, TurnsTrace, receives_in, send_of, calls_of, packets_of, AreSends}
+pub use Rattle.gw_session.specs.Serve.{AreCalls, AreCallsFor, are_held, HaveCalls, held_in, acts_for, AreActs}
+pub use Rattle.gw_session.specs.Serve.{LogsFirst}
 unfoldable pub use Rattle.gw_session.specs.Serve.{answer_to, dropped_for, given_by, but_last}
 pub use Rattle.gw_session.specs.ServeLaws.{ServingIsCutAnywhere, UnmovedCounts, without_datagrams, EventsAreTold}
 pub use Rattle.gw_session.specs.ServeLaws.{DatagramsAreInTurn}
 pub use Rattle.gw_session.specs.Tape.{TapeState, Recorded, RecordedBut, HasEnded, HasLong, AreSpelled, WritesRecords}
-pub use Rattle.gw_session.specs.Tape.{Taping, taping, Batched, Batches, RecordsAll}
-unfoldable pub use Rattle.gw_session.specs.Tape.{kind_and_circuit}
+pub use Rattle.gw_session.specs.Tape.{Taping, taping, Batched, Batches, RecordsAll, Act, Learns, sends_at, answers_at}
 pub use Rattle.gw_session.specs.Watch.{Shows, Look, shown_in, IsCalled, code_after, IsCodeAfter, AreTrue, Watched}
 pub use Rattle.gw_session.specs.Watch.{InputsShown, OfFirst, RunsWatched}
-pub use Rattle.gw_session.specs.World.{Output, World, state_of, SessionState, world_of, output_of}
+pub use Rattle.gw_session.specs.World.{Output, World, state_of, SessionState, world_of, output_of, state_with, state_in}
+pub use Rattle.gw_session.specs.World.{world_in, world_with}
 pub use Rattle.gw_switch.specs.Events.{Event, octets}
 unfoldable pub use Rattle.gw_switch.specs.Standing.{HasHistory}
 pub use Rattle.gw_switch.specs.Whole.{reply_to, Reply, whole_from, Sending, octet_reply, next_circuit, datagram_reply}
@@ -73,4 +76,4 @@ pub use Rattle.std.proofs.lemmas.List.Concat.{flat_map-append}
 pub use Rattle.std.proofs.lemmas.Result.{IfOk-weaker, IfErr-weaker, err_from_is_err_and}
 pub use Rattle.std.specs.Io.KnownBytes.{Appends}
 pub use Rattle.std.specs.List.{AllByRecursion}
-pub use Rattle.std.specs.Prelude.{IfOk, ◌≢◌, replicate, MatchResult}
+pub use Rattle.std.specs.Prelude.{IfOk, ◌≢◌, replicate, MatchResult, if◌then◌else◌, nat_le, ◌&&◌}

@@ -7,10 +7,12 @@ use Rattle.gw_session.proofs.Common.{counted, Written, written_out, code_of, Ses
 use Rattle.gw_session.proofs.Common.{events_in}
 use Rattle.gw_session.proofs.Common.{events_of_turns, octet_of, answer_to, packets_for, dropped_for, TakesEvent}
 use Rattle.gw_session.proofs.Common.{spelled_for}
-use Rattle.gw_session.proofs.Common.{written_for, Exchanges, ActsOn, TapeState, Recorded, Output, World, state_of, Puts}
+use Rattle.gw_session.proofs.Common.{written_for, Exchanges, ActsOn, TapeState, Recorded, Output, World, Puts}
 use Rattle.gw_session.proofs.Common.{TakesAllButWaiting-same, AppendsPrefix-same, sent_with_octets, Inputs, OnOk}
-use Rattle.gw_session.specs.declared.tape.OnTape.{OnTape}
-use Rattle.gw_session.proofs.Turns.{PortTrace-none, counted_is}
+use Rattle.gw_session.proofs.Common.{map, held_in, Learns, sends_at, answers_at, Extends}
+use Rattle.gw_session.proofs.Taping.{recorded_told}
+use Rattle.gw_session.proofs.Turns.{PortTrace-none, Extends-none, Extends-join, LeavesOut_none, counted_is}
+use Rattle.gw_session.proofs.Common.{Bool, true, false, append-nil, HaveCalls, AreCalls, are_held, state_with}
 
 -- an input was done, and behind what passes the rest of all that is put for it was put, or a write failed
 inputs_put : (spells : PacketOutput) (w w' : World) (o : Output) (out : List ℕ) {r : Record}
@@ -40,19 +42,31 @@ inputs_put spells w w' o out (Err e) on first kept puts = (
   }),
 )
 
+-- the tape was told of packets, and then of an answer
+answer_told : (a b c : TapeState) (ps : List (ℕ × List ℕ)) → Extends a.acts b.acts (map (sends_at b) ps)
+    → Learns b c (answers_at b ∷ []) → Extends a.acts c.acts (map (sends_at c) ps ++ answers_at c ∷ [])
+answer_told a b c ps p q =
+    let ended : c.ended ≡ b.ended = ap (λ (t : TapeState). t.ended) q.same in
+    let taken : c.taken ≡ b.taken = ap (λ (t : TapeState). t.taken) q.same in
+    rw (ended, taken) (Extends-join a.acts b.acts c.acts _ _ p q.told)
+
 -- octets were exchanged, and the record of them was put
-pub trunk_inputs : {spells : PacketOutput} (w w' : World) (r n : ℕ) (o : Output) {body front answer out : List ℕ}
+pub trunk_inputs : {spells : PacketOutput} (w w' : World) (tape : TapeState) (r n : ℕ) (o : Output)
+    {body front answer out : List ℕ}
     (result : Result (Unit {0}) RunFault)
     → (sent : List ℕ) × (x : Exchanges spells
     (record w.state { totals = record w.state.totals { records = r; octets = n } }) w'.state w.output o body sent)
-    × (answer ≡ front ++ sent) × Recorded w.tape w'.tape (events_of_turns x.turns)
-    → front ≡ 84 ∷ 0 ∷ big_bytes 2 (length body) → out ≡ answer
+    × (answer ≡ front ++ sent) × Recorded w.tape tape (events_of_turns x.turns)
+    × HaveCalls w.state.ports w'.state.ports (AreCalls (are_held w.state.holds x.turns) x.turns)
+    × Extends w.tape.acts tape.acts (map (sends_at tape) (held_in w.state.holds x.turns))
+    → Learns tape w'.tape (answers_at tape ∷ [])
+    → w'.state.holds ≡ w.state.holds → front ≡ 84 ∷ 0 ∷ big_bytes 2 (length body) → out ≡ answer
     → r ≡ min (w.state.totals.records + 1) (2 ^ 64 - 1)
     → n ≡ min (w.state.totals.octets + length body) (2 ^ 64 - 1) → w.state.totals.octets < 2 ^ 64
     → Puts o.sink w'.output.sink w'.output.waiting (o.waiting ++ out) result
     → Inputs spells w w' (Record.Trunk body) result
 unfolding written_for answer_to
-trunk_inputs w w' r n o result x fronts same counts trunk fits puts =
+trunk_inputs w w' tape r n o result x told holds fronts same counts trunk fits puts =
     let p = x.1 in
     let len = sym (length-map p.turns octet_of) ∙ ap length p.heard in
     inputs_put _ w w' o _ result (record {
@@ -74,36 +88,51 @@ trunk_inputs w w' r n o result x fronts same counts trunk fits puts =
       };
       records = p.kept.0 ∙ counts;
       octets = p.kept.1 ∙ trunk ∙ rw len (counted_is w.state.totals.octets _ fits);
-      recorded = x.3;
+      recorded = recorded_told _ tape _ _ _ x.3 told;
+      acts = answer_told w.tape tape w'.tape _ x.5 told;
+      calls = x.4;
+      same = holds;
     }) (λ config before h. (
       _,
       p.passes config before h,
       rw (append_assoc, same, x.2, fronts, p.sent_are config before h, p.lengths),
     )) p.no_failure puts
 
+-- no packets are held of no turns
+none_held : (holds : Bool) → held_in holds [] ≡ []
+none_held true = refl
+none_held false = refl
+
+-- ports have no calls for no turns
+no_calls : (holding : Bool) → AreCalls holding [] []
+no_calls true = ([], refl, refl)
+no_calls false = refl
+
 -- an input of one event was done, and the one answer of its circuit, whose record is on the tape, was put
 pub one_inputs : (input : SessionInput) (event : Event) (u : Totals) (spells : PacketOutput) (w : World) (g : Gateway)
     (t : Totals)
-    (tape : TapeState) (o : Output) {circuit kind code : ℕ} (result : Result (Unit {0}) RunFault)
+    (tape tape' : TapeState) (o : Output) {circuit kind code : ℕ} (result : Result (Unit {0}) RunFault)
     → turns_of input ≡ [] → events_in input ≡ event ∷ []
     → ((config : GatewayConfig) (before : List Event) → packets_for config before (event ∷ []) ≡ [])
     → ((config : GatewayConfig) (before : List Event) → sent_with_octets config before (event ∷ []) ≡ [])
     → ((config : GatewayConfig) (before : List Event) → answer_to config before input
     ≡ written_out (Written.Answered circuit kind (code_of (reply_to config before event))))
-    → TakesEvent w.state.gateway g event code → {on_tape : OnTape} → on_tape ≡ record { kind = kind; circuit = circuit }
+    → TakesEvent w.state.gateway g event code
     → u ≡ record w.state.totals { dropped = u.dropped } → t ≡ record u { records = at_most (u.records + 1) }
     → ((config : GatewayConfig) (before : List Event) → HasHistory config w.state.gateway before
     → u.dropped ≡ counted w.state.totals.dropped (dropped_for config before (event ∷ [])))
     → Puts w.output.sink o.sink o.waiting
-    (w.output.waiting ++ written_out (Written.Answered on_tape.circuit on_tape.kind code)) result
-    → Recorded w.tape tape (events_in input)
-    → Inputs spells w (record { state = state_of w.state.ports g t; tape = tape; output = o })
+    (w.output.waiting ++ written_out (Written.Answered circuit kind code)) result
+    → Recorded w.tape tape (events_in input) → tape.acts ≡ w.tape.acts → Learns tape tape' (answers_at tape ∷ [])
+    → Inputs spells w
+    (record { state = state_with w.state.holds w.state.held w.state.ports g t; tape = tape'; output = o })
     (input_record input) result
 unfolding PortTrace-none written_for spelled_for
-one_inputs input event u spells w g t tape o result none one packets places answer takes taped others counts dropped
-    puts
-    recorded =
-    inputs_put _ w (record { state = state_of w.state.ports g t; tape = tape; output = o }) w.output _ result (record {
+one_inputs input event u spells w g t tape tape' o result none one packets places answer takes others counts dropped
+    puts recorded kept told =
+    inputs_put _ w
+    (record { state = state_with w.state.holds w.state.held w.state.ports g t; tape = tape'; output = o })
+    w.output _ result (record {
       input = input;
       told_is = refl;
       goes = rw (none, one) (record {
@@ -113,19 +142,23 @@ one_inputs input event u spells w g t tape o result none one packets places answ
         hears = λ config before h. record {
           stands = (takes config before h).0;
           in_turn = tt;
-          packets = rw (packets config before) (refl, refl);
+          packets = rw (packets config before, append-nil) (LeavesOut_none w.state.held);
           sends = sym (places config before);
           dropped = rw counts (dropped config before h);
         };
       });
       records = rw (counts, others);
       octets = rw (none, counts, others);
-      recorded = recorded;
+      recorded = recorded_told _ tape _ _ _ recorded told;
+      acts = rw (none, none_held w.state.holds)
+          (answer_told w.tape tape tape' [] (rw kept (Extends-none w.tape.acts)) told);
+      calls = ([], Extends-none _, rw none (no_calls _));
+      same = refl;
     }) (λ config before h. (
       w.output.waiting,
       record { written = []; whole = refl; appended = Appends-none _ },
       rw (one, packets config before, answer config before, (takes config before h).1),
-    )) refl (rw taped at puts)
+    )) refl puts
 
 -- what always holds holds where a result is Ok
 pub on_ok_always : {P : Type 0} (result : Result (Unit {0}) RunFault) → P → OnOk result P

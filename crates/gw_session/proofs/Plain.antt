@@ -161,7 +161,7 @@ plain_totals {inputs = inputs} d plain config before at =
     let sent : k.failed_sends ≡ 0 = unmoved 0 k.failed_sends (omega arith) (sym k.sends) in
     let received : k.failed_receives ≡ 0 = unmoved 0 k.failed_receives (omega arith) (sym k.receives) in
     let same = ap (whole_from config before) (inputs_events inputs plain) in
-    let took = LeavesOut_all k.took _ (rw sent at h.packets) in
+    let took = LeavesOut_all k.took _ (rw (sent, append-nil) at h.packets) in
     five (up_to d.records (sym (length-map inputs input_record))) (up_to d.trunk_octets (as_many_octets inputs))
     (up_to d.goes.datagrams (ap length took ∙ ap (λ (rs : List Reply). length (flat_map packets_in rs)) same))
     (up_to h.dropped (ap (count_by is_refusal) same)) (rw (received, sent) at d.goes.faults)

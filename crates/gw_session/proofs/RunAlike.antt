@@ -55,7 +55,7 @@ module _ {config : GatewayConfig} {before : List Event} {gateway live : Gateway}
           takes = goes.trades.takes;
           failed = goes.trades.failed_sends;
           sends = goes.trades.sends;
-          packets = hears.packets;
+          packets = rw append-nil at hears.packets;
         }
 
     -- .. where no write failed

@@ -1,12 +1,15 @@
 -- Events recorded one after another.
-use Rattle.gw_session.proofs.Common.{◌≡◌, ◌^◌, ◌<◌, ◌≤◌, ℕ, Bool, true, false, inl, inr, Some, Result, Ok, Err, List}
+use Rattle.gw_session.proofs.Common.{◌≡◌, ◌^◌, ◌<◌, ◌≤◌, ℕ, Bool, true, false, inl, inr, None, Result, Ok, Err, List}
+use Rattle.gw_session.proofs.Common.{Some}
 use Rattle.gw_session.proofs.Common.{[], ◌∷◌, ◌++◌, length, drop, map, IfErr, refl, sym, ap, ◌∙◌, append_assoc}
 use Rattle.gw_session.proofs.Common.{append-nil, arith, Appends, map-append, drop_all, flat_map-append, Event, Record}
 use Rattle.gw_session.proofs.Common.{IsGood, spelled, RunFault, SinkState, AppendsPrefix, FailsAfterPrefix}
 use Rattle.gw_session.proofs.Common.{Appends-none, Appends-join, events, events_of, all_kinds, Turn, of_circuit}
 use Rattle.gw_session.proofs.Common.{arrivals, coming, events_of_turns, RecordsBehind, TapeState, Recorded, RecordedBut}
 use Rattle.gw_session.proofs.Common.{OnOk, is_err, AppendsPrefix-join, HasEnded, HasLong, AreSpelled, WritesRecords}
-use Rattle.gw_session.proofs.Common.{Taping, taping, Batches, RecordsAll, flat_map, Datagram}
+use Rattle.gw_session.proofs.Common.{Taping, taping, Batches, RecordsAll, flat_map, Datagram, Act, Learns, sends_at}
+use Rattle.gw_session.proofs.Common.{map_push}
+use Rattle.gw_session.proofs.Turns.{Extends-join}
 use Rattle.std.proofs.lemmas.List.Elements.{Contains-append_left, Contains-append_right, Contains-push}
 use Rattle.gw_session.proofs.Receiving.{of_more}
 use Rattle.gw_records.proofs.Sessions.{All-join}
@@ -14,7 +17,8 @@ use Rattle.gw_records.proofs.Sessions.{All-join}
 -- the tape took nothing of these events
 took_none : (a b : TapeState) (es : List Event) → b.taken ≡ a.taken
     → (b.ended ≡ false → (es ≡ []) × (b.failures ≡ a.failures))
-    → (a.ended ≡ false → b.ended ≡ true → HasLong es) → (a.ended ≡ true → b ≡ a) → Recorded a b es
+    → (a.ended ≡ false → b.ended ≡ true → HasLong es) → (a.ended ≡ true → b ≡ record a { acts = b.acts })
+    → Recorded a b es
 took_none a b es same whole cause stays = record {
   records = [];
   good = tt;
@@ -40,25 +44,28 @@ pub recorded_long : (a b : TapeState) (circuit : ℕ) (bytes : List ℕ) → Has
 recorded_long a b circuit bytes p long =
     let ended = p.0 in
     took_none a b _ p.1 (λ f. cc)
-    (λ e f. (circuit, bytes, Contains-push [] (Event.Given circuit (Datagram bytes)), long)) p.2
+    (λ e f. (circuit, bytes, Contains-push [] (Event.Given circuit (Datagram bytes)), long)) (λ e. rw (p.3 e) refl)
 
 -- events, and then others
 joined : (a b c : TapeState) (es fs : List Event) (ended : Bool) → b.ended ≡ ended → Recorded a b es → Recorded b c fs
     → Recorded a c (es ++ fs)
 joined a b c es fs true e p q =
     let same = q.stays e in
+    let ended : c.ended ≡ b.ended = ap (λ (t : TapeState). t.ended) same in
+    let failures : c.failures ≡ b.failures = ap (λ (t : TapeState). t.failures) same in
+    let taken : c.taken ≡ b.taken = ap (λ (t : TapeState). t.taken) same in
     record {
       records = p.records;
       good = p.good;
       lost = p.lost ++ fs;
       events_are = ap (λ (xs : List Event). xs ++ fs) p.events_are ∙ append_assoc (events p.records) p.lost fs;
-      took = rw same p.took;
+      took = rw taken p.took;
       whole = λ f. cc;
       cause = λ x y. elim (p.cause x e) [
-        | inl failed ↦ inl (rw same failed)
+        | inl failed ↦ inl (rw failures failed)
         | inr long ↦ inr (long.0, long.1, Contains-append_left es fs _ long.2, long.3)
       ];
-      stays = λ s. same ∙ p.stays s;
+      stays = λ s. same ∙ ap (λ (t : TapeState). record t { acts = c.acts }) (p.stays s);
     }
 joined a b c es fs false e p q =
     let w = p.whole e in
@@ -77,13 +84,37 @@ joined a b c es fs false e p q =
         | inl failed ↦ inl (omega (arith, failed, w.2))
         | inr long ↦ inr (long.0, long.1, Contains-append_right es fs _ long.2, long.3)
       ];
-      stays = λ s. cc (p.stays s);
+      stays = λ s.
+          let same : b.ended ≡ a.ended = ap (λ (t : TapeState). t.ended) (p.stays s) in
+          cc;
     }
 
 -- events that were recorded, and then others
 pub recorded_join : (a b c : TapeState) (es fs : List Event) → Recorded a b es → Recorded b c fs
     → Recorded a c (es ++ fs)
 recorded_join a b c es fs p q = joined a b c es fs b.ended refl p q
+
+-- events were recorded, and then the tape was told of acts
+pub recorded_told : (a b c : TapeState) (es : List Event) (acts : List Act) → Recorded a b es → Learns b c acts
+    → Recorded a c es
+recorded_told a b c es acts p q =
+    let ended : c.ended ≡ b.ended = ap (λ (t : TapeState). t.ended) q.same in
+    let failures : c.failures ≡ b.failures = ap (λ (t : TapeState). t.failures) q.same in
+    let taken : c.taken ≡ b.taken = ap (λ (t : TapeState). t.taken) q.same in
+    let none : Recorded b c [] = took_none b c [] taken (λ e. (refl, failures)) (λ e f. cc) (λ e. q.same) in
+    rw (append-nil es) at (recorded_join a b c es [] p none)
+
+-- a tape was told of sends, and then of one more
+pub told_more : (a b c : TapeState) (ps : List (ℕ × List ℕ)) (p : ℕ × List ℕ) → Learns a b (map (sends_at a) ps)
+    → Learns b c (sends_at b p ∷ []) → Learns a c (map (sends_at a) (ps ++ p ∷ []))
+told_more a b c ps p x y =
+    let ended : b.ended ≡ a.ended = ap (λ (t : TapeState). t.ended) x.same in
+    let taken : b.taken ≡ a.taken = ap (λ (t : TapeState). t.taken) x.same in
+    record {
+      same = y.same ∙ ap (λ (t : TapeState). record t { acts = c.acts }) x.same;
+      told = rw (map_push (sends_at a) ps p)
+          (Extends-join a.acts b.acts c.acts _ _ x.told (rw (ended, taken) at y.told));
+    }
 
 -- octets of records were written, or a prefix of them: their events were recorded, or the tape ended in them
 recorded_all : (a b : TapeState) (records : List Record) (octets : List ℕ) → AreSpelled records octets
@@ -106,8 +137,8 @@ pub records_written : (old new : Bool) (s s' : SinkState) (octets : List ℕ)
     (result : Result (Unit {0}) RunFault) (fault : RunFault) → old ≡ false → new ≡ is_err result
     → OnOk result (Appends s.taken s'.taken octets) → OnOk result (s'.failures ≡ s.failures)
     → IfErr result (λ e. (e ≡ fault) × FailsAfterPrefix s s' octets)
-    → WritesRecords (record { ended = old; failures = s.failures; taken = s.taken })
-    (record { ended = new; failures = s'.failures; taken = s'.taken }) octets
+    → WritesRecords (record { ended = old; failures = s.failures; taken = s.taken; acts = None })
+    (record { ended = new; failures = s'.failures; taken = s'.taken; acts = None }) octets
 records_written old new s s' octets (Ok u) fault going up took same broke = λ records spelled-are.
     recorded_all _ _ records octets spelled-are going
     (record { written = octets; rest = []; whole = sym (append-nil octets); appended = took })
@@ -141,6 +172,7 @@ pub batches_none : (tape : TapeState) (batch batch' : List ℕ) → batch' ≡ b
 batches_none tape batch batch' same = λ before s. record {
   first = [];
   recorded = recorded_none tape;
+  acts = refl;
   after = before;
   batch_is = record { good = s.good; octets_are = same ∙ s.octets_are };
   all = append-nil (events before);
@@ -152,6 +184,7 @@ pub batches_more : (tape : TapeState) (batch batch' : List ℕ) (r : Record) →
 batches_more tape batch batch' r good e = λ before s. record {
   first = [];
   recorded = recorded_none tape;
+  acts = refl;
   after = before ++ r ∷ [];
   batch_is = record {
     good = All-join (IsGood all_kinds) before (r ∷ []) s.good (good, tt);
@@ -161,11 +194,12 @@ batches_more tape batch batch' r good e = λ before s. record {
 }
 
 -- the batch was recorded, and nothing is in it
-pub batches_written : (a b : TapeState) (batch batch' : List ℕ) → WritesRecords a b batch → batch' ≡ []
-    → Batches (taping a batch) (taping b batch') []
-batches_written a b batch batch' w none = λ before s. record {
+pub batches_written : (a b : TapeState) (batch batch' : List ℕ) → WritesRecords a b batch → b.acts ≡ a.acts
+    → batch' ≡ [] → Batches (taping a batch) (taping b batch') []
+batches_written a b batch batch' w acts none = λ before s. record {
   first = events before;
   recorded = w before s;
+  acts = acts;
   after = [];
   batch_is = record { good = tt; octets_are = none };
   all = refl;
@@ -173,12 +207,13 @@ batches_written a b batch batch' w none = λ before s. record {
 
 -- events were recorded while nothing was in the batch
 pub batches_recorded : (a b : TapeState) (batch batch' : List ℕ) (es : List Event) → batch ≡ [] → batch' ≡ []
-    → Recorded a b es → Batches (taping a batch) (taping b batch') es
-batches_recorded a b batch batch' es none none' p = λ before s.
+    → Recorded a b es → b.acts ≡ a.acts → Batches (taping a batch) (taping b batch') es
+batches_recorded a b batch batch' es none none' p acts = λ before s.
     let empty = spells_none before (sym s.octets_are ∙ none) in
     record {
       first = es;
       recorded = p;
+      acts = acts;
       after = [];
       batch_is = record { good = tt; octets_are = none' };
       all = rw empty (sym (append-nil es));
@@ -192,6 +227,7 @@ batches_join t u v es fs p q = λ before s.
     record {
       first = x.first ++ y.first;
       recorded = recorded_join t.tape u.tape v.tape x.first y.first x.recorded y.recorded;
+      acts = y.acts ∙ x.acts;
       after = y.after;
       batch_is = y.batch_is;
       all = sym (append_assoc (events before) es fs) ∙ ap (λ (xs : List Event). xs ++ fs) x.all
@@ -201,10 +237,12 @@ batches_join t u v es fs p q = λ before s.
 
 -- events, and then all of the batch was recorded
 pub records_all : (t u : Taping) (c : TapeState) (es : List Event) → Batches t u es → WritesRecords u.tape c u.batch
-    → RecordsAll t c es
-records_all t u c es p w = λ before s.
-    let x = p before s in
-    rw (x.all) (recorded_join t.tape u.tape c x.first (events x.after) x.recorded (w x.after x.batch_is))
+    → c.acts ≡ u.tape.acts → RecordsAll t c es
+records_all t u c es p w acts = λ before s.
+    let x = p before s in (
+      rw (x.all) (recorded_join t.tape u.tape c x.first (events x.after) x.recorded (w x.after x.batch_is)),
+      acts ∙ x.acts,
+    )
 
 -- no datagram came yet
 pub behind_none : (a : Taping) (heard : List ℕ) (recorded : ℕ) → recorded ≤ length heard
@@ -262,9 +300,12 @@ but_more a b c es fs fresh left p q = (
 
 -- events with octets that were recorded later, and then these octets
 pub but_none : (a : TapeState) (b : Taping) (c : TapeState) (es : List Event) (fresh : List ℕ)
-    → RecordedBut (taping a []) b es fresh → RecordsAll b c (map Event.Octet fresh) → Recorded a c es
+    → RecordedBut (taping a []) b es fresh → RecordsAll b c (map Event.Octet fresh)
+    → Recorded a c es × (c.acts ≡ a.acts)
 but_none a b c es fresh p q =
     let x = p.1 [] (record { good = tt; octets_are = refl }) in
     let O = map Event.Octet fresh in
-    rw (p.2, x.all, append_assoc)
-    (recorded_join a b.tape c x.first (events x.after ++ O) x.recorded (q x.after x.batch_is))
+    let y = q x.after x.batch_is in (
+      rw (p.2, x.all, append_assoc) (recorded_join a b.tape c x.first (events x.after ++ O) x.recorded y.0),
+      y.1 ∙ x.acts,
+    )

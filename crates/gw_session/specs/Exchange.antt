@@ -1,7 +1,7 @@
 -- What the parts of a session do, for the private functions of modules `exchange`, `handling` and
 -- `processing`.
 use Rattle.std.specs.Prelude.{◌≡◌, ◌⊎◌, ◌<◌, ◌≤◌, ◌++◌, ℕ, List, [], ◌∷◌, length, map, drop, Option, Bool}
-use Rattle.std.specs.Prelude.{true, false, Some, Result, MatchResult, flat_map}
+use Rattle.std.specs.Prelude.{true, false, Some, Result, MatchResult, flat_map, if◌then◌else◌}
 use Rattle.gw_session.specs.Prelude.{GatewayConfig, Gateway, Event, octets, HasHistory, next_circuit, Totals}
 use Rattle.gw_session.specs.Prelude.{RunFault, Record, SinkState, AppendsPrefix, AppendsBut, Waiting}
 use Rattle.gw_session.specs.Prelude.{PortsState, IfKnown, Extends, counted}
@@ -14,10 +14,12 @@ use Rattle.gw_records.specs.Ports.{TakesOut, KeepsSends, KeepsReceives}
 use Rattle.gw_session.specs.Serve.{SessionInput, Turn, input_record, octet_of, turns_of, events_in}
 use Rattle.gw_session.specs.Serve.{events_of_turns, answer_to}
 use Rattle.gw_session.specs.Serve.{TurnsTrace, SessionTrace, PortTrace, Stop, StopsSo, as_call, receives_of}
-use Rattle.gw_session.specs.Serve.{send_of, of_circuit, coming, first_four, behind_four, LeavesOut}
+use Rattle.gw_session.specs.Serve.{HaveCalls, AreCalls, AreSends, are_held, held_in, acts_for}
+use Rattle.gw_session.specs.Serve.{of_circuit, coming, first_four, behind_four, LeavesOut}
 use Rattle.gw_session.specs.Serve.{packets_for, octets_for, dropped_for, through, but_last}
-use Rattle.gw_session.specs.Tape.{TapeState, Recorded, Taping, RecordedBut}
+use Rattle.gw_session.specs.Tape.{TapeState, Recorded, Taping, RecordedBut, sends_at}
 use Rattle.gw_session.specs.World.{SessionState, Output, World}
+use Rattle.gw_session.specs.declared.held.HeldPacket.{HeldPacket}
 
 -- the gateway took an event, and the number of its reply is this
 abbrev pub TakesEvent : Gateway → Gateway → Event → ℕ → Type 0
@@ -89,17 +91,25 @@ pub record ComesInTurn (s s' : SessionState) (t t' : Taping) (heard : List ℕ)
   pub records : RecordsBehind t t' heard recorded recorded' (coming (of_circuit circuit came))
   pub in_turn : (config : GatewayConfig) (before : List Event) → HasHistory config s.gateway before
       → circuit ≡ next_circuit (length (octets before))
+  pub held : s'.held ≡ s.held
 
--- the packet that is sent with an octet, if there is one, went to the ports
-pub record SendsPacket (ports ports' : PortsState) (totals totals' : Totals) (packet : Option (ℕ × List ℕ))
+-- packets are silent: none puts anything in front of the answer
+abbrev pub IsSilent : PacketOutput → Type 0
+IsSilent spells = (p : ℕ × List ℕ) → spells p ≡ []
+
+-- packets that are held, with their circuits
+abbrev pub packets_held : List HeldPacket → List (ℕ × List ℕ)
+packets_held packets = map (λ p. (p.circuit, p.octets.items)) packets
+
+-- packets went to the ports, one after another
+pub record GoToPorts (ports ports' : PortsState) (totals totals' : Totals) (packets : List (ℕ × List ℕ))
     : Type 0 where
   pub took : List (ℕ × List ℕ)
   pub takes : Extends ports.taken ports'.taken took
   pub failed : ℕ
   pub sends : ports'.send_failures ≡ counted ports.send_failures failed
-  pub packets : LeavesOut failed took (packet_in packet)
-  pub went : Bool
-  pub calls : Extends ports.calls ports'.calls (send_of packet went)
+  pub packets_are : LeavesOut failed took packets
+  pub calls : HaveCalls ports ports' (AreSends packets)
   pub no_receives : KeepsReceives ports ports'
   pub faults : totals'.port_faults ≡ counted totals.port_faults failed
   pub datagrams : totals'.datagrams ≡ counted totals.datagrams (length took)
@@ -107,11 +117,12 @@ pub record SendsPacket (ports ports' : PortsState) (totals totals' : Totals) (pa
   pub kept : KeepsRecords totals totals'
 
 -- the gateway heard an octet and sends this one, the packet that it sends with it went to the packet ports,
--- and what that puts passes
-pub record OctetTrace (spells : PacketOutput) (s s' : SessionState) (o o' : Output)
+-- or is held behind the others, and what that puts passes
+pub record OctetTrace (holding : Bool) (spells : PacketOutput) (s s' : SessionState) (o o' : Output)
     (octet sent : ℕ) : Type 0 where
   pub packet : Option (ℕ × List ℕ)
-  pub sends : SendsPacket s.ports s'.ports s.totals s'.totals packet
+  pub sends : GoToPorts s.ports s'.ports s.totals s'.totals (if holding then [] else packet_in packet)
+  pub held : s'.held ≡ s.held ++ (if holding then packet_in packet else [])
   pub hears : (config : GatewayConfig) (before : List Event) → HasHistory config s.gateway before
       → HasHistory config s'.gateway (before ++ Event.Octet octet ∷ [])
       × (octet_reply config before octet ≡ record { octet = sent; packet = packet })
@@ -130,10 +141,10 @@ pub record PacketWriteError (spells : PacketOutput) (s s' : SessionState) (o o' 
       × ((octet_reply config before octet).packet ≡ Some packet)
   pub breaks : FailsAfterPrefix o.sink o'.sink (o.waiting ++ spells packet)
 
-abbrev pub Hearing : PacketOutput → SessionState → SessionState → Output → Output → ℕ → Result ℕ RunFault
-    → Type 0
-Hearing spells s s' o o' octet result = MatchResult result
-    (λ sent. OctetTrace spells s s' o o' octet sent)
+abbrev pub Hearing : Bool → PacketOutput → SessionState → SessionState → Output → Output → ℕ
+    → Result ℕ RunFault → Type 0
+Hearing holding spells s s' o o' octet result = MatchResult result
+    (λ sent. OctetTrace holding spells s s' o o' octet sent)
     (λ e. (e ≡ Write) × PacketWriteError spells s s' o o' octet)
 
 -- The gateway heard octets, each after the datagrams that came before it, these were sent, and what the
@@ -170,12 +181,15 @@ pub record StopsAt (spells : PacketOutput) (s s' : SessionState) (o : Output) (s
   pub packet : ℕ × List ℕ
   pub some : 0 < length (spells packet)
 
--- octets, those to send behind those of the answer; they and the datagrams that came were recorded
+-- octets, those to send behind those of the answer; they and the datagrams that came were recorded, before
+-- the packets that were held were sent
 abbrev pub ExchangingAll : {T : Type 0} → PacketOutput → World → World → List ℕ → List ℕ → List ℕ
     → Result T RunFault → Type 0
 ExchangingAll spells w w' octets answer answer' result = MatchResult result
     (λ _. (sent : List ℕ) × (x : Exchanges spells w.state w'.state w.output w'.output octets sent)
-    × (answer' ≡ answer ++ sent) × Recorded w.tape w'.tape (events_of_turns x.turns))
+    × (answer' ≡ answer ++ sent) × Recorded w.tape w'.tape (events_of_turns x.turns)
+    × HaveCalls w.state.ports w'.state.ports (AreCalls (are_held w.state.holds x.turns) x.turns)
+    × Extends w.tape.acts w'.tape.acts (map (sends_at w'.tape) (held_in w.state.holds x.turns)))
     (λ e. (e ≡ Write) × StopsAt spells w.state w'.state w.output w'.output.sink octets)
 
 -- datagrams came so far, with no failed receive
@@ -187,6 +201,7 @@ pub record Receiving (s s' : SessionState) (circuit : ℕ) (came : List (List �
   pub no_sends : KeepsSends s.ports s'.ports
   pub others : s'.totals ≡ record s.totals { dropped = s'.totals.dropped }
   pub given : IsGiven s.gateway s'.gateway s.totals s'.totals (of_circuit (Some circuit) came)
+  pub held : s'.held ≡ s.held
 
 -- a record was acted on: the gateway and the ports went through its input, which was recorded, and the totals
 -- count it
@@ -197,6 +212,9 @@ pub record ActsOn (s s' : SessionState) (tape tape' : TapeState) (r : Record) : 
   pub records : s'.totals.records ≡ counted s.totals.records 1
   pub octets : s'.totals.octets ≡ counted s.totals.octets (length (turns_of input))
   pub recorded : Recorded tape tape' (events_in input)
+  pub acts : Extends tape.acts tape'.acts (acts_for s.holds tape' input)
+  pub calls : HaveCalls s.ports s'.ports (AreCalls (are_held s.holds (turns_of input)) (turns_of input))
+  pub same : s'.holds ≡ s.holds
 
 -- .. and this is known of what waited and of all that is put for it
 pub record InputTrace (spells : PacketOutput) (w w' : World) (r : Record)

@@ -3,23 +3,41 @@ use Rattle.std.specs.Prelude.{Contains, ◌≡◌, ◌⊎◌, ◌^◌, ◌<◌, 
 use Rattle.std.specs.Prelude.{Option, None, Some, length, map, flat_map}
 use Rattle.std.specs.Io.KnownBytes.{Appends}
 use Rattle.std.specs.List.{AllByRecursion}
-use Rattle.gw_session.specs.Prelude.{Datagram, Event, Record, IsGood, AppendsPrefix}
-use Rattle.gw_records.specs.declared.records.RecordHead.{RecordHead}
-use Rattle.gw_records.specs.declared.records.RecordHead.TheVariants as heads
+use Rattle.gw_session.specs.Prelude.{Datagram, Event, Record, IsGood, AppendsPrefix, Extends}
 use Rattle.gw_records.specs.Records.{spelled}
 use Rattle.gw_session.specs.Answers.{events}
-use Rattle.gw_session.specs.declared.tape.OnTape.{OnTape}
 use Rattle.gw_session.specs.Running.{all_kinds}
 
--- a tape: whether it has ended, its writes that failed and, where they are known, the octets that it took
+-- What a session does when a record is on its tape: it sends a packet of a circuit that was held, or answers.
+-- With it is what the tape had then: whether it had ended and, where they are known, the octets that it had
+-- taken.
+pub data Act : Type 0 where
+  Sends : (circuit : ℕ) → (octets : List ℕ) → (ended : Bool) → (taken : Option (List ℕ)) → Act
+  Answers : (ended : Bool) → (taken : Option (List ℕ)) → Act
+
+-- a tape: whether it has ended, its writes that failed and, where they are known, the octets that it took and
+-- the acts that it was told of
 pub record TapeState : Type 0 where
   pub ended : Bool
   pub failures : ℕ
   pub taken : Option (List ℕ)
+  pub acts : Option (List Act)
+
+-- a packet of a circuit is sent, or an answer, when the tape is so
+abbrev pub sends_at : TapeState → ℕ × List ℕ → Act
+sends_at tape p = Act.Sends p.0 p.1 tape.ended tape.taken
+
+abbrev pub answers_at : TapeState → Act
+answers_at tape = Act.Answers tape.ended tape.taken
+
+-- a tape was told of acts, and stays as it was but for that
+pub record Learns (tape tape' : TapeState) (acts : List Act) : Type 0 where
+  pub same : tape' ≡ record tape { acts = tape'.acts }
+  pub told : Extends tape.acts tape'.acts acts
 
 -- a tape that takes nothing
 abbrev pub no_tape : TapeState
-no_tape = record { ended = true; failures = 0; taken = None }
+no_tape = record { ended = true; failures = 0; taken = None; acts = None }
 
 -- the state of a tape, or of one that takes nothing
 abbrev pub tells_of : {T : Type 0} → (T → TapeState) → Option T → TapeState
@@ -35,7 +53,7 @@ HasLong es =
 -- Events were recorded: the tape took the octets of good records, or a prefix of them, and the events of
 -- these records are the first of the events that happened. As long as the tape has not ended, they are all of
 -- them, and it took the octets whole and no write failed. It ends only where a write failed, or at a datagram
--- that no record can say, and one that had ended stays as it was.
+-- that no record can say, and one that had ended stays as it was, but for acts.
 pub record Recorded (tape tape' : TapeState) (happened : List Event) : Type 0 where
   pub records : List Record
   pub good : AllByRecursion (IsGood all_kinds) records
@@ -45,7 +63,7 @@ pub record Recorded (tape tape' : TapeState) (happened : List Event) : Type 0 wh
   pub whole : tape'.ended ≡ false → (lost ≡ []) × Appends tape.taken tape'.taken (flat_map spelled records)
       × (tape'.failures ≡ tape.failures)
   pub cause : tape.ended ≡ false → tape'.ended ≡ true → (tape.failures < tape'.failures) ⊎ HasLong happened
-  pub stays : tape.ended ≡ true → tape' ≡ tape
+  pub stays : tape.ended ≡ true → tape' ≡ record tape { acts = tape'.acts }
 
 -- octets that spell good records
 pub record AreSpelled (records : List Record) (octets : List ℕ) : Type 0 where
@@ -69,6 +87,7 @@ taping tape batch = record { tape = tape; batch = batch }
 pub record Batched (t t' : Taping) (before : List Record) (happened : List Event) : Type 0 where
   pub first : List Event
   pub recorded : Recorded t.tape t'.tape first
+  pub acts : t'.tape.acts ≡ t.tape.acts
   pub after : List Record
   pub batch_is : AreSpelled after t'.batch
   pub all : events before ++ happened ≡ first ++ events after
@@ -80,17 +99,12 @@ Batches t t' happened = (before : List Record) → AreSpelled before t.batch →
 abbrev pub RecordsAll : Taping → TapeState → List Event → Type 0
 RecordsAll t tape' happened =
     (before : List Record) → AreSpelled before t.batch → Recorded t.tape tape' (events before ++ happened)
+    × (tape'.acts ≡ t.tape.acts)
 
 -- a tape ends, with what it has taken
 abbrev pub HasEnded : TapeState → TapeState → Type 0
-HasEnded tape tape' = (tape'.ended ≡ true) × (tape'.taken ≡ tape.taken) × (tape.ended ≡ true → tape' ≡ tape)
-
--- the kind and the circuit of a record that was put on a tape
-unfoldable pub kind_and_circuit : RecordHead → OnTape
-kind_and_circuit heads.Trunk = record { kind = 0x54; circuit = 0 }
-kind_and_circuit (heads.Datagram circuit) = record { kind = 0x44; circuit = circuit }
-kind_and_circuit (heads.Command circuit command) = record { kind = 0x43; circuit = circuit }
-kind_and_circuit (heads.Codec circuit codec payload_type) = record { kind = 0x4B; circuit = circuit }
+HasEnded tape tape' = (tape'.ended ≡ true) × (tape'.taken ≡ tape.taken) × (tape'.acts ≡ tape.acts)
+    × (tape.ended ≡ true → tape' ≡ tape)
 
 -- events happened, and were recorded or are in the batch, but for octets of the trunk at their end
 abbrev pub RecordedBut : Taping → Taping → List Event → List ℕ → Type 0

@@ -1,13 +1,16 @@
 -- What a session changes.
-use Rattle.std.specs.Prelude.{List, ℕ}
+use Rattle.std.specs.Prelude.{List, [], ℕ, Bool, false}
 use Rattle.gw_session.specs.Prelude.{Gateway, Totals, SinkState, PortsState}
 use Rattle.gw_session.specs.Tape.{TapeState}
 
--- Where a session stands: what its ports tell, its gateway, and what is counted.
+-- Where a session stands: what its ports tell, its gateway, what is counted, whether it holds packets until
+-- their record is on the tape, and those that it holds, with their circuits.
 pub record SessionState : Type 0 where
   pub ports : PortsState
   pub gateway : Gateway
   pub totals : Totals
+  pub holds : Bool
+  pub held : List (ℕ × List ℕ)
 
 -- What a session writes to: the state of its sink, and the octets that wait to be written to it.
 pub record Output : Type 0 where
@@ -20,12 +23,31 @@ pub record World : Type 0 where
   pub tape : TapeState
   pub output : Output
 
+abbrev pub state_with : Bool → List (ℕ × List ℕ) → PortsState → Gateway → Totals → SessionState
+state_with holds held ports gateway totals =
+    record { ports = ports; gateway = gateway; totals = totals; holds = holds; held = held }
+
+-- .. between two records
+abbrev pub state_in : Bool → PortsState → Gateway → Totals → SessionState
+state_in holds = state_with holds []
+
+-- .. where packets are sent at once
 abbrev pub state_of : PortsState → Gateway → Totals → SessionState
-state_of ports gateway totals = record { ports = ports; gateway = gateway; totals = totals }
+state_of = state_in false
 
 abbrev pub output_of : SinkState → List ℕ → Output
 output_of sink waiting = record { sink = sink; waiting = waiting }
 
+abbrev pub world_with : Bool → List (ℕ × List ℕ) → PortsState → Gateway → Totals → TapeState → SinkState
+    → List ℕ → World
+world_with holds held ports gateway totals tape sink waiting = record {
+  state = state_with holds held ports gateway totals;
+  tape = tape;
+  output = output_of sink waiting;
+}
+
+abbrev pub world_in : Bool → PortsState → Gateway → Totals → TapeState → SinkState → List ℕ → World
+world_in holds = world_with holds []
+
 abbrev pub world_of : PortsState → Gateway → Totals → TapeState → SinkState → List ℕ → World
-world_of ports gateway totals tape sink waiting =
-    record { state = state_of ports gateway totals; tape = tape; output = output_of sink waiting }
+world_of = world_in false

@@ -8,9 +8,10 @@ ghost use Rattle.gw_switch.specs.Standing.{HasHistory};
 ghost use Rattle.gw_session.specs.Answers.{code_of};
 ghost use Rattle.gw_session.specs.Exchange.{IsGiven};
 
+use crate::held::{HeldPackets, send_held, send_packet};
 use crate::packet_ports::PacketPorts;
 use crate::receive_room::ReceiveRoom;
-use crate::tape::{Batch, OnTape, Tape, batch_arrival, record_octets};
+use crate::tape::{Batch, Tape, batch_arrival, record_octets};
 use g704_cas::CircuitNo;
 use gw_circuit::Datagram;
 use gw_records::{NO_TOTALS, OutputBuffer, RunFault, Sink, Totals, TrunkRecord};
@@ -51,6 +52,9 @@ pub struct SessionBuffers {
     /// 0, or the number of the refusal that the last record was answered with.
     pub code: u8,
     datagram: Datagram,
+    held: HeldPackets,
+    // Whether the packets of the record that is acted on are held.
+    holding: bool,
     // How many of the octets that are exchanged are recorded or in the batch.
     recorded: usize,
     // What the tape is still to take of the record that is acted on.
@@ -59,18 +63,21 @@ pub struct SessionBuffers {
 }
 
 impl SessionBuffers {
-    ghost use Rattle.std.specs.Prelude.{◌≡◌, ◌+◌, ◌<◌, ◌≤◌, ◌^◌, ◌++◌, [], length, OnOk, OnErr};
+    ghost use Rattle.std.specs.Prelude.{◌≡◌, ◌+◌, ◌<◌, ◌≤◌, ◌^◌, ◌∷◌, ◌++◌, [], length, OnOk, OnErr, true};
+    ghost use Rattle.std.specs.Prelude.{vec_capacity, if◌then◌else◌};
     ghost use Rattle.gw_records.specs.Outcome.{nothing_counted};
     ghost use Rattle.gw_records.specs.Streams.{CanCount, Puts};
-    ghost use Rattle.gw_session.specs.Exchange.{ComesInTurn, SendsPacket, Hearing, ExchangingAll};
+    ghost use Rattle.gw_session.specs.Exchange.{ComesInTurn, GoToPorts, Hearing, ExchangingAll, IsSilent};
+    ghost use Rattle.gw_session.specs.Exchange.{packets_held};
     ghost use Rattle.gw_session.specs.Tape.{taping};
-    ghost use Rattle.gw_session.specs.World.{state_of, output_of, world_of};
+    ghost use Rattle.gw_session.specs.World.{state_with, output_of, world_in};
 
     /// Before the first record; a session that answers `at_once` lets nothing wait behind a record.
-    pub fn new(room: ReceiveRoom, at_once: bool) -> SessionBuffers
+    pub fn new(room: ReceiveRoom, held: HeldPackets, at_once: bool) -> SessionBuffers
         ensures totals { result.totals ≡ nothing_counted }
         ensures waiting { result.waiting.items ≡ [] }
         ensures at_once { result.at_once ≡ at_once }
+        ensures held { result.held ≡ held }
     {
         SessionBuffers {
             totals: NO_TOTALS,
@@ -79,39 +86,60 @@ impl SessionBuffers {
             at_once,
             code: 0,
             datagram: Datagram::new(),
+            held,
+            holding: false,
             recorded: 0,
             batch: Batch::new(),
             room,
         }
     }
 
-    // Sends the packet of a circuit, and counts it, or that it did not go out.
+    // Sends the packet that goes with an octet, or holds it.
     #[inline(never)]
-    fn send_packet<O: PacketPorts, K: Sink>(
+    fn pass_packet<O: PacketPorts, K: Sink>(
         &mut self,
         circuit: CircuitNo,
         packet_ports: &mut O,
         sink: &mut K,
     ) -> Result<(), RunFault>
         requires writes { CanCount (K.tells sink.old).failures }
-        ensures sends { OnOk result (SendsPacket (O.tells packet_ports.old) (O.tells packet_ports.new)
-            self.old.totals self.new.totals (Some (circuit, self.old.datagram.items))) }
+        requires silent { self.old.holding ≡ true → IsSilent O.spells }
+        requires room { self.old.holding ≡ true
+            → length self.old.held.packets.items < vec_capacity self.old.held.packets }
+        ensures sends { OnOk result (GoToPorts (O.tells packet_ports.old) (O.tells packet_ports.new)
+            self.old.totals self.new.totals
+            (if self.old.holding then [] else (circuit, self.old.datagram.items) ∷ [])) }
+        ensures held { OnOk result (packets_held self.new.held.packets.items
+            ≡ packets_held self.old.held.packets.items
+            ++ (if self.old.holding then (circuit, self.old.datagram.items) ∷ [] else [])) }
         ensures puts { Puts (K.tells sink.old) (K.tells sink.new) self.new.waiting.items
             (self.old.waiting.items ++ O.spells (circuit, self.old.datagram.items)) result }
         ensures kept { OnErr result (O.tells packet_ports.new ≡ O.tells packet_ports.old) }
         ensures some { OnErr result (0 < length (O.spells (circuit, self.old.datagram.items))) }
-        ensures others { self.new
-            ≡ record self.old { totals = self.new.totals; waiting = self.new.waiting } }
+        ensures memory { vec_capacity self.new.held.packets ≡ vec_capacity self.old.held.packets }
+        ensures holds { self.new.held.holds ≡ self.old.held.holds }
+        ensures others { self.new ≡ record self.old {
+          totals = self.new.totals;
+          waiting = self.new.waiting;
+          held = self.new.held;
+        } }
     {
-        if packet_ports.send_datagram(circuit, self.datagram.as_slice(), &mut self.waiting, sink)? {
-            self.totals.datagrams = self.totals.datagrams.saturating_add(1);
-        } else {
-            self.totals.port_faults = self.totals.port_faults.saturating_add(1);
+        if self.holding {
+            self.held.push(circuit, &self.datagram);
+            return Ok(());
         }
-        Ok(())
+        send_packet(
+            circuit,
+            &self.datagram,
+            packet_ports,
+            &mut self.totals,
+            &mut self.waiting,
+            sink,
+        )
     }
 
-    // Gives an octet to the gateway, sends the packet that goes with it, and returns the octet to send.
+    // Gives an octet to the gateway, sends or holds the packet that goes with it, and returns the octet to
+    // send.
     #[inline]
     fn receive_octet<O: PacketPorts, K: Sink>(
         &mut self,
@@ -121,20 +149,28 @@ impl SessionBuffers {
         sink: &mut K,
     ) -> Result<u8, RunFault>
         requires writes { CanCount (K.tells sink.old).failures }
-        ensures hears { Hearing O.spells
-            (state_of (O.tells packet_ports.old) gateway.old self.old.totals)
-            (state_of (O.tells packet_ports.new) gateway.new self.new.totals)
+        requires silent { self.old.holding ≡ true → IsSilent O.spells }
+        requires room { self.old.holding ≡ true
+            → length self.old.held.packets.items < vec_capacity self.old.held.packets }
+        ensures hears { Hearing self.old.holding O.spells
+            (state_with self.old.held.holds (packets_held self.old.held.packets.items)
+            (O.tells packet_ports.old) gateway.old self.old.totals)
+            (state_with self.old.held.holds (packets_held self.new.held.packets.items)
+            (O.tells packet_ports.new) gateway.new self.new.totals)
             (output_of (K.tells sink.old) self.old.waiting.items)
             (output_of (K.tells sink.new) self.new.waiting.items) octet result }
+        ensures memory { vec_capacity self.new.held.packets ≡ vec_capacity self.old.held.packets }
+        ensures holds { self.new.held.holds ≡ self.old.held.holds }
         ensures others { self.new ≡ record self.old {
           totals = self.new.totals;
           waiting = self.new.waiting;
           datagram = self.new.datagram;
+          held = self.new.held;
         } }
     {
         let out = gateway.octet_into(octet, &mut self.datagram);
         if let Some(circuit) = out.circuit {
-            self.send_packet(circuit, packet_ports, sink)?;
+            self.pass_packet(circuit, packet_ports, sink)?;
         }
         Ok(out.octet)
     }
@@ -153,8 +189,10 @@ impl SessionBuffers {
         requires short { length heard.now < 2 ^ 16 }
         requires within { self.old.recorded ≤ length heard.now }
         ensures comes { ComesInTurn
-            (state_of (O.tells packet_ports.old) gateway.old self.old.totals)
-            (state_of (O.tells packet_ports.new) gateway.new self.new.totals)
+            (state_with self.old.held.holds (packets_held self.old.held.packets.items)
+            (O.tells packet_ports.old) gateway.old self.old.totals)
+            (state_with self.old.held.holds (packets_held self.old.held.packets.items)
+            (O.tells packet_ports.new) gateway.new self.new.totals)
             (taping (T.tells tape.old) self.old.batch.items) (taping (T.tells tape.new) self.new.batch.items)
             heard.now self.old.recorded self.new.recorded }
         ensures others { self.new ≡ record self.old {
@@ -189,7 +227,7 @@ impl SessionBuffers {
     /// Gives octets to the gateway, each after the datagrams that wait at the circuit whose slot is sent with
     /// it, and puts the octets to send behind those of the answer. The ports look for datagrams before the
     /// first octet. All are recorded when it returns, mostly in one write: the octets are cut where datagrams
-    /// came.
+    /// came. The packets of up to 2,048 octets are sent behind that, if this session holds packets.
     pub fn exchange_all<O: PacketPorts, K: Sink, T: Tape>(
         &mut self,
         gateway: &mut Gateway,
@@ -197,20 +235,23 @@ impl SessionBuffers {
         octets: &[u8],
         sink: &mut K,
         tape: &mut T,
-    ) -> Result<OnTape, RunFault>
+    ) -> Result<(), RunFault>
         requires fits { length self.old.answer.items + length octets.now ≤ 65539 }
         requires short { length octets.now < 2 ^ 16 }
         requires writes { CanCount (K.tells sink.old).failures }
+        requires silent { self.old.held.holds ≡ true → IsSilent O.spells }
         ensures exchanges { ExchangingAll O.spells
-            (world_of (O.tells packet_ports.old) gateway.old self.old.totals (T.tells tape.old)
-            (K.tells sink.old) self.old.waiting.items)
-            (world_of (O.tells packet_ports.new) gateway.new self.new.totals (T.tells tape.new)
-            (K.tells sink.new) self.new.waiting.items)
+            (world_in self.old.held.holds (O.tells packet_ports.old) gateway.old self.old.totals
+            (T.tells tape.old) (K.tells sink.old) self.old.waiting.items)
+            (world_in self.old.held.holds (O.tells packet_ports.new) gateway.new self.new.totals
+            (T.tells tape.new) (K.tells sink.new) self.new.waiting.items)
             octets.now self.old.answer.items self.new.answer.items result }
         ensures at_once { self.new.at_once ≡ self.old.at_once }
+        ensures holds { self.new.held.holds ≡ self.old.held.holds }
     {
         self.recorded = 0;
         self.batch.clear();
+        self.holding = self.held.begin(octets.len());
         packet_ports.look_for_datagrams();
         for i in 0..octets.len() {
             let heard = &octets[..i];
@@ -218,6 +259,16 @@ impl SessionBuffers {
             let sent = self.receive_octet(gateway, packet_ports, octets[i], sink)?;
             self.answer.push(sent);
         }
-        Ok(record_octets(tape, &mut self.batch, &octets[self.recorded..]))
+        record_octets(tape, &mut self.batch, &octets[self.recorded..]);
+        let held = &self.held;
+        send_held(
+            held.packets.as_slice(),
+            packet_ports,
+            &mut self.totals,
+            &mut self.waiting,
+            sink,
+            tape,
+        );
+        Ok(())
     }
 }

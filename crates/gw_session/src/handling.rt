@@ -1,5 +1,5 @@
 //! What a session does for one record of any kind, and how it is answered (`handle_record`).
-ghost use Rattle.std.specs.Prelude.{◌≡◌, ◌^◌, ◌<◌, ◌≤◌, ◌∷◌, ◌++◌, length, OnOk};
+ghost use Rattle.std.specs.Prelude.{◌≡◌, ◌^◌, ◌<◌, ◌≤◌, ◌∷◌, ◌++◌, [], length, OnOk};
 ghost use Rattle.byteorder.specs.Endian.{big_bytes};
 ghost use Rattle.gw_circuit.specs.Items.{Command, Codec, Obeys, Changes};
 ghost use Rattle.gw_switch.specs.Events.{Event};
@@ -7,15 +7,18 @@ ghost use Rattle.gw_switch.specs.Whole.{Reply};
 ghost use Rattle.gw_records.specs.Streams.{CanCount, Puts};
 ghost use Rattle.gw_session.specs.Answers.{code_of};
 ghost use Rattle.gw_session.specs.Exchange.{TakesEvent, most_waiting};
+ghost use Rattle.gw_session.specs.Tape.{Learns, answers_at};
 
 use crate::exchange::{SessionBuffers, give_datagram};
 use crate::packet_ports::PacketPorts;
-use crate::tape::{OnTape, Tape, record};
+use crate::tape::Tape;
 use byteorder::{BigEndian, ByteOrder};
 use g704_cas::CircuitNo;
 use g726_codec::CodecKind;
 use gw_circuit::CodecFault;
-use gw_records::{OutputBuffer, RecordHead, RunFault, Sink, TRUNK, flush, put};
+use gw_records::{
+    CODEC, COMMAND, DATAGRAM, OutputBuffer, RecordHead, RunFault, Sink, TRUNK, flush, put,
+};
 use gw_switch::Gateway;
 use q421_line::{Cmd, LineFault};
 
@@ -66,20 +69,21 @@ fn trunk_front(len: usize) -> [u8; 4]
     front
 }
 
-// Puts octets behind those that wait, and writes all of them where none is to wait. They answer a record that
-// is on the tape.
-fn put_out<K: Sink>(
-    _answered: OnTape,
+// Puts an answer behind the octets that wait, and writes all of them where none is to wait. The tape is told.
+fn put_out<K: Sink, T: Tape>(
     octets: &[u8],
     waiting: &mut OutputBuffer,
     at_once: bool,
     sink: &mut K,
+    tape: &mut T,
 ) -> Result<(), RunFault>
     requires { CanCount (K.tells sink.old).failures }
     ensures puts { Puts (K.tells sink.old) (K.tells sink.new) waiting.new.items
         (waiting.old.items ++ octets.now) result }
     ensures few { OnOk result (length waiting.new.items ≤ most_waiting at_once) }
+    ensures acts { Learns (T.tells tape.old) (T.tells tape.new) (answers_at (T.tells tape.old) ∷ []) }
 {
+    tape.before_answer();
     put(sink, waiting, octets)?;
     if at_once {
         flush(sink, waiting)?;
@@ -90,15 +94,16 @@ fn put_out<K: Sink>(
 }
 
 impl SessionBuffers {
-    ghost use Rattle.std.specs.Prelude.{◌≡◌, ◌+◌, ◌^◌, ◌<◌, ◌≤◌, ◌++◌, length, OnOk};
+    ghost use Rattle.std.specs.Prelude.{◌≡◌, ◌+◌, ◌^◌, ◌<◌, ◌≤◌, ◌++◌, ◌∷◌, [], length, OnOk, true};
     ghost use Rattle.gw_records.specs.Records.{Record, IsGood, named};
     ghost use Rattle.gw_records.specs.Streams.{CanCount, Puts, at_most};
     ghost use Rattle.gw_session.specs.Answers.{written_out};
     ghost use Rattle.gw_session.specs.Answers.Written.{Answered};
     ghost use Rattle.gw_session.specs.Running.{all_kinds};
-    ghost use Rattle.gw_session.specs.Exchange.{Inputs, most_waiting};
+    ghost use Rattle.gw_session.specs.Exchange.{Inputs, IsSilent, most_waiting};
     ghost use Rattle.gw_session.specs.Watch.{IsCodeAfter};
-    ghost use Rattle.gw_session.specs.World.{world_of};
+    ghost use Rattle.gw_session.specs.Tape.{Learns, answers_at};
+    ghost use Rattle.gw_session.specs.World.{world_in};
 
     // Gives the octets of a trunk record to the gateway, and puts the record that answers it.
     fn handle_trunk_record<O: PacketPorts, K: Sink, T: Tape>(
@@ -111,51 +116,57 @@ impl SessionBuffers {
     ) -> Result<(), RunFault>
         requires short { length body.now < 2 ^ 16 }
         requires writes { CanCount (K.tells sink.old).failures }
+        requires silent { self.old.held.holds ≡ true → IsSilent O.spells }
         ensures inputs { Inputs O.spells
-            (world_of (O.tells packet_ports.old) gateway.old self.old.totals (T.tells tape.old)
-            (K.tells sink.old) self.old.waiting.items)
-            (world_of (O.tells packet_ports.new) gateway.new self.new.totals (T.tells tape.new)
-            (K.tells sink.new) self.new.waiting.items)
+            (world_in self.old.held.holds (O.tells packet_ports.old) gateway.old self.old.totals
+            (T.tells tape.old) (K.tells sink.old) self.old.waiting.items)
+            (world_in self.old.held.holds (O.tells packet_ports.new) gateway.new self.new.totals
+            (T.tells tape.new) (K.tells sink.new) self.new.waiting.items)
             (Record.Trunk body.now) result }
         ensures code { OnOk result (self.new.code ≡ 0) }
         ensures few { OnOk result (length self.new.waiting.items ≤ most_waiting self.old.at_once) }
         ensures at_once { self.new.at_once ≡ self.old.at_once }
+        ensures holds { self.new.held.holds ≡ self.old.held.holds }
     {
         self.totals.records = self.totals.records.saturating_add(1);
         self.totals.octets = self.totals.octets.saturating_add(body.len() as u64);
         self.answer.clear();
         let _ = self.answer.try_extend_from_slice(&trunk_front(body.len()));
-        let recorded = self.exchange_all(gateway, packet_ports, body, sink, tape)?;
+        self.exchange_all(gateway, packet_ports, body, sink, tape)?;
         self.code = 0;
         put_out(
-            recorded,
             self.answer.as_slice(),
             &mut self.waiting,
             self.at_once,
             sink,
+            tape,
         )
     }
 
-    // Counts a record that is on the tape, and puts the answer of its circuit.
-    fn put_answer<K: Sink>(
+    // Counts a record, and puts the answer of its circuit.
+    fn put_answer<K: Sink, T: Tape>(
         &mut self,
-        recorded: OnTape,
+        circuit: CircuitNo,
+        kind: u8,
         code: u8,
         sink: &mut K,
+        tape: &mut T,
     ) -> Result<(), RunFault>
         requires writes { CanCount (K.tells sink.old).failures }
         ensures puts { Puts (K.tells sink.old) (K.tells sink.new) self.new.waiting.items
-            (self.old.waiting.items ++ written_out (Answered recorded.circuit recorded.kind code)) result }
+            (self.old.waiting.items ++ written_out (Answered circuit kind code)) result }
+        ensures acts { Learns (T.tells tape.old) (T.tells tape.new) (answers_at (T.tells tape.old) ∷ []) }
         ensures code { self.new.code ≡ code }
         ensures counts { self.new.totals
             ≡ record self.old.totals { records = at_most (self.old.totals.records + 1) } }
         ensures few { OnOk result (length self.new.waiting.items ≤ most_waiting self.old.at_once) }
         ensures at_once { self.new.at_once ≡ self.old.at_once }
+        ensures holds { self.new.held.holds ≡ self.old.held.holds }
     {
         self.totals.records = self.totals.records.saturating_add(1);
         self.code = code;
-        let octets = [ANSWER, recorded.circuit(), 0, 2, recorded.kind(), code];
-        put_out(recorded, &octets, &mut self.waiting, self.at_once, sink)
+        let octets = [ANSWER, circuit.get(), 0, 2, kind, code];
+        put_out(&octets, &mut self.waiting, self.at_once, sink, tape)
     }
 
     /// Gives a gateway a record, which is recorded before, and puts what answers it behind the octets that
@@ -171,32 +182,34 @@ impl SessionBuffers {
     ) -> Result<(), RunFault>
         requires good { IsGood all_kinds (named head body.now) }
         requires writes { CanCount (K.tells sink.old).failures }
+        requires silent { self.old.held.holds ≡ true → IsSilent O.spells }
         ensures inputs { Inputs O.spells
-            (world_of (O.tells packet_ports.old) gateway.old self.old.totals (T.tells tape.old)
-            (K.tells sink.old) self.old.waiting.items)
-            (world_of (O.tells packet_ports.new) gateway.new self.new.totals (T.tells tape.new)
-            (K.tells sink.new) self.new.waiting.items)
+            (world_in self.old.held.holds (O.tells packet_ports.old) gateway.old self.old.totals
+            (T.tells tape.old) (K.tells sink.old) self.old.waiting.items)
+            (world_in self.old.held.holds (O.tells packet_ports.new) gateway.new self.new.totals
+            (T.tells tape.new) (K.tells sink.new) self.new.waiting.items)
             (named head body.now) result }
         ensures code { OnOk result (IsCodeAfter gateway.old (named head body.now) self.new.code) }
         ensures few { OnOk result (length self.new.waiting.items ≤ most_waiting self.old.at_once) }
         ensures at_once { self.new.at_once ≡ self.old.at_once }
+        ensures holds { self.new.held.holds ≡ self.old.held.holds }
     {
         match head {
             RecordHead::Trunk => self.handle_trunk_record(gateway, packet_ports, body, sink, tape),
             RecordHead::Datagram(circuit) => {
-                let recorded = record(tape, head, body);
+                tape.put(head, body);
                 let code = give_datagram(gateway, circuit, body, &mut self.totals);
-                self.put_answer(recorded, code, sink)
+                self.put_answer(circuit, DATAGRAM, code, sink, tape)
             }
             RecordHead::Command(circuit, command) => {
-                let recorded = record(tape, head, body);
+                tape.put(head, body);
                 let code = give_command(gateway, circuit, command);
-                self.put_answer(recorded, code, sink)
+                self.put_answer(circuit, COMMAND, code, sink, tape)
             }
             RecordHead::Codec(circuit, codec, payload_type) => {
-                let recorded = record(tape, head, body);
+                tape.put(head, body);
                 let code = give_codec(gateway, circuit, codec, payload_type);
-                self.put_answer(recorded, code, sink)
+                self.put_answer(circuit, CODEC, code, sink, tape)
             }
         }
     }

@@ -1,13 +1,13 @@
 //! The loop of a session over the records of its source, and how it ends (`process_records`).
-ghost use Rattle.std.specs.Prelude.{◌≡◌, ◌^◌, ◌≤◌, [], IfOk, IfErr};
+ghost use Rattle.std.specs.Prelude.{◌≡◌, ◌^◌, ◌≤◌, [], IfOk, IfErr, true};
 ghost use Rattle.std.specs.Io.KnownBytes.{Appends};
 ghost use Rattle.gw_records.specs.Streams.{CanBegin};
 ghost use Rattle.gw_records.specs.Reader.{held};
 ghost use Rattle.gw_records.specs.Outcome.{nothing_counted, EndsAll, EndsUntil};
 ghost use Rattle.gw_session.specs.Exchange.{written_by, WatchedTrace, TraceToWriteError};
-ghost use Rattle.gw_session.specs.Exchange.{most_waiting};
+ghost use Rattle.gw_session.specs.Exchange.{IsSilent, most_waiting};
 ghost use Rattle.gw_session.specs.Watch.{InputsShown};
-ghost use Rattle.gw_session.specs.World.{state_of, world_of};
+ghost use Rattle.gw_session.specs.World.{state_in, world_in};
 
 use crate::exchange::SessionBuffers;
 use crate::packet_ports::PacketPorts;
@@ -38,26 +38,29 @@ pub fn process_records<O: PacketPorts, S: Source, K: Sink, T: Tape, W: Watch>(
     requires turns { reader.old.reads_left ≡ 2 ^ 62 }
     requires totals { session.old.totals ≡ nothing_counted }
     requires waiting { session.old.waiting.items ≡ [] }
+    requires silent { session.old.held.holds ≡ true → IsSilent O.spells }
     ensures ok { IfOk result (EndsAll kinds.now
         (S.tells source.old) (S.tells source.new) (K.tells sink.old) (K.tells sink.new)
         (λ totals. WatchedTrace (written_by O.spells)
-        (state_of (O.tells packet_ports.old) gateway.old nothing_counted)
-        (state_of (O.tells packet_ports.new) gateway.new totals) (T.tells tape.old) (T.tells tape.new)
+        (state_in session.old.held.holds (O.tells packet_ports.old) gateway.old nothing_counted)
+        (state_in session.old.held.holds (O.tells packet_ports.new) gateway.new totals)
+        (T.tells tape.old) (T.tells tape.new)
         (λ first. Appends (K.tells sink.old).taken (K.tells sink.new).taken)
         (InputsShown W.shows gateway.old watch.old watch.new))) }
     ensures fault { IfErr result (EndsUntil kinds.now
         (S.tells source.old) (S.tells source.new) (K.tells sink.old) (K.tells sink.new)
         (λ totals. WatchedTrace (written_by O.spells)
-        (state_of (O.tells packet_ports.old) gateway.old nothing_counted)
-        (state_of (O.tells packet_ports.new) gateway.new totals) (T.tells tape.old) (T.tells tape.new)
+        (state_in session.old.held.holds (O.tells packet_ports.old) gateway.old nothing_counted)
+        (state_in session.old.held.holds (O.tells packet_ports.new) gateway.new totals)
+        (T.tells tape.old) (T.tells tape.new)
         (λ first. Appends (K.tells sink.old).taken (K.tells sink.new).taken)
         (InputsShown W.shows gateway.old watch.old watch.new))
         (TraceToWriteError (most_waiting session.old.at_once) O.spells
         (InputsShown W.shows gateway.old watch.old watch.new)
-        (world_of (O.tells packet_ports.old) gateway.old nothing_counted (T.tells tape.old)
-        (K.tells sink.old) [])
-        (λ totals. world_of (O.tells packet_ports.new) gateway.new totals (T.tells tape.new)
-        (K.tells sink.new) []))) }
+        (world_in session.old.held.holds (O.tells packet_ports.old) gateway.old nothing_counted
+        (T.tells tape.old) (K.tells sink.old) [])
+        (λ totals. world_in session.old.held.holds (O.tells packet_ports.new) gateway.new totals
+        (T.tells tape.new) (K.tells sink.new) []))) }
 {
     'handling: loop {
         match first_record(kinds, reader.held()) {

@@ -1,5 +1,5 @@
 //! What a recording writes to its sink, and when it has ended (`Recorder`).
-ghost use Rattle.std.specs.Prelude.{◌≡◌, ◌-◌, ◌^◌, ◌<◌, false, length};
+ghost use Rattle.std.specs.Prelude.{◌≡◌, ◌-◌, ◌^◌, ◌<◌, false, length, None};
 ghost use Rattle.gw_records.specs.Records.{IsGood, named, spelled, record_of};
 ghost use Rattle.gw_records.specs.Streams.{CanCount};
 ghost use Rattle.gw_session.specs.Running.{all_kinds};
@@ -7,6 +7,7 @@ ghost use Rattle.gw_session.specs.Tape.{WritesRecords};
 
 use crate::spelling::append;
 use crate::tape::Tape;
+use g704_cas::CircuitNo;
 use gw_records::{
     CODEC, COMMAND, DATAGRAM, RecordHead, Sink, TRUNK, TrunkRecord, octet_of_codec,
     octet_of_command, write_all,
@@ -47,11 +48,13 @@ fn write_records<K: Sink>(sink: &mut K, ended: &mut bool, octets: &[u8])
           ended = ended.old;
           failures = (K.tells sink.old).failures;
           taken = (K.tells sink.old).taken;
+          acts = None;
         })
         (record {
           ended = ended.new;
           failures = (K.tells sink.new).failures;
           taken = (K.tells sink.new).taken;
+          acts = None;
         })
         octets.now }
     ensures counts { ended.new ≡ false → CanCount (K.tells sink.new).failures }
@@ -107,6 +110,7 @@ impl<K: Sink> Tape for Recorder<K> {
       ended = r.ended;
       failures = (K.tells r.sink).failures;
       taken = (K.tells r.sink).taken;
+      acts = None;
     } };
 
     fn put(&mut self, head: RecordHead, body: &[u8]) {
@@ -124,4 +128,8 @@ impl<K: Sink> Tape for Recorder<K> {
     fn end(&mut self) {
         self.ended = true;
     }
+
+    fn before_send(&mut self, _circuit: CircuitNo, _packet: &[u8]) {}
+
+    fn before_answer(&mut self) {}
 }

@@ -2,9 +2,10 @@
 ghost use Rattle.std.specs.Prelude.{IfOk, IfErr};
 ghost use Rattle.gw_records.specs.Streams.{CanBegin};
 ghost use Rattle.gw_session.specs.Tape.{no_tape};
-ghost use Rattle.gw_session.specs.Serve.{ServesAll, ServesUntil, around};
+ghost use Rattle.gw_session.specs.Serve.{ServesAll, ServesUntil, around, around_in, around_log};
 
 use crate::exchange::SessionBuffers;
+use crate::held::HeldPackets;
 use crate::processing::process_records;
 use crate::receive_room::ReceiveRoom;
 use crate::tape::{NoTape, Tape};
@@ -65,6 +66,47 @@ pub fn serve<S: Source, P: Ports, K: Sink>(
     serve_recorded(alloc, gateway, ports, source, sink, &mut NoTape)
 }
 
+// Serves, records on a tape what the gateway takes, and holds packets if `held` does.
+#[inline(always)]
+fn serve_holding<S: Source, P: Ports, K: Sink, T: Tape>(
+    alloc: Global,
+    held: HeldPackets,
+    gateway: &mut Gateway,
+    ports: &mut P,
+    source: &mut S,
+    sink: &mut K,
+    tape: &mut T,
+) -> Result<Totals, RunFault>
+    requires { CanBegin (S.tells source.old) (K.tells sink.old) }
+    ensures ok { IfOk result (ServesAll
+        (around_in held.holds (S.tells source.old) (K.tells sink.old) (P.tells ports.old) (T.tells tape.old))
+        (around_in held.holds (S.tells source.new) (K.tells sink.new) (P.tells ports.new) (T.tells tape.new))
+        gateway.old gateway.new) }
+    ensures fault { IfErr result (ServesUntil
+        (around_in held.holds (S.tells source.old) (K.tells sink.old) (P.tells ports.old) (T.tells tape.old))
+        (around_in held.holds (S.tells source.new) (K.tells sink.new) (P.tells ports.new) (T.tells tape.new))
+        gateway.old gateway.new) }
+{
+    let Ok(mut reader) = Reader::new(alloc) else {
+        return Err(RunFault::OutOfMemory);
+    };
+    let Ok(room) = ReceiveRoom::new(alloc) else {
+        return Err(RunFault::OutOfMemory);
+    };
+    let mut session = SessionBuffers::new(room, held, true);
+    process_records(
+        &SERVED,
+        &mut reader,
+        &mut session,
+        gateway,
+        ports,
+        source,
+        sink,
+        tape,
+        &mut NoWatch,
+    )
+}
+
 /// Serves as [`serve`] does, and records on a tape what the gateway takes, in the order in which it takes it,
 /// as records of every kind: each before what answers it is written. A tape that ends changes nothing of the
 /// session.
@@ -90,22 +132,37 @@ pub fn serve_recorded<S: Source, P: Ports, K: Sink, T: Tape>(
         (around (S.tells source.new) (K.tells sink.new) (P.tells ports.new) (T.tells tape.new))
         gateway.old gateway.new) }
 {
-    let Ok(mut reader) = Reader::new(alloc) else {
+    let held = HeldPackets::none(alloc);
+    serve_holding(alloc, held, gateway, ports, source, sink, tape)
+}
+
+/// Serves as [`serve_recorded`] does, but sends the packets of a record of the trunk when all of it is on the
+/// tape, in their order, behind the receives of its octets. (A record of more than 2,048 octets has its
+/// packets sent as they are made.)
+///
+/// # Errors
+///
+/// Those of [`serve`].
+pub fn serve_logged<S: Source, P: Ports, K: Sink, T: Tape>(
+    alloc: Global,
+    gateway: &mut Gateway,
+    ports: &mut P,
+    source: &mut S,
+    sink: &mut K,
+    tape: &mut T,
+) -> Result<Totals, RunFault>
+    requires { CanBegin (S.tells source.old) (K.tells sink.old) }
+    ensures ok { IfOk result (ServesAll
+        (around_log (S.tells source.old) (K.tells sink.old) (P.tells ports.old) (T.tells tape.old))
+        (around_log (S.tells source.new) (K.tells sink.new) (P.tells ports.new) (T.tells tape.new))
+        gateway.old gateway.new) }
+    ensures fault { IfErr result (ServesUntil
+        (around_log (S.tells source.old) (K.tells sink.old) (P.tells ports.old) (T.tells tape.old))
+        (around_log (S.tells source.new) (K.tells sink.new) (P.tells ports.new) (T.tells tape.new))
+        gateway.old gateway.new) }
+{
+    let Ok(held) = HeldPackets::new(alloc) else {
         return Err(RunFault::OutOfMemory);
     };
-    let Ok(room) = ReceiveRoom::new(alloc) else {
-        return Err(RunFault::OutOfMemory);
-    };
-    let mut session = SessionBuffers::new(room, true);
-    process_records(
-        &SERVED,
-        &mut reader,
-        &mut session,
-        gateway,
-        ports,
-        source,
-        sink,
-        tape,
-        &mut NoWatch,
-    )
+    serve_holding(alloc, held, gateway, ports, source, sink, tape)
 }

@@ -5,13 +5,13 @@ ghost use Rattle.gw_switch.specs.Events.{Event};
 ghost use Rattle.gw_records.specs.Records.{IsGood, named};
 ghost use Rattle.gw_session.specs.Answers.{events_of};
 ghost use Rattle.gw_session.specs.Running.{all_kinds};
-ghost use Rattle.gw_session.specs.Tape.{TapeState, no_tape, tells_of, Recorded, HasEnded, kind_and_circuit};
-ghost use Rattle.gw_session.specs.Tape.{WritesRecords, Batches, RecordsAll, taping};
+ghost use Rattle.gw_session.specs.Tape.{TapeState, no_tape, tells_of, Recorded, HasEnded, Learns, sends_at};
+ghost use Rattle.gw_session.specs.Tape.{WritesRecords, Batches, RecordsAll, taping, answers_at};
 
 use crate::spelling::append;
 use arrayvec::ArrayVec;
 use g704_cas::CircuitNo;
-use gw_records::{CODEC, COMMAND, DATAGRAM, FRONT_LEN, RecordHead, TRUNK};
+use gw_records::{DATAGRAM, FRONT_LEN, RecordHead, TRUNK};
 
 // The longest datagram that a record can hold.
 const LONGEST: usize = 65_535;
@@ -23,23 +23,34 @@ pub type Batch = ArrayVec<u8, 4_096>;
 /// What events are recorded on, as records of the same events.
 pub trait Tape {
     /// What the tape tells of itself: whether it has ended, how many of its writes have failed, up to the
-    /// greatest u64, and, where they are known, the octets that it took.
+    /// greatest u64, and, where they are known, the octets that it took and the acts that it was told of.
     ghost tells: { Self → TapeState };
 
     /// Records what a record of this head and body says. The tape may end at it; one that has ended does
     /// nothing.
     fn put(&mut self, head: RecordHead, body: &[u8])
         requires { IsGood all_kinds (named head body.now) }
-        ensures { Recorded (tells self.old) (tells self.new) (events_of (named head body.now)) };
+        ensures recorded { Recorded (tells self.old) (tells self.new) (events_of (named head body.now)) }
+        ensures acts { (tells self.new).acts ≡ (tells self.old).acts };
 
     /// Records what records say, whose octets these are. The tape may end at it; one that has ended does
     /// nothing.
     fn put_together(&mut self, octets: &[u8])
-        ensures { WritesRecords (tells self.old) (tells self.new) octets.now };
+        ensures written { WritesRecords (tells self.old) (tells self.new) octets.now }
+        ensures acts { (tells self.new).acts ≡ (tells self.old).acts };
 
     /// Ends the tape.
     fn end(&mut self)
         ensures { HasEnded (tells self.old) (tells self.new) };
+
+    /// Learns that a packet of a circuit is sent next, which was held until its record was put.
+    fn before_send(&mut self, circuit: CircuitNo, packet: &[u8])
+        ensures { Learns (tells self.old) (tells self.new)
+            (sends_at (tells self.old) (circuit, packet.now) ∷ []) };
+
+    /// Learns that an answer is written next.
+    fn before_answer(&mut self)
+        ensures { Learns (tells self.old) (tells self.new) (answers_at (tells self.old) ∷ []) };
 }
 
 /// A tape that takes nothing.
@@ -54,6 +65,10 @@ impl Tape for NoTape {
     fn put_together(&mut self, _octets: &[u8]) {}
 
     fn end(&mut self) {}
+
+    fn before_send(&mut self, _circuit: CircuitNo, _packet: &[u8]) {}
+
+    fn before_answer(&mut self) {}
 }
 
 /// A tape, or none.
@@ -77,74 +92,24 @@ impl<T: Tape> Tape for Option<T> {
             tape.end();
         }
     }
-}
 
-/// The kind and the circuit of a record that was put on a tape. Only [`record`] and [`record_octets`] make
-/// one, when nothing is left in a batch, and each answer takes one: so a record is on the tape before its
-/// answer is written.
-#[derive(Drop)]
-pub struct OnTape {
-    kind: u8,
-    circuit: u8,
-}
-
-impl OnTape {
-    ghost use Rattle.std.specs.Prelude.{◌≡◌};
-
-    // The mark that a record of this head is on the tape.
-    #[tactic(auto, unfolding(crate::specs::Tape::kind_and_circuit))]
-    fn of(head: &RecordHead) -> OnTape
-        ensures { result ≡ kind_and_circuit head.now }
-    {
-        match head {
-            RecordHead::Trunk => OnTape {
-                kind: TRUNK,
-                circuit: 0,
-            },
-            RecordHead::Datagram(circuit) => OnTape {
-                kind: DATAGRAM,
-                circuit: circuit.get(),
-            },
-            RecordHead::Command(circuit, _) => OnTape {
-                kind: COMMAND,
-                circuit: circuit.get(),
-            },
-            RecordHead::Codec(circuit, _, _) => OnTape {
-                kind: CODEC,
-                circuit: circuit.get(),
-            },
+    fn before_send(&mut self, circuit: CircuitNo, packet: &[u8]) {
+        if let Some(tape) = self {
+            tape.before_send(circuit, packet);
         }
     }
 
-    /// The kind of the recorded record, as an octet.
-    pub fn kind(&self) -> u8
-        ensures { result ≡ self.now.kind }
-    {
-        self.kind
+    fn before_answer(&mut self) {
+        if let Some(tape) = self {
+            tape.before_answer();
+        }
     }
-
-    /// The number of its circuit; 0 for a record of the trunk.
-    pub fn circuit(&self) -> u8
-        ensures { result ≡ self.now.circuit }
-    {
-        self.circuit
-    }
-}
-
-/// Records what a record of this head and body says.
-pub fn record<T: Tape>(tape: &mut T, head: RecordHead, body: &[u8]) -> OnTape
-    requires { IsGood all_kinds (named head body.now) }
-    ensures recorded { Recorded (T.tells tape.old) (T.tells tape.new) (events_of (named head body.now)) }
-    ensures on_tape { result ≡ kind_and_circuit head }
-{
-    let on_tape = OnTape::of(&head);
-    tape.put(head, body);
-    on_tape
 }
 
 // Puts the batch on the tape, which empties it.
 fn write_batch<T: Tape>(tape: &mut T, batch: &mut Batch)
     ensures written { WritesRecords (T.tells tape.old) (T.tells tape.new) batch.old.items }
+    ensures acts { (T.tells tape.new).acts ≡ (T.tells tape.old).acts }
     ensures empty { batch.new.items ≡ [] }
 {
     tape.put_together(batch.as_slice());
@@ -216,7 +181,7 @@ pub fn batch_arrival<T: Tape>(
 }
 
 /// Records the batch, and octets of the trunk behind it, if there are any. Nothing is left in the batch.
-pub fn record_octets<T: Tape>(tape: &mut T, batch: &mut Batch, octets: &[u8]) -> OnTape
+pub fn record_octets<T: Tape>(tape: &mut T, batch: &mut Batch, octets: &[u8])
     requires { length octets.now < 2 ^ 16 }
     ensures recorded { RecordsAll (taping (T.tells tape.old) batch.old.items) (T.tells tape.new)
         (map Event.Octet octets.now) }
@@ -224,5 +189,4 @@ pub fn record_octets<T: Tape>(tape: &mut T, batch: &mut Batch, octets: &[u8]) ->
 {
     batch_octets(tape, batch, octets);
     write_batch(tape, batch);
-    OnTape::of(&RecordHead::Trunk)
 }

@@ -95,7 +95,7 @@ loaded configures apart config octets inner l whole read = record {
 -- why what is inside is refused is why the file is
 pub refused : (config : GatewayConfig) (octets inner : List ℕ) (fault : LoadFault)
     → octets ≡ summed (mark ++ 1 ∷ inner) → IsNotRead config inner fault → Refuses config octets fault
-refused config octets inner OutOfMemory whole is = tt
+refused config octets inner OutOfMemory whole is = is
 refused config octets inner (Refused kinds.Config number) whole is = record { inner = inner; whole = whole; is = is }
 refused config octets inner (Refused kinds.Value number) whole is = record { inner = inner; whole = whole; is = is }
 refused config octets inner (Refused kinds.Left number) whole is = record { inner = inner; whole = whole; is = is }

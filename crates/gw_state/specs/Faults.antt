@@ -14,6 +14,7 @@ use Rattle.gw_state.specs.declared.fault.StateKind.TheVariants as kinds
 use Rattle.gw_state.specs.Layout.{mark, law_octet, saved_config, summed, saved_settings, SettingsFit}
 use Rattle.gw_state.specs.Layout.{ConfigFits}
 use Rattle.gw_state.specs.Loaded.{StandsAs}
+use Rattle.gw_state.specs.Memory.{MemoryIsRefused}
 
 abbrev pub kind_number : StateKind → ℕ
 kind_number kinds.Short = 1
@@ -105,7 +106,7 @@ pub record HasNoGateway (config : GatewayConfig) (octets : List ℕ) (fault : Lo
 
 -- why octets between the version and the check sum are refused: the first reason, or that memory was refused
 abbrev pub IsNotRead : GatewayConfig → List ℕ → LoadFault → Type 0
-IsNotRead config octets OutOfMemory = ⊤
+IsNotRead config octets OutOfMemory = MemoryIsRefused
 IsNotRead config octets (Refused kinds.Config number) = IsOther config octets number
 IsNotRead config octets fault = HasNoGateway config octets fault
 
@@ -117,7 +118,7 @@ pub record IsInside (config : GatewayConfig) (octets : List ℕ) (fault : LoadFa
 
 -- why octets are not a state that can be loaded: the first reason, or that memory was refused
 abbrev pub Refuses : GatewayConfig → List ℕ → LoadFault → Type 0
-Refuses config octets OutOfMemory = ⊤
+Refuses config octets OutOfMemory = MemoryIsRefused
 Refuses config octets (Refused kinds.Config number) = IsInside config octets (Refused kinds.Config number)
 Refuses config octets (Refused kinds.Value number) = IsInside config octets (Refused kinds.Value number)
 Refuses config octets (Refused kinds.Left number) = IsInside config octets (Refused kinds.Left number)

@@ -2,15 +2,16 @@
 
 ghost use Rattle.std.specs.Prelude.{◌≡◌, ◌≢◌, ◌≤◌, ◌<◌, ◌++◌, ◌∷◌, [], ℕ, List, IfOk, IfErr, IfSome, IfNone};
 ghost use Rattle.std.specs.Prelude.{length, take};
-ghost use Rattle.std.specs.Prelude.{slice_index};
+ghost use Rattle.std.specs.Prelude.{slice_index, OnErr};
 ghost use Rattle.gw_switch.specs.declared.GatewayConfig as configs;
 ghost use Rattle.gw_switch.specs.Standing.{HasHistory};
 ghost use Rattle.gw_switch.specs.Saved.{saved_gateway};
-ghost use Rattle.gw_switch.specs.Reconfigured.{RenewalsConfigure};
+ghost use Rattle.gw_switch.specs.Reconfigured.{IsReconfigured, RenewalsConfigure};
 ghost use Rattle.gw_state.specs.Layout.{mark, summed, saved_config, ConfigFits};
 ghost use Rattle.gw_state.specs.Faults.{BeginsWith, IsOutside, IsOther, IsOfValue, IsNoGateway, IsNotRead};
 ghost use Rattle.gw_state.specs.Faults.{Refuses};
 ghost use Rattle.gw_state.specs.Loaded.{GoesOn, ReadsAs, IsLoaded};
+ghost use Rattle.gw_state.specs.Memory.{MemoryIsRefused};
 
 use crate::fault::{LoadFault, StateKind};
 use crate::head::law_octet;
@@ -18,7 +19,7 @@ use crate::settings::read_circuits;
 use gw_switch::{Gateway, GatewayConfig, StateFault};
 use saved_octets::OctetReader;
 use sha2::{Digest, Sha256};
-use std::alloc::Global;
+use std::alloc::{AllocError, Global};
 
 // The octets of the least state.
 const LEAST: usize = 518;
@@ -123,6 +124,29 @@ fn gateway_of(opened: Gateway, octets: &mut OctetReader<'_>) -> Result<Gateway, 
     }
 }
 
+// A new gateway that is configured so. The error is that memory was refused.
+#[tactic(auto, unfolding(crate::specs::Memory::MemoryIsRefused))]
+fn open(alloc: Global, config: &GatewayConfig) -> Result<Gateway, AllocError>
+    ensures opened { IfOk result (λ gateway. HasHistory config.now gateway []) }
+    ensures err { OnErr result MemoryIsRefused }
+{
+    Gateway::open(alloc, config)
+}
+
+// A gateway whose circuits are configured otherwise. The error is that memory was refused.
+#[tactic(auto, unfolding(crate::specs::Memory::MemoryIsRefused))]
+fn reconfigure(
+    saved: Gateway,
+    alloc: Global,
+    old: &GatewayConfig,
+    config: &GatewayConfig,
+) -> Result<Gateway, AllocError>
+    ensures reconfigured { IfOk result (λ gateway. IsReconfigured old.now config.now saved gateway) }
+    ensures err { OnErr result MemoryIsRefused }
+{
+    saved.reconfigured(alloc, old, config)
+}
+
 // The gateway whose configuration and octets these are, with its circuits configured as they are to be.
 fn read_gateway(
     alloc: Global,
@@ -141,11 +165,12 @@ fn read_gateway(
             });
         }
     };
-    let Ok(opened) = Gateway::open(alloc, &old) else {
-        return Err(LoadFault::OutOfMemory);
+    let opened = match open(alloc, &old) {
+        Ok(opened) => opened,
+        Err(_) => return Err(LoadFault::OutOfMemory),
     };
     let saved = gateway_of(opened, octets)?;
-    match saved.reconfigured(alloc, &old, config) {
+    match reconfigure(saved, alloc, &old, config) {
         Ok(gateway) => Ok(Loaded { gateway, old }),
         Err(_) => Err(LoadFault::OutOfMemory),
     }

@@ -1,3 +1,4 @@
 pub mod Asked
 pub mod Lacking
 pub mod Opening
+pub mod Telling

@@ -2,11 +2,12 @@
 
 ghost use Rattle.std.specs.Prelude.{◌≡◌, IfSome, option_map, codes};
 ghost use Rattle.clap.specs.Words.{subcommand_rows_of};
-ghost use Rattle.gw_command.specs.Command.{text_in};
+ghost use Rattle.gw_command.specs.Command.{HasFlag, text_in};
+ghost use Rattle.gw_program.specs.Requests.{AsksPlace};
 ghost use Rattle.gw_system.specs.Asked.{AreSenders, IsRepeat};
 
 use clap::ArgMatches;
-use gw_command::{recording_of, records_over, repeat_of, senders_of};
+use gw_command::{follow_of, from_of, recording_of, records_over, repeat_of, senders_of};
 use gw_program::Recording;
 use gw_udp::SourceFilter;
 
@@ -30,10 +31,22 @@ pub(crate) fn repeat_asked(matches: &ArgMatches<'_>) -> u8
     }
 }
 
+// The octet from which on a log is followed, if the matches name a log.
+pub(crate) fn place_asked(matches: &ArgMatches<'_>) -> Option<u64>
+    ensures { AsksPlace (subcommand_rows_of matches.now) result }
+{
+    match follow_of(matches) {
+        Some(_) => from_of(matches),
+        None => None,
+    }
+}
+
 // The recording that the matches ask for. `waits` says whether it is waited for.
 pub(crate) fn recording_asked<'m>(matches: &'m ArgMatches<'_>, waits: bool) -> Option<Recording<'m>>
     ensures path { option_map (λ recording. recording.path.now) result
         ≡ text_in (codes "record") (subcommand_rows_of matches.now) }
+    ensures over { IfSome result (λ recording.
+        HasFlag (codes "record-over") (subcommand_rows_of matches.now) recording.over) }
     ensures waits { IfSome result (λ recording. recording.waits ≡ waits) }
 {
     let path = recording_of(matches)?;

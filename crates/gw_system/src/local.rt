@@ -1,29 +1,29 @@
 //! The system of a session: this machine's files and sockets, as the command line names them.
 
-ghost use Rattle.std.specs.Prelude.{◌≡◌, IfErr, IfSome, option_map, codes};
+ghost use Rattle.std.specs.Prelude.{◌≡◌, IfErr, IfOk, IfSome, option_map, codes};
 ghost use Rattle.clap.specs.Words.{subcommand_rows_of};
-ghost use Rattle.gw_command.specs.Command.{text_in};
-ghost use Rattle.gw_program.specs.Requests.{load_in, save_in, AsksWait};
+ghost use Rattle.gw_command.specs.Command.{HasFlag, text_in};
+ghost use Rattle.gw_program.specs.Requests.{load_in, save_in, AsksPlace, AsksWait};
 ghost use Rattle.gw_system.specs.Asked.{AreSenders, IsRepeat};
 ghost use Rattle.gw_system.specs.Lacking.{SystemRefusesTeller};
 ghost use Rattle.gw_system.specs.Opening.{trouble_of_opening};
+ghost use Rattle.gw_system.specs.Telling.{TellsFrom};
 
-use crate::asked::{recording_asked, repeat_asked, senders_asked};
+use crate::asked::{place_asked, recording_asked, repeat_asked, senders_asked};
 use clap::ArgMatches;
 use gw_command::{checkpoint_of, load_of, save_of, seizure_wait_of, tell_of};
 use gw_config::Config;
 use gw_program::{
     ProgramFault, Recording, RecordingFile, System, Tape, begin, begin_gateway, keep_checkpoint,
-    keep_gateway, read_config,
+    keep_gateway, print_fault, read_config,
 };
 use gw_repeat::{Repeating, packet_words};
 use gw_session::Recorder;
 use gw_switch::Gateway;
 use gw_tell::Teller;
-use gw_udp::{OpenFault, Resting, Socket, SourceFilter, UdpPorts, open_sockets};
+use gw_udp::{OpenFault, Resting, Socket, SourceFilter, SystemSocket, UdpPorts, open_sockets};
 use std::fs::File;
 use std::io;
-use std::net::UdpSocket;
 use std::rt::Stderr;
 
 // The program's fault if the circuits' sockets are not opened.
@@ -37,14 +37,15 @@ fn of_opening(fault: OpenFault) -> ProgramFault
 }
 
 // Opens the socket of `--tell` at a path. The error is the system's, or that memory was refused.
-#[tactic(auto, unfolding(crate::specs::Lacking::SystemRefusesTeller))]
+#[tactic(auto, unfolding(crate::specs::Lacking::SystemRefusesTeller, crate::specs::Telling::SystemAcceptsAt))]
 fn open_teller(
     rt: &HostRuntime,
     path: &str,
     config: &Config,
     gateway: &Gateway,
 ) -> io::Result<Teller>
-    ensures { IfErr result (SystemRefusesTeller path.now) }
+    ensures ok { IfOk result (TellsFrom path.now config.now gateway.now) }
+    ensures err { IfErr result (SystemRefusesTeller path.now) }
 {
     Teller::open(rt, path, config.gateway.law, gateway)
 }
@@ -63,6 +64,8 @@ pub struct Local<'m> {
     pub load: Option<&'m str>,
     /// The path at which the state is saved at the end.
     pub save: Option<&'m str>,
+    /// The octet from which on a log is followed, if one is.
+    pub place: Option<u64>,
     /// The wait for an acknowledgement in signals, if `--seizure-wait` is there.
     pub wait: Option<u16>,
     /// The recording that is asked for.
@@ -74,20 +77,22 @@ pub struct Local<'m> {
 }
 
 impl System for Local<'_> {
-    ghost use Rattle.std.specs.Prelude.{IsSomeAnd, string_bytes, []};
+    ghost use Rattle.std.specs.Prelude.{IsSomeAnd, MatchOption, None, string_bytes, []};
     ghost use Rattle.gw_program.specs.Performing.{IsBegun};
-    ghost use Rattle.gw_program.specs.Recording.{LacksRecording};
+    ghost use Rattle.gw_program.specs.Recording.{IsOpenedFor, LacksRecording};
+    ghost use Rattle.gw_program.specs.Report.{SystemTells};
     ghost use Rattle.gw_program.specs.Setup.{IsMeant, LacksConfigAt, PathGives};
     ghost use Rattle.gw_program.specs.State.{BeginsWaiting, LacksGateway, IsSaved, IsKept};
     ghost use Rattle.gw_udp.specs.Names.{SystemLooksUp};
-    ghost use Rattle.gw_udp.specs.Udp.{HasEndpoints};
+    ghost use Rattle.gw_udp.specs.Udp.{HasEndpoints, TakesFrom};
     ghost use Rattle.gw_udp.specs.Opening.{FailsToOpen as FailsToOpenPorts};
     ghost use Rattle.gw_system.specs.Lacking.{LacksTeller};
     ghost use Rattle.gw_system.specs.Opening.{IsOfOpening};
+    ghost use Rattle.gw_system.specs.Telling.{AreToldEnd, TellsAsked};
     ghost use Rattle.gw_udp.specs.Calls.{IsFresh};
     ghost use Rattle.gw_repeat.specs.Words.{HasPacketWords};
 
-    type Ports = Repeating<UdpPorts<Resting<UdpSocket>>>;
+    type Ports = Repeating<UdpPorts<Resting<SystemSocket>>>;
 
     type Tape = Tape;
 
@@ -96,9 +101,11 @@ impl System for Local<'_> {
     ghost files = { λ s. record {
       reads = IsMeant (PathGives s.path.now);
       lacks_config = LacksConfigAt s.path.now;
-      starts = λ config. BeginsWaiting config.gateway s.load (λ wait. wait ≡ s.wait);
-      lacks_gateway = λ config. LacksGateway config.gateway s.load;
-      saves = λ config gateway. IsSaved s.save;
+      starts = λ config. BeginsWaiting config.gateway (option_map (λ path. path.now) s.load)
+          (λ place. place ≡ s.place) (λ wait. wait ≡ s.wait);
+      lacks_gateway = λ config. LacksGateway config.gateway (option_map (λ path. path.now) s.load)
+          (λ place. place ≡ s.place);
+      saves = λ config. IsSaved (option_map (λ path. path.now) s.save) config.gateway;
     } };
 
     ghost keeps = { λ s config gateway place. IfSome s.checkpoint (λ path.
@@ -111,24 +118,35 @@ impl System for Local<'_> {
         LacksTeller path.now program_fault) };
 
     ghost begins = { λ s tape. IsBegun s.recording
-        (⟦<Option<Recorder<RecordingFile<File, Stderr>>> as gw_session::Tape>⟧.tells tape) };
+        (⟦<Option<Recorder<RecordingFile<File, Stderr>>> as gw_session::Tape>⟧.tells tape)
+        × MatchOption s.recording (tape ≡ None)
+        (λ asked. IsSomeAnd tape (λ recorder. IsSomeAnd recorder.sink.writer
+        (IsOpenedFor asked.path.now asked.over asked.waits))) };
 
-    ghost opens = { λ s config ports. HasEndpoints ⟦<Resting<UdpSocket> as Socket>⟧.is_bound SystemLooksUp
+    ghost opens = { λ s config ports. HasEndpoints (TakesFrom ⟦<Resting<SystemSocket> as Socket>⟧.is_bound
+        ⟦<Resting<SystemSocket> as Socket>⟧.is_open s.senders) SystemLooksUp
         (string_bytes config.host) s.senders config.ports ports.ports.endpoints.items 30
         × IsFresh ports.ports.endpoints.items ports.ports.opened.value.items ports.ports.log.calls
         × (ports.opened.value ≡ ports.ports) × (ports.count ≡ s.repeat)
         × HasPacketWords config.gateway.circuits ports.words × (ports.log.calls ≡ []) };
 
     ghost lacks_ports = { λ s config. IsOfOpening
-        (FailsToOpenPorts ⟦<Resting<UdpSocket> as Socket>⟧.is_bound ⟦<Resting<UdpSocket> as Socket>⟧.refuses
+        (FailsToOpenPorts (TakesFrom ⟦<Resting<SystemSocket> as Socket>⟧.is_bound
+        ⟦<Resting<SystemSocket> as Socket>⟧.is_open s.senders) ⟦<Resting<SystemSocket> as Socket>⟧.refuses
         SystemLooksUp (string_bytes config.host) s.senders config.ports) };
+
+    ghost watches = { λ s. TellsAsked (option_map (λ path. path.now) s.tell) };
+
+    ghost ends_watch = { AreToldEnd };
+
+    ghost reports = { λ _. SystemTells };
 
     fn read_config(&self) -> Result<Config, ProgramFault> {
         read_config(self.rt, self.path)
     }
 
     fn begin_gateway(&self, config: &Config) -> Result<Gateway, ProgramFault> {
-        begin_gateway(self.rt, &config.gateway, self.load, self.wait)
+        begin_gateway(self.rt, &config.gateway, self.load, self.place, self.wait)
     }
 
     fn save_gateway(&self, config: &Config, gateway: &Gateway) -> Result<(), ProgramFault> {
@@ -179,7 +197,7 @@ impl System for Local<'_> {
     }
 
     fn tell(&self, program_fault: &ProgramFault) {
-        let _ = eprintln!(self.rt; "{}", program_fault);
+        print_fault(self.rt, program_fault);
     }
 }
 
@@ -196,6 +214,8 @@ pub fn local_of<'m>(
     ensures repeat { IsRepeat (subcommand_rows_of matches.now) result.repeat }
     ensures recording { option_map (λ recording. recording.path.now) result.recording
         ≡ text_in (codes "record") (subcommand_rows_of matches.now) }
+    ensures over { IfSome result.recording (λ recording.
+        HasFlag (codes "record-over") (subcommand_rows_of matches.now) recording.over) }
     ensures waits { IfSome result.recording (λ recording. recording.waits ≡ waits) }
     ensures checkpoint { option_map (λ path. path.now) result.checkpoint
         ≡ text_in (codes "checkpoint") (subcommand_rows_of matches.now) }
@@ -203,6 +223,7 @@ pub fn local_of<'m>(
         ≡ text_in (codes "tell") (subcommand_rows_of matches.now) }
     ensures load { option_map (λ path. path.now) result.load ≡ load_in (subcommand_rows_of matches.now) }
     ensures save { option_map (λ path. path.now) result.save ≡ save_in (subcommand_rows_of matches.now) }
+    ensures place { AsksPlace (subcommand_rows_of matches.now) result.place }
     ensures wait { AsksWait (subcommand_rows_of matches.now) result.wait }
 {
     Local {
@@ -212,6 +233,7 @@ pub fn local_of<'m>(
         repeat: repeat_asked(matches),
         load: load_of(matches),
         save: save_of(matches),
+        place: place_asked(matches),
         wait: seizure_wait_of(matches),
         recording: recording_asked(matches, waits),
         checkpoint: checkpoint_of(matches),

@@ -6,7 +6,7 @@ use Rattle.gw_trunk.specs.System.{SystemRead, SystemWrote}
 use Rattle.gw_tell.specs.declared.client.Client.{Client}
 use Rattle.gw_tell.specs.declared.place.ClientSlot.{ClientSlot}
 use Rattle.gw_tell.specs.Backlog.{waiting}
-use Rattle.gw_tell.specs.Connections.{HasLeft, WriteFails}
+use Rattle.gw_tell.specs.Connections.{HasLeft, IsThere, WriteFails}
 use Rattle.gw_tell.specs.Reports.{sent_to, last_after}
 
 -- All that was sent to a client: what it took, and behind it what waits for it. So what it took is a prefix
@@ -48,7 +48,7 @@ IsTold has_written (Some client) (Some client') at lines = IsSameClient client c
     × (sent client' ≡ sent client ++ sent_to client.last at lines)
     × (client'.last ≡ last_after client.last at lines)
 
--- the client at a place stays as it is, or is disconnected because it has left
+-- the client at a place stays as it is, and is there, or is disconnected because it has left
 abbrev pub IsHeard : {S : Type 0} {m : _} → (S → Result ℕ ErrorKind → Type 0)
     → (S → List ℕ → Result ℕ ErrorKind → Type 0) → Option (Client S m) → Option (Client S m) → Type 0
 IsHeard has_read has_written None None = ⊤
@@ -56,7 +56,7 @@ IsHeard has_read has_written None (Some client') = ⊥
 IsHeard {S} {m} has_read has_written (Some client) None =
     (last : Client S m) × IsSameClient client last × HasLeft has_read has_written last.stream
 IsHeard has_read has_written (Some client) (Some client') = IsSameClient client client'
-    × (sent client' ≡ sent client) × (client'.last ≡ client.last)
+    × (sent client' ≡ sent client) × (client'.last ≡ client.last) × IsThere (has_read client'.stream)
 
 -- A place that was free has the client of this connection, which was sent these octets at a place of the
 -- trunk. It has none if the client did not take them.

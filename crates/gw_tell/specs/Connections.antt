@@ -1,12 +1,16 @@
 -- Why a connection is closed (module `client`).
-use Rattle.std.specs.Prelude.{◌⊎◌, ℕ, List, Result, Err}
+use Rattle.std.specs.Prelude.{◌≡◌, ◌⊎◌, ℕ, List, Result, Err, false}
 use Rattle.std.specs.declared.io.ErrorKind.{ErrorKind}
-use Rattle.gw_trunk.specs.Device.{HasFailed, IsOver}
+use Rattle.gw_trunk.specs.Device.{HasFailed, IsOver, is_over}
 
 -- a write to a connection failed otherwise than that there is no room now
 abbrev pub WriteFails : {S : Type 0} → (S → List ℕ → Result ℕ ErrorKind → Type 0) → S → Type 0
 WriteFails has_written stream =
     (octets : List ℕ) × HasFailed (λ (kind : ErrorKind). has_written stream octets (Err kind))
+
+-- the last read of a connection says that its other end is there
+abbrev pub IsThere : (Result ℕ ErrorKind → Type 0) → Type 0
+IsThere has_read = (read : Result ℕ ErrorKind) × has_read read × (is_over read ≡ false)
 
 -- the other end of a connection has closed it, or the connection has failed
 abbrev pub HasLeft : {S : Type 0} → (S → Result ℕ ErrorKind → Type 0)

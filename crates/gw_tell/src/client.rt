@@ -2,7 +2,7 @@
 
 ghost use Rattle.std.specs.Prelude.{◌≡◌, ◌≤◌, ◌++◌, ℕ, List, [], Some, length, take, drop, IfOk, OnOk, OnErr};
 ghost use Rattle.gw_tell.specs.Backlog.{waiting};
-ghost use Rattle.gw_tell.specs.Connections.{HasLeft, WriteFails};
+ghost use Rattle.gw_tell.specs.Connections.{HasLeft, IsThere, WriteFails};
 ghost use Rattle.gw_tell.specs.Lines.{at_line};
 
 use crate::backlog::Backlog;
@@ -151,6 +151,7 @@ impl<S: ClientStream> Client<S> {
         ensures sent { sent self.new ≡ sent self.old }
         ensures last { self.new.last ≡ self.old.last }
         ensures start { self.new.start ≡ self.old.start }
+        ensures ok { OnOk result (IsThere (S.has_read self.new.stream)) }
         ensures err { OnErr result (HasLeft S.has_read S.has_written self.new.stream) }
     {
         self.flush()?;

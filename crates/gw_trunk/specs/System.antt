@@ -18,6 +18,10 @@ SystemWrote writer octets written = ⊤
 unfoldable pub SystemTook : {S : Type 0} → S → Result ℕ ErrorKind → Type 0
 SystemTook writer written = ⊤
 
+-- .. and was of these octets
+unfoldable pub SystemWasGiven : {S : Type 0} → S → List ℕ → Type 0
+SystemWasGiven writer octets = ⊤
+
 -- a connection that waited at a door was accepted
 unfoldable pub SystemAccepted : {D S : Type 0} → D → S → Type 0
 SystemAccepted door stream = ⊤

@@ -320,7 +320,18 @@ impl<W: DeviceWriter> TrunkOutput for ToDevice<W> {
 
     ghost may_have_room = { λ d. (limit : ℕ) × SystemIsReady d.waiting limit };
 
-    fn write(&mut self, octets: &[u8]) -> Result<Option<usize>, DeviceFault> {
+    fn write(&mut self, octets: &[u8]) -> Result<Option<usize>, DeviceFault>
+        ensures bound { IfOk result (λ n. IfSome n (λ m. m ≤ length octets.now)) }
+        ensures went { self.new.log.octets ≡ self.old.log.octets ++ written_of result octets.now }
+        ensures waits { length self.new.waits.octets ≡ length self.old.waits.octets }
+        ensures slow { length self.new.slow_waits.octets ≡ length self.old.slow_waits.octets }
+        ensures taken { IfOk result (λ n. IfSome n (λ m.
+            W.has_written self.new.writer (Ok m) × (self.new.is_slow ≡ false))) }
+        ensures full { IfOk result (λ n. IfNone n
+            (IsForLater (λ kind. W.has_written self.new.writer (Err kind)))) }
+        ensures err { IfErr result (λ _. HasFailed (λ kind. W.has_written self.new.writer (Err kind))) }
+        ensures given { W.was_given self.new.writer octets.now }
+    {
         match self.writer.write_now(octets) {
             Ok(n) => {
                 self.log.append(octets, n);

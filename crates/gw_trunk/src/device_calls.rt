@@ -4,7 +4,7 @@ ghost use Rattle.std.specs.Prelude.{◌≡◌, ◌≤◌, ℕ, List, length, IfO
 ghost use Rattle.std.specs.Io.KnownBytes.{ReadConsumes, WriteAppends};
 ghost use Rattle.std.specs.declared.io.ErrorKind.{ErrorKind};
 ghost use Rattle.gw_trunk.specs.Device.{is_for_later};
-ghost use Rattle.gw_trunk.specs.System.{SystemRead, SystemTook};
+ghost use Rattle.gw_trunk.specs.System.{SystemRead, SystemTook, SystemWasGiven};
 
 use std::io::{ErrorKind, Read, Write};
 
@@ -35,11 +35,15 @@ pub trait DeviceWriter {
     /// Relates a writer to what its last write returned.
     ghost has_written: { Self → Result ℕ ErrorKind → Type 0 };
 
+    /// Relates a writer to the octets of its last write.
+    ghost was_given: { Self → List ℕ → Type 0 };
+
     /// Writes octets from the front of `octets`, and returns how many.
     fn write_now(&mut self, octets: &[u8]) -> Result<usize, ErrorKind>
         ensures bound { IfOk result (λ n. n ≤ length octets.now) }
         ensures octets { WriteAppends (contents self.old) (contents self.new) result octets.now }
-        ensures written { has_written self.new result };
+        ensures written { has_written self.new result }
+        ensures given { was_given self.new octets.now };
 }
 
 impl<R: Read> DeviceReader for R {
@@ -61,7 +65,9 @@ impl<W: Write> DeviceWriter for W {
 
     ghost has_written = { SystemTook };
 
-    #[tactic(auto, unfolding(crate::specs::System::SystemTook))]
+    ghost was_given = { SystemWasGiven };
+
+    #[tactic(auto, unfolding(crate::specs::System::SystemTook, crate::specs::System::SystemWasGiven))]
     fn write_now(&mut self, octets: &[u8]) -> Result<usize, ErrorKind> {
         match self.write(octets) {
             Ok(n) => Ok(n),

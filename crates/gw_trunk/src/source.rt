@@ -1,7 +1,7 @@
 //! Whether octets of the trunk or a client's command are the next record (`TrunkRecordSource`).
 
 ghost use Rattle.std.specs.Prelude.{◌≡◌, ◌<◌, ◌≤◌, ◌^◌, ◌++◌, ◌∷◌, [], length, take, IfOk, IfSome, IfNone};
-ghost use Rattle.std.specs.Prelude.{Some, None, true, false, OnErr};
+ghost use Rattle.std.specs.Prelude.{Some, None, true, false, Ok, OnErr, ◌≢◌, ◌-◌, min};
 ghost use Rattle.std.specs.Io.KnownBytes.{ReadConsumes, WriteAppends};
 ghost use Rattle.gw_records.specs.Streams.{CountsRead, CountsTurn};
 ghost use Rattle.byteorder.specs.Endian.{big_bytes};
@@ -73,6 +73,8 @@ fn next_record<I: TrunkInput>(
         (I.asked incoming.old) (I.asked incoming.new) result room.new }
     ensures turn { turn.new ≡ true → I.is_turn incoming.new ≡ true }
     ensures ended { IfOk result (λ n. n ≡ 0 → I.has_ended incoming.new) }
+    ensures offers { IfOk result (λ n. I.came incoming.new ≢ I.came incoming.old → (before : I)
+        × I.reads before incoming.new (min (length room.new) 2052 - 4) (Ok (DeviceRead.Octets (n - 4)))) }
     ensures fails { OnErr result (LacksRecord (I.has_failed incoming.new)
         (I.has_none incoming.new × (2 ^ 63 ≤ I.waits incoming.new)) room.new) }
 {
@@ -137,6 +139,9 @@ impl<I: TrunkInput> Source for TrunkRecordSource<I> {
         ensures turns { CountsTurn self.old.reads self.new.reads result }
         ensures fails { OnErr result (LacksRecord (I.has_failed self.new.incoming)
             (I.has_none self.new.incoming × (2 ^ 63 ≤ I.waits self.new.incoming)) buf.new) }
+        ensures offers { IfOk result (λ n. I.came self.new.incoming ≢ I.came self.old.incoming → (before : I)
+            × I.reads before self.new.incoming (min (length buf.new) 2052 - 4)
+            (Ok (DeviceRead.Octets (n - 4)))) }
     {
         match next_record(&mut self.incoming, &mut self.turn, buf) {
             Ok(n) => {

@@ -10,7 +10,7 @@ use Rattle.gw_records.specs.declared.ports.PortFault.{PortFault}
 use Rattle.gw_records.specs.Ports.{PortCall, receive_call, send_call}
 use Rattle.gw_udp.specs.Names.{LookUp}
 use Rattle.gw_udp.specs.Socket.{Bound, Received, Sent}
-use Rattle.gw_udp.specs.Udp.{IsEndpoint, HasEndpoints, KeepsOthers, EndpointReceives, EndpointSends}
+use Rattle.gw_udp.specs.Udp.{IsEndpoint, HasEndpoints, KeepsOthers, EndpointReceives, EndpointSends, TakesFrom}
 use Rattle.gw_udp.specs.Calls.{circuit_of, HasCalledOne, HasCalled, HasMadeAll, calls_for, IsBoundTo, AreBound}
 use Rattle.gw_udp.specs.Calls.{EachHasItsSocket}
 use Rattle.gw_udp.specs.declared.source_filter.SourceFilter.{SourceFilter}
@@ -50,22 +50,24 @@ send_called receives sends circuit old new datagram (Err fault) some own others 
     record { some = some; own = λ d. (fault, own d); others = others }
 
 -- the socket of a circuit's own ports is bound to its address
-bound_to : {S : Type 0} (is_bound : Bound S) (looks_up : LookUp) (host : List ℕ) (senders : SourceFilter)
-    (port : Option Port) (e : Option (Endpoint S)) → IsEndpoint is_bound looks_up host senders port e
-    → IsBoundTo is_bound e
-bound_to is_bound looks_up host senders port None is = tt
-bound_to is_bound looks_up host senders None (Some e) is = absurd is
-bound_to is_bound looks_up host senders (Some port) (Some e) is = is.bound
+bound_to : {S : Type 0} (is_bound : Bound S) (is_open : S → Type 0) (looks_up : LookUp) (host : List ℕ)
+    (senders : SourceFilter) (port : Option Port) (e : Option (Endpoint S))
+    → IsEndpoint (TakesFrom is_bound is_open senders) looks_up host senders port e → IsBoundTo is_bound e
+bound_to is_bound is_open looks_up host senders port None is = tt
+bound_to is_bound is_open looks_up host senders None (Some e) is = absurd is
+bound_to is_bound is_open looks_up host senders (Some port) (Some e) is = is.bound.0
 
 -- sockets that were opened for ports are bound to their addresses
-pub are_bound : {S : Type 0} (is_bound : Bound S) (looks_up : LookUp) (host : List ℕ) (senders : SourceFilter)
-    (ports : List (Option Port)) (endpoints : List (Option (Endpoint S))) (n : ℕ) → length endpoints ≡ n
-    → HasEndpoints is_bound looks_up host senders ports endpoints n → AreBound is_bound endpoints
-are_bound is_bound looks_up host senders ports endpoints n len has = λ i. go i (nat_lt i n) refl
+pub are_bound : {S : Type 0} (is_bound : Bound S) (is_open : S → Type 0) (looks_up : LookUp) (host : List ℕ)
+    (senders : SourceFilter) (ports : List (Option Port)) (endpoints : List (Option (Endpoint S))) (n : ℕ)
+    → length endpoints ≡ n
+    → HasEndpoints (TakesFrom is_bound is_open senders) looks_up host senders ports endpoints n
+    → AreBound is_bound endpoints
+are_bound is_bound is_open looks_up host senders ports endpoints n len has = λ i. go i (nat_lt i n) refl
   where
     go : (i : ℕ) (b : Bool) → nat_lt i n ≡ b → IsBoundTo is_bound (slice_index_or endpoints i None)
-    go i true below = bound_to is_bound looks_up host senders (slice_index_or ports i None) _ (has i None None
-        (ltb-true i n below))
+    go i true below = bound_to is_bound is_open looks_up host senders (slice_index_or ports i None) _
+        (has i None None (ltb-true i n below))
     go i false past =
         let none : slice_index_or endpoints i None ≡ None =
         get_or-eq_default endpoints None (omega (arith, len, ltb-false i n past)) in

@@ -1,6 +1,6 @@
 -- Why a circuit has no socket, from call to call.
 use Rattle.std.proofs.Common.{◌≡◌, ℕ, ◌+◌, ◌-◌, ◌<◌, ◌≤◌, ◌++◌, ◌∷◌, [], List, length, Option, nat_lt, Bool}
-use Rattle.std.proofs.Common.{true, false, refl, arith}
+use Rattle.std.proofs.Common.{true, false, refl, inr, arith}
 use Rattle.std.proofs.lemmas.Bool.{ltb-true, ltb-false}
 use Rattle.std.proofs.lemmas.List.{get_or_append_left}
 use Rattle.std.proofs.Math.Seq.{get_or-append_seam}
@@ -19,13 +19,13 @@ use Rattle.gw_udp.specs.declared.udp.OpenFault.TheVariants as faults
 -- a fault for one reason is one for what follows from it
 pub fault_since : (circuit : ℕ) (why since : Type 0) (f : OpenFault) → (why → since) → IsFaultOf circuit why f
     → IsFaultOf circuit since f
-fault_since circuit why since faults.OutOfMemory follows is = tt
+fault_since circuit why since faults.OutOfMemory follows is = follows is
 fault_since circuit why since (faults.Socket c) follows is = (is.0, follows is.1)
 
 -- what a failed call for a circuit comes to is a fault of the circuit for the reason that the call failed
 pub fault_of_call : (circuit : ℕ) (kind : kinds.ErrorKind) (why : Type 0) (f : OpenFault) → Blames circuit kind f → why
     → IsFaultOf circuit why f
-fault_of_call circuit kind why faults.OutOfMemory is since = tt
+fault_of_call circuit kind why faults.OutOfMemory is since = since
 fault_of_call circuit kind why (faults.Socket c) is since = (is.0, since)
 
 -- a fault of a circuit behind circuits that have their sockets is that of the first one without
@@ -36,7 +36,8 @@ pub first_without : {S : Type 0} (is_bound : Bound S) (refuses : BindRefused) (l
     → IsFaultOf circuit ((d : Option Port)
     → IsSomeAnd (slice_index_or ports (circuit - 1) d) (LacksSocket refuses looks_up host)) f
     → FailsToOpen is_bound refuses looks_up host senders ports f
-first_without is_bound refuses looks_up host senders ports earlier circuit faults.OutOfMemory least most opened is = tt
+first_without is_bound refuses looks_up host senders ports earlier circuit faults.OutOfMemory least most opened is =
+    inr (circuit, record { least = least; most = most; earlier = earlier; opened = opened; lacks = is })
 first_without is_bound refuses looks_up host senders ports earlier circuit (faults.Socket c) least most opened is =
     rw is.0 (record { least = least; most = most; earlier = earlier; opened = opened; lacks = is.1 })
 

@@ -5,4 +5,6 @@ pub mod Udp
 pub mod Calls
 pub mod Opening
 pub mod Outcome
+pub mod System
 pub mod Resting
+pub mod Ready

@@ -1,19 +1,20 @@
 -- Why the socket of a circuit cannot be opened.
-use Rattle.std.specs.Prelude.{◌≡◌, ◌≢◌, ◌⊎◌, ◌-◌, ◌≤◌, ℕ, List, Option, IsSomeAnd, slice_index_or, ⊤}
+use Rattle.std.specs.Prelude.{◌≡◌, ◌≢◌, ◌⊎◌, ◌-◌, ◌≤◌, ℕ, List, Option, IsSomeAnd, slice_index_or}
 use Rattle.std.specs.Prelude.{string_bytes}
 use Rattle.std.specs.declared.io.Error.{Error}
 use Rattle.std.specs.declared.io.ErrorKind as kinds
 use Rattle.std.specs.declared.io.ErrorKind.TheVariants as errors
 use Rattle.std.specs.declared.net.socket_addr.SocketAddr.{SocketAddr}
-use Rattle.std.specs.declared.net.udp.UdpSocket.{UdpSocket}
 use Rattle.std.specs.Net.Addr.{is_ipv4}
 use Rattle.std.specs.Net.Socket.{socket_ip}
 use Rattle.gw_config.specs.declared.config.Port.{Port}
+use Rattle.gw_state.specs.Memory.{MemoryIsRefused}
 use Rattle.gw_udp.specs.declared.source_filter.SourceFilter.{SourceFilter}
 use Rattle.gw_udp.specs.Names.{LookUp, IsAddressOf, LacksAddress}
 use Rattle.gw_udp.specs.Resting.{RestingIsBound}
-use Rattle.gw_udp.specs.Socket.{Bound, BindRefused, SystemRefusesPort}
-use Rattle.gw_udp.specs.Udp.{HasEndpoints}
+use Rattle.gw_udp.specs.Socket.{Bound, BindRefused}
+use Rattle.gw_udp.specs.System.{IsBoundAt, LacksBound, SystemTakesAll}
+use Rattle.gw_udp.specs.Udp.{HasEndpoints, TakesFrom}
 use Rattle.gw_udp.specs.declared.udp.Endpoint.{Endpoint}
 use Rattle.gw_udp.specs.declared.udp.OpenFault.{OpenFault}
 use Rattle.gw_udp.specs.declared.udp.OpenFault.TheVariants as faults
@@ -47,9 +48,9 @@ LacksSocket refuses looks_up host port =
     ⊎ LacksAddress looks_up (string_bytes port.peer_host) port.peer_port)
     ⊎ (AreOfTwoFamilies looks_up host port ⊎ IsRefused refuses looks_up host port.local_port)
 
--- a fault of this circuit for this reason, or out of memory
+-- a fault of this circuit for this reason; it can be want of memory
 abbrev pub IsFaultOf : ℕ → Type 0 → OpenFault → Type 0
-IsFaultOf circuit why faults.OutOfMemory = ⊤
+IsFaultOf circuit why faults.OutOfMemory = why
 IsFaultOf circuit why (faults.Socket c) = (c ≡ circuit) × why
 
 -- the first circuit with ports that has no socket: all before it have theirs
@@ -62,16 +63,18 @@ pub record IsFirstWithout {S : Type 0} (is_bound : Bound S) (refuses : BindRefus
   pub lacks : (d : Option Port)
       → IsSomeAnd (slice_index_or ports (circuit - 1) d) (LacksSocket refuses looks_up host)
 
--- the sockets cannot be opened for this reason: memory was refused, or this is the first circuit without one
+-- The sockets cannot be opened for this reason: this is the first circuit without one, or memory was refused,
+-- by the system with an error of one of them.
 abbrev pub FailsToOpen : {S : Type 0} → Bound S → BindRefused → LookUp → List ℕ → SourceFilter
     → List (Option Port)
     → OpenFault → Type 0
-FailsToOpen is_bound refuses looks_up host senders ports faults.OutOfMemory = ⊤
+FailsToOpen is_bound refuses looks_up host senders ports faults.OutOfMemory = MemoryIsRefused
+    ⊎ ((circuit : ℕ) × IsFirstWithout is_bound refuses looks_up host senders ports circuit)
 FailsToOpen is_bound refuses looks_up host senders ports (faults.Socket circuit) =
     IsFirstWithout is_bound refuses looks_up host senders ports circuit
 
 -- .. the system's, of which each rests while nothing comes
 abbrev pub LacksPorts : LookUp → List ℕ → SourceFilter → List (Option Port) → OpenFault → Type 0
 LacksPorts looks_up host senders ports fault =
-    FailsToOpen (RestingIsBound (λ (socket : UdpSocket) address. ⊤)) SystemRefusesPort looks_up host senders
-    ports fault
+    FailsToOpen (TakesFrom (RestingIsBound IsBoundAt) (λ s. SystemTakesAll s.socket) senders) LacksBound
+    looks_up host senders ports fault

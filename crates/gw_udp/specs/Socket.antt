@@ -1,5 +1,5 @@
 -- The relations of a datagram socket.
-use Rattle.std.specs.Prelude.{⊤, ℕ, List, Option, Some, None, Result, Ok, Err}
+use Rattle.std.specs.Prelude.{ℕ, Bool, List, Option, Some, None, Result, Ok, Err}
 use Rattle.std.specs.declared.io.Error.{Error}
 use Rattle.std.specs.declared.net.socket_addr.SocketAddr.{SocketAddr}
 use Rattle.gw_records.specs.declared.ports.PortFault.{PortFault}
@@ -11,6 +11,10 @@ Bound S = S → SocketAddr → Type 0
 -- what a socket was bound to it is bound to
 abbrev pub KeepsBound : {S : Type 0} → Bound S → S → S → Type 0
 KeepsBound is_bound old new = (a : SocketAddr) → is_bound old a → is_bound new a
+
+-- relates a socket, a token, and whether the system says by it what comes to the socket
+abbrev pub Watched : Type 0 → Type 1
+Watched S = S → ℕ → Bool → Type 0
 
 -- of an address at which the system gave no socket, and its error
 abbrev pub BindRefused : Type 1
@@ -30,8 +34,3 @@ ReceivesAny receives old new (Err e) room = receives old new (Err e) room
 -- relates a socket before and after a send, the destination, the datagram, and the answer
 abbrev pub Sent : Type 0 → Type 1
 Sent S = S → S → SocketAddr → List ℕ → Result (Unit {0}) PortFault → Type 0
-
--- The system refused a socket at an address with this error. Std says nothing of that, so this holds of every
--- error; but it is unfolded only where the system is asked, so for all others it holds of errors received.
-unfoldable pub SystemRefusesPort : BindRefused
-SystemRefusesPort address error = ⊤

@@ -11,7 +11,13 @@ use Rattle.gw_udp.specs.Names.{LookUp, IsAddressOf}
 use Rattle.gw_udp.specs.SourceFilter.{IsAccepted}
 use Rattle.gw_udp.specs.Socket.{Bound, Received, Sent}
 use Rattle.gw_udp.specs.declared.source_filter.SourceFilter.{SourceFilter}
+use Rattle.gw_udp.specs.declared.source_filter.SourceFilter.TheVariants.{Peer}
 use Rattle.gw_udp.specs.declared.udp.Endpoint.{Endpoint}
+
+-- a socket is bound to the address, and takes datagrams of every sender unless the peer's alone are accepted
+abbrev pub TakesFrom : {S : Type 0} → Bound S → (S → Type 0) → SourceFilter → Bound S
+TakesFrom is_bound is_open senders socket address =
+    is_bound socket address × (senders ≢ Peer → is_open socket)
 
 -- the socket is bound to the host at the circuit's local port, its datagrams go to the circuit's peer, and
 -- both addresses are of one family

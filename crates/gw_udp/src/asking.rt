@@ -36,6 +36,10 @@ impl<S: Socket> Socket for Resting<S> {
 
     ghost is_joined = { λ s peer. S.is_joined s.socket peer };
 
+    ghost is_open = { λ s. S.is_open s.socket };
+
+    ghost watches = { λ s. S.watches s.socket };
+
     ghost refuses = { S.refuses };
 
     ghost receives = { RestingReceives S.receives };
@@ -50,7 +54,7 @@ impl<S: Socket> Socket for Resting<S> {
         })
     }
 
-    fn connect(&self, peer: SocketAddr) -> io::Result<()> {
+    fn connect(&mut self, peer: SocketAddr) -> io::Result<()> {
         self.socket.connect(peer)
     }
 
@@ -60,6 +64,8 @@ impl<S: Socket> Socket for Resting<S> {
 
     fn watch(&mut self, registry: &Registry, token: Token) -> bool
         ensures bound { KeepsBound (RestingIsBound S.is_bound) self.old self.new }
+        ensures open { S.is_open self.old.socket → S.is_open self.new.socket }
+        ensures watched { S.watches self.new.socket token.0 result }
         ensures most { self.new.most ≡ (if result then 799 else self.old.most) }
     {
         let watched = self.socket.watch(registry, token);

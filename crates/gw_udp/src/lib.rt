@@ -10,6 +10,7 @@ mod resting;
 mod socket;
 mod sockets;
 mod source_filter;
+mod system_socket;
 mod udp;
 
 pub use names::NameLookup;
@@ -17,4 +18,5 @@ pub use resting::Resting;
 pub use socket::Socket;
 pub use sockets::open_sockets;
 pub use source_filter::SourceFilter;
+pub use system_socket::SystemSocket;
 pub use udp::{OpenFault, UdpPorts};

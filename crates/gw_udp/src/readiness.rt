@@ -1,6 +1,8 @@
 //! Which sockets the system says that a datagram has come to.
 
-ghost use Rattle.std.specs.Prelude.{◌≡◌, ◌<◌, length, IfOk};
+ghost use Rattle.std.specs.Prelude.{◌≡◌, ◌==◌, ◌||◌, ◌<◌, ℕ};
+ghost use Rattle.mio.specs.Events.{items};
+ghost use Rattle.gw_udp.specs.Ready.{AreNoted, AsksSystem, IsAsked, SystemReports, has_come};
 ghost use Rattle.gw_udp.specs.Socket.{KeepsBound};
 
 use crate::socket::Socket;
@@ -38,29 +40,43 @@ fn open_poller(net: &impl Net, alloc: Global) -> io::Result<Poller> {
     Ok(Poller { poll, events })
 }
 
-// Notes the circuits of the sockets' events: token plus 1.
-fn note_all(events: &Events, came: &mut [bool; 30]) {
-    for event in events.iter() {
-        let token = event.token().0;
-        if token < 30 {
-            came[token] = true;
-        }
+// Notes the socket of an event, whose token is its circuit's number less 1.
+#[tactic(auto, using(crate::proofs::Noting::one_noted))]
+fn note(token: usize, came: &mut [bool; 30])
+    ensures { (k : ℕ) → k < 30 → has_come came.new k ≡ (has_come came.old k || token == k) }
+{
+    if token < 30 {
+        came[token] = true;
     }
+}
+
+// Notes the sockets of events.
+fn note_all(events: &Events, came: &mut [bool; 30])
+    ensures { AreNoted (items events.now) came.old came.new }
+{
+    for event in events.iter() {
+        note(event.token().0, came);
+    }
+}
+
+// Asks the system what has come, without a wait. There are no events if it refuses.
+#[tactic(auto, unfolding(crate::specs::Ready::SystemReports))]
+fn ask_now(poller: &mut Poller)
+    ensures { SystemReports poller.new.poll (items poller.new.events) }
+{
+    let _ = poller.poll.poll(&mut poller.events, Some(Duration::ZERO));
 }
 
 // Notes the sockets that datagrams have come to since this was last called.
 #[inline(never)]
-fn ask_system(poller: &mut Option<Poller>, came: &mut [bool; 30]) {
+fn ask_system(poller: &mut Option<Poller>, came: &mut [bool; 30])
+    ensures { AsksSystem poller.new came.old came.new }
+{
     let Some(poller) = poller else {
         return;
     };
-    if poller
-        .poll
-        .poll(&mut poller.events, Some(Duration::ZERO))
-        .is_ok()
-    {
-        note_all(&poller.events, came);
-    }
+    ask_now(poller);
+    note_all(&poller.events, came);
 }
 
 impl Readiness {
@@ -75,7 +91,8 @@ impl Readiness {
 
     /// Has the system say what comes to the socket of the circuit of this number.
     pub(crate) fn watch<S: Socket>(&self, circuit: u8, socket: &mut S)
-        ensures { KeepsBound S.is_bound socket.old socket.new }
+        ensures bound { KeepsBound S.is_bound socket.old socket.new }
+        ensures open { S.is_open socket.old → S.is_open socket.new }
     {
         if let Some(poller) = &self.poller {
             let _ = socket.watch(
@@ -86,7 +103,9 @@ impl Readiness {
     }
 
     /// Asks the system which sockets datagrams have come to. The next 249 receives ask it no more.
-    pub(crate) fn look(&mut self) {
+    pub(crate) fn look(&mut self)
+        ensures { AsksSystem self.new.poller self.old.came self.new.came }
+    {
         self.receives = 0;
         ask_system(&mut self.poller, &mut self.came);
     }
@@ -94,7 +113,9 @@ impl Readiness {
     /// Whether the system has said that something came to the socket of this circuit since this was last
     /// asked.
     #[inline]
-    pub(crate) fn came(&mut self, circuit: CircuitNo) -> bool {
+    pub(crate) fn came(&mut self, circuit: CircuitNo) -> bool
+        ensures { IsAsked self.old self.new circuit result }
+    {
         self.receives = self.receives.wrapping_add(1);
         if self.receives >= RECEIVES {
             self.look();

@@ -1,18 +1,17 @@
-//! The trait of a non-blocking datagram socket, and std's as one (`Socket`).
+//! The trait of a non-blocking datagram socket, and the system's as one (`Socket`).
 
 ghost use Rattle.std.specs.Prelude.{◌≡◌, ◌≤◌, ℕ, List, length, Ok, None, IfOk, IfErr, IfSome, IsTrue};
 ghost use Rattle.std.specs.Prelude.{IsFalse, OnOk, ⊤};
-ghost use Rattle.gw_udp.specs.Socket.{Bound, KeepsBound, BindRefused, Received, ReceivesAny, Sent};
-ghost use Rattle.gw_udp.specs.Socket.{SystemRefusesPort};
+ghost use Rattle.gw_udp.specs.Socket.{Bound, KeepsBound, BindRefused, Received, ReceivesAny, Sent, Watched};
+ghost use Rattle.gw_udp.specs.System.{IsBoundAt, SystemJoins, SystemTakesAll, SystemRegisters, LacksBound};
+ghost use Rattle.gw_udp.specs.System.{ReceivesOnce, SendsTo};
 
 use crate::outcome::{received, sent, was_refused};
+use crate::system_socket::SystemSocket;
 use gw_records::PortFault;
-use libc::net;
-use mio::unix::SourceFd;
-use mio::{Interest, Registry, Token};
+use mio::{Registry, Token};
 use std::io;
-use std::net::{Net, SocketAddr, UdpSocket};
-use std::os::fd::AsRawFd;
+use std::net::{Net, SocketAddr};
 
 /// A datagram socket.
 ///
@@ -23,6 +22,12 @@ pub trait Socket: Drop {
 
     /// Relates a socket and the address of the only sender that it takes datagrams from.
     ghost is_joined: { Bound Self } = { λ _ _. ⊤ };
+
+    /// Holds of a socket that takes datagrams from every sender.
+    ghost is_open: { Self → Type 0 } = { λ _. ⊤ };
+
+    /// Relates a socket, a token, and whether the system says by it what comes to the socket.
+    ghost watches: { Watched Self } = { λ _ _ _. ⊤ };
 
     /// Relates an address at which the system refused a socket, and its error.
     ghost refuses: { BindRefused } = { λ _ _. ⊤ };
@@ -40,20 +45,24 @@ pub trait Socket: Drop {
     where
         Self: Sized,
         ensures ok { IfOk result (λ s. is_bound s address) }
+        ensures open { IfOk result is_open }
         ensures err { IfErr result (λ e. refuses address e) };
 
     /// Restricts the system's socket to one sender.
     ///
     /// The error is the system's; then all senders are accepted.
-    fn connect(&self, peer: SocketAddr) -> io::Result<()>
-        ensures { OnOk result (is_joined self.now peer) };
+    fn connect(&mut self, peer: SocketAddr) -> io::Result<()>
+        ensures joined { OnOk result (is_joined self.new peer) }
+        ensures bound { KeepsBound is_bound self.old self.new };
 
     /// Asks the system to keep this many octets of datagrams that wait. It may keep fewer.
     fn make_room(&self, octets: i32);
 
     /// Has the system say what comes to the socket, by this token. False if it does not.
     fn watch(&mut self, registry: &Registry, token: Token) -> bool
-        ensures { KeepsBound is_bound self.old self.new };
+        ensures bound { KeepsBound is_bound self.old self.new }
+        ensures open { is_open self.old → is_open self.new }
+        ensures watched { watches self.new token.0 result };
 
     /// Whether a receive now finds none without asking the system. If so, this was that receive. `came` is
     /// whether the system has said that something came.
@@ -80,35 +89,38 @@ pub trait Socket: Drop {
         ensures { sends self.old self.new to datagram.now result };
 }
 
-// Std's socket.
-//
-// No clause says what its calls do with the system's; those of `outcome` say what follows from their answers.
-impl Socket for UdpSocket {
-    ghost refuses = { SystemRefusesPort };
+// The system's socket: what its calls answered follows by `outcome`.
+impl Socket for SystemSocket {
+    ghost is_bound = { IsBoundAt };
 
-    #[tactic(auto, unfolding(crate::specs::Socket::SystemRefusesPort))]
-    fn bind<N: Net>(net: &N, address: SocketAddr) -> io::Result<UdpSocket> {
-        let socket = UdpSocket::bind(net, address)?;
-        socket.set_nonblocking(true)?;
+    ghost is_joined = { SystemJoins };
+
+    ghost is_open = { SystemTakesAll };
+
+    ghost watches = { SystemRegisters };
+
+    ghost refuses = { LacksBound };
+
+    ghost receives = { ReceivesOnce };
+
+    ghost sends = { SendsTo };
+
+    fn bind<N: Net>(net: &N, address: SocketAddr) -> io::Result<SystemSocket> {
+        let socket = SystemSocket::bind_to(net, address)?;
+        socket.never_wait()?;
         Ok(socket)
     }
 
-    fn connect(&self, peer: SocketAddr) -> io::Result<()> {
-        UdpSocket::connect(self, peer)
+    fn connect(&mut self, peer: SocketAddr) -> io::Result<()> {
+        self.join(peer)
     }
 
     fn make_room(&self, octets: i32) {
-        let mut value = [0u8; 16];
-        value[..4].copy_from_slice(&octets.to_ne_bytes());
-        let _ = unsafe {
-            net::setsockopt(self.as_raw_fd(), net::SOL_SOCKET, net::SO_RCVBUF, &value, 4)
-        };
+        self.ask_for_room(octets);
     }
 
     fn watch(&mut self, registry: &Registry, token: Token) -> bool {
-        registry
-            .register(&mut SourceFd(&self.as_raw_fd()), token, Interest::READABLE)
-            .is_ok()
+        self.register(registry, token)
     }
 
     #[inline]
@@ -117,18 +129,18 @@ impl Socket for UdpSocket {
     }
 
     fn receive(&mut self, room: &mut [u8]) -> Result<Option<(usize, SocketAddr)>, PortFault> {
-        received(self.recv_from(room))
+        received(self.receive_one(room))
     }
 
     fn receive_any(&mut self, room: &mut [u8]) -> Result<Option<usize>, PortFault> {
-        received(self.recv(room))
+        received(self.receive_one_of_any(room))
     }
 
     fn send(&mut self, datagram: &[u8], to: SocketAddr) -> Result<(), PortFault> {
-        let mut answer = self.send_to(datagram, to);
-        if was_refused(&answer) {
-            answer = self.send_to(datagram, to);
+        let first = self.send_one(datagram, to);
+        if was_refused(&first) {
+            return sent(&self.send_one(datagram, to), datagram.len());
         }
-        sent(&answer, datagram.len())
+        sent(&first, datagram.len())
     }
 }

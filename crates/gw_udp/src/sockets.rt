@@ -3,7 +3,7 @@
 ghost use Rattle.std.specs.Prelude.{IfOk, IfErr, string_bytes};
 ghost use Rattle.gw_udp.specs.Names.{SystemLooksUp};
 ghost use Rattle.gw_udp.specs.Opening.{FailsToOpen};
-ghost use Rattle.gw_udp.specs.Udp.{HasEndpoints};
+ghost use Rattle.gw_udp.specs.Udp.{HasEndpoints, TakesFrom};
 ghost use Rattle.gw_udp.specs.Calls.{IsFresh};
 
 use crate::socket::Socket;
@@ -20,11 +20,11 @@ pub fn open_sockets<S: Socket>(
     config: &Config,
     senders: SourceFilter,
 ) -> Result<UdpPorts<S>, OpenFault>
-    ensures ok { IfOk result (λ opened. HasEndpoints S.is_bound SystemLooksUp (string_bytes config.now.host)
-        senders config.now.ports opened.endpoints.items 30) }
+    ensures ok { IfOk result (λ opened. HasEndpoints (TakesFrom S.is_bound S.is_open senders) SystemLooksUp
+        (string_bytes config.now.host) senders config.now.ports opened.endpoints.items 30) }
     ensures fresh { IfOk result (λ p. IsFresh p.endpoints.items p.opened.value.items p.log.calls) }
-    ensures err { IfErr result (FailsToOpen S.is_bound S.refuses SystemLooksUp (string_bytes config.now.host)
-        senders config.now.ports) }
+    ensures err { IfErr result (FailsToOpen (TakesFrom S.is_bound S.is_open senders) S.refuses SystemLooksUp
+        (string_bytes config.now.host) senders config.now.ports) }
 {
     UdpPorts::open(net, alloc, config.host.as_str(), &config.ports, senders)
 }

@@ -1,14 +1,17 @@
 //! How each circuit's socket is opened, receives from accepted senders and sends (`UdpPorts`).
 
-ghost use Rattle.std.specs.Prelude.{◌≡◌, ◌≤◌, ℕ, List, vec_len, vec_capacity, length, Ok, None};
+ghost use Rattle.std.specs.Prelude.{◌≡◌, ◌≢◌, ◌≤◌, ℕ, List, vec_len, vec_capacity, length, Ok, None};
 ghost use Rattle.std.specs.Prelude.{IfOk, IfErr, IfSome, IsSomeAnd};
-ghost use Rattle.std.specs.Prelude.{IsTrue, IsFalse, string_bytes};
+ghost use Rattle.std.specs.Prelude.{IsTrue, IsFalse, OnErr, string_bytes};
 ghost use Rattle.std.specs.IoError.{error_kind};
 ghost use Rattle.gw_records.specs.Ports.{Receives, Sends, CountsFault, KeepsSends, KeepsReceives};
+ghost use Rattle.gw_state.specs.Memory.{MemoryIsRefused};
 ghost use Rattle.gw_udp.specs.Names.{IsAddressOf, LacksAddress, SystemLooksUp};
 ghost use Rattle.gw_udp.specs.Udp.{IsEndpointOf, IsEndpoint, HasEndpoints, KeepsOthers};
 ghost use Rattle.gw_udp.specs.Opening.{Blames, LacksSocket, IsFaultOf, FailsToOpen};
-ghost use Rattle.gw_udp.specs.Udp.{ReceivesFrom, EndpointReceives, EndpointSends, addresses_of, told};
+ghost use Rattle.gw_udp.specs.Socket.{KeepsBound};
+ghost use Rattle.gw_udp.specs.Udp.{ReceivesFrom, EndpointReceives, EndpointSends, TakesFrom};
+ghost use Rattle.gw_udp.specs.Udp.{addresses_of, told};
 ghost use Rattle.gw_udp.specs.Calls.{HasCalled, AreBound, IsFresh};
 
 use crate::names::NameLookup;
@@ -18,7 +21,7 @@ use crate::source_filter::SourceFilter;
 use g704_cas::CircuitNo;
 use gw_config::Port;
 use gw_records::{AtStart, Log, PortFault, Ports};
-use std::alloc::Global;
+use std::alloc::{AllocError, Global};
 use std::io::{Error, ErrorKind};
 use std::net::{IpAddr, Net, SocketAddr};
 
@@ -97,6 +100,17 @@ fn address_of<L: NameLookup>(
     }
 }
 
+// Has the system discard strangers' datagrams, if only the peer is accepted. It does so at less cost; if it
+// does not, each receive does.
+fn restrict<S: Socket>(socket: &mut S, senders: SourceFilter, peer: SocketAddr)
+    ensures bound { KeepsBound S.is_bound socket.old socket.new }
+    ensures open { senders ≢ SourceFilter.Peer → S.is_open socket.old → S.is_open socket.new }
+{
+    if let SourceFilter::Peer = senders {
+        let _ = socket.connect(peer);
+    }
+}
+
 // Opens a circuit's socket by its configuration.
 fn open_endpoint<S: Socket, L: NameLookup>(
     net: &impl Net,
@@ -107,7 +121,8 @@ fn open_endpoint<S: Socket, L: NameLookup>(
     port: &Port,
     senders: SourceFilter,
 ) -> Result<Endpoint<S>, OpenFault>
-    ensures ok { IfOk result (IsEndpointOf S.is_bound (L.looks_up names.now) host.now senders port.now) }
+    ensures ok { IfOk result (IsEndpointOf (TakesFrom S.is_bound S.is_open senders) (L.looks_up names.now)
+        host.now senders port.now) }
     ensures err { IfErr result (IsFaultOf circuit
         (LacksSocket S.refuses (L.looks_up names.now) host.now port.now)) }
 {
@@ -121,10 +136,7 @@ fn open_endpoint<S: Socket, L: NameLookup>(
         Ok(socket) => socket,
         Err(error) => return Err(fault_of(circuit, &error)),
     };
-    if let SourceFilter::Peer = senders {
-        // The system discards strangers' datagrams at less cost; if it does not, each receive does.
-        let _ = socket.connect(peer);
-    }
+    restrict(&mut socket, senders, peer);
     readiness.watch(circuit, &mut socket);
     Ok(Endpoint {
         socket,
@@ -144,7 +156,8 @@ fn endpoint_of<S: Socket, L: NameLookup>(
     port: &Option<Port>,
     senders: SourceFilter,
 ) -> Result<Option<Endpoint<S>>, OpenFault>
-    ensures ok { IfOk result (IsEndpoint S.is_bound (L.looks_up names.now) host.now senders port.now) }
+    ensures ok { IfOk result (IsEndpoint (TakesFrom S.is_bound S.is_open senders) (L.looks_up names.now)
+        host.now senders port.now) }
     ensures err { IfErr result (IsFaultOf circuit
         (IsSomeAnd port.now (LacksSocket S.refuses (L.looks_up names.now) host.now))) }
 {
@@ -294,6 +307,16 @@ fn count_fault<T>(failed: &mut u64, came: &Result<T, PortFault>)
     }
 }
 
+// Room for the sockets. The error is that memory was refused.
+#[tactic(auto, unfolding(gw_state::specs::Memory::MemoryIsRefused))]
+fn open_room<S>(alloc: Global) -> Result<Vec<Option<Endpoint<S>>>, AllocError>
+    ensures empty { IfOk result (λ room. length room.items ≡ 0) }
+    ensures memory { IfOk result (λ room. vec_capacity room ≡ 30) }
+    ensures err { OnErr result MemoryIsRefused }
+{
+    Vec::with_capacity(alloc, CIRCUITS)
+}
+
 impl<S: Socket> UdpPorts<S> {
     /// Opens the sockets of the circuits that have ports.
     ///
@@ -306,12 +329,14 @@ impl<S: Socket> UdpPorts<S> {
         senders: SourceFilter,
     ) -> Result<UdpPorts<S>, OpenFault>
         ensures ok { IfOk result (λ opened.
-            HasEndpoints S.is_bound SystemLooksUp host.now senders ports.now opened.endpoints.items 30) }
+            HasEndpoints (TakesFrom S.is_bound S.is_open senders) SystemLooksUp host.now senders ports.now
+            opened.endpoints.items 30) }
         ensures fresh { IfOk result (λ p. IsFresh p.endpoints.items p.opened.value.items p.log.calls) }
         ensures err { IfErr result
-            (FailsToOpen S.is_bound S.refuses SystemLooksUp host.now senders ports.now) }
+            (FailsToOpen (TakesFrom S.is_bound S.is_open senders) S.refuses SystemLooksUp host.now senders
+            ports.now) }
     {
-        let Ok(mut endpoints) = Vec::with_capacity(alloc, CIRCUITS) else {
+        let Ok(mut endpoints) = open_room(alloc) else {
             return Err(OpenFault::OutOfMemory);
         };
         let readiness = Readiness::open(net, alloc);

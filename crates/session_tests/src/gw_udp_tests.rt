@@ -7,7 +7,7 @@ use g704_cas::CircuitNo;
 use gw_config::Port;
 use gw_repeat::Repeating;
 use gw_session::{FromRead, Ports, ToWrite, serve};
-use gw_udp::{Socket, SourceFilter, UdpPorts};
+use gw_udp::{Socket, SourceFilter, SystemSocket, UdpPorts};
 use std::net::UdpSocket;
 use std::test::Fail;
 
@@ -27,7 +27,7 @@ fn ports_to<S: Socket>(rt: &HostRuntime, peer: &UdpSocket) -> Result<UdpPorts<S>
 #[test]
 fn first_call_over_udp(rt: HostRuntime) -> Result<(), Fail> {
     let peer = UdpSocket::bind(&rt, "127.0.0.1:0")?;
-    let mut ports = ports_to::<UdpSocket>(&rt, &peer)?;
+    let mut ports = ports_to::<SystemSocket>(&rt, &peer)?;
     let mut gateway = outgoing(rt.alloc())?;
     let mut session = Session::new(rt.alloc());
     session.add_trunk(Trunk::FirstCall, 0, 5169, 65_535)?;
@@ -53,7 +53,12 @@ const ARRIVED: [u32; 8] = [0, 160, 0, 320, 160, 1_000, 1_160, 1_000];
 #[test]
 fn each_datagram_twice_over_udp(rt: HostRuntime) -> Result<(), Fail> {
     let peer = UdpSocket::bind(&rt, "127.0.0.1:0")?;
-    let mut ports = Repeating::open(rt.alloc(), ports_to::<UdpSocket>(&rt, &peer)?, 1, [160; 30])?;
+    let mut ports = Repeating::open(
+        rt.alloc(),
+        ports_to::<SystemSocket>(&rt, &peer)?,
+        1,
+        [160; 30],
+    )?;
     let circuit = CircuitNo::new(1).ok_or("no circuit")?;
     let mut datagram = [0x80, 8, 0, 0, 0, 0, 0, 0, 0, 0, 0, 9, 0xD5];
     for timestamp in SENT {

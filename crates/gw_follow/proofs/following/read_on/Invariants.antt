@@ -1,4 +1,4 @@
-use Rattle.std.proofs.Common.{◌≡◌, ◌⊎◌, [], true, Ok}
+use Rattle.std.proofs.Common.{◌≡◌, ◌⊎◌, ◌≤◌, [], true, Ok}
 use Rattle.std.specs.Io.KnownBytes.{Consumes}
 use Rattle.gw_follow.proofs.following.read_on.Given as goal
 
@@ -7,5 +7,6 @@ abbrev pub invariant-reading : goal.invariant-reading
 invariant-reading g l = record {
   nothing : Consumes (g.R.LogReader.remaining l.initial.reader) (g.R.LogReader.remaining l.reader) [];
   last : (l.turn ≡ 0) ⊎ g.R.LogReader.has_read l.reader (Ok 0);
+  waited : l.turn ≤ g.W.Waiter.waits l.waiter;
   over : l.over ≡ true → ∥ g.W.Waiter.is_over l.waiter ∥₁;
 }

@@ -12,6 +12,6 @@ returns g c = inr (record {
   done = record {
     end = c.serve_through-ended.result;
     done = c.serve_through-ended.ensures;
-    tells = c.end_session.ensures;
+    tells = c.end_session.ensures.told;
   };
 })

@@ -13,13 +13,13 @@ returns-in_err-gateway g c = no_gateway c.in_ok-config.config c.in_ok-config.ens
 pub returns-in-Replay : goal.returns-in-Replay
 returns-in-Replay g c =
     with_gateway c.in_ok-config.config c.in_ok-config.ensures.ok c.in_ok-gateway.gateway c.perform_replay.new.gateway
-    c.in_ok-gateway.ensures.ok (rw c.in-Replay.is c.perform_replay.ensures)
+    c.in_ok-gateway.ensures.ok (rw c.in-Replay.is c.perform_replay.ensures.replays)
 
 pub returns-in-Check : goal.returns-in-Check
 returns-in-Check g c =
     with_gateway c.in_ok-config.config c.in_ok-config.ensures.ok c.in_ok-gateway.gateway c.check-ended.new.gateway
     c.in_ok-gateway.ensures.ok (rw c.in-Check.is
-    (inr (record { end = c.check-ended.result; done = c.check-ended.ensures; tells = c.end_session.ensures })))
+    (inr (record { end = c.check-ended.result; done = c.check-ended.ensures; tells = c.end_session.ensures.told })))
 
 pub returns : goal.returns
 returns g c =

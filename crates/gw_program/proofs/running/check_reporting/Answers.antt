@@ -3,7 +3,7 @@ use Rattle.gw_program.proofs.Filtering.{has_checked, no_reports_to_check}
 use Rattle.gw_program.proofs.running.check_reporting.Goals as goal
 
 pub returns-in-Err : goal.returns-in-Err
-returns-in-Err c = no_reports_to_check _ _
+returns-in-Err c = no_reports_to_check _ _ c.in-Err.ensures.err
 
 pub returns : goal.returns
 returns c =

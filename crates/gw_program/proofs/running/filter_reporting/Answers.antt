@@ -3,7 +3,7 @@ use Rattle.gw_program.proofs.Filtering.{has_run, is_named, no_reports_to_run}
 use Rattle.gw_program.proofs.running.filter_reporting.Goals as goal
 
 pub returns-in-Err : goal.returns-in-Err
-returns-in-Err c = no_reports_to_run _ _ _
+returns-in-Err c = no_reports_to_run _ _ _ c.in-Err.ensures.err
 
 pub returns : goal.returns
 returns c =

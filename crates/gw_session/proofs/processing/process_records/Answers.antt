@@ -1,4 +1,5 @@
-use Rattle.gw_session.proofs.Common.{inl, ◌++◌, [], ◌∷◌, length, ap, ◌∙◌, refl, length-append, arith, record_at, held}
+use Rattle.gw_session.proofs.Common.{sym, inl, ◌++◌, [], ◌∷◌, length, ap, ◌∙◌, refl, length-append, arith}
+use Rattle.gw_session.proofs.Common.{record_at, held}
 use Rattle.gw_session.proofs.Common.{goes_up, starts, first_held, record_taken, stops_in, stops_behind, reads_more}
 use Rattle.gw_session.proofs.Common.{ended, gives_up, ends_so}
 use Rattle.gw_records.specs.declared.outcome.RunFault.TheVariants as faults
@@ -17,6 +18,7 @@ handling-init g c = (
     none_waits = λ none. ap length c.requires.waiting;
     few = omega (arith, ap length c.requires.waiting);
     at_once = refl;
+    holds = refl;
   },
 )
 
@@ -27,12 +29,15 @@ handle_record-requires-clause-good g c =
     rw (record_is f (held c.handling.reader) _ found.more c.held-in-Ok.ensures)
     (good_in_all c.args.kinds.now _ found.good)
 
+pub handle_record-requires-clause-silent : goal.handle_record-requires-clause-silent
+handle_record-requires-clause-silent g c = λ on. c.requires.silent (sym c.handling.invariant.2.holds ∙ on)
+
 pub returns-in_err-handle_record-in-Ok-clause-fault : goal.returns-in_err-handle_record-in-Ok-clause-fault
 returns-in_err-handle_record-in-Ok-clause-fault g c =
     let w = c.handling.invariant in
     let f = c.in-Ok.first in
     let found = first_held f c.held.ensures c.in-Ok.ensures.good in
-    let q = rw (record_is f (held c.handling.reader) _ found.more c.held-in-Ok.ensures) at
+    let q = rw (record_is f (held c.handling.reader) _ found.more c.held-in-Ok.ensures, w.2.holds) at
     c.in_err-handle_record-in-Ok.ensures.inputs in
     let stopped = input_failed _ _ _ w.2.few w.2.through q.2 in
     goes_up _ _ faults.Write c.from_residual.ensures.1 q.0 (stops_in f w.2.stage found q.1 (_, stopped))
@@ -42,7 +47,7 @@ handling-preserved-in-Ok g c =
     let w = c.handling.invariant in
     let f = c.in-Ok.first in
     let found = first_held f c.held.ensures c.in-Ok.ensures.good in
-    let q = rw (record_is f (held c.handling.reader) _ found.more c.held-in-Ok.ensures) at
+    let q = rw (record_is f (held c.handling.reader) _ found.more c.held-in-Ok.ensures, w.2.holds) at
     c.in_ok-handle_record-in-Ok.ensures.inputs in
     let code = rw (record_is f (held c.handling.reader) _ found.more c.held-in-Ok.ensures) at
     c.in_ok-handle_record-in-Ok.ensures.code in
@@ -56,6 +61,7 @@ handling-preserved-in-Ok g c =
         none_waits = λ none. absurd (omega (arith, none, more));
         few = rw w.2.at_once at c.in_ok-handle_record-in-Ok.ensures.few;
         at_once = c.handle_record.ensures.at_once ∙ w.2.at_once;
+        holds = c.handle_record.ensures.holds ∙ w.2.holds;
       },
     )
 
@@ -83,6 +89,7 @@ handling-preserved g c =
         none_waits = λ none. ap length flushed.empty;
         few = omega (arith, ap length flushed.empty);
         at_once = w.2.at_once;
+        holds = w.2.holds;
       },
     )
 

@@ -14,4 +14,5 @@ returns-then-make_room g c =
 pub returns-else-make_room : goal.returns-else-make_room
 returns-else-make_room g c =
     let empty = c.make_room.ensures.empty c.if-make_room.false in
-    batches_join _ _ _ [] _ c.make_room.ensures.batches (batches_recorded _ _ _ _ _ empty empty c.put.ensures)
+    batches_join _ _ _ [] _ c.make_room.ensures.batches (batches_recorded _ _ _ _ _ empty empty
+    c.put.ensures.recorded c.put.ensures.acts)

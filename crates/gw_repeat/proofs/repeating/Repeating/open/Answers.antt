@@ -9,7 +9,7 @@ loop-circuit-preserved g c = rw c.push_reserved.ensures.items (record {
   len = search rules;
   memory = search rules;
   empty = All-push (λ (h : RecentDatagrams). h.packets.items ≡ []) _ _ c.loop-circuit.invariant.empty
-      c.in_ok-open.ensures.0;
+      c.in_ok-open.ensures.ok.0;
   room = All-push (λ (h : RecentDatagrams). deque_capacity h.packets ≡ c.args.count) _ _ c.loop-circuit.invariant.room
-      c.in_ok-open.ensures.1;
+      c.in_ok-open.ensures.ok.1;
 })

@@ -2,8 +2,13 @@ use Rattle.gw_session.proofs.Common.{◌≡◌, ◌+◌, ◌<◌, ◌++◌, ◌�
 use Rattle.gw_session.proofs.Common.{get_or, length-append, arith, length-take, take_rest, take_more}
 use Rattle.gw_session.proofs.Common.{err_from_is_err_and, take-append-drop}
 use Rattle.gw_session.specs.declared.exchange.SessionBuffers.{SessionBuffers}
+use Rattle.gw_session.proofs.Common.{Bool, nat_le, ◌&&◌, length-map}
+use Rattle.std.proofs.lemmas.Bool.{and_parts, leb-true}
+use Rattle.gw_session.specs.declared.held.HeldPacket.{HeldPacket}
+use Rattle.gw_session.specs.declared.held.HeldPackets.{HeldPackets}
 use Rattle.gw_session.proofs.PacketsSent.{exchange_is, stops_once}
-use Rattle.gw_session.proofs.Exchanging.{heard_none, heard_more, heard_all, stops_after}
+use Rattle.gw_session.proofs.Exchanging.{heard_none, heard_more, heard_all, held_few, none_before}
+use Rattle.gw_session.proofs.Exchanging.{some_now, stops_after}
 use Rattle.gw_session.proofs.exchange.SessionBuffers.exchange_all.Goals as goal
 
 -- the first octets, one more, and the rest
@@ -13,7 +18,31 @@ split_at xs i h =
     sym (take-append-drop (i + 1) xs) ∙ ap (λ (ys : List ℕ). ys ++ drop (i + 1) xs) (take_more xs i 0 h)
 
 pub loop-i-init : goal.loop-i-init
-loop-i-init g c = record { heard = heard_none _ _ _ _ _ c.clear.ensures; at_once = refl }
+loop-i-init g c = record {
+  heard = rw (c.begin-self.ensures.empty) (heard_none _ _ _ _ _ _ c.clear.ensures);
+  at_once = refl;
+  holds = refl;
+  holding = c.begin-self.ensures.holding ∙ ap (λ (h : Bool). h && nat_le (length c.args.octets.now) 2048)
+      (sym c.begin-self.ensures.holds);
+}
+
+-- a session that holds the packets of a record is one that holds packets, and the record is short
+pub receive_octet-requires-clause-silent : goal.receive_octet-requires-clause-silent
+receive_octet-requires-clause-silent g c = λ on.
+    let same = ap (λ (s : SessionBuffers). s.holding) c.receive_next.ensures.others in
+    let both = and_parts _ _ (sym c.loop-i.invariant.holding ∙ sym same ∙ on) in
+    c.requires.silent (sym c.begin-self.ensures.holds ∙ both.0)
+
+pub receive_octet-requires-clause-room : goal.receive_octet-requires-clause-room
+receive_octet-requires-clause-room g c = λ on.
+    let same = ap (λ (s : SessionBuffers). s.holding) c.receive_next.ensures.others in
+    let held = ap (λ (s : SessionBuffers). s.held) c.receive_next.ensures.others in
+    let both = and_parts _ _ (sym c.loop-i.invariant.holding ∙ sym same ∙ on) in
+    let few = held_few c.args.octets.now c.loop-i.i c.loop-i.self.recorded c.loop-i.invariant.heard refl in
+    let packet : HeldPacket → ℕ × List ℕ = λ p. (p.circuit, p.octets.items) in
+    let len = length-map c.loop-i.self.held.packets.items packet in
+    let memory = c.loop-i.self.held.memory (c.loop-i.invariant.holds ∙ both.0) in
+    rw held (omega (arith, few, len, memory, leb-true _ _ both.1, c.loop-i-test.true))
 
 pub push-requires : goal.push-requires
 push-requires g c =
@@ -34,12 +63,14 @@ returns-in_err-sent-clause-exchanges g c =
     let i = c.loop-i.i in
     let p = err_from_is_err_and c.from_residual.result c.from_residual.ensures.1 in
     let waits = ap (λ (s : SessionBuffers). s.waiting.items) c.receive_next.ensures.others in
-    let hears = rw waits at c.in_err-sent.ensures.hears in
-    let heard = rw c.look_for_datagrams.ensures at c.loop-i.invariant.heard in
+    let held = ap (λ (s : SessionBuffers). s.held) c.receive_next.ensures.others in
+    let holds = c.loop-i.invariant.holds ∙ c.begin-self.ensures.holds in
+    let hears = rw (waits, held, holds) at c.in_err-sent.ensures.hears in
+    let heard = rw (c.look_for_datagrams.ensures, c.begin-self.ensures.holds) at c.loop-i.invariant.heard in
     rw (p.1, p.2) (
       hears.0,
       stops_after (drop (i + 1) octets) (split_at octets i c.loop-i-test.true) heard.so.0
-          (stops_once c.receive_next.ensures.comes hears.1),
+          (stops_once (rw holds at c.receive_next.ensures.comes) hears.1),
     )
 
 pub loop-i-preserved : goal.loop-i-preserved
@@ -50,12 +81,19 @@ loop-i-preserved g c =
     ∙ ap (λ (s : SessionBuffers). s.answer) c.receive_next.ensures.others in
     let same = ap (λ (s : SessionBuffers). s.recorded) c.receive_octet.ensures.others in
     let batch = ap (λ (s : SessionBuffers). s.batch.items) c.receive_octet.ensures.others in
-    let q = exchange_is c.receive_next.ensures.comes (rw waits at c.in_ok-sent.ensures.hears) in
+    let held = ap (λ (s : SessionBuffers). s.held) c.receive_next.ensures.others in
+    let same_mode = ap (λ (s : SessionBuffers). s.holding) c.receive_next.ensures.others in
+    let holding = ap (λ (s : SessionBuffers). s.holding) c.receive_octet.ensures.others ∙ same_mode in
+    let holds = c.loop-i.invariant.holds in
+    let q = exchange_is (none_before c.args.octets.now c.loop-i.i c.loop-i.self.recorded c.loop-i.invariant.heard refl)
+    (rw holds at c.receive_next.ensures.comes) (rw (waits, same_mode, held, holds) at c.in_ok-sent.ensures.hears) in
     record {
-      heard = rw (same, batch) (heard_more c.args.octets.now c.loop-i.i c.loop-i.self.recorded _ c.in_ok-sent.sent
-          c.loop-i.invariant.heard c.loop-i-test.true q (rw kept at c.push.ensures.items));
+      heard = rw (same, batch, holding) (heard_more c.args.octets.now c.loop-i.i c.loop-i.self.recorded _
+          c.in_ok-sent.sent c.loop-i.invariant.heard c.loop-i-test.true q (rw kept at c.push.ensures.items));
       at_once = ap (λ (s : SessionBuffers). s.at_once) c.receive_octet.ensures.others
           ∙ ap (λ (s : SessionBuffers). s.at_once) c.receive_next.ensures.others ∙ c.loop-i.invariant.at_once;
+      holds = c.in_ok-sent.ensures.holds ∙ ap (λ (h : HeldPackets). h.holds) held ∙ c.loop-i.invariant.holds;
+      holding = holding ∙ c.loop-i.invariant.holding;
     }
 
 pub returns-in_err-sent-clause-at_once : goal.returns-in_err-sent-clause-at_once
@@ -63,12 +101,26 @@ returns-in_err-sent-clause-at_once g c =
     ap (λ (s : SessionBuffers). s.at_once) c.receive_octet.ensures.others
     ∙ ap (λ (s : SessionBuffers). s.at_once) c.receive_next.ensures.others ∙ c.loop-i.invariant.at_once
 
+pub send_held-requires-clause-silent : goal.send_held-requires-clause-silent
+send_held-requires-clause-silent g c = λ some.
+    let packet : HeldPacket → ℕ × List ℕ = λ p. (p.circuit, p.octets.items) in
+    let len = length-map c.loop-i.self.held.packets.items packet in
+    let items = ap length c.as_slice.ensures.value in
+    let on = some_now c.args.octets.now c.loop-i.i c.loop-i.self.recorded c.loop-i.invariant.heard refl
+    (omega (arith, len, items, some)) in
+    let both = and_parts _ _ (sym c.loop-i.invariant.holding ∙ on) in
+    c.requires.silent (sym c.begin-self.ensures.holds ∙ both.0)
+
 pub returns-clause-at_once : goal.returns-clause-at_once
 returns-clause-at_once g c = c.loop-i.invariant.at_once
 
 pub returns-clause-exchanges : goal.returns-clause-exchanges
 returns-clause-exchanges g c =
     let end : c.loop-i.i ≡ length c.args.octets.now = omega (arith, c.loop-i-test.false, c.loop-i.auto.i-end) in
-    let heard = rw c.look_for_datagrams.ensures at c.loop-i.invariant.heard in
-    heard_all c.args.octets.now _ c.loop-i.i c.loop-i.self.recorded heard end
-    (take_rest c.args.octets.now c.loop-i.self.recorded) c.record_octets.ensures.recorded
+    let heard = rw (c.look_for_datagrams.ensures, c.begin-self.ensures.holds) at c.loop-i.invariant.heard in
+    let sends = rw c.as_slice.ensures.value at c.send_held.ensures.sends in
+    let told = rw c.as_slice.ensures.value at c.send_held.ensures.acts in
+    heard_all c.args.self.now.held.holds c.args.octets.now _ c.loop-i.i c.loop-i.self.recorded heard end
+    (take_rest c.args.octets.now c.loop-i.self.recorded) c.record_octets.ensures.recorded refl
+    (rw c.begin-self.ensures.holds at c.loop-i.invariant.holding) sends c.send_held.ensures.passes
+    c.send_held.ensures.no_failure told

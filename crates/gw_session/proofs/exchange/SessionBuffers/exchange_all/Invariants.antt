@@ -1,14 +1,18 @@
-use Rattle.gw_session.proofs.Common.{◌≡◌, world_of}
+use Rattle.gw_session.proofs.Common.{◌≡◌, length, world_in, world_with, packets_held, ◌&&◌, nat_le}
 use Rattle.gw_session.proofs.Exchanging.{HeardSo}
 use Rattle.gw_session.proofs.exchange.SessionBuffers.exchange_all.Given as goal
 
 abbrev pub invariant-loop-i : goal.invariant-loop-i
 invariant-loop-i g l = record {
-  heard : HeardSo g.O.PacketPorts.spells
-      (world_of (g.O.PacketPorts.tells l.initial.packet_ports) l.initial.gateway l.initial.self.totals
+  heard : HeardSo l.self.holding g.O.PacketPorts.spells
+      (world_in l.initial.self.held.holds (g.O.PacketPorts.tells l.initial.packet_ports) l.initial.gateway
+      l.initial.self.totals
       (g.T.Tape.tells l.initial.tape) (g.K.Sink.tells l.initial.sink) l.initial.self.waiting.items)
-      (world_of (g.O.PacketPorts.tells l.packet_ports) l.gateway l.self.totals
+      (world_with l.initial.self.held.holds (packets_held l.self.held.packets.items)
+      (g.O.PacketPorts.tells l.packet_ports) l.gateway l.self.totals
       (g.T.Tape.tells l.tape) (g.K.Sink.tells l.sink) l.self.waiting.items)
       l.self.batch.items l.octets l.i l.self.recorded l.initial.self.answer.items l.self.answer.items;
   at_once : l.self.at_once ≡ l.initial.self.at_once;
+  holds : l.self.held.holds ≡ l.initial.self.held.holds;
+  holding : l.self.holding ≡ (l.initial.self.held.holds && nat_le (length l.octets) 2048);
 }

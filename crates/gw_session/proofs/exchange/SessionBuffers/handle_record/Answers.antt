@@ -1,5 +1,5 @@
 use Rattle.gw_session.proofs.Common.{refl, ◌∙◌, Event, TakesEvent, SessionInput, answer_to, given_by, dropped_for}
-use Rattle.gw_session.proofs.Common.{kind_and_circuit, Datagram}
+use Rattle.gw_session.proofs.Common.{Datagram}
 use Rattle.gw_records.specs.Octets.{octet_of_command, octet_of_codec}
 use Rattle.gw_records.proofs.Again.{command_again, codec_again}
 use Rattle.gw_session.proofs.Inputs.{one_inputs, on_ok_always}
@@ -22,7 +22,7 @@ returns-in-Codec-clause-code g c =
     (λ config before h. c.put_answer-in-Codec.ensures.code ∙ (takes config before h).1))
 
 pub returns-in-Datagram-clause-inputs : goal.returns-in-Datagram-clause-inputs
-unfolding answer_to given_by kind_and_circuit
+unfolding answer_to given_by
 returns-in-Datagram-clause-inputs g c =
     let circuit = c.in-Datagram.circuit in
     let body = c.args.body.now in
@@ -31,31 +31,31 @@ returns-in-Datagram-clause-inputs g c =
     let takes : TakesEvent c.args.gateway.now c.give_datagram-code.new.gateway
     (Event.Given circuit (Datagram body)) c.give_datagram-code.result =
     λ config before h. ((given config before h).0, code config before h) in
-    rw c.in-Datagram.is (one_inputs (SessionInput.Datagram circuit body) _ c.give_datagram-code.new.totals _ _ _ _ _ _
+    rw c.in-Datagram.is (one_inputs (SessionInput.Datagram circuit body) _ c.give_datagram-code.new.totals _ _ _ _ _ _ _
     c.put_answer.result refl refl (λ config before. refl) (λ config before. refl) (λ config before. refl) takes
-    c.record-recorded.ensures.on_tape c.give_datagram-code.ensures.others c.put_answer.ensures.counts
+    c.give_datagram-code.ensures.others c.put_answer.ensures.counts
     (λ config before h. (given config before h).1)
-    c.put_answer.ensures.puts c.record-recorded.ensures.recorded)
+    c.put_answer.ensures.puts c.put.ensures.recorded c.put.ensures.acts c.put_answer.ensures.acts)
 
 pub returns-in-Command-clause-inputs : goal.returns-in-Command-clause-inputs
-unfolding answer_to given_by dropped_for kind_and_circuit
+unfolding answer_to given_by dropped_for
 returns-in-Command-clause-inputs g c =
     let command = c.in-Command.command in
     rw c.in-Command.is (one_inputs (SessionInput.Command c.in-Command.circuit (octet_of_command command)) _
-    c.args.self.now.totals _ _ _ _ _ _ c.put_answer-in-Command.result refl refl (λ config before. refl)
+    c.args.self.now.totals _ _ _ _ _ _ _ c.put_answer-in-Command.result refl refl (λ config before. refl)
     (λ config before. refl) (λ config before. refl) (rw (← command_again command) at c.give_command-code.ensures)
-    c.record-recorded-in-Command.ensures.on_tape refl
-    c.put_answer-in-Command.ensures.counts (λ config before h. refl)
-    c.put_answer-in-Command.ensures.puts c.record-recorded-in-Command.ensures.recorded)
+    refl c.put_answer-in-Command.ensures.counts (λ config before h. refl)
+    c.put_answer-in-Command.ensures.puts c.put-in-Command.ensures.recorded c.put-in-Command.ensures.acts
+    c.put_answer-in-Command.ensures.acts)
 
 pub returns-in-Codec-clause-inputs : goal.returns-in-Codec-clause-inputs
-unfolding answer_to given_by dropped_for kind_and_circuit
+unfolding answer_to given_by dropped_for
 returns-in-Codec-clause-inputs g c =
     let codec = c.in-Codec.codec in
     rw c.in-Codec.is (one_inputs (SessionInput.Codec c.in-Codec.circuit
     (octet_of_codec codec) c.in-Codec.payload_type) _
-    c.args.self.now.totals _ _ _ _ _ _ c.put_answer-in-Codec.result refl refl (λ config before. refl)
+    c.args.self.now.totals _ _ _ _ _ _ _ c.put_answer-in-Codec.result refl refl (λ config before. refl)
     (λ config before. refl) (λ config before. refl) (rw (← codec_again codec) at c.give_codec-code.ensures)
-    c.record-recorded-in-Codec.ensures.on_tape refl
-    c.put_answer-in-Codec.ensures.counts (λ config before h. refl)
-    c.put_answer-in-Codec.ensures.puts c.record-recorded-in-Codec.ensures.recorded)
+    refl c.put_answer-in-Codec.ensures.counts (λ config before h. refl)
+    c.put_answer-in-Codec.ensures.puts c.put-in-Codec.ensures.recorded c.put-in-Codec.ensures.acts
+    c.put_answer-in-Codec.ensures.acts)

@@ -32,7 +32,7 @@ receiving-preserved g c =
         omega (arith, w.1, length-append w.0 (take n items ∷ [])),
         receiving_more _ (take n items) w.2 r.0 r.1 r.2 c.in-Ok-Some.ensures.counts
             c.receive_datagram.ensures.sends_stay given
-            c.give_datagram.ensures.others,
+            c.give_datagram.ensures.others refl,
         behind_more _ _ _ _ _ _ _ _ _ w.0 _ w.3 fresh refl said,
       );
       others = search rules;

@@ -1,12 +1,14 @@
 use Rattle.gw_session.proofs.Common.{◌≡◌, ℕ, List, length, Some, of_circuit, coming, Receiving, RecordsBehind}
-use Rattle.gw_session.proofs.Common.{state_of, taping}
+use Rattle.gw_session.proofs.Common.{state_with, packets_held, taping}
 use Rattle.gw_session.proofs.exchange.SessionBuffers.receive_next.Given as goal
 
 abbrev pub invariant-receiving : goal.invariant-receiving
 invariant-receiving g l = record {
   receiving : (came : List (List ℕ)) × (length came ≡ l._turn)
-      × Receiving (state_of (g.O.PacketPorts.tells l.initial.packet_ports) l.initial.gateway l.initial.self.totals)
-      (state_of (g.O.PacketPorts.tells l.packet_ports) l.gateway l.self.totals) l.circuit came
+      × Receiving (state_with l.initial.self.held.holds (packets_held l.initial.self.held.packets.items)
+      (g.O.PacketPorts.tells l.initial.packet_ports) l.initial.gateway l.initial.self.totals)
+      (state_with l.initial.self.held.holds (packets_held l.initial.self.held.packets.items)
+      (g.O.PacketPorts.tells l.packet_ports) l.gateway l.self.totals) l.circuit came
       × RecordsBehind (taping (g.T.Tape.tells l.initial.tape) l.initial.self.batch.items)
       (taping (g.T.Tape.tells l.tape) l.self.batch.items) l.heard l.initial.self.recorded l.self.recorded
       (coming (of_circuit (Some l.circuit) came));

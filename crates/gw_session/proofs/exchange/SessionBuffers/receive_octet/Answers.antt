@@ -1,18 +1,18 @@
-use Rattle.gw_session.proofs.Common.{sym, ap, refl, append-nil, err_from_is_err_and, Sending, TakesAllButWaiting-none}
-use Rattle.gw_session.proofs.Common.{sending_in}
-use Rattle.gw_session.proofs.PacketsSent.{sends_none}
+use Rattle.gw_session.proofs.Common.{sym, ap, refl, append-nil, err_from_is_err_and, Sending}
+use Rattle.gw_session.proofs.Common.{TakesAllButWaiting-none, sending_in}
+use Rattle.gw_session.proofs.PacketsSent.{sends_none, neither}
 use Rattle.gw_session.proofs.exchange.SessionBuffers.receive_octet.Goals as goal
 
-pub returns-in_err-send_packet-clause-hears : goal.returns-in_err-send_packet-clause-hears
-returns-in_err-send_packet-clause-hears g c =
+pub returns-in_err-pass_packet-clause-hears : goal.returns-in_err-pass_packet-clause-hears
+returns-in_err-pass_packet-clause-hears g c =
     let p = err_from_is_err_and c.from_residual.result c.from_residual.ensures.1 in
-    let puts = c.in_err-send_packet.ensures.puts in
+    let puts = c.in_err-pass_packet.ensures.puts in
     rw (p.1, p.2) (
       puts.0,
       record {
         packet = (c.in-Some.circuit, c.octet_into-out.new.room.items);
-        some = c.in_err-send_packet.ensures.some;
-        kept = c.in_err-send_packet.ensures.kept;
+        some = c.in_err-pass_packet.ensures.some;
+        kept = c.in_err-pass_packet.ensures.kept;
         hears = λ config before h. (
           c.octet_into-out.ensures.stands config before h,
           rw c.in-Some.is at (ap (λ (o : Sending). o.packet) (sym (c.octet_into-out.ensures.reply config before h))),
@@ -21,13 +21,14 @@ returns-in_err-send_packet-clause-hears g c =
       },
     )
 
-pub returns-in_ok-send_packet-clause-hears : goal.returns-in_ok-send_packet-clause-hears
-returns-in_ok-send_packet-clause-hears g c =
+pub returns-in_ok-pass_packet-clause-hears : goal.returns-in_ok-pass_packet-clause-hears
+returns-in_ok-pass_packet-clause-hears g c =
     let out = sending_in c.octet_into-out.result c.octet_into-out.new.room.items in
-    let puts = c.in_ok-send_packet.ensures.puts in
+    let puts = c.in_ok-pass_packet.ensures.puts in
     record {
       packet = out.packet;
-      sends = rw c.in-Some.is c.in_ok-send_packet.ensures.sends;
+      sends = rw c.in-Some.is c.in_ok-pass_packet.ensures.sends;
+      held = rw c.in-Some.is c.in_ok-pass_packet.ensures.held;
       hears = λ config before h. (
         c.octet_into-out.ensures.stands config before h,
         sym (c.octet_into-out.ensures.reply config before h),
@@ -41,7 +42,8 @@ returns-in_default-clause-hears g c =
     let out = sending_in c.octet_into-out.result c.octet_into-out.new.room.items in
     record {
       packet = out.packet;
-      sends = rw c.in_default.is (sends_none _ _);
+      sends = rw (c.in_default.is, neither c.args.self.now.holding) (sends_none _ _);
+      held = rw (c.in_default.is, neither c.args.self.now.holding) (sym (append-nil _));
       hears = λ config before h. (
         c.octet_into-out.ensures.stands config before h,
         sym (c.octet_into-out.ensures.reply config before h),

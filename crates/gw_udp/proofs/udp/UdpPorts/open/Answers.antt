@@ -3,16 +3,24 @@ use Rattle.std.proofs.lemmas.List.{get_or_default}
 use Rattle.std.proofs.lemmas.Result.{err_from_is_err_and}
 use Rattle.gw_udp.proofs.Calls.{are_bound}
 use Rattle.gw_udp.proofs.Opening.{fault_since, first_without, one_more}
+use Rattle.std.specs.Prelude.{IsSomeAnd, Option, slice_index_or}
+use Rattle.gw_config.specs.declared.config.Port.{Port}
 use Rattle.gw_udp.specs.Names.{SystemLooksUp}
+use Rattle.gw_udp.specs.Opening.{LacksSocket}
+use Rattle.gw_udp.specs.Udp.{TakesFrom}
 use Rattle.gw_udp.proofs.udp.UdpPorts.open.Goals as goal
 
 pub returns-in_err-endpoint-clause-err : goal.returns-in_err-endpoint-clause-err
 returns-in_err-endpoint-clause-err g c =
     let p = err_from_is_err_and c.from_residual.result c.from_residual.ensures.1 in
-    rw (p.1, p.2) (first_without g.S.Socket.is_bound g.S.Socket.refuses SystemLooksUp c.args.host.now c.args.senders
-    c.args.ports.now c.loop-number.endpoints.items c.loop-number.number _ c.loop-number.invariant.some
+    let lacks = LacksSocket g.S.Socket.refuses SystemLooksUp c.args.host.now in
+    rw (p.1, p.2) (first_without (TakesFrom g.S.Socket.is_bound g.S.Socket.is_open c.args.senders)
+    g.S.Socket.refuses SystemLooksUp c.args.host.now c.args.senders c.args.ports.now
+    c.loop-number.endpoints.items c.loop-number.number _ c.loop-number.invariant.some
     (omega arith) c.loop-number.invariant.own
-    (fault_since _ _ _ _ (λ why d. rw (
+    (fault_since _ (IsSomeAnd (slice_index_or c.args.ports.now (c.from.result - 1) c.index-ports-from.result) lacks)
+    ((d : Option Port) → IsSomeAnd (slice_index_or c.args.ports.now (c.loop-number.number - 1) d) lacks) _
+    (λ why d. rw (
       get_or_default c.args.ports.now (c.loop-number.number - 1) d
           c.index-ports-from.result (omega (arith, c.type_inv.ports, c.loop-number.invariant.some)),
       ← c.from.ensures,
@@ -27,7 +35,8 @@ loop-number-preserved g c =
       some = omega arith;
       len = search rules;
       memory = search rules;
-      own = rw (count, c.push_reserved.ensures.items) (one_more g.S.Socket.is_bound SystemLooksUp c.args.host.now
+      own = rw (count, c.push_reserved.ensures.items) (one_more
+          (TakesFrom g.S.Socket.is_bound g.S.Socket.is_open c.args.senders) SystemLooksUp c.args.host.now
           c.args.senders c.args.ports.now c.loop-number.endpoints.items _ _ (c.loop-number.number - 1)
           (omega (arith, c.loop-number.invariant.len, c.loop-number.endpoints.ok))
           (λ d. rw (← c.from.ensures) (get_or_default c.args.ports.now (c.from.result - 1) d
@@ -39,8 +48,8 @@ pub invariant_of-result : goal.invariant_of-result
 invariant_of-result g c = record {
   thirty = omega (arith, c.loop-number.invariant.len, c.loop-number-test.false, c.loop-number.auto.number-end);
   memory = c.loop-number.invariant.memory;
-  bound = ∣ rw c.of-opened.ensures (are_bound g.S.Socket.is_bound SystemLooksUp c.args.host.now c.args.senders
-      c.args.ports.now c.loop-number.endpoints.items (c.loop-number.number - 1) (search rules)
-      c.loop-number.invariant.own) ∣₁;
+  bound = ∣ rw c.of-opened.ensures (are_bound g.S.Socket.is_bound g.S.Socket.is_open SystemLooksUp
+      c.args.host.now c.args.senders c.args.ports.now c.loop-number.endpoints.items (c.loop-number.number - 1)
+      (search rules) c.loop-number.invariant.own) ∣₁;
   called = ∣ rw (c.new.ensures, c.of-opened.ensures) refl ∣₁;
 }

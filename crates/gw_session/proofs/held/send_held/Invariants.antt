@@ -1,0 +1,13 @@
+use Rattle.gw_session.proofs.Common.{◌≡◌, take, map, GoToPorts, packets_held, TakesAllButWaiting, Learns, sends_at}
+use Rattle.gw_session.proofs.held.send_held.Given as goal
+
+abbrev pub invariant-loop-i : goal.invariant-loop-i
+invariant-loop-i g l = record {
+  sends : GoToPorts (g.O.PacketPorts.tells l.initial.packet_ports) (g.O.PacketPorts.tells l.packet_ports)
+      l.initial.totals l.totals (packets_held (take l.i l.held));
+  passes : TakesAllButWaiting (g.K.Sink.tells l.initial.sink).taken (g.K.Sink.tells l.sink).taken l.waiting.items
+      l.initial.waiting.items;
+  told : Learns (g.T.Tape.tells l.initial.tape) (g.T.Tape.tells l.tape)
+      (map (sends_at (g.T.Tape.tells l.initial.tape)) (packets_held (take l.i l.held)));
+  no_failure : (g.K.Sink.tells l.sink).failures ≡ (g.K.Sink.tells l.initial.sink).failures;
+}

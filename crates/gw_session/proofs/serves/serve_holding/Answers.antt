@@ -1,0 +1,19 @@
+use Rattle.gw_session.proofs.Common.{most_waiting, ap, refl}
+use Rattle.gw_session.specs.declared.held.HeldPackets.{HeldPackets}
+use Rattle.gw_session.proofs.Ends.{all_as, until_as}
+use Rattle.gw_session.proofs.Silent.{serves, serves_until}
+use Rattle.gw_session.proofs.serves.serve_holding.Goals as goal
+
+pub returns : goal.returns
+unfolding most_waiting
+returns g c =
+    let holds = ap (λ (h : HeldPackets). h.holds) c.new-session.ensures.held in
+    record {
+      ok = all_as _ _ _ _ _ (λ t records p. serves records p.0) c.process_records.result
+          (rw holds at c.process_records.ensures.ok);
+      fault = until_as _ _ _ _ _ (λ t records p. serves records p.0) _ c.process_records.result (serves_until _)
+          (rw (c.new-session.ensures.at_once, holds) at c.process_records.ensures.fault);
+    }
+
+pub process_records-requires-clause-silent : goal.process_records-requires-clause-silent
+process_records-requires-clause-silent g c = λ on p. refl

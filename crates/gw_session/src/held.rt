@@ -1,0 +1,139 @@
+//! The packets of a record of the trunk that are held until it is on the tape (`HeldPackets`).
+ghost use Rattle.std.specs.Prelude.{◌≡◌, ◌∷◌, ◌++◌, ◌<◌, [], length, map, vec_capacity, true, false};
+ghost use Rattle.std.specs.Prelude.{◌&&◌, nat_le, IfOk, OnOk, OnErr};
+ghost use Rattle.gw_records.specs.Streams.{CanCount, Puts};
+ghost use Rattle.gw_records.specs.Streams.{TakesAllButWaiting};
+ghost use Rattle.gw_session.specs.Exchange.{IsSilent, GoToPorts, packets_held};
+ghost use Rattle.gw_session.specs.Tape.{Learns, sends_at};
+
+use crate::packet_ports::PacketPorts;
+use crate::tape::Tape;
+use g704_cas::CircuitNo;
+use gw_circuit::Datagram;
+use gw_records::{OutputBuffer, RunFault, Sink, Totals};
+use std::alloc::{AllocError, Global};
+
+// The octets of the longest record whose packets are held: as many as a trunk's have at most. Each octet
+// sends one packet at most.
+const MOST_OCTETS: usize = 2_048;
+
+/// A packet of a circuit that is held.
+#[derive(Drop)]
+pub struct HeldPacket {
+    pub(crate) circuit: CircuitNo,
+    pub(crate) octets: Datagram,
+}
+
+/// The packets that a session holds, in their order. Their memory is taken once, and used as it is needed.
+#[derive(Drop)]
+pub struct HeldPackets {
+    pub(crate) packets: Vec<HeldPacket>,
+    /// Whether any are held.
+    pub(crate) holds: bool,
+    ghost memory: { holds ≡ true → vec_capacity packets ≡ 2048 },
+}
+
+impl HeldPackets {
+    /// Of a session that sends its packets at once.
+    pub fn none(alloc: Global) -> HeldPackets
+        ensures { result.holds ≡ false }
+    {
+        HeldPackets {
+            packets: Vec::new(alloc),
+            holds: false,
+        }
+    }
+
+    /// Takes the memory.
+    pub fn new(alloc: Global) -> Result<HeldPackets, AllocError>
+        ensures { IfOk result (λ held. held.holds ≡ true) }
+    {
+        Ok(HeldPackets {
+            packets: Vec::with_capacity(alloc, MOST_OCTETS)?,
+            holds: true,
+        })
+    }
+
+    /// Forgets all packets, and returns whether those of a record of this many octets are held.
+    pub fn begin(&mut self, len: usize) -> bool
+        ensures holding { result ≡ (self.old.holds && nat_le len 2048) }
+        ensures empty { self.new.packets.items ≡ [] }
+        ensures holds { self.new.holds ≡ self.old.holds }
+    {
+        self.packets.clear();
+        self.holds && len <= MOST_OCTETS
+    }
+
+    /// Holds a packet behind the others.
+    #[inline(never)]
+    pub fn push(&mut self, circuit: CircuitNo, packet: &Datagram)
+        requires { length self.old.packets.items < vec_capacity self.old.packets }
+        ensures packets { packets_held self.new.packets.items
+            ≡ packets_held self.old.packets.items ++ (circuit, packet.now.items) ∷ [] }
+        ensures holds { self.new.holds ≡ self.old.holds }
+        ensures memory { vec_capacity self.new.packets ≡ vec_capacity self.old.packets }
+    {
+        let mut octets = Datagram::new();
+        let _ = octets.try_extend_from_slice(packet.as_slice());
+        self.packets.push_reserved(HeldPacket { circuit, octets });
+    }
+}
+
+/// Sends a packet of a circuit, and counts it, or that it did not go out.
+pub fn send_packet<O: PacketPorts, K: Sink>(
+    circuit: CircuitNo,
+    packet: &Datagram,
+    packet_ports: &mut O,
+    totals: &mut Totals,
+    waiting: &mut OutputBuffer,
+    sink: &mut K,
+) -> Result<(), RunFault>
+    requires writes { CanCount (K.tells sink.old).failures }
+    ensures sends { OnOk result (GoToPorts (O.tells packet_ports.old) (O.tells packet_ports.new) totals.old
+        totals.new ((circuit, packet.now.items) ∷ [])) }
+    ensures puts { Puts (K.tells sink.old) (K.tells sink.new) waiting.new.items
+        (waiting.old.items ++ O.spells (circuit, packet.now.items)) result }
+    ensures kept { OnErr result (O.tells packet_ports.new ≡ O.tells packet_ports.old) }
+    ensures some { OnErr result (0 < length (O.spells (circuit, packet.now.items))) }
+{
+    if packet_ports.send_datagram(circuit, packet.as_slice(), waiting, sink)? {
+        totals.datagrams = totals.datagrams.saturating_add(1);
+    } else {
+        totals.port_faults = totals.port_faults.saturating_add(1);
+    }
+    Ok(())
+}
+
+/// Sends the packets that are held, and tells the tape of each.
+pub fn send_held<O: PacketPorts, K: Sink, T: Tape>(
+    held: &[HeldPacket],
+    packet_ports: &mut O,
+    totals: &mut Totals,
+    waiting: &mut OutputBuffer,
+    sink: &mut K,
+    tape: &mut T,
+)
+    requires writes { CanCount (K.tells sink.old).failures }
+    requires silent { 0 < length held.now → IsSilent O.spells }
+    ensures sends { GoToPorts (O.tells packet_ports.old) (O.tells packet_ports.new) totals.old totals.new
+        (packets_held held.now) }
+    ensures passes { TakesAllButWaiting (K.tells sink.old).taken (K.tells sink.new).taken waiting.new.items
+        waiting.old.items }
+    ensures no_failure { (K.tells sink.new).failures ≡ (K.tells sink.old).failures }
+    ensures acts { Learns (T.tells tape.old) (T.tells tape.new)
+        (map (sends_at (T.tells tape.old)) (packets_held held.now)) }
+{
+    for i in 0..held.len() {
+        let packet = &held[i];
+        tape.before_send(packet.circuit, packet.octets.as_slice());
+        // (No write of it fails, since it puts nothing in front of the answer.)
+        let _ = send_packet(
+            packet.circuit,
+            &packet.octets,
+            packet_ports,
+            totals,
+            waiting,
+            sink,
+        );
+    }
+}

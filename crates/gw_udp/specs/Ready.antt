@@ -1,0 +1,40 @@
+-- Which sockets the system says that datagrams have come to (module `readiness`).
+use Rattle.std.specs.Prelude.{◌≡◌, ◌⊎◌, ◌==◌, ◌||◌, ◌-◌, ◌<◌, ⊤, ℕ, Bool, false, List, Option}
+use Rattle.std.specs.Prelude.{MatchOption, slice_index_or}
+use Rattle.std.specs.Prelude.{if◌then◌else◌}
+use Rattle.std.specs.List.{list_any}
+use Rattle.mio.specs.Event.{event_token}
+use Rattle.mio.specs.declared.event.event.Event.{Event}
+use Rattle.gw_udp.specs.declared.readiness.Poller.{Poller}
+use Rattle.gw_udp.specs.declared.readiness.Readiness.{Readiness}
+
+-- The system was asked what came, and reported these events. Std says nothing of that, so this holds of all;
+-- but it is unfolded only where the system is asked, so for all others it holds of events reported.
+unfoldable pub SystemReports : {P : Type 0} → P → List Event → Type 0
+SystemReports poll events = ⊤
+
+-- events have one of this token
+abbrev pub comes : ℕ → List Event → Bool
+comes token events = list_any (λ e. (event_token e).0 == token) events
+
+-- something came to a socket
+abbrev pub has_come : List Bool → ℕ → Bool
+has_come came place = slice_index_or came place false
+
+-- something came to the sockets of events, and to those that it came to before
+abbrev pub AreNoted : List Event → List Bool → List Bool → Type 0
+AreNoted events came came' = (k : ℕ) → k < 30 → has_come came' k ≡ (has_come came k || comes k events)
+
+-- The system was asked what came to sockets, and this is noted; nothing is if there is no poller.
+abbrev pub AsksSystem : Option Poller → List Bool → List Bool → Type 0
+AsksSystem poller came came' = MatchOption poller (came' ≡ came)
+    (λ p. (events : List Event) × SystemReports p.poll events × AreNoted events came came')
+
+-- Whether something came to the socket of a circuit since this was last asked, as noted or as the system says
+-- now. It is noted no more, and what came to other sockets is still.
+pub record IsAsked (r r' : Readiness) (circuit : ℕ) (is : Bool) : Type 0 where
+  pub looked : Readiness
+  pub looks : (looked.came ≡ r.came) ⊎ AsksSystem looked.poller r.came looked.came
+  pub is_noted : is ≡ has_come looked.came (circuit - 1)
+  pub others : (k : ℕ) → k < 30
+      → has_come r'.came k ≡ (if k == circuit - 1 then false else has_come looked.came k)
