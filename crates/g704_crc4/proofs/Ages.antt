@@ -1,12 +1,10 @@
 -- The ages of two octets in a row.
-use Rattle.std.proofs.Common.{◌≡◌, ℕ, suc, ◌+◌, ◌-◌, ◌<◌, ◌≤◌, List, [], ◌∷◌, true, false}
-use Rattle.std.proofs.Common.{Option, Some, None, refl, sym, ap, ◌∙◌, arith, inl, inr}
+use Rattle.g704_crc4.proofs.Common.{◌≡◌, ℕ, suc, ◌+◌, ◌-◌, ◌<◌, ◌≤◌, List, [], ◌∷◌, true, false, Option, Some, None}
+use Rattle.g704_crc4.proofs.Common.{refl, sym, ap, ◌∙◌, arith, inl, inr, lt-ltb, le-ltb, lt-leb, le-leb, and_left}
+use Rattle.g704_crc4.proofs.Common.{and_parts, cases_lt, cases_Bool, false≢true, age_in, IsFraming}
 use Rattle.std.proofs.lemmas.Option.{same_Some}
-use Rattle.std.proofs.lemmas.Bool.{lt-ltb, le-ltb, lt-leb, le-leb, and_left, and_parts}
-use Rattle.std.proofs.lemmas.Bool.{cases_lt, cases_Bool, false≢true}
 use Rattle.g704_framing.specs.Alignment.{Framing, AlignmentSpan, alignments_from, after_search, after_loss, loss}
-use Rattle.g704_framing.specs.Age.{is_before_loss, is_standing, age_in}
-use Rattle.g704_framing.specs.Laws.{IsFraming}
+use Rattle.g704_framing.specs.Age.{is_before_loss, is_standing}
 use Rattle.g704_framing.proofs.Turns.{alignments_turns}
 use Rattle.g704_framing.proofs.Settles.{IsNotBefore, alignments-begin, age_in-before, age-after_loss, loss-not_before}
 

@@ -1,10 +1,10 @@
 -- The octets of a frame alignment, one octet more.
-use Rattle.std.proofs.Common.{◌≡◌, ℕ, suc, ◌+◌, ◌-◌, ◌<◌, List, [], ◌∷◌, ◌++◌, length, drop, get_or}
-use Rattle.std.proofs.Common.{Option, Some, None, Bool, refl, sym, ap, ◌∙◌, arith, inl, inr, length-drop, drop-cons}
-use Rattle.std.proofs.lemmas.Bool.{cases_lt}
-use Rattle.std.proofs.lemmas.List.{length_push, drop-append-le, drop_all, drop-drop}
+use Rattle.g704_crc4.proofs.Common.{◌≡◌, ℕ, suc, ◌+◌, ◌-◌, ◌<◌, List, [], ◌∷◌, ◌++◌, length, drop, get_or, Option, Some}
+use Rattle.g704_crc4.proofs.Common.{None, Bool, refl, sym, ap, ◌∙◌, arith, inl, inr, length-drop, cases_lt, length_push}
+use Rattle.g704_crc4.proofs.Common.{drop-append-le, drop_all, age_in, octets_since, since_start, aligned_octets, GoesOn}
+use Rattle.std.proofs.Common.{drop-cons}
+use Rattle.std.proofs.lemmas.List.{drop-drop}
 use Rattle.g704_framing.specs.Alignment.{alignments_from, alignments_of}
-use Rattle.g704_framing.specs.Age.{age_in}
 use Rattle.g704_framing.specs.Places.{place_in}
 use Rattle.g704_framing.proofs.Ages.{age-early}
 use Rattle.g704_framing.proofs.Settles.{ages_are_settled}
@@ -13,8 +13,6 @@ use Rattle.g704_align.specs.Loss.{frame_alignment}
 use Rattle.g704_align.specs.Placing.{place}
 use Rattle.g704_align.proofs.Callers.{no-age, some-age}
 use Rattle.g704_align.proofs.Searches.{frame_is_framing}
-use Rattle.g704_crc4.specs.Aligning.{octets_since, since_start, aligned_octets}
-use Rattle.g704_crc4.specs.Receivers.{GoesOn}
 use Rattle.g704_crc4.proofs.Ages.{IsAgeBefore, age_before}
 
 -- The age of an octet.

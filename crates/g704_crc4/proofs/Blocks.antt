@@ -1,13 +1,10 @@
 -- Submultiframes that are known, and how many are errored.
-use Rattle.std.proofs.Common.{◌≡◌, ℕ, zero, suc, ◌+◌, ◌-◌, ◌*◌, ◌/◌, ◌%◌, ◌<◌, ◌≤◌, Bool, true, false, not, cond}
-use Rattle.std.proofs.Common.{List, [], ◌∷◌, ◌++◌, length, Option, Some, refl, sym, ap, ◌∙◌, arith, inl, inr}
-use Rattle.std.specs.Prelude.{nat_le, ◌||◌, ◌==◌}
-use Rattle.std.proofs.lemmas.Bool.{cases_eq, cases_lt, cases_Bool, eq-eqb, ne_eqb, lt-ltb, le-ltb, and_left, and_right}
-use Rattle.g704_crc4.specs.declared.checking.Crc4Event.{Crc4Event}
-use Rattle.g704_crc4.specs.declared.checking.Crc4Event.TheVariants.{Block}
-use Rattle.g704_crc4.specs.Receiving.{si_of, check_bits_in}
-use Rattle.g704_crc4.specs.Checking.{is_right, event_of, far_end_event}
-use Rattle.g704_crc4.specs.Aligning.{count_in, errored_in, known_blocks, is_excessive}
+use Rattle.g704_crc4.proofs.Common.{◌≡◌, ℕ, zero, suc, ◌+◌, ◌-◌, ◌*◌, ◌/◌, ◌%◌, ◌<◌, ◌≤◌, Bool, true, false, cond, List}
+use Rattle.g704_crc4.proofs.Common.{[], ◌∷◌, ◌++◌, length, Option, Some, refl, sym, ap, ◌∙◌, arith, inl, inr, nat_le}
+use Rattle.g704_crc4.proofs.Common.{◌||◌, ◌==◌, cases_eq, cases_lt, cases_Bool, eq-eqb, ne_eqb, lt-ltb, le-ltb}
+use Rattle.g704_crc4.proofs.Common.{and_left, and_right, Crc4Event, Block, si_of, check_bits_in, is_right, event_of}
+use Rattle.g704_crc4.proofs.Common.{far_end_event, count_in, errored_in, known_blocks, is_excessive}
+use Rattle.std.proofs.Common.{not}
 use Rattle.g704_crc4.proofs.Received.{si-before, remainder-stays}
 
 -- Tests that agree on these numbers count alike.

@@ -1,16 +1,12 @@
 -- The check bits and the signal that a receiver finds in what is sent.
-use Rattle.std.proofs.Common.{◌≡◌, ℕ, zero, suc, ◌+◌, ◌*◌, ◌<◌, ◌≤◌, ◌/◌, ◌%◌, Bool, false, List, [], ◌∷◌}
-use Rattle.std.proofs.Common.{◌++◌, length, take, drop, refl, sym, ap, ◌∙◌, arith, inl, inr}
-use Rattle.std.specs.Prelude.{nat_le, ◌≢◌, ◌==◌, cond}
-use Rattle.std.proofs.lemmas.Bool.{cases_eq, eq-eqb, ne_eqb}
-use Rattle.std.proofs.lemmas.List.{length-take-le, length_push, take-append-drop}
-use Rattle.g704_framing.specs.Replies.{replies_after}
-use Rattle.g704_crc4.specs.declared.remainder.Remainder.{Remainder}
-use Rattle.g704_crc4.specs.Remainder.{no_remainder, remainder_of}
-use Rattle.g704_crc4.specs.Submultiframes.{each_at, submultiframe}
-use Rattle.g704_crc4.specs.Multiframe.{with_si, check_bit, si_at, octet_at, zeroed}
-use Rattle.g704_crc4.specs.Multiframe.{check_bits_after, sent_octet, sent_octets}
-use Rattle.g704_crc4.specs.Receiving.{si_of, check_bits_in, cleared_at, remainder_in, CheckBitsAreRight, SignalIsSent}
+use Rattle.g704_crc4.proofs.Common.{◌≡◌, ℕ, zero, suc, ◌+◌, ◌*◌, ◌<◌, ◌≤◌, ◌/◌, ◌%◌, Bool, false, List, [], ◌∷◌, ◌++◌}
+use Rattle.g704_crc4.proofs.Common.{length, take, drop, refl, sym, ap, ◌∙◌, arith, inl, inr, nat_le, ◌≢◌, ◌==◌}
+use Rattle.g704_crc4.proofs.Common.{cases_eq, eq-eqb, ne_eqb, length-take-le, length_push, replies_after, Remainder}
+use Rattle.g704_crc4.proofs.Common.{no_remainder, remainder_of, each_at, submultiframe, with_si, check_bit, si_at}
+use Rattle.g704_crc4.proofs.Common.{octet_at, zeroed, check_bits_after, sent_octet, sent_octets, si_of, check_bits_in}
+use Rattle.g704_crc4.proofs.Common.{cleared_at, remainder_in, CheckBitsAreRight, SignalIsSent}
+use Rattle.std.specs.Prelude.{cond}
+use Rattle.std.proofs.lemmas.List.{take-append-drop}
 use Rattle.g704_crc4.proofs.Submultiframes.{part-stays}
 use Rattle.g704_crc4.proofs.Sent.{with-low, at-frame, at-other, si-sent}
 use Rattle.g704_crc4.proofs.Steps.{check-bits-are}

@@ -1,16 +1,10 @@
 -- A checker and its history, one octet more.
-use Rattle.std.proofs.Common.{◌≡◌, ℕ, ◌+◌, ◌*◌, ◌-◌, ◌/◌, ◌%◌, Bool, true, false, List, [], ◌∷◌, None, cond}
-use Rattle.std.proofs.Common.{◌++◌, length, refl, sym, ap, ◌∙◌, arith, inl, inr}
-use Rattle.std.specs.Prelude.{◌≢◌, nat_le, ◌==◌}
-use Rattle.std.proofs.lemmas.Bool.{cases_eq, cases_lt, eq-eqb, ne_eqb, le-leb, lt-leb, lt-ltb, le-ltb}
-use Rattle.std.proofs.lemmas.List.{length_push}
-use Rattle.g704_crc4.specs.declared.remainder.Remainder.{Remainder}
-use Rattle.g704_crc4.specs.declared.checking.Checker.{Checker}
-use Rattle.g704_crc4.specs.Remainder.{no_remainder, after_octet, sent_bits, remainder_of, crc_number}
-use Rattle.g704_crc4.specs.Submultiframes.{each_at, submultiframe}
-use Rattle.g704_crc4.specs.Receiving.{si_of, check_bits_in, cleared_at, cleared, remainder_in}
-use Rattle.g704_crc4.specs.Checking.{same, check_bits_with, far_end_event, block_event, is_right, event_of}
-use Rattle.g704_crc4.specs.States.{ChecksAfter}
+use Rattle.g704_crc4.proofs.Common.{◌≡◌, ℕ, ◌+◌, ◌*◌, ◌-◌, ◌/◌, ◌%◌, Bool, true, false, List, [], ◌∷◌, None, cond, ◌++◌}
+use Rattle.g704_crc4.proofs.Common.{length, refl, sym, ap, ◌∙◌, arith, inl, inr, ◌≢◌, nat_le, ◌==◌, cases_eq, cases_lt}
+use Rattle.g704_crc4.proofs.Common.{eq-eqb, ne_eqb, le-leb, lt-leb, lt-ltb, le-ltb, length_push, Remainder, Checker}
+use Rattle.g704_crc4.proofs.Common.{no_remainder, after_octet, sent_bits, remainder_of, crc_number, each_at}
+use Rattle.g704_crc4.proofs.Common.{submultiframe, si_of, check_bits_in, cleared_at, cleared, remainder_in, same}
+use Rattle.g704_crc4.proofs.Common.{check_bits_with, far_end_event, block_event, is_right, event_of, ChecksAfter}
 use Rattle.g704_crc4.proofs.Submultiframes.{remainder-grows, remainder-none}
 use Rattle.g704_crc4.proofs.CheckBits.{by-bits}
 use Rattle.g704_crc4.proofs.Received.{remainder-stays, si-here, first, second, third, fourth}

@@ -1,10 +1,8 @@
 -- Counts, one octet more.
-use Rattle.std.proofs.Common.{◌≡◌, ℕ, suc, ◌+◌, ◌<◌, ◌≤◌, List, [], ◌∷◌, ◌++◌, length, take, drop, get_or, refl, sym}
-use Rattle.std.proofs.Common.{arith}
-use Rattle.std.proofs.Math.Seq.{take-suc, drop-cons}
-use Rattle.std.proofs.lemmas.List.{drop_all}
+use Rattle.g704_crc4.proofs.Common.{◌≡◌, ℕ, suc, ◌+◌, ◌<◌, ◌≤◌, List, [], ◌∷◌, ◌++◌, length, take, drop, get_or, refl}
+use Rattle.g704_crc4.proofs.Common.{sym, arith, take-suc, drop_all, counts_with, event_of, counts_after}
+use Rattle.std.proofs.Math.Seq.{drop-cons}
 use Rattle.g704_crc4.specs.declared.checking.Counts.{Counts}
-use Rattle.g704_crc4.specs.Checking.{counts_with, event_of, counts_after}
 
 -- The counts take the next octet.
 pub count-more : (octets : List ℕ) (i : ℕ) (counts : Counts) → i < length octets

@@ -1,14 +1,11 @@
 -- What is counted, one octet more.
-use Rattle.std.proofs.Common.{◌≡◌, ℕ, ◌+◌, ◌-◌, ◌^◌, Bool, true, false, List, [], ◌∷◌, ◌++◌, Option, None, sym, ap, ◌∙◌}
-use Rattle.std.proofs.Common.{arith, append_assoc, append-nil}
-use Rattle.std.specs.Prelude.{min}
+use Rattle.g704_crc4.proofs.Common.{◌≡◌, ℕ, ◌+◌, ◌-◌, ◌^◌, Bool, true, false, List, [], ◌∷◌, ◌++◌, Option, None, sym}
+use Rattle.g704_crc4.proofs.Common.{ap, ◌∙◌, arith, append_assoc, append-nil, min, bit_number, learned, tells_given_up}
+use Rattle.g704_crc4.proofs.Common.{times_after, receiver_counts_with}
 use Rattle.g704_crc4.specs.declared.receiving.ReceiverEvent.{ReceiverEvent}
 use Rattle.g704_crc4.specs.declared.counting.ReceiverCounts.{ReceiverCounts}
-use Rattle.g704_crc4.specs.Remainder.{bit_number}
-use Rattle.g704_crc4.specs.Aligning.{learned}
-use Rattle.g704_crc4.specs.ReceiverCounts.{tells_block, tells_errored, tells_far_end, tells_found, tells_lost}
-use Rattle.g704_crc4.specs.ReceiverCounts.{tells_given_up, times_after, times, count_with, receiver_counts_with}
-use Rattle.g704_crc4.specs.ReceiverCounts.{receiver_counts_of}
+use Rattle.g704_crc4.specs.ReceiverCounts.{tells_block, tells_errored, tells_far_end, tells_found, tells_lost, times}
+use Rattle.g704_crc4.specs.ReceiverCounts.{count_with, receiver_counts_of}
 
 -- How many octets have an event, with one more octet.
 times-push : (passes : Option ReceiverEvent → Bool) (before octets : List ℕ) (x : ℕ)

@@ -1,9 +1,7 @@
 -- Division by the generator, one bit of the dividend more.
-use Rattle.std.proofs.Common.{◌≡◌, ℕ, zero, suc, Bool, true, false, List, [], ◌∷◌, refl, sym, ap, ◌∙◌}
-use Rattle.g704_crc4.specs.declared.remainder.Remainder.{Remainder}
-use Rattle.g704_crc4.specs.Remainder.{add, no_remainder, with_bit, after_bits}
+use Rattle.g704_crc4.proofs.Common.{◌≡◌, ℕ, zero, suc, Bool, true, false, List, [], ◌∷◌, refl, sym, ap, ◌∙◌, Remainder}
+use Rattle.g704_crc4.proofs.Common.{add, no_remainder, with_bit, after_bits, false≢true}
 use Rattle.g704_crc4.specs.Polynomials.{coefficient, HaveSameCoefficients, sum, times_x, times, generator, of_remainder}
-use Rattle.std.proofs.lemmas.Bool.{false≢true}
 use Rattle.g704_crc4.specs.Polynomials.{polynomial_after, Leaves, RemainderIsLeft}
 
 -- Nothing added.

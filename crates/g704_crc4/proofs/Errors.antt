@@ -1,12 +1,7 @@
 -- What a remainder finds.
-use Rattle.std.proofs.Common.{◌≡◌, Bool, true, false, List, [], ◌∷◌, refl, sym, ap, ◌∙◌}
-use Rattle.std.specs.Prelude.{not}
-use Rattle.std.proofs.lemmas.Bool.{false≢true, true≢false}
-use Rattle.g704_crc4.specs.declared.remainder.Remainder.{Remainder}
-use Rattle.g704_crc4.specs.Remainder.{add, no_remainder, with_bit, after_bits}
-use Rattle.g704_crc4.specs.Checking.{same, is_right, SentIsRight, OneErrorIsFound}
-use Rattle.g704_crc4.specs.Receiving.{remainder_in}
-use Rattle.g704_crc4.specs.Multiframe.{sent_octets}
+use Rattle.g704_crc4.proofs.Common.{◌≡◌, Bool, true, false, List, [], ◌∷◌, refl, sym, ap, ◌∙◌, not, false≢true}
+use Rattle.g704_crc4.proofs.Common.{true≢false, Remainder, add, no_remainder, with_bit, after_bits, same, is_right}
+use Rattle.g704_crc4.proofs.Common.{SentIsRight, OneErrorIsFound, remainder_in, sent_octets}
 use Rattle.g704_crc4.proofs.Submultiframes.{after-append}
 use Rattle.g704_crc4.proofs.CheckBits.{by-bits, right_check_bits}
 

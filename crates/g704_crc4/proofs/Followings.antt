@@ -1,20 +1,12 @@
 -- Submultiframes of a frame alignment, one octet more.
-use Rattle.std.proofs.Common.{◌≡◌, ℕ, ◌+◌, ◌-◌, ◌*◌, ◌/◌, ◌%◌, ◌<◌, ◌≤◌, Bool, true, false, cond, List, [], ◌∷◌, ◌++◌}
-use Rattle.std.proofs.Common.{length, drop, Option, Some, None, refl, sym, ap, ◌∙◌, arith, inl, inr, subst, length-drop}
-use Rattle.std.specs.Prelude.{nat_le, option_map, ◌==◌, if◌then◌else◌}
-use Rattle.std.proofs.lemmas.Bool.{cases_Bool, cases_eq, eq-eqb, ne_eqb, false≢true, cases_lt, le-leb}
-use Rattle.std.proofs.lemmas.List.{length_push, drop-append-le, take-append-le, drop_all}
-use Rattle.g704_crc4.specs.declared.checking.Checker.{Checker}
-use Rattle.g704_crc4.specs.declared.checking.Crc4Event.{Crc4Event}
-use Rattle.g704_crc4.specs.declared.checking.Crc4Event.TheVariants.{Block}
+use Rattle.g704_crc4.proofs.Common.{◌≡◌, ℕ, ◌+◌, ◌-◌, ◌*◌, ◌/◌, ◌%◌, ◌<◌, ◌≤◌, Bool, true, false, cond, List, [], ◌∷◌}
+use Rattle.g704_crc4.proofs.Common.{◌++◌, length, drop, Option, Some, None, refl, sym, ap, ◌∙◌, arith, inl, inr, subst}
+use Rattle.g704_crc4.proofs.Common.{length-drop, nat_le, option_map, ◌==◌, if◌then◌else◌, cases_Bool, cases_eq, eq-eqb}
+use Rattle.g704_crc4.proofs.Common.{ne_eqb, false≢true, cases_lt, le-leb, length_push, drop-append-le, take-append-le}
+use Rattle.g704_crc4.proofs.Common.{drop_all, Checker, Crc4Event, Block, GivenUp, Received, is_right, event_of}
+use Rattle.g704_crc4.proofs.Common.{ChecksAfter, searched_octets, multiframe_in, octets_from, checked_octets}
+use Rattle.g704_crc4.proofs.Common.{known_blocks, errored_in, is_excessive, followed, tells_given_up, IsFollowed}
 use Rattle.g704_crc4.specs.declared.receiving.SubmultiframeCheck.{SubmultiframeCheck}
-use Rattle.g704_crc4.specs.declared.receiving.ReceiverEvent.TheVariants.{GivenUp, Received}
-use Rattle.g704_crc4.specs.Checking.{is_right, event_of}
-use Rattle.g704_crc4.specs.States.{ChecksAfter}
-use Rattle.g704_crc4.specs.Aligning.{searched_octets, multiframe_in, octets_from, checked_octets}
-use Rattle.g704_crc4.specs.Aligning.{known_blocks, errored_in, is_excessive, followed}
-use Rattle.g704_crc4.specs.ReceiverCounts.{tells_given_up}
-use Rattle.g704_crc4.specs.Receivers.{IsFollowed}
 use Rattle.g704_crc4.proofs.Blocks.{errored-stays, errored-more, errored-none, block-came, excessive-is}
 
 -- After the 8 ms, later octets do not change where multiframes begin in them.

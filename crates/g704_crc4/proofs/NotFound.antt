@@ -1,10 +1,6 @@
 -- Frames at which no multiframe begins.
-use Rattle.std.proofs.Common.{◌≡◌, ℕ, ◌+◌, ◌*◌, ◌≤◌, ◌/◌, false, List, length, ap, arith}
-use Rattle.std.specs.Prelude.{nat_le}
-use Rattle.std.proofs.lemmas.Bool.{and_left, and_right}
-use Rattle.std.proofs.lemmas.List.{get_or_past}
-use Rattle.g704_crc4.specs.Receiving.{si_of}
-use Rattle.g704_crc4.specs.Searching.{has_signal, begins_multiframe}
+use Rattle.g704_crc4.proofs.Common.{◌≡◌, ℕ, ◌+◌, ◌*◌, ◌≤◌, ◌/◌, false, List, length, ap, arith, nat_le, and_left}
+use Rattle.g704_crc4.proofs.Common.{and_right, get_or_past, si_of, has_signal, begins_multiframe}
 
 -- After the end the Si bit is zero.
 pub si-past : (octets : List ℕ) (frame : ℕ) → length octets ≤ 32 * frame → si_of octets frame ≡ false

@@ -1,10 +1,7 @@
 -- Remainders as numbers.
-use Rattle.std.proofs.Common.{◌≡◌, ℕ, ◌*◌, ◌<◌, Bool, true, false, get_or, refl, arith}
-use Rattle.std.specs.Prelude.{◌==◌, bit_xor}
-use Rattle.std.proofs.lemmas.Bool.{agree_below, agree_below_at, eqb-true}
-use Rattle.g704_crc4.specs.declared.remainder.Remainder.{Remainder}
+use Rattle.g704_crc4.proofs.Common.{◌≡◌, ℕ, ◌*◌, ◌<◌, Bool, true, false, get_or, refl, arith, ◌==◌, bit_xor}
+use Rattle.g704_crc4.proofs.Common.{agree_below, agree_below_at, eqb-true, Remainder, after_octet, crc_number}
 use Rattle.g704_crc4.specs.declared.table.TheConstants.{REMAINDERS}
-use Rattle.g704_crc4.specs.Remainder.{after_octet, crc_number}
 
 -- The table has the remainder with an octet more.
 abbrev is_entry : Remainder → ℕ → Bool

@@ -1,18 +1,14 @@
 -- The parts of a stream between the octets by which frame alignment is given up.
-use Rattle.std.proofs.Common.{◌≡◌, ℕ, zero, suc, ◌+◌, ◌-◌, ◌<◌, ◌≤◌, List, [], ◌∷◌, ◌++◌, length, take, drop, get_or}
-use Rattle.std.proofs.Common.{Option, None, refl, sym, ap, ◌∙◌, arith, append-nil, true, false}
+use Rattle.g704_crc4.proofs.Common.{◌≡◌, ℕ, zero, suc, ◌+◌, ◌-◌, ◌<◌, ◌≤◌, List, [], ◌∷◌, ◌++◌, length, take, drop}
+use Rattle.g704_crc4.proofs.Common.{get_or, Option, None, refl, sym, ap, ◌∙◌, arith, append-nil, true, false, take-suc}
+use Rattle.g704_crc4.proofs.Common.{drop-append_seam, length_push, take_all, age_in, IsFraming, RestartsAfter, last_of}
+use Rattle.g704_crc4.proofs.Common.{octets_since, since_start, is_given_up, aligned_octets, parts, part_before}
 use Rattle.std.proofs.Common.{length-append}
-use Rattle.std.proofs.Math.Seq.{take-suc, drop-append_seam}
-use Rattle.std.proofs.lemmas.List.{length_push, take_all}
 use Rattle.g704_framing.specs.Alignment.{alignments_of}
-use Rattle.g704_framing.specs.Age.{age_in}
-use Rattle.g704_framing.specs.Laws.{IsFraming}
-use Rattle.g704_framing.specs.Restart.{RestartsAfter, last_of}
 use Rattle.g704_framing.proofs.Ages.{age-over, age-at_over, age-standing}
 use Rattle.g704_framing.proofs.Ends.{alignments-standing, RestartsAfter-lost, kept-more}
 use Rattle.g704_framing.proofs.Searches.{StaysFound, later-found, FoundAfter, later-after, few-after}
-use Rattle.g704_crc4.specs.Aligning.{octets_since, since_start, octets_before, is_given_up}
-use Rattle.g704_crc4.specs.Aligning.{aligned_octets, position_in, parts, part_before}
+use Rattle.g704_crc4.specs.Aligning.{octets_before, position_in}
 
 -- The octets before a position that is not past the end.
 octets-taken : (octets : List ℕ) (n : ℕ) → n ≤ length octets → octets_before octets n ≡ take n octets

@@ -1,15 +1,9 @@
 -- What a receiver has of a stream, one octet more.
-use Rattle.std.proofs.Common.{◌≡◌, ℕ, ◌+◌, ◌*◌, ◌<◌, ◌≤◌, ◌/◌, ◌%◌, Bool, cond, List, [], ◌∷◌, ◌++◌, length}
-use Rattle.std.proofs.Common.{sym, ap, ◌∙◌, arith, inl, inr}
-use Rattle.std.specs.Prelude.{◌==◌, nat_le}
-use Rattle.std.proofs.lemmas.Bool.{cases_eq, eq-eqb, ne_eqb}
-use Rattle.std.proofs.lemmas.List.{get_or_append_left, get_or_push}
-use Rattle.g704_crc4.specs.declared.remainder.Remainder.{Remainder}
-use Rattle.g704_crc4.specs.declared.checking.Checker.{Checker}
-use Rattle.g704_crc4.specs.Remainder.{remainder_of}
-use Rattle.g704_crc4.specs.Receiving.{si_of, cleared_at, remainder_in}
-use Rattle.g704_crc4.specs.Checking.{check_bits_with}
-use Rattle.g704_crc4.specs.States.{ChecksAfter}
+use Rattle.g704_crc4.proofs.Common.{◌≡◌, ℕ, ◌+◌, ◌*◌, ◌<◌, ◌≤◌, ◌/◌, ◌%◌, Bool, cond, List, [], ◌∷◌, ◌++◌, length, sym}
+use Rattle.g704_crc4.proofs.Common.{ap, ◌∙◌, arith, inl, inr, ◌==◌, nat_le, cases_eq, eq-eqb, ne_eqb, get_or_push}
+use Rattle.g704_crc4.proofs.Common.{Remainder, Checker, remainder_of, si_of, cleared_at, remainder_in, check_bits_with}
+use Rattle.g704_crc4.proofs.Common.{ChecksAfter}
+use Rattle.std.proofs.lemmas.List.{get_or_append_left}
 use Rattle.g704_crc4.proofs.Submultiframes.{part-stays}
 
 -- The remainder of a whole submultiframe stays the same.

@@ -1,11 +1,9 @@
 -- What is reported by E bits, one arrival more.
-use Rattle.std.proofs.Common.{◌≡◌, ℕ, ◌+◌, ◌-◌, ◌%◌, ◌^◌, ◌≤◌, Bool, true, false, List, [], ◌∷◌, ◌++◌}
-use Rattle.std.proofs.Common.{refl, sym, ap, ◌∙◌, arith, append_assoc, append-nil, inl, inr}
-use Rattle.std.specs.Prelude.{◌≢◌, min, cond, not, ◌&&◌, ◌==◌}
-use Rattle.std.proofs.lemmas.Bool.{cases_eq, eq-eqb, ne_eqb}
+use Rattle.g704_crc4.proofs.Common.{◌≡◌, ℕ, ◌+◌, ◌-◌, ◌%◌, ◌^◌, ◌≤◌, Bool, true, false, List, [], ◌∷◌, ◌++◌, refl, sym}
+use Rattle.g704_crc4.proofs.Common.{ap, ◌∙◌, arith, append_assoc, append-nil, inl, inr, ◌≢◌, min, not, ◌&&◌, ◌==◌}
+use Rattle.g704_crc4.proofs.Common.{cases_eq, eq-eqb, ne_eqb, bit_number, with_si}
+use Rattle.std.specs.Prelude.{cond}
 use Rattle.g704_crc4.specs.declared.reporting.EBitReporter.{EBitReporter}
-use Rattle.g704_crc4.specs.Remainder.{bit_number}
-use Rattle.g704_crc4.specs.Multiframe.{with_si}
 use Rattle.g704_crc4.specs.Reporting.{SenderInput, Octet, Errored, octet_count, errored_in_all, has_e_bit}
 use Rattle.g704_crc4.specs.Reporting.{unreported_after, unreported, octet_with_e, is_reported_by, zeros_after}
 use Rattle.g704_crc4.specs.Reporting.{EachIsReported, NoneIsReported, ReportsAfter}

@@ -1,14 +1,11 @@
 -- The definitions on worked examples, by computing.
-use Rattle.std.proofs.Common.{◌≡◌, ℕ, zero, suc, ◌+◌, ◌%◌, List, [], ◌∷◌, ◌++◌, true, false, Some, None, refl}
-use Rattle.std.specs.Prelude.{replicate, nat_le}
+use Rattle.g704_crc4.proofs.Common.{◌≡◌, ℕ, zero, suc, ◌+◌, ◌%◌, List, [], ◌∷◌, ◌++◌, true, false, Some, None, refl}
+use Rattle.g704_crc4.proofs.Common.{replicate, nat_le, remainder_of, sent_bits, each_at, submultiframe, si_of}
+use Rattle.g704_crc4.proofs.Common.{remainder_in, has_signal, begins_multiframe, searched_octets, multiframe_in}
+use Rattle.g704_crc4.proofs.Common.{count_in}
 use Rattle.g704_framing.specs.Least.{least}
-use Rattle.g704_crc4.specs.Remainder.{remainder_of, sent_bits}
-use Rattle.g704_crc4.specs.Submultiframes.{each_at, submultiframe}
-use Rattle.g704_crc4.specs.Receiving.{si_of, remainder_in}
-use Rattle.g704_crc4.specs.Searching.{has_signal, begins_multiframe}
 use Rattle.g704_crc4.specs.Reporting.{SenderInput, Octet, Errored, octet_count, has_e_bit}
 use Rattle.g704_crc4.specs.Reporting.{unreported_after, unreported, octet_with_e}
-use Rattle.g704_crc4.specs.Aligning.{searched_octets, multiframe_in, count_in}
 
 -- Octets that count up from this one.
 ramp : ℕ → ℕ → List ℕ

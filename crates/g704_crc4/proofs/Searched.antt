@@ -1,15 +1,11 @@
 -- What a receiver learns by the octets of a frame alignment, before, at and after the end of the 8 ms.
-use Rattle.std.proofs.Common.{◌≡◌, ℕ, ◌+◌, ◌*◌, ◌%◌, ◌<◌, ◌≤◌, true, false, List, [], ◌∷◌, ◌++◌, length, drop, Option}
-use Rattle.std.proofs.Common.{Some, None, refl, sym, ap, ◌∙◌, arith, inl, inr, length-drop}
-use Rattle.std.specs.Prelude.{◌==◌}
-use Rattle.std.proofs.lemmas.Bool.{eq-eqb, ne_eqb, lt-ltb, le-ltb, and_left, cases_lt, false≢true}
-use Rattle.std.proofs.lemmas.List.{length_push, drop_all, take_all}
+use Rattle.g704_crc4.proofs.Common.{◌≡◌, ℕ, ◌+◌, ◌*◌, ◌%◌, ◌<◌, ◌≤◌, true, false, List, [], ◌∷◌, ◌++◌, length, drop}
+use Rattle.g704_crc4.proofs.Common.{Option, Some, None, refl, sym, ap, ◌∙◌, arith, inl, inr, length-drop, ◌==◌, eq-eqb}
+use Rattle.g704_crc4.proofs.Common.{ne_eqb, lt-ltb, le-ltb, and_left, cases_lt, false≢true, length_push, drop_all}
+use Rattle.g704_crc4.proofs.Common.{take_all, Found, Lost, begins_multiframe, searched_octets, multiframe_in}
+use Rattle.g704_crc4.proofs.Common.{octets_from, checked_octets, is_excessive, is_given_up, followed, learned_of}
 use Rattle.g704_framing.proofs.Leasts.{least_equals}
-use Rattle.g704_crc4.specs.declared.receiving.ReceiverEvent.TheVariants.{Found, Lost}
-use Rattle.g704_crc4.specs.Searching.{begins_multiframe}
-use Rattle.g704_crc4.specs.Aligning.{searched_octets, multiframe_in, octets_from, checked_octets}
-use Rattle.g704_crc4.specs.Aligning.{is_false, is_excessive, is_multiframe_found, has_multiframes, is_given_up}
-use Rattle.g704_crc4.specs.Aligning.{followed, learned_of}
+use Rattle.g704_crc4.specs.Aligning.{is_false, is_multiframe_found, has_multiframes}
 use Rattle.g704_crc4.proofs.NotFound.{none-past}
 use Rattle.g704_crc4.proofs.Blocks.{not_excessive}
 use Rattle.g704_crc4.proofs.Followings.{multiframe-stays, checked-is, followed-nothing}

@@ -1,14 +1,11 @@
 -- The octets that are sent, one for each that comes.
-use Rattle.std.proofs.Common.{◌≡◌, ℕ, zero, suc, ◌+◌, ◌*◌, ◌<◌, ◌/◌, ◌%◌, Bool, true, false, List, [], ◌∷◌}
-use Rattle.std.proofs.Common.{◌++◌, length, take, refl, sym, ap, ◌∙◌, arith, append_assoc, inl, inr}
-use Rattle.std.specs.Prelude.{◌≢◌, slice_index, nat_le}
-use Rattle.std.proofs.lemmas.Bool.{cases_eq, eq-eqb, ne_eqb, le-leb, lt-leb, cases_lt}
-use Rattle.std.proofs.lemmas.List.{append-nil, get_or_past, length-take-le}
-use Rattle.g704_framing.specs.Replies.{replies_after}
+use Rattle.g704_crc4.proofs.Common.{◌≡◌, ℕ, zero, suc, ◌+◌, ◌*◌, ◌<◌, ◌/◌, ◌%◌, Bool, true, false, List, [], ◌∷◌, ◌++◌}
+use Rattle.g704_crc4.proofs.Common.{length, take, refl, sym, ap, ◌∙◌, arith, append_assoc, inl, inr, ◌≢◌, slice_index}
+use Rattle.g704_crc4.proofs.Common.{nat_le, cases_eq, eq-eqb, ne_eqb, le-leb, lt-leb, cases_lt, get_or_past}
+use Rattle.g704_crc4.proofs.Common.{length-take-le, replies_after, Remainder, with_si, si_at, octet_at}
+use Rattle.g704_crc4.proofs.Common.{check_bits_after, sent_octet, sent_octets, si_of, LengthIsKept, OthersAreKept}
+use Rattle.std.proofs.lemmas.List.{append-nil}
 use Rattle.g704_framing.proofs.Replies.{length-replies}
-use Rattle.g704_crc4.specs.declared.remainder.Remainder.{Remainder}
-use Rattle.g704_crc4.specs.Multiframe.{with_si, si_at, octet_at, check_bits_after, sent_octet, sent_octets}
-use Rattle.g704_crc4.specs.Receiving.{si_of, LengthIsKept, OthersAreKept}
 
 -- One octet is sent for each that comes.
 pub kept_length : LengthIsKept

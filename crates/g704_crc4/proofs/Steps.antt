@@ -1,15 +1,9 @@
 -- A multiframer and its history, one octet more.
-use Rattle.std.proofs.Common.{◌≡◌, ℕ, ◌+◌, ◌-◌, ◌/◌, ◌%◌, List, [], ◌∷◌, ◌++◌, length}
-use Rattle.std.proofs.Common.{refl, sym, ap, ◌∙◌, arith, inl, inr}
-use Rattle.std.specs.Prelude.{◌≢◌}
-use Rattle.std.proofs.lemmas.List.{length_push}
-use Rattle.std.proofs.lemmas.Bool.{cases_eq, ne_eqb}
-use Rattle.g704_crc4.specs.declared.remainder.Remainder.{Remainder}
+use Rattle.g704_crc4.proofs.Common.{◌≡◌, ℕ, ◌+◌, ◌-◌, ◌/◌, ◌%◌, List, [], ◌∷◌, ◌++◌, length, refl, sym, ap, ◌∙◌, arith}
+use Rattle.g704_crc4.proofs.Common.{inl, inr, ◌≢◌, length_push, cases_eq, ne_eqb, Remainder, no_remainder, after_octet}
+use Rattle.g704_crc4.proofs.Common.{sent_bits, remainder_of, crc_number, each_at, submultiframe, octet_at, zeroed}
+use Rattle.g704_crc4.proofs.Common.{check_bits_after, SendsAfter, SendsNext}
 use Rattle.g704_crc4.specs.declared.sending.Crc4Inserter.{Crc4Inserter}
-use Rattle.g704_crc4.specs.Remainder.{no_remainder, after_octet, sent_bits, remainder_of, crc_number}
-use Rattle.g704_crc4.specs.Submultiframes.{each_at, submultiframe}
-use Rattle.g704_crc4.specs.Multiframe.{octet_at, zeroed, check_bits_after}
-use Rattle.g704_crc4.specs.States.{SendsAfter, SendsNext}
 use Rattle.g704_crc4.proofs.Submultiframes.{part-stays, remainder-grows, remainder-none}
 
 -- A multiframer that has sent nothing.

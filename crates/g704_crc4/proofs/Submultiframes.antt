@@ -1,10 +1,9 @@
 -- Octets changed by their places, and the submultiframes of a stream as it grows.
-use Rattle.std.proofs.Common.{◌≡◌, ℕ, suc, ◌+◌, ◌*◌, ◌≤◌, ◌/◌, Bool, List, [], ◌∷◌, ◌++◌, length, drop}
-use Rattle.std.proofs.Common.{refl, sym, ap, ◌∙◌, arith, append_assoc, length-drop}
-use Rattle.std.proofs.lemmas.List.{take-append-le, drop-append-le, take_all, drop_all, length_push}
-use Rattle.g704_crc4.specs.declared.remainder.Remainder.{Remainder}
-use Rattle.g704_crc4.specs.Remainder.{no_remainder, after_bits, after_octet, bits_in, sent_bits, remainder_of}
-use Rattle.g704_crc4.specs.Submultiframes.{each_at, submultiframe}
+use Rattle.g704_crc4.proofs.Common.{◌≡◌, ℕ, suc, ◌+◌, ◌*◌, ◌≤◌, ◌/◌, Bool, List, [], ◌∷◌, ◌++◌, length, drop, refl, sym}
+use Rattle.g704_crc4.proofs.Common.{ap, ◌∙◌, arith, append_assoc, length-drop, take-append-le, drop-append-le, take_all}
+use Rattle.g704_crc4.proofs.Common.{drop_all, length_push, Remainder, no_remainder, after_bits, after_octet, sent_bits}
+use Rattle.g704_crc4.proofs.Common.{remainder_of, each_at, submultiframe}
+use Rattle.g704_crc4.specs.Remainder.{bits_in}
 
 -- The remainder of bits, and of others after them.
 pub after-append : (left : Remainder) (bits others : List Bool)

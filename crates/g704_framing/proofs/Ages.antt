@@ -1,13 +1,10 @@
 -- Ages in a stream that restarts after some octets.
 use Rattle.std.proofs.Common.{◌≡◌, ℕ, suc, ◌+◌, ◌-◌, ◌<◌, ◌≤◌, List, [], ◌∷◌, ◌++◌, length, map, true, false}
 use Rattle.std.proofs.Common.{Option, Some, None, refl, sym, ap, ◌∙◌, arith, ltb, leb}
-use Rattle.std.specs.Prelude.{option_map}
+use Rattle.g704_framing.proofs.Common.{option_map, le-ltb, lt-leb, le-leb, and_left, and_right, nat_tests, Framing}
+use Rattle.g704_framing.proofs.Common.{AlignmentSpan, alignments_from, is_before_loss, is_standing, age_in, moved}
+use Rattle.g704_framing.proofs.Common.{IsLostBefore, AllLostBefore, RestartsAfter, last_of}
 use Rattle.std.proofs.lemmas.List.{append-nil}
-use Rattle.std.proofs.lemmas.Bool.{le-ltb, lt-leb, le-leb, and_left, and_right}
-use Rattle.std.proofs.lemmas.Bool.Decides.{nat_tests}
-use Rattle.g704_framing.specs.Alignment.{Framing, AlignmentSpan, alignments_from}
-use Rattle.g704_framing.specs.Age.{is_before_loss, is_standing, age_in}
-use Rattle.g704_framing.specs.Restart.{moved, IsLostBefore, AllLostBefore, RestartsAfter, last_of}
 use Rattle.g704_framing.proofs.Moves.{map-moved_zero}
 
 -- comparing positions does not depend on their origin

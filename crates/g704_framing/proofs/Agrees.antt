@@ -1,16 +1,11 @@
 -- Streams that are aligned alike have the same alignments.
 use Rattle.std.proofs.Common.{◌≡◌, ℕ, suc, ◌+◌, ◌-◌, ◌<◌, ◌≤◌, List, [], ◌∷◌, length, drop, Bool}
 use Rattle.std.proofs.Common.{Option, Some, None, refl, sym, ap, ◌∙◌, subst, arith, length-drop}
-use Rattle.std.specs.Prelude.{option_map}
-use Rattle.std.specs.List.{AllByRecursion}
-use Rattle.std.proofs.lemmas.List.Elements.{recursion_from_All}
-use Rattle.std.proofs.lemmas.Option.{same_Some}
-use Rattle.g704_framing.specs.Least.{least}
-use Rattle.g704_framing.specs.Alignment.{Framing, AlignmentSpan, loss, alignments_from, search_ends_of}
-use Rattle.g704_framing.specs.Laws.{IsFraming, IsUpToLoss, IsLostAlike, AlignmentsAreAlike}
+use Rattle.g704_framing.proofs.Common.{option_map, AllByRecursion, recursion_from_All, same_Some, least, Framing}
+use Rattle.g704_framing.proofs.Common.{AlignmentSpan, loss, alignments_from, search_ends_of, after_search, after_loss}
+use Rattle.g704_framing.proofs.Common.{IsFraming, IsUpToLoss, IsLostAlike, AlignmentsAreAlike}
 use Rattle.g704_framing.proofs.Leasts.{IsLeast, least-is, least_equals, reach, least_alike}
 use Rattle.g704_framing.proofs.Moves.{same_alignment}
-use Rattle.g704_framing.specs.Alignment.{after_search, after_loss}
 use Rattle.g704_framing.proofs.Turns.{alignments_turns}
 
 -- up to the loss is also what comes before

@@ -1,16 +1,12 @@
 -- Histories after which everything restarts.
 use Rattle.std.proofs.Common.{◌≡◌, ℕ, suc, ◌+◌, ◌<◌, ◌≤◌, List, [], ◌∷◌, ◌++◌, length, map, true, false}
 use Rattle.std.proofs.Common.{Option, Some, None, refl, sym, ap, ◌∙◌, arith, add-one, append_assoc, inl, inr}
-use Rattle.std.specs.Prelude.{option_map}
+use Rattle.g704_framing.proofs.Common.{option_map, cases_eq, least, Framing, AlignmentSpan, loss, alignments_from}
+use Rattle.g704_framing.proofs.Common.{after_search, after_loss, moved, IsLostBefore, AllLostBefore, RestartsAfter}
+use Rattle.g704_framing.proofs.Common.{last_of, IsFraming}
 use Rattle.std.proofs.lemmas.List.{append-nil, length-append, length_push, map-append, get_or_append_left}
-use Rattle.std.proofs.lemmas.Bool.{cases_eq}
-use Rattle.g704_framing.specs.Least.{least}
-use Rattle.g704_framing.specs.Alignment.{Framing, AlignmentSpan, loss, alignments_from}
-use Rattle.g704_framing.specs.Restart.{moved, IsLostBefore, AllLostBefore, RestartsAfter, last_of}
-use Rattle.g704_framing.specs.Laws.{IsFraming}
 use Rattle.g704_framing.proofs.Leasts.{IsLeast, least_equals}
 use Rattle.g704_framing.proofs.Moves.{option_map-zero, map-moved_zero, map-moved_add}
-use Rattle.g704_framing.specs.Alignment.{after_search, after_loss}
 use Rattle.g704_framing.proofs.Turns.{alignments_turns, alignments-append, onto}
 
 -- the empty history is over

@@ -1,20 +1,13 @@
 -- Octets that no search and no loss reads change no alignment.
 use Rattle.std.proofs.Common.{◌≡◌, ℕ, zero, suc, ◌+◌, ◌-◌, ◌%◌, ◌<◌, ◌≤◌, List, [], ◌∷◌, ◌++◌, length, drop, take}
-use Rattle.std.proofs.Common.{get_or}
-use Rattle.std.proofs.Common.{Bool, true, false, cond, Option, Some, None, refl, sym, ap, ◌∙◌, subst, arith}
+use Rattle.std.proofs.Common.{get_or, Bool, true, false, cond, Option, Some, None, refl, sym, ap, ◌∙◌, subst, arith}
 use Rattle.std.proofs.Common.{length-drop, inl, inr}
-use Rattle.std.specs.Prelude.{option_map, slice_index}
-use Rattle.std.specs.List.{AllByRecursion}
-use Rattle.std.proofs.lemmas.List.Elements.{All-from_recursion}
-use Rattle.std.proofs.lemmas.Option.{same_Some}
+use Rattle.g704_framing.proofs.Common.{option_map, slice_index, AllByRecursion, All-from_recursion, same_Some, cases_lt}
+use Rattle.g704_framing.proofs.Common.{lt-leb, le-ltb, and_left, and_right, Framing, AlignmentSpan, loss}
+use Rattle.g704_framing.proofs.Common.{alignments_from, after_search, after_loss, is_standing, age_in, last_of}
+use Rattle.g704_framing.proofs.Common.{IsFraming, IsFoundAfter, IsRead, IsUpToLoss, AgreeAlong, OthersAreNotRead}
 use Rattle.std.proofs.lemmas.List.{ext_get_or, get_or-drop, take-append-drop, length-take-le, get_or_append_left}
-use Rattle.std.proofs.lemmas.Bool.{cases_lt, lt-leb, le-ltb, and_left, and_right}
-use Rattle.g704_framing.specs.Alignment.{Framing, AlignmentSpan, loss, alignments_from}
-use Rattle.g704_framing.specs.Age.{is_standing, age_in}
-use Rattle.g704_framing.specs.Restart.{last_of}
-use Rattle.g704_framing.specs.Laws.{IsFraming, IsFoundAfter, IsRead, IsUpToLoss, AgreeAlong, OthersAreNotRead}
 use Rattle.g704_framing.proofs.Moves.{option_map-zero, option_map-suc, same_alignment}
-use Rattle.g704_framing.specs.Alignment.{after_search, after_loss}
 use Rattle.g704_framing.proofs.Turns.{alignments_turns, onto, none_found}
 use Rattle.g704_framing.proofs.Settles.{IsNotBefore, loss-not_before, search-from, age-after_loss, age_in-before}
 use Rattle.g704_framing.proofs.Settles.{alignments-begin}

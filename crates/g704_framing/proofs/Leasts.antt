@@ -1,10 +1,7 @@
 -- The least number that passes.
 use Rattle.std.proofs.Common.{◌≡◌, ℕ, zero, suc, ◌<◌, Bool, true, false, cond, Option, Some, None}
 use Rattle.std.proofs.Common.{refl, sym, ap, ◌∙◌, arith, inl, inr}
-use Rattle.std.specs.Prelude.{option_map, nat_le}
-use Rattle.std.proofs.lemmas.Bool.{cases_lt, false≢true}
-use Rattle.std.proofs.lemmas.Bool.Decides.{nat_tests}
-use Rattle.g704_framing.specs.Least.{least}
+use Rattle.g704_framing.proofs.Common.{option_map, nat_le, cases_lt, false≢true, nat_tests, least}
 
 -- what `least` says: the number, or that none passes
 abbrev pub IsLeast : (ℕ → Bool) → ℕ → Option ℕ → Type 0

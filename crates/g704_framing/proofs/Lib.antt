@@ -1,3 +1,4 @@
+mod Common
 pub mod Leasts
 pub mod Moves
 pub mod Turns

@@ -1,8 +1,6 @@
 -- Alignments whose positions are counted from further back.
 use Rattle.std.proofs.Common.{◌≡◌, ℕ, suc, ◌+◌, List, [], ◌∷◌, map, Option, Some, None, refl, ap, arith, zero-add}
-use Rattle.std.specs.Prelude.{option_map}
-use Rattle.g704_framing.specs.Alignment.{AlignmentSpan, later_alignment}
-use Rattle.g704_framing.specs.Restart.{moved}
+use Rattle.g704_framing.proofs.Common.{option_map, AlignmentSpan, later_alignment, moved}
 
 -- counted from the old origin
 pub option_map-zero : (o : Option ℕ) → option_map (λ k. 0 + k) o ≡ o

@@ -1,11 +1,8 @@
 -- The laws of places.
 use Rattle.std.proofs.Common.{◌≡◌, ℕ, ◌+◌, List, drop, sym, ap, ◌∙◌, arith}
-use Rattle.std.specs.Prelude.{is_none}
+use Rattle.g704_framing.proofs.Common.{is_none, All-weaker, AlignmentSpan, search_ends_of, age_in, IsLostAlike}
+use Rattle.g704_framing.proofs.Common.{AgreeAlong}
 use Rattle.std.proofs.lemmas.List.{get_or-drop}
-use Rattle.std.proofs.lemmas.List.Elements.{All-weaker}
-use Rattle.g704_framing.specs.Alignment.{AlignmentSpan, search_ends_of}
-use Rattle.g704_framing.specs.Age.{age_in}
-use Rattle.g704_framing.specs.Laws.{IsLostAlike, AgreeAlong}
 use Rattle.g704_framing.specs.Places.{PlaceRules, alignments_in, place_in, alarm_in, IsAlikeAlong, IsPlacing}
 use Rattle.g704_framing.specs.Places.{PlacesAreSettled, PlacesAreAlike, OtherPlacesAreNotRead}
 use Rattle.g704_framing.proofs.Settles.{ages_are_settled}

@@ -1,7 +1,6 @@
 -- What searches find in a stream, and when it goes on.
 use Rattle.std.proofs.Common.{◌≡◌, ℕ, suc, ◌≤◌, Option, Some, None, refl, ap, ◌∙◌, arith}
-use Rattle.g704_framing.specs.Alignment.{later}
-use Rattle.g704_framing.specs.Laws.{IsFoundAfter}
+use Rattle.g704_framing.proofs.Common.{later, IsFoundAfter}
 
 -- found in a stream, also when it goes on
 abbrev pub StaysFound : Option ℕ → Option ℕ → Type 0

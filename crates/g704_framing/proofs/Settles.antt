@@ -1,16 +1,11 @@
 -- Later octets change no age.
 use Rattle.std.proofs.Common.{◌≡◌, ℕ, zero, suc, ◌+◌, ◌<◌, ◌≤◌, List, [], ◌∷◌, ◌++◌, length, map, drop, true, false}
 use Rattle.std.proofs.Common.{Option, Some, None, refl, sym, ap, ◌∙◌, arith, ltb, inl, inr, length-append, length-drop}
-use Rattle.std.specs.Prelude.{option_map}
-use Rattle.std.proofs.lemmas.Option.{same_Some}
+use Rattle.g704_framing.proofs.Common.{option_map, same_Some, lt-ltb, lt-leb, and_left, cases_lt, false≢true, least}
+use Rattle.g704_framing.proofs.Common.{Framing, AlignmentSpan, later_alignment, loss, alignments_from, after_search}
+use Rattle.g704_framing.proofs.Common.{after_loss, is_standing, age_in, IsFraming, IsFoundAfter, AgesAreSettled}
 use Rattle.std.proofs.lemmas.List.{drop-append-le}
-use Rattle.std.proofs.lemmas.Bool.{lt-ltb, lt-leb, and_left, cases_lt, false≢true}
-use Rattle.g704_framing.specs.Least.{least}
-use Rattle.g704_framing.specs.Alignment.{Framing, AlignmentSpan, later_alignment, loss, alignments_from}
-use Rattle.g704_framing.specs.Age.{is_standing, age_in}
-use Rattle.g704_framing.specs.Laws.{IsFraming, IsFoundAfter, AgesAreSettled}
 use Rattle.g704_framing.proofs.Leasts.{IsLeast, least-is, only_one}
-use Rattle.g704_framing.specs.Alignment.{after_search, after_loss}
 use Rattle.g704_framing.proofs.Turns.{alignments_turns, none_found}
 use Rattle.g704_framing.proofs.Ends.{is_lost-append}
 

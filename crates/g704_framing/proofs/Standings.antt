@@ -1,12 +1,9 @@
 -- Places, alarms and histories of an aligner, by the octets since the last restart.
 use Rattle.std.proofs.Common.{◌≡◌, ℕ, ◌+◌, ◌-◌, ◌<◌, List, [], ◌∷◌, ◌++◌, length, true, Option, None}
 use Rattle.std.proofs.Common.{refl, sym, ap, arith}
-use Rattle.std.specs.Prelude.{is_none}
+use Rattle.g704_framing.proofs.Common.{is_none, Framing, alignments_from, age_in, RestartsAfter, last_of, HoldsSince}
 use Rattle.std.proofs.lemmas.List.{length_push, append_assoc, length-append, append-nil}
-use Rattle.g704_framing.specs.Alignment.{Framing, alignments_from}
-use Rattle.g704_framing.specs.Age.{age_in}
 use Rattle.g704_framing.specs.Places.{PlaceRules, place_since, place_in, alarm_in}
-use Rattle.g704_framing.specs.Restart.{RestartsAfter, last_of, HoldsSince}
 use Rattle.g704_framing.proofs.Ends.{RestartsAfter-nil, RestartsAfter-append}
 use Rattle.g704_framing.proofs.Ages.{age-over, age-at_over}
 

@@ -1,12 +1,8 @@
 -- The alignments of a stream as searches and losses in turn, and seen from a later octet on.
 use Rattle.std.proofs.Common.{◌≡◌, ℕ, zero, suc, List, [], ◌∷◌, ◌++◌, length, map, drop, Option, Some, None}
 use Rattle.std.proofs.Common.{refl, sym, ap, ◌∙◌}
-use Rattle.std.specs.Prelude.{option_map}
-use Rattle.g704_framing.specs.Least.{least}
-use Rattle.g704_framing.specs.Alignment.{Framing, AlignmentSpan, later_alignment, loss, alignments_from}
-use Rattle.g704_framing.specs.Alignment.{after_loss, after_search}
-use Rattle.g704_framing.specs.Restart.{moved, last_of}
-use Rattle.g704_framing.specs.Laws.{AlignmentsTakeTurns}
+use Rattle.g704_framing.proofs.Common.{option_map, least, Framing, AlignmentSpan, later_alignment, loss}
+use Rattle.g704_framing.proofs.Common.{alignments_from, after_loss, after_search, moved, last_of, AlignmentsTakeTurns}
 use Rattle.g704_framing.proofs.Moves.{option_map-suc, map-moved_zero, map-moved_suc}
 
 -- a loss, counted from one octet further back

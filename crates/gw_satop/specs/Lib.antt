@@ -10,3 +10,4 @@ pub mod Session
 pub mod Doing
 pub mod Opening
 pub mod FarEnd
+pub mod System

@@ -25,12 +25,16 @@ pub trait Clock {
     /// How many times it waited.
     ghost waits: { Self → ℕ };
 
+    /// Relates a clock before and after it was asked for the time to the time that it told.
+    ghost tells: { Self → Self → ℕ → Type 0 } = { λ _ _ _. ⊤ };
+
     /// Holds of the counts that it reported last.
     ghost has_told: { Self → Counts → Type 0 } = { λ _ _. ⊤ };
 
     /// The time, in microseconds of one clock.
     fn now(&mut self) -> u64
         ensures time { result ≡ time self.new }
+        ensures tells { tells self.old self.new result }
         ensures waits { waits self.new ≡ waits self.old };
 
     /// Waits until something may have come, or for this time.
@@ -89,6 +93,8 @@ pub fn carry_satop<I: TrunkInput, O: TrunkOutput, P: Peer, M: Clock>(
     ensures hears { IfOk result (λ _. (before : P) × HearsAll P.received P.has_none before circuit.new.peer) }
     ensures told { IfOk result (λ _. M.has_told moments.new circuit.new.counts) }
     ensures time { IfOk result (λ _. circuit.new.pace.counted ≡ M.time moments.new) }
+    ensures tells { IfOk result (λ _. (before : M) × (then : M)
+        × M.tells before then circuit.new.pace.counted) }
     ensures fault { IfErr result (λ _. (I.has_failed circuit.new.incoming
         ⊎ RefusesOctets O.has_failed O.has_taken O.waits circuit.new.outgoing)
         ⊎ (2 ^ 63 ≤ M.waits moments.new)) }

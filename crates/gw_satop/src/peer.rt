@@ -5,6 +5,7 @@ ghost use Rattle.std.specs.Prelude.{IfOk, IfErr, OnOk};
 ghost use Rattle.gw_satop.specs.FarEnd.{HasFoundNone, IsBySocket};
 ghost use Rattle.gw_satop.specs.Opening.{FailsToJoin, HasAddress, IsJoined, LacksAddress, SystemFinds};
 ghost use Rattle.gw_satop.specs.Opening.{SystemRefusesPeer, SystemRefusesSocket};
+ghost use Rattle.gw_udp.specs.Socket.{KeepsBound};
 
 use crate::log::History;
 use gw_records::AtStart;
@@ -79,8 +80,8 @@ impl<S: Socket> UdpPeer<S> {
     {
         let address = address_of(net, peer)?;
         let here = address_of(net, local)?;
-        let socket: S = socket_at(net, here)?;
-        take_from(&socket, address)?;
+        let mut socket: S = socket_at(net, here)?;
+        take_from(&mut socket, address)?;
         let opened = AtStart::of(&socket);
         Ok(UdpPeer {
             socket,
@@ -95,6 +96,7 @@ impl<S: Socket> UdpPeer<S> {
     pub fn watch(&mut self, registry: &Registry, token: Token) -> bool
         ensures received { self.new.received ≡ self.old.received }
         ensures sent { self.new.sent ≡ self.old.sent }
+        ensures watched { S.watches self.new.socket token.0 result }
     {
         self.socket.watch(registry, token)
     }
@@ -132,8 +134,9 @@ fn socket_at<S: Socket, N: Net>(net: &N, here: SocketAddr) -> io::Result<S>
 
 // Connects the socket, so that it takes datagrams of the peer alone.
 #[tactic(auto, unfolding(crate::specs::Opening::SystemRefusesPeer))]
-fn take_from<S: Socket>(socket: &S, peer: SocketAddr) -> io::Result<()>
-    ensures ok { OnOk result (S.is_joined socket.now peer) }
+fn take_from<S: Socket>(socket: &mut S, peer: SocketAddr) -> io::Result<()>
+    ensures ok { OnOk result (S.is_joined socket.new peer) }
+    ensures bound { KeepsBound S.is_bound socket.old socket.new }
     ensures err { IfErr result (SystemRefusesPeer peer) }
 {
     socket.connect(peer)

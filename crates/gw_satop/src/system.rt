@@ -1,7 +1,9 @@
 //! How `satop` waits, for the socket and the trunk until a time, and reports counts (`SystemClock`).
 
-ghost use Rattle.std.specs.Prelude.{◌≡◌, length, IfErr};
+ghost use Rattle.std.specs.Prelude.{◌≡◌, ◌⊎◌, Bool, length, IfErr, IfOk};
 ghost use Rattle.gw_satop.specs.Opening.{SystemRefusesTrunk};
+ghost use Rattle.gw_satop.specs.System.{SystemShows, SystemPrintsCounts, TellsTime, micros};
+ghost use Rattle.gw_trunk.specs.System.{SystemReportedNone};
 
 use crate::carrying::Clock;
 use crate::counts::Counts;
@@ -46,6 +48,7 @@ impl<'r> SystemClock<'r> {
     ) -> io::Result<SystemClock<'r>>
         ensures received { peer.new.received ≡ peer.old.received }
         ensures sent { peer.new.sent ≡ peer.old.sent }
+        ensures watched { IfOk result (λ _. (agreed : Bool) × S.watches peer.new.socket 1 agreed) }
         ensures err { IfErr result SystemRefusesTrunk }
     {
         let poll = Poll::new(rt)?;
@@ -70,10 +73,26 @@ impl<'r> SystemClock<'r> {
 }
 
 // The whole microseconds of a time.
-fn micros_of(time: Duration) -> u64 {
-    time.as_secs()
-        .saturating_mul(1_000_000)
-        .saturating_add(u64::from(time.subsec_micros()))
+fn micros_of(time: Duration) -> u64
+    ensures { result ≡ micros time }
+{
+    time.as_micros().min(u128::from(u64::MAX)) as u64
+}
+
+// How long ago a start was; None if the system does not say it.
+#[tactic(auto, unfolding(crate::specs::System::SystemShows))]
+fn passed_since(rt: &HostRuntime, started: &Instant) -> Option<Duration>
+    ensures { SystemShows started.now result }
+{
+    started.elapsed(rt).ok()
+}
+
+// Prints counts on standard error.
+#[tactic(auto, unfolding(crate::specs::System::SystemPrintsCounts))]
+fn print_counts(rt: &HostRuntime, counts: &Counts)
+    ensures { SystemPrintsCounts counts.now }
+{
+    let _ = eprintln!(rt; "{}", counts);
 }
 
 impl Clock for SystemClock<'_> {
@@ -81,8 +100,12 @@ impl Clock for SystemClock<'_> {
 
     ghost waits = { λ s. length s.waits.octets };
 
+    ghost tells = { λ s s' told. TellsTime s.started s.now told };
+
+    ghost has_told = { λ s counts. SystemPrintsCounts counts ⊎ SystemReportedNone s.errors 0 };
+
     fn now(&mut self) -> u64 {
-        if let Ok(passed) = self.started.elapsed(self.rt) {
+        if let Some(passed) = passed_since(self.rt, &self.started) {
             self.now = micros_of(passed);
         }
         self.now
@@ -103,7 +126,7 @@ impl Clock for SystemClock<'_> {
 
     fn report(&mut self, counts: &Counts) {
         if self.errors.wait_for(Duration::ZERO) {
-            let _ = eprintln!(self.rt; "{}", counts);
+            print_counts(self.rt, counts);
         }
     }
 }

@@ -1,8 +1,8 @@
 -- A trunk over SAToP, as the command line asks for it (module `carrying`).
-use Rattle.std.specs.Prelude.{◌≡◌, ◌⊎◌, ◌*◌, ◌/◌, ⊤, ℕ, Bool, true, List, [], ◌++◌, Some, None}
+use Rattle.std.specs.Prelude.{◌≡◌, ◌⊎◌, ◌*◌, ◌/◌, ⊤, ℕ, Bool, true, List, [], ◌∷◌, ◌++◌, Some, None}
 use Rattle.std.specs.Prelude.{is_some}
 use Rattle.std.specs.Prelude.{min, max, Result, IsErrAnd, MatchResult, MatchOption, codes}
-use Rattle.std.specs.declared.io.Error.{Error}
+use Rattle.std.specs.Int.{w16, w32, from_be_bytes}
 use Rattle.gw_records.specs.declared.outcome.Totals.{Totals}
 use Rattle.gw_records.specs.declared.outcome.RunFault.TheVariants as faults
 use Rattle.gw_command.specs.Command.{SaysNumberIn, text_in}
@@ -15,7 +15,9 @@ use Rattle.gw_satop.specs.Opening.{FailsToJoin, SystemRefusesTrunk}
 use Rattle.gw_satop.specs.Session.{PlaysAll, SendsAll}
 use Rattle.satop_playout.specs.Calls.{IsSize}
 use Rattle.satop_playout.specs.declared.Replacement.TheVariants as fills
+use Rattle.gw_state.specs.Memory.{MemoryIsRefused}
 use Rattle.gw_program.specs.Requests.{CommandLine}
+use Rattle.gw_program.specs.Status.{SaysRefused}
 use Rattle.gw_program.specs.declared.program_fault.ProgramFault.{ProgramFault}
 use Rattle.gw_program.specs.declared.program_fault.ProgramFault.TheVariants as program_faults
 
@@ -55,11 +57,31 @@ pub record CarriesSatop (c : CircuitTraffic) (told : Result Totals ProgramFault)
 abbrev pub window_for : ℕ → ℕ → ℕ
 window_for jitter size = min (max (max (2 * jitter) (32000 / size)) 1) 1024
 
+-- the system put random octets in the place of these, or has none and left them
+unfoldable pub SystemFills : List ℕ → List ℕ → Type 0
+SystemFills octets filled = ⊤
+
+-- a number of 16 or of 32 bits is that of octets that the system filled at random, or zero if it has none
+abbrev pub IsDrawn16 : ℕ → Type 0
+IsDrawn16 number = (filled : List ℕ) × SystemFills (0 ∷ 0 ∷ []) filled × (number ≡ from_be_bytes w16 filled)
+
+abbrev pub IsDrawn32 : ℕ → Type 0
+IsDrawn32 number = (filled : List ℕ) × SystemFills (0 ∷ 0 ∷ 0 ∷ 0 ∷ []) filled
+    × (number ≡ from_be_bytes w32 filled)
+
+-- the first packet has the number that the command says, or a random one where it says none
+abbrev pub BeginsAt : CommandLine → ℕ → Type 0
+BeginsAt command sequence = SaysNumberIn 16 (codes "sequence") command sequence
+    ⊎ (((n : ℕ) → ¬ SaysNumberIn 16 (codes "sequence") command n) × IsDrawn16 sequence)
+
 -- both halves and the pace are set up as the command says
 pub record IsSetUp (command : CommandLine) (receiver : Receiver) (sender : Sender)
     (pace : PlayClock) : Type 0 where
   pub size : SaysNumberIn 16 (codes "size") command receiver.settings.size
   pub sizes : sender.start.size ≡ receiver.settings.size
+  pub sequence : BeginsAt command sender.start.sequence
+  pub timestamp : IsDrawn32 sender.start.timestamp
+  pub ssrc : IsDrawn32 sender.start.ssrc
   pub rtp : MatchOption sender.start.rtp ((n : ℕ) → ¬ SaysNumberIn 8 (codes "rtp") command n)
       (SaysNumberIn 8 (codes "rtp") command)
   pub expects : receiver.rtp ≡ is_some sender.start.rtp
@@ -84,29 +106,24 @@ pub record SaysOtherSize (command : CommandLine) : Type 0 where
   pub other : ¬ IsSize size
 
 -- the command says both ends, and there is no socket between them
-pub record LacksSocket (command : CommandLine) : Type 0 where
+pub record LacksSocket (command : CommandLine) (fault : ProgramFault) : Type 0 where
   pub local : List ℕ
   pub peer : List ℕ
-  pub error : Error
   pub says_local : text_in (codes "local") command ≡ Some local
   pub says_peer : text_in (codes "peer") command ≡ Some peer
-  pub fails : FailsToJoin local peer error
+  pub fails : SaysRefused (FailsToJoin local peer) program_faults.FarEnd fault
 
 -- the system refused to wait for a stream of the trunk, or memory was refused
 abbrev pub LacksStream : ProgramFault → Type 0
-LacksStream program_faults.Trunk = (error : Error) × SystemRefusesTrunk error
-LacksStream program_faults.OutOfMemory = ⊤
-LacksStream _ = ⊥
+LacksStream fault = SaysRefused SystemRefusesTrunk program_faults.Trunk fault
+    ⊎ ((fault ≡ program_faults.OutOfMemory) × MemoryIsRefused)
 
 -- Why the circuit is not opened: a word is missing, the size is no size of a packet, there is no socket, the
 -- system refused to wait for a stream of the trunk, or memory was refused.
 abbrev pub FailsToOpen : CommandLine → ProgramFault → Type 0
-FailsToOpen command program_faults.Nothing = LacksWord command
-FailsToOpen command program_faults.PacketSize = SaysOtherSize command
-FailsToOpen command program_faults.FarEnd = LacksSocket command
-FailsToOpen command program_faults.Trunk = LacksStream program_faults.Trunk
-FailsToOpen command program_faults.OutOfMemory = ⊤
-FailsToOpen command _ = ⊥
+FailsToOpen command fault = ((fault ≡ program_faults.Nothing) × LacksWord command)
+    ⊎ ((fault ≡ program_faults.PacketSize) × SaysOtherSize command)
+    ⊎ LacksSocket command fault ⊎ LacksStream fault
 
 -- the circuit that the command asks for was carried
 pub record HasCircuit (command : CommandLine) (told : Result Totals ProgramFault) : Type 0 where

@@ -7,7 +7,7 @@ ghost use Rattle.run_satop.specs.Asked.{IsAsked};
 ghost use Rattle.run_satop.specs.Satop.{FailsToOpen, window_for};
 
 use clap::ArgMatches;
-use gw_command::{clock_of, fill_of, jitter_of, rtp_of, size_of};
+use gw_command::{clock_of, fill_of, jitter_of, rtp_of, sequence_of, size_of};
 use gw_program::ProgramFault;
 use gw_satop::Timing;
 use satop_playout::{FRAME, Replacement, Settings};
@@ -86,12 +86,13 @@ pub(crate) struct CircuitAsked {
     pub(crate) settings: Settings,
     pub(crate) timing: Timing,
     pub(crate) rtp: Option<u8>,
+    pub(crate) sequence: Option<u16>,
 }
 
 // The emulated circuit that the matches ask for.
 pub(crate) fn circuit_asked(matches: &ArgMatches<'_>) -> Result<CircuitAsked, ProgramFault>
     ensures ok { IfOk result (λ asked.
-        IsAsked (subcommand_rows_of matches.now) asked.settings asked.timing asked.rtp) }
+        IsAsked (subcommand_rows_of matches.now) asked.settings asked.timing asked.rtp asked.sequence) }
     ensures err { IfErr result (FailsToOpen (subcommand_rows_of matches.now)) }
 {
     let jitter = jitter_asked(matches)?;
@@ -102,9 +103,11 @@ pub(crate) fn circuit_asked(matches: &ArgMatches<'_>) -> Result<CircuitAsked, Pr
         has_own_clock(matches),
     );
     let rtp = rtp_of(matches);
+    let sequence = sequence_of(matches);
     Ok(CircuitAsked {
         settings,
         timing,
         rtp,
+        sequence,
     })
 }

@@ -9,9 +9,8 @@ ghost use Rattle.gw_satop.specs.Doing.{RefusesOctets};
 ghost use Rattle.gw_satop.specs.Session.{HasSettings};
 
 use crate::asked::{CircuitAsked, circuit_asked};
-use crate::ends::{
-    open_clock, open_far_end, open_receiver, open_stdin, open_stdout, start_at_random,
-};
+use crate::ends::{open_clock, open_far_end, open_receiver, open_stdin, open_stdout, start_of};
+use crate::sealed::{CircuitClock, FarEnd, TrunkDevice, TrunkSource};
 use clap::ArgMatches;
 use gw_program::ProgramFault;
 use gw_records::{NO_TOTALS, RunFault, Totals};
@@ -19,10 +18,12 @@ use gw_satop::{Clock, Peer, PlayClock, SatopCircuit, Sender, carry_satop};
 use gw_trunk::{TrunkInput, TrunkOutput};
 
 // Carries an emulated circuit until no octet comes from the trunk any more.
-fn perform_satop<I: TrunkInput, O: TrunkOutput, P: Peer, M: Clock>(
-    circuit: &mut SatopCircuit<I, O, P>,
-    moments: &mut M,
-) -> Result<Totals, ProgramFault>
+fn perform_satop<
+    I: TrunkInput + TrunkSource,
+    O: TrunkOutput + TrunkDevice,
+    P: Peer + FarEnd,
+    M: Clock + CircuitClock,
+>(circuit: &mut SatopCircuit<I, O, P>, moments: &mut M) -> Result<Totals, ProgramFault>
     ensures carries { CarriesSatop (record {
       receiver = circuit.new.receiver;
       sender = circuit.new.sender;
@@ -63,7 +64,12 @@ struct CircuitEnds<I: TrunkInput, O: TrunkOutput, P: Peer, M: Clock> {
 
 // Carries an emulated circuit between its ends.
 #[inline(never)]
-fn emulate_between<I: TrunkInput + Drop, O: TrunkOutput + Drop, P: Peer + Drop, M: Clock + Drop>(
+fn emulate_between<
+    I: TrunkInput + TrunkSource + Drop,
+    O: TrunkOutput + TrunkDevice + Drop,
+    P: Peer + FarEnd + Drop,
+    M: Clock + CircuitClock + Drop,
+>(
     rt: &HostRuntime,
     asked: CircuitAsked,
     ends: CircuitEnds<I, O, P, M>,
@@ -72,11 +78,12 @@ fn emulate_between<I: TrunkInput + Drop, O: TrunkOutput + Drop, P: Peer + Drop, 
     requires went { O.went ends.outgoing ≡ [] }
     requires received { P.received ends.peer ≡ [] }
     requires sent { P.sent ends.peer ≡ [] }
-    ensures { (command : CommandLine) → IsAsked command asked.settings asked.timing asked.rtp
+    ensures { (command : CommandLine)
+        → IsAsked command asked.settings asked.timing asked.rtp asked.sequence
         → DoesSatop command result }
 {
     let receiver = open_receiver(rt, asked.settings, asked.rtp.is_some())?;
-    let sender = Sender::new(start_at_random(rt, asked.settings.size, asked.rtp));
+    let sender = Sender::new(start_of(rt, asked.settings.size, asked.rtp, asked.sequence));
     let CircuitEnds {
         incoming,
         outgoing,
@@ -89,7 +96,7 @@ fn emulate_between<I: TrunkInput + Drop, O: TrunkOutput + Drop, P: Peer + Drop, 
 }
 
 // Carries an emulated circuit between standard input and output and the far end.
-fn emulate_over<P: Peer + Drop, M: Clock + Drop>(
+fn emulate_over<P: Peer + FarEnd + Drop, M: Clock + CircuitClock + Drop>(
     rt: &HostRuntime,
     asked: CircuitAsked,
     peer: P,
@@ -97,7 +104,8 @@ fn emulate_over<P: Peer + Drop, M: Clock + Drop>(
 ) -> Result<Totals, ProgramFault>
     requires received { P.received peer ≡ [] }
     requires sent { P.sent peer ≡ [] }
-    ensures { (command : CommandLine) → IsAsked command asked.settings asked.timing asked.rtp
+    ensures { (command : CommandLine)
+        → IsAsked command asked.settings asked.timing asked.rtp asked.sequence
         → DoesSatop command result }
 {
     let incoming = open_stdin(rt)?;

@@ -1,8 +1,10 @@
 //! What an emulated circuit opens: its socket, standard input and output, the clock and the received half.
 
-ghost use Rattle.std.specs.Prelude.{◌≡◌, [], IfOk, IfErr};
+ghost use Rattle.std.specs.Prelude.{◌≡◌, [], IfOk, IfErr, OnErr, MatchOption};
 ghost use Rattle.clap.specs.Words.{subcommand_rows_of};
+ghost use Rattle.gw_state.specs.Memory.{MemoryIsRefused};
 ghost use Rattle.run_satop.specs.Satop.{FailsToOpen, LacksStream};
+ghost use Rattle.run_satop.specs.Satop.{IsDrawn16, IsDrawn32, SystemFills};
 ghost use Rattle.gw_satop.specs.Line.{HasPlayed};
 
 use clap::ArgMatches;
@@ -12,8 +14,9 @@ use gw_satop::{
     Receiver, SenderSettings, SystemClock, UdpPeer, WhenReady, open_input, open_output,
 };
 use gw_trunk::{FromDevice, ToDevice, Waiting};
+use gw_udp::SystemSocket;
 use satop_playout::Settings;
-use std::net::UdpSocket;
+use std::alloc::{AllocError, Global};
 use std::random::RandomSource;
 use std::rt::{Stdin, Stdout};
 
@@ -22,20 +25,62 @@ const STDIN: i32 = 0;
 
 const STDOUT: i32 = 1;
 
-// How the packets of an emulated circuit begin: at random numbers (RFC 3550, 5.1), or at 0 where the system
-// has none.
-pub(crate) fn start_at_random(rt: &HostRuntime, size: usize, rtp: Option<u8>) -> SenderSettings
+// Draws octets at random.
+#[tactic(auto, unfolding(crate::specs::Satop::SystemFills))]
+fn draw(rt: &HostRuntime, octets: &mut [u8])
+    ensures { SystemFills octets.old octets.new }
+{
+    let _ = rt.fill_bytes(octets);
+}
+
+// A random number of 16 bits; 0 if the system has none.
+fn draw_16(rt: &HostRuntime) -> u16
+    ensures { IsDrawn16 result }
+{
+    let mut octets = [0u8; 2];
+    draw(rt, &mut octets);
+    u16::from_be_bytes(octets)
+}
+
+// A random number of 32 bits; 0 if the system has none.
+fn draw_32(rt: &HostRuntime) -> u32
+    ensures { IsDrawn32 result }
+{
+    let mut octets = [0u8; 4];
+    draw(rt, &mut octets);
+    u32::from_be_bytes(octets)
+}
+
+// The number of the first packet: the one that is asked for, if one is, else a random one.
+fn first_number(rt: &HostRuntime, asked: Option<u16>) -> u16
+    ensures { MatchOption asked (IsDrawn16 result) (λ n. result ≡ n) }
+{
+    match asked {
+        Some(sequence) => sequence,
+        None => draw_16(rt),
+    }
+}
+
+// How the packets of an emulated circuit begin: at random numbers (RFC 3550, 5.1), but for one that is asked
+// for.
+pub(crate) fn start_of(
+    rt: &HostRuntime,
+    size: usize,
+    rtp: Option<u8>,
+    sequence: Option<u16>,
+) -> SenderSettings
     ensures size { result.size ≡ size }
     ensures rtp { result.rtp ≡ rtp }
+    ensures sequence { MatchOption sequence (IsDrawn16 result.sequence) (λ n. result.sequence ≡ n) }
+    ensures timestamp { IsDrawn32 result.timestamp }
+    ensures ssrc { IsDrawn32 result.ssrc }
 {
-    let mut seed = [0u8; 10];
-    let _ = rt.fill_bytes(&mut seed);
     SenderSettings {
         size,
         rtp,
-        sequence: u16::from_be_bytes([seed[0], seed[1]]),
-        timestamp: u32::from_be_bytes([seed[2], seed[3], seed[4], seed[5]]),
-        ssrc: u32::from_be_bytes([seed[6], seed[7], seed[8], seed[9]]),
+        sequence: first_number(rt, sequence),
+        timestamp: draw_32(rt),
+        ssrc: draw_32(rt),
     }
 }
 
@@ -43,7 +88,7 @@ pub(crate) fn start_at_random(rt: &HostRuntime, size: usize, rtp: Option<u8>) ->
 pub(crate) fn open_far_end(
     rt: &HostRuntime,
     matches: &ArgMatches<'_>,
-) -> Result<UdpPeer<UdpSocket>, ProgramFault>
+) -> Result<UdpPeer<SystemSocket>, ProgramFault>
     ensures received { IfOk result (λ p. p.received.datagrams ≡ []) }
     ensures sent { IfOk result (λ p. p.sent.datagrams ≡ []) }
     ensures err { IfErr result (FailsToOpen (subcommand_rows_of matches.now)) }
@@ -87,7 +132,7 @@ pub(crate) fn open_stdout(rt: &HostRuntime) -> Result<ToDevice<Stdout>, ProgramF
 // Opens the clock of `satop`, which waits for both of its ends.
 pub(crate) fn open_clock<'r>(
     rt: &'r HostRuntime,
-    peer: &mut UdpPeer<UdpSocket>,
+    peer: &mut UdpPeer<SystemSocket>,
 ) -> Result<SystemClock<'r>, ProgramFault>
     ensures received { peer.new.received ≡ peer.old.received }
     ensures sent { peer.new.sent ≡ peer.old.sent }
@@ -97,6 +142,17 @@ pub(crate) fn open_clock<'r>(
         Ok(clock) => Ok(clock),
         Err(error) => Err(ProgramFault::of(&error, ProgramFault::Trunk)),
     }
+}
+
+// The received half of a circuit. The error is that memory was refused.
+#[tactic(auto, unfolding(gw_state::specs::Memory::MemoryIsRefused))]
+fn receiver_of(alloc: Global, settings: Settings, rtp: bool) -> Result<Receiver, AllocError>
+    ensures settings { IfOk result (λ r. r.settings ≡ settings) }
+    ensures rtp { IfOk result (λ r. r.rtp ≡ rtp) }
+    ensures stands { IfOk result (λ r. HasPlayed r []) }
+    ensures err { OnErr result MemoryIsRefused }
+{
+    Receiver::new(alloc, settings, rtp)
 }
 
 // Takes memory for the received half of a circuit.
@@ -110,7 +166,7 @@ pub(crate) fn open_receiver(
     ensures stands { IfOk result (λ r. HasPlayed r []) }
     ensures err { IfErr result LacksStream }
 {
-    match Receiver::new(rt.alloc(), settings, rtp) {
+    match receiver_of(rt.alloc(), settings, rtp) {
         Ok(receiver) => Ok(receiver),
         Err(_) => Err(ProgramFault::OutOfMemory),
     }

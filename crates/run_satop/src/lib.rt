@@ -4,5 +4,6 @@
 mod asked;
 mod carrying;
 mod ends;
+mod sealed;
 
 pub use carrying::emulate;

@@ -1,6 +1,6 @@
 -- What it means that the trunk that the command line names is served.
-use Rattle.std.specs.Prelude.{◌≡◌, ◌⊎◌, ℕ, pos, List, true, Some, Result, codes}
-use Rattle.std.specs.declared.io.Error.{Error}
+use Rattle.std.specs.Prelude.{◌≡◌, ◌⊎◌, ℕ, Bool, pos, List, true, Some, None, Result, codes}
+use Rattle.mio.specs.declared.poll.Poll.{Poll}
 use Rattle.gw_switch.specs.declared.GatewayConfig.{GatewayConfig}
 use Rattle.gw_switch.specs.declared.gateway.Gateway.{Gateway}
 use Rattle.gw_records.specs.declared.outcome.Totals.{Totals}
@@ -8,7 +8,10 @@ use Rattle.gw_records.specs.declared.outcome.RunFault.{RunFault}
 use Rattle.gw_switch.specs.Events.{Event}
 use Rattle.gw_switch.specs.Standing.{HasHistory}
 use Rattle.gw_session.specs.Serve.{SessionStreams}
-use Rattle.gw_command.specs.Command.{SaysNumberIn, text_in}
+use Rattle.gw_command.specs.Command.{HasFlag, SaysNumberIn, text_in}
+use Rattle.gw_filter.specs.Align.{align_reply}
+use Rattle.gw_filter.specs.Filter.{RepliesTo}
+use Rattle.gw_filtered.specs.Filters.{ReturnsIf}
 use Rattle.gw_trunk.specs.Multiframes.{GoesInTime}
 use Rattle.gw_trunk.specs.System.{SystemRefusesDoor, SystemRefusesStream, SystemWatches}
 use Rattle.run_trunk.specs.Serving.{Carried, Traffic}
@@ -20,23 +23,13 @@ use Rattle.gw_program.specs.Status.{SaysRefused}
 use Rattle.gw_program.specs.declared.program_fault.ProgramFault.{ProgramFault}
 use Rattle.gw_program.specs.declared.program_fault.ProgramFault.TheVariants as program_faults
 
--- A gateway served a trunk and its clients, between whom this passed. What went is what the definitions give
--- after all that had happened to the gateway.
+-- A gateway served a trunk and its clients, between whom this passed, and each record was logged before its
+-- packets were sent. What went is what the definitions give after all that had happened to the gateway.
 pub record CarriesTrunk (a a' : SessionStreams) (t : Traffic) (gateway gateway' : Gateway)
     (end : Result Totals RunFault) : Type 0 where
-  pub served : Serves a a' end gateway gateway'
+  pub served : Serves true a a' end gateway gateway'
   pub carried : (config : GatewayConfig) (before : List Event) → HasHistory config gateway before
       → ∥ Carried config before gateway' a.tape a'.tape t end ∥₁
-
--- Octets came from a trunk and were sent to it, clients asked and were answered, and this was done of it.
--- What was sent went to the device in time: all of it, except for whole multiframes if the device was slow.
-pub record HasTrunk (does : Traffic → Type 0) : Type 0 where
-  pub passed : Traffic
-  pub done : does passed
-  pub went : List ℕ
-  pub discarded : ℕ
-  pub slow_waits : ℕ
-  pub goes : ∥ GoesInTime passed.went went discarded slow_waits ∥₁
 
 -- the system refused to wait for a stream of the trunk, or for the descriptor that asks for its end
 abbrev pub LacksStream : ProgramFault → Type 0
@@ -52,16 +45,49 @@ abbrev pub IsEndedBy : {P : Type 0} → CommandLine → P → Type 0
 IsEndedBy command poll = (descriptor : ℕ) → SaysNumberIn 16 (codes "end") command descriptor
     → SystemWatches poll (pos descriptor) 10 true
 
--- why a trunk has no ends: a stream is refused, or what the command names for clients
+-- .. of one of the system's waits
+abbrev pub AsksEnd : CommandLine → Type 0
+AsksEnd command = (descriptor : ℕ) → SaysNumberIn 16 (codes "end") command descriptor
+    → (poll : Poll) × SystemWatches poll (pos descriptor) 10 true
+
+-- A filter is used if the command has a flag. It returned this for octets, or these pass as they came.
+pub record FiltersIf (command : CommandLine) (flag : List ℕ) (Returns : List ℕ → List ℕ → Type 0)
+    (octets returned : List ℕ) : Type 0 where
+  pub is_on : Bool
+  pub asked : HasFlag flag command is_on
+  pub returns : ReturnsIf is_on Returns octets returned
+
+-- What the command names for the end was seen to. Octets came from a trunk and were sent to it, clients
+-- asked and were answered, and this was done of it. What came was aligned, if the command asks for it. What
+-- was sent went to the device in time: all of it, except for whole multiframes if the device was slow.
+pub record HasTrunk (command : CommandLine) (does : Traffic → Type 0) : Type 0 where
+  pub asked : AsksEnd command
+  pub passed : Traffic
+  pub done : does passed
+  pub received : List ℕ
+  pub aligned : ∥ FiltersIf command (codes "align") (RepliesTo align_reply) received passed.came ∥₁
+  pub went : List ℕ
+  pub discarded : ℕ
+  pub slow_waits : ℕ
+  pub goes : ∥ GoesInTime passed.went went discarded slow_waits ∥₁
+
+-- the command names a descriptor for the end, and no socket of clients
+abbrev pub NamesEndAlone : CommandLine → Type 0
+NamesEndAlone command = (text_in (codes "control") command ≡ None)
+    × ((descriptor : ℕ) × SaysNumberIn 16 (codes "end") command descriptor)
+
+-- why a trunk has no ends: a stream is refused, or what the command names for clients; or it names a
+-- descriptor for the end, and no clients
 abbrev pub LacksEnds : CommandLine → ProgramFault → Type 0
 LacksEnds command fault = LacksStream fault
     ⊎ ((path : List ℕ) × (text_in (codes "control") command ≡ Some path) × LacksControl path fault)
+    ⊎ ((fault ≡ program_faults.Nothing) × NamesEndAlone command)
 
 -- The trunk that the command names was served with this result: it has no ends, or its session was not begun
 -- for such a reason, and nothing was read or written; or it was served by a gateway that was begun by the
 -- configuration in the file that is named.
 abbrev pub ServesTrunk : CommandLine → (ProgramFault → Type 0) → Result Totals ProgramFault → Type 0
 ServesTrunk command lacks told = OnNewStreams (λ a a'.
-    ByGateway a a' command (λ fault. LacksEnds command fault ⊎ lacks fault) told (λ gateway gateway'.
-    HasTrunk (λ passed. EndedSaved (CarriesTrunk a a' passed gateway gateway')
-    (IsSaved (save_in command)) told)))
+    ByGateway a a' command (λ fault. LacksEnds command fault ⊎ lacks fault) told (λ config gateway gateway'.
+    HasTrunk command (λ passed. EndedSaved (CarriesTrunk a a' passed gateway gateway')
+    (IsSaved (save_in command) config.gateway gateway') told)))

@@ -3,6 +3,7 @@
 
 mod carrying;
 mod performing;
+mod sealed;
 mod serving;
 
 pub use carrying::serve;

@@ -1,12 +1,13 @@
 //! In which order a trunk is begun, served, ended and saved, by what it has of the system (`perform_trunk`).
 
 ghost use Rattle.std.specs.Prelude.{◌≡◌, ◌⊎◌, []};
-ghost use Rattle.gw_session.specs.Serve.{around};
+ghost use Rattle.gw_session.specs.Serve.{around_log};
 ghost use Rattle.gw_program.specs.Performing.{EndedSaved, NotBegun, LacksTapeOrPorts, HasServed};
 ghost use Rattle.gw_program.specs.Performing.{LacksSession, Performed};
 ghost use Rattle.run_trunk.specs.Trunks.{CarriesTrunk};
 ghost use Rattle.run_trunk.specs.Serving.{traffic};
 
+use crate::sealed::{AnswersDevice, MultiframeDevice, TrunkSource};
 use crate::serving::serve_trunk;
 use gw_config::Config;
 use gw_program::{ProgramFault, System, end_session};
@@ -29,10 +30,10 @@ fn carry_trunk<I: TrunkInput, O: TrunkOutput, A: TrunkOutput, P: Ports, T: Tape>
     requires source { (source.old.failed ≡ 0) × (source.old.reads ≡ 0) × (source.old.log.octets ≡ []) }
     requires sink { (sink.old.failed ≡ 0) × (sink.old.log.octets ≡ []) }
     ensures { CarriesTrunk
-        (around (⟦<TrunkRecordSource<I> as Source>⟧.tells source.old)
+        (around_log (⟦<TrunkRecordSource<I> as Source>⟧.tells source.old)
         (⟦<TrunkRecordSink<O, A> as Sink>⟧.tells sink.old)
         (P.tells ports.old) (T.tells tape.old))
-        (around (⟦<TrunkRecordSource<I> as Source>⟧.tells source.new)
+        (around_log (⟦<TrunkRecordSource<I> as Source>⟧.tells source.new)
         (⟦<TrunkRecordSink<O, A> as Sink>⟧.tells sink.new)
         (P.tells ports.new) (T.tells tape.new))
         (traffic (I.came source.new.incoming) (I.asked source.new.incoming)
@@ -64,9 +65,9 @@ fn perform_carry<Y: System, I: TrunkInput, O: TrunkOutput, A: TrunkOutput>(
         (LacksTapeOrPorts (Y.lacks_tape system.now) (Y.lacks_ports system.now config.now)) result
         ⊎ HasServed (Y.opens system.now config.now) (Y.begins system.now)
         (λ ports ports' tape tape'. EndedSaved (CarriesTrunk
-        (around (⟦<TrunkRecordSource<I> as Source>⟧.tells trunk.old.source)
+        (around_log (⟦<TrunkRecordSource<I> as Source>⟧.tells trunk.old.source)
         (⟦<TrunkRecordSink<O, A> as Sink>⟧.tells trunk.old.sink) (Y.Ports.tells ports) (Y.Tape.tells tape))
-        (around (⟦<TrunkRecordSource<I> as Source>⟧.tells trunk.new.source)
+        (around_log (⟦<TrunkRecordSource<I> as Source>⟧.tells trunk.new.source)
         (⟦<TrunkRecordSink<O, A> as Sink>⟧.tells trunk.new.sink) (Y.Ports.tells ports') (Y.Tape.tells tape'))
         (traffic (I.came trunk.new.source.incoming) (I.asked trunk.new.source.incoming)
         (O.went trunk.new.sink.outgoing) (A.went trunk.new.sink.answers)) gateway.old gateway.new)
@@ -87,11 +88,12 @@ fn perform_carry<Y: System, I: TrunkInput, O: TrunkOutput, A: TrunkOutput>(
 
 // Serves a trunk and its clients with the configuration, the gateway, the ports and the tape of the system,
 // and saves the gateway's state.
-pub(crate) fn perform_trunk<Y: System, I: TrunkInput, O: TrunkOutput, A: TrunkOutput>(
-    system: &Y,
-    alloc: Global,
-    trunk: &mut TrunkRecords<I, O, A>,
-) -> Result<Totals, ProgramFault>
+pub(crate) fn perform_trunk<
+    Y: System,
+    I: TrunkInput + TrunkSource,
+    O: TrunkOutput + MultiframeDevice,
+    A: TrunkOutput + AnswersDevice,
+>(system: &Y, alloc: Global, trunk: &mut TrunkRecords<I, O, A>) -> Result<Totals, ProgramFault>
     requires read { (trunk.old.source.failed ≡ 0) × (trunk.old.source.reads ≡ 0) }
     requires came { trunk.old.source.log.octets ≡ [] }
     requires sink { (trunk.old.sink.failed ≡ 0) × (trunk.old.sink.log.octets ≡ []) }
@@ -100,9 +102,9 @@ pub(crate) fn perform_trunk<Y: System, I: TrunkInput, O: TrunkOutput, A: TrunkOu
         (λ config. LacksTapeOrPorts (Y.lacks_tape system.now) (Y.lacks_ports system.now config)))
         (λ config gateway gateway'. HasServed (Y.opens system.now config) (Y.begins system.now)
         (λ ports ports' tape tape'. EndedSaved (CarriesTrunk
-        (around (⟦<TrunkRecordSource<I> as Source>⟧.tells trunk.old.source)
+        (around_log (⟦<TrunkRecordSource<I> as Source>⟧.tells trunk.old.source)
         (⟦<TrunkRecordSink<O, A> as Sink>⟧.tells trunk.old.sink) (Y.Ports.tells ports) (Y.Tape.tells tape))
-        (around (⟦<TrunkRecordSource<I> as Source>⟧.tells trunk.new.source)
+        (around_log (⟦<TrunkRecordSource<I> as Source>⟧.tells trunk.new.source)
         (⟦<TrunkRecordSink<O, A> as Sink>⟧.tells trunk.new.sink) (Y.Ports.tells ports') (Y.Tape.tells tape'))
         (traffic (I.came trunk.new.source.incoming) (I.asked trunk.new.source.incoming)
         (O.went trunk.new.sink.outgoing) (A.went trunk.new.sink.answers)) gateway gateway')

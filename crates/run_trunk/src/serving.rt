@@ -4,10 +4,10 @@ ghost use Rattle.std.specs.Prelude.{◌≡◌, List, [], IfOk, IfErr};
 ghost use Rattle.gw_switch.specs.declared.GatewayConfig.{GatewayConfig};
 ghost use Rattle.gw_switch.specs.Events.{Event};
 ghost use Rattle.gw_switch.specs.Standing.{HasHistory};
-ghost use Rattle.gw_session.specs.Serve.{ServesAll, ServesUntil, around};
+ghost use Rattle.gw_session.specs.Serve.{ServesAll, ServesUntil, around_log};
 ghost use Rattle.run_trunk.specs.Serving.{Carried, traffic};
 
-use gw_session::{Ports, RunFault, Sink, Source, Tape, Totals, serve_recorded};
+use gw_session::{Ports, RunFault, Sink, Source, Tape, Totals, serve_logged};
 use gw_switch::Gateway;
 use gw_trunk::{TrunkInput, TrunkOutput, TrunkRecordSink, TrunkRecordSource};
 use std::alloc::Global;
@@ -15,7 +15,7 @@ use std::alloc::Global;
 // Serves a trunk and its clients by a gateway until no octet comes any more: for each octet that comes the
 // one goes that the gateway sends with it, in their order, and nothing else goes. For each record of a
 // client an answer goes to clients, in their order, and nothing else does. Datagrams come and go through the
-// ports, and the tape takes what happens, as in `serve_recorded`.
+// ports, and the tape takes what happens, as in `serve_logged`.
 //
 // # Errors
 //
@@ -33,18 +33,18 @@ pub(crate) fn serve_trunk<I: TrunkInput, O: TrunkOutput, A: TrunkOutput, P: Port
     requires source { (source.old.failed ≡ 0) × (source.old.reads ≡ 0) × (source.old.log.octets ≡ []) }
     requires sink { (sink.old.failed ≡ 0) × (sink.old.log.octets ≡ []) }
     ensures ok { IfOk result (ServesAll
-        (around (⟦<TrunkRecordSource<I> as Source>⟧.tells source.old)
+        (around_log (⟦<TrunkRecordSource<I> as Source>⟧.tells source.old)
         (⟦<TrunkRecordSink<O, A> as Sink>⟧.tells sink.old)
         (P.tells ports.old) (T.tells tape.old))
-        (around (⟦<TrunkRecordSource<I> as Source>⟧.tells source.new)
+        (around_log (⟦<TrunkRecordSource<I> as Source>⟧.tells source.new)
         (⟦<TrunkRecordSink<O, A> as Sink>⟧.tells sink.new)
         (P.tells ports.new) (T.tells tape.new))
         gateway.old gateway.new) }
     ensures fault { IfErr result (ServesUntil
-        (around (⟦<TrunkRecordSource<I> as Source>⟧.tells source.old)
+        (around_log (⟦<TrunkRecordSource<I> as Source>⟧.tells source.old)
         (⟦<TrunkRecordSink<O, A> as Sink>⟧.tells sink.old)
         (P.tells ports.old) (T.tells tape.old))
-        (around (⟦<TrunkRecordSource<I> as Source>⟧.tells source.new)
+        (around_log (⟦<TrunkRecordSource<I> as Source>⟧.tells source.new)
         (⟦<TrunkRecordSink<O, A> as Sink>⟧.tells sink.new)
         (P.tells ports.new) (T.tells tape.new))
         gateway.old gateway.new) }
@@ -53,5 +53,5 @@ pub(crate) fn serve_trunk<I: TrunkInput, O: TrunkOutput, A: TrunkOutput, P: Port
         (traffic (I.came source.new.incoming) (I.asked source.new.incoming)
         (O.went sink.new.outgoing) (A.went sink.new.answers)) result ∥₁ }
 {
-    serve_recorded(alloc, gateway, ports, source, sink, tape)
+    serve_logged(alloc, gateway, ports, source, sink, tape)
 }

@@ -1,11 +1,6 @@
-use Rattle.std.proofs.Common.{◌+◌, take, drop, refl, sym, ap, ◌∙◌, subst}
-use Rattle.g704_crc4.specs.Checking.{counts_with, counts_after}
-use Rattle.g704_crc4.specs.States.{ChecksAfter}
+use Rattle.g704_crc4.proofs.Common.{◌+◌, take, drop, sym, ap, ◌∙◌, subst, counts_with, counts_after, ChecksAfter}
 use Rattle.g704_crc4.proofs.Counted.{count-more, next-octet, count-all}
 use Rattle.g704_crc4.proofs.checking.check.Goals as goal
-
-pub loop-octet-init : goal.loop-octet-init
-loop-octet-init c = record { stands = c.new-checker.ensures; counted = refl }
 
 pub loop-octet-preserved : goal.loop-octet-preserved
 loop-octet-preserved c =

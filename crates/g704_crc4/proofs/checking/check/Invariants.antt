@@ -1,6 +1,4 @@
-use Rattle.std.proofs.Common.{◌≡◌, take, drop}
-use Rattle.g704_crc4.specs.Checking.{counts_after, counts_of}
-use Rattle.g704_crc4.specs.States.{ChecksAfter}
+use Rattle.g704_crc4.proofs.Common.{◌≡◌, take, drop, counts_after, counts_of, ChecksAfter}
 use Rattle.g704_crc4.proofs.checking.check.Given as goal
 
 -- The checker has the history of the octets so far, and the others are to be counted.

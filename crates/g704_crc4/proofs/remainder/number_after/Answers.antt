@@ -1,7 +1,5 @@
-use Rattle.std.proofs.Common.{◌≡◌, ◌*◌, ◌%◌, ap, ◌∙◌, get_or, arith}
-use Rattle.std.specs.Prelude.{bit_xor}
+use Rattle.g704_crc4.proofs.Common.{◌≡◌, ◌*◌, ◌%◌, ap, ◌∙◌, get_or, arith, bit_xor, crc_number}
 use Rattle.g704_crc4.specs.declared.table.TheConstants.{REMAINDERS}
-use Rattle.g704_crc4.specs.Remainder.{crc_number}
 use Rattle.g704_crc4.proofs.Numbers.{number-below, entry-is}
 use Rattle.g704_crc4.proofs.remainder.number_after.Goals as goal
 

@@ -1,5 +1,4 @@
-use Rattle.std.proofs.Common.{◌/◌, length, arith, inl, inr}
-use Rattle.std.proofs.lemmas.Bool.{cases_lt}
+use Rattle.g704_crc4.proofs.Common.{◌/◌, length, arith, inl, inr, cases_lt}
 use Rattle.g704_crc4.proofs.NotFound.{none-past}
 use Rattle.g704_crc4.proofs.searching.find_multiframe.Goals as goal
 

@@ -1,5 +1,4 @@
-use Rattle.std.proofs.Common.{◌≡◌, ◌*◌, ◌<◌, ℕ, false}
-use Rattle.g704_crc4.specs.Searching.{begins_multiframe}
+use Rattle.g704_crc4.proofs.Common.{◌≡◌, ◌*◌, ◌<◌, ℕ, false, begins_multiframe}
 use Rattle.g704_crc4.proofs.searching.find_multiframe.Given as goal
 
 -- None begins before.

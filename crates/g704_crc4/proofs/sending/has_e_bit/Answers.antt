@@ -1,5 +1,4 @@
-use Rattle.std.proofs.Common.{sym, ◌∙◌, ◌%◌}
-use Rattle.std.proofs.lemmas.Bool.{eq-eqb}
+use Rattle.g704_crc4.proofs.Common.{sym, ◌∙◌, ◌%◌, eq-eqb}
 use Rattle.g704_crc4.proofs.Reports.{e-bit-first, e-bit-second}
 use Rattle.g704_crc4.proofs.sending.has_e_bit.Goals as goal
 

@@ -20,5 +20,6 @@ returns c =
 
 pub serve-requires : goal.serve-requires
 serve-requires c =
-    takes_asked (λ path. path.now) _ _ _ _ _ (rw c.local_of-system.ensures.path (sym c.in-Some.ensures))
-    c.local_of-system.ensures.load c.local_of-system.ensures.save c.local_of-system.ensures.wait
+    takes_asked _ _ _ _ _ _ (rw c.local_of-system.ensures.path (sym c.in-Some.ensures))
+    c.local_of-system.ensures.load c.local_of-system.ensures.save c.local_of-system.ensures.place
+    c.local_of-system.ensures.wait

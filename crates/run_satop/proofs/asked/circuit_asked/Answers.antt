@@ -15,6 +15,9 @@ returns-clause-ok c = record {
   rtp_is = matched ((n : ℕ) → ¬ SaysNumberIn 8 (codes "rtp") (subcommand_rows_of c.args.matches.now) n)
       (SaysNumberIn 8 (codes "rtp") (subcommand_rows_of c.args.matches.now)) c.rtp_of-rtp.result
       c.rtp_of-rtp.ensures.found c.rtp_of-rtp.ensures.none;
+  sequence_is = matched ((n : ℕ) → ¬ SaysNumberIn 16 (codes "sequence") (subcommand_rows_of c.args.matches.now) n)
+      (SaysNumberIn 16 (codes "sequence") (subcommand_rows_of c.args.matches.now)) c.sequence_of-sequence.result
+      c.sequence_of-sequence.ensures.found c.sequence_of-sequence.ensures.none;
   ones = c.in_ok-settings.ensures.ones;
   again = c.in_ok-settings.ensures.again;
   jitter = rw c.new-timing.ensures.jitter c.in_ok-jitter.ensures.ok;

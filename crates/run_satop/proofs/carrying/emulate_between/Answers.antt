@@ -11,8 +11,10 @@ returns g c = λ command is. inr (record {
   set_up = set_up command _ _ _ _ _ _ _ _ _ is
       (rw c.new-circuit.ensures.receiver c.in_ok-receiver.ensures.settings)
       (rw (c.new-circuit.ensures.receiver, c.in_ok-receiver.ensures.rtp) c.is_some.ensures)
-      (rw (c.new-circuit.ensures.sender, c.new-sender.ensures.start) c.start_at_random.ensures.size)
-      (rw (c.new-circuit.ensures.sender, c.new-sender.ensures.start) c.start_at_random.ensures.rtp)
-      (rw (c.new-circuit.ensures.pace, c.new-pace.ensures) refl) c.perform_satop.ensures.same;
+      (rw (c.new-circuit.ensures.sender, c.new-sender.ensures.start) c.start_of.ensures.size)
+      (rw (c.new-circuit.ensures.sender, c.new-sender.ensures.start) c.start_of.ensures.rtp)
+      (rw (c.new-circuit.ensures.pace, c.new-pace.ensures) refl) c.perform_satop.ensures.same
+      (rw (c.new-circuit.ensures.sender, c.new-sender.ensures.start)
+      (c.start_of.ensures.sequence, c.start_of.ensures.timestamp, c.start_of.ensures.ssrc));
   carried = c.perform_satop.ensures.carries;
 })

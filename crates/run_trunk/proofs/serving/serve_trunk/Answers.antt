@@ -5,14 +5,14 @@ use Rattle.run_trunk.proofs.serving.serve_trunk.Goals as goal
 
 pub returns : goal.returns
 returns g c = record {
-  ok = c.serve_recorded.ensures.ok;
-  fault = c.serve_recorded.ensures.fault;
-  carries = λ config before new. ∥∥₁_map c.serve_recorded.new.source.woven (λ w.
-      carried _ _ config before c.serve_recorded.result _ _ _ _ _ _
+  ok = c.serve_logged.ensures.ok;
+  fault = c.serve_logged.ensures.fault;
+  carries = λ config before new. ∥∥₁_map c.serve_logged.new.source.woven (λ w.
+      carried _ _ config before c.serve_logged.result _ _ _ _ _ _
       (record { unread = ap Some c.requires.source.2; read = refl; untaken = ap Some c.requires.sink.1; took = refl })
       (record {
         gives = w;
-        went_are = c.serve_recorded.new.sink.passed.went_are;
-        told_are = c.serve_recorded.new.sink.passed.told_are;
-      }) new c.serve_recorded.ensures.ok c.serve_recorded.ensures.fault);
+        went_are = c.serve_logged.new.sink.passed.went_are;
+        told_are = c.serve_logged.new.sink.passed.told_are;
+      }) new c.serve_logged.ensures.ok c.serve_logged.ensures.fault);
 }

@@ -1,4 +1,4 @@
-use Rattle.std.proofs.Common.{length, refl, ◌+◌, ◌%◌, ◌∙◌, arith}
+use Rattle.g704_crc4.proofs.Common.{length, refl, ◌+◌, ◌%◌, ◌∙◌, arith}
 use Rattle.g704_crc4.proofs.Checked.{checks-within, far-end-event-is}
 use Rattle.g704_crc4.proofs.checking.Checker.first_octet.Goals as goal
 

@@ -1,6 +1,4 @@
-use Rattle.std.proofs.Common.{◌≡◌, ◌+◌, ◌%◌, ap, ◌∙◌, arith}
-use Rattle.std.specs.Prelude.{nat_le}
-use Rattle.g704_crc4.specs.Checking.{same, block_event}
+use Rattle.g704_crc4.proofs.Common.{◌≡◌, ◌+◌, ◌%◌, ap, ◌∙◌, arith, nat_le, same, block_event}
 use Rattle.g704_crc4.proofs.Checked.{counted-more, checks-within, checks-last, bits-kept, none_reported, taken-whole}
 use Rattle.g704_crc4.proofs.Checked.{block-event-is, far-end-event-is}
 use Rattle.g704_crc4.proofs.checking.Checker.octet.Goals as goal

@@ -1,5 +1,4 @@
-use Rattle.std.proofs.Common.{refl}
-use Rattle.g704_crc4.specs.ReceiverCounts.{times_after}
+use Rattle.g704_crc4.proofs.Common.{refl, times_after}
 use Rattle.g704_crc4.proofs.counting.TrunkChecker.new.Goals as goal
 
 pub returns : goal.returns

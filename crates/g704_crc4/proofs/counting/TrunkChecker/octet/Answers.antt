@@ -1,6 +1,4 @@
-use Rattle.std.proofs.Common.{sym, ap, ◌∙◌}
-use Rattle.g704_crc4.specs.Aligning.{learned}
-use Rattle.g704_crc4.specs.ReceiverCounts.{receiver_counts_with}
+use Rattle.g704_crc4.proofs.Common.{sym, ap, ◌∙◌, learned, receiver_counts_with}
 use Rattle.g704_crc4.proofs.CountsOfEvents.{receiver_counts-more, receiver_counts-same}
 use Rattle.g704_crc4.proofs.counting.TrunkChecker.octet.Goals as goal
 

@@ -1,11 +1,6 @@
-use Rattle.std.proofs.Common.{◌≡◌, ◌<◌, ◌++◌, ◌∷◌, [], ℕ, List, length, refl, sym, ap, ◌∙◌, arith, ◌-◌, get_or}
-use Rattle.std.proofs.Common.{slice_set}
-use Rattle.std.proofs.lemmas.Bool.{false≢true}
-use Rattle.std.proofs.lemmas.List.{length_push, take_more_set}
-use Rattle.std.proofs.Math.Seq.{take-suc}
-use Rattle.g704_crc4.specs.Aligning.{is_given_up}
-use Rattle.g704_crc4.specs.ReceiverCounts.{tells_given_up}
-use Rattle.g704_crc4.specs.Receivers.{GoesOn, IsSearched}
+use Rattle.g704_crc4.proofs.Common.{◌≡◌, ◌<◌, ◌++◌, ◌∷◌, [], ℕ, List, length, refl, sym, ap, ◌∙◌, arith, ◌-◌, get_or}
+use Rattle.g704_crc4.proofs.Common.{slice_set, false≢true, length_push, take_more_set, take-suc, is_given_up}
+use Rattle.g704_crc4.proofs.Common.{tells_given_up, GoesOn, IsSearched}
 use Rattle.g704_crc4.proofs.Searched.{long-learned, long-given_up, short-learned, short-kept}
 use Rattle.g704_crc4.proofs.Followings.{tells-excess}
 use Rattle.g704_crc4.proofs.receiving.Receiver.follow.Goals as goal

@@ -1,8 +1,6 @@
-use Rattle.std.proofs.Common.{◌≡◌, ◌≤◌, ℕ, List, [], length, sym, ◌∙◌, arith, refl}
-use Rattle.std.proofs.lemmas.Bool.{false≢true}
+use Rattle.g704_crc4.proofs.Common.{◌≡◌, ◌≤◌, ℕ, List, [], length, sym, ◌∙◌, arith, refl, false≢true, IsStage}
 use Rattle.g704_crc4.specs.declared.receiving.MultiframeSync.{MultiframeSync}
 use Rattle.g704_crc4.specs.declared.receiving.MultiframeSync.TheVariants as stages
-use Rattle.g704_crc4.specs.Receivers.{IsStage}
 use Rattle.g704_crc4.proofs.Searched.{lost-learned, short-learned}
 use Rattle.g704_crc4.proofs.receiving.Receiver.hunt.Goals.{in-SubmultiframeCheck, in_default}
 use Rattle.g704_crc4.proofs.receiving.Receiver.hunt.Goals as goal

@@ -1,6 +1,4 @@
-use Rattle.std.proofs.Common.{refl, arith}
-use Rattle.g704_framing.proofs.Standings.{since-nothing}
-use Rattle.g704_crc4.specs.Aligning.{parts}
+use Rattle.g704_crc4.proofs.Common.{refl, arith, since-nothing, parts}
 use Rattle.g704_crc4.proofs.Alignments.{aligned-nil}
 use Rattle.g704_crc4.proofs.receiving.Receiver.new.Goals as goal
 

@@ -1,10 +1,6 @@
-use Rattle.std.proofs.Common.{◌≡◌, ◌++◌, ◌∷◌, [], ℕ, ◌-◌, List, length, refl, sym, ap, ◌∙◌, arith, None}
-use Rattle.std.proofs.Common.{inl, inr}
-use Rattle.std.proofs.lemmas.Bool.{cases_Bool}
-use Rattle.std.proofs.lemmas.List.{length_push, get_or_push}
-use Rattle.g704_framing.specs.Restart.{last_of}
-use Rattle.g704_framing.proofs.Standings.{since-more, since-anew}
-use Rattle.g704_crc4.specs.Aligning.{learned, learned_of, aligned_octets, is_given_up, parts, part_before}
+use Rattle.g704_crc4.proofs.Common.{◌≡◌, ◌++◌, ◌∷◌, [], ℕ, ◌-◌, List, length, refl, sym, ap, ◌∙◌, arith, None, inl, inr}
+use Rattle.g704_crc4.proofs.Common.{cases_Bool, length_push, get_or_push, last_of, since-more, since-anew, learned}
+use Rattle.g704_crc4.proofs.Common.{learned_of, aligned_octets, is_given_up, parts, part_before}
 use Rattle.g704_crc4.proofs.Alignments.{aligned-none, aligned-nil, slot-goes_on, part-begun}
 use Rattle.g704_crc4.proofs.Parts.{part-is, part-over, part-kept}
 use Rattle.g704_crc4.proofs.Searched.{short-kept}

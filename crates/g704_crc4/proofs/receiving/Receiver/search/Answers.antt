@@ -1,8 +1,6 @@
-use Rattle.std.proofs.Common.{◌≡◌, ◌≤◌, ◌<◌, ◌++◌, ◌∷◌, [], ℕ, ◌+◌, List, refl, sym, ap, ◌∙◌, arith, length, drop}
-use Rattle.std.proofs.Common.{slice_set}
-use Rattle.std.proofs.lemmas.Bool.{false≢true}
-use Rattle.std.proofs.lemmas.List.{length_push, take_all, take_more_set, drop-append-le}
-use Rattle.g704_crc4.specs.Receivers.{IsSearched}
+use Rattle.g704_crc4.proofs.Common.{◌≡◌, ◌≤◌, ◌<◌, ◌++◌, ◌∷◌, [], ℕ, ◌+◌, List, refl, sym, ap, ◌∙◌, arith, length, drop}
+use Rattle.g704_crc4.proofs.Common.{slice_set, false≢true, length_push, take_all, take_more_set, drop-append-le}
+use Rattle.g704_crc4.proofs.Common.{IsSearched}
 use Rattle.g704_crc4.proofs.Searched.{short-learned, short-kept, found-is, found-learned, found-kept, none-is}
 use Rattle.g704_crc4.proofs.Searched.{none-learned, none-given_up}
 use Rattle.g704_crc4.proofs.receiving.Receiver.search.Goals as goal

@@ -1,5 +1,4 @@
-use Rattle.std.proofs.Common.{◌++◌, ◌∷◌, [], refl, arith}
-use Rattle.std.proofs.lemmas.List.{length_push}
+use Rattle.g704_crc4.proofs.Common.{◌++◌, ◌∷◌, [], refl, arith, length_push}
 use Rattle.g704_crc4.proofs.Followings.{begins}
 use Rattle.g704_crc4.proofs.Searched.{next-few}
 use Rattle.g704_crc4.proofs.receiving.SubmultiframeCheck.begun.Goals as goal

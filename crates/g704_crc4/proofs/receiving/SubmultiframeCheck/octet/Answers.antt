@@ -1,6 +1,5 @@
-use Rattle.std.proofs.Common.{◌≡◌, Some, subst, ◌<◌, ◌++◌, ◌∷◌, [], refl, sym, ap, ◌∙◌, arith}
-use Rattle.g704_crc4.specs.Aligning.{checked_octets}
-use Rattle.g704_crc4.specs.States.{ChecksAfter}
+use Rattle.g704_crc4.proofs.Common.{◌≡◌, Some, subst, ◌<◌, ◌++◌, ◌∷◌, [], refl, sym, ap, ◌∙◌, arith, checked_octets}
+use Rattle.g704_crc4.proofs.Common.{ChecksAfter}
 use Rattle.g704_crc4.proofs.Blocks.{none-came, not_excessive}
 use Rattle.g704_crc4.proofs.Followings.{followed-nothing, followed-is, followed-excess, none-yet, one-more, waits-on}
 use Rattle.g704_crc4.proofs.Followings.{no-block, excess-is, block}

@@ -1,4 +1,4 @@
-use Rattle.std.proofs.Common.{refl}
+use Rattle.g704_crc4.proofs.Common.{refl}
 use Rattle.g704_crc4.specs.Reporting.{unreported_after}
 use Rattle.g704_crc4.proofs.reporting.EBitReporter.new.Goals as goal
 

@@ -1,4 +1,4 @@
-use Rattle.std.proofs.Common.{sym, ◌∙◌}
+use Rattle.g704_crc4.proofs.Common.{sym, ◌∙◌}
 use Rattle.g704_crc4.proofs.Reports.{without-bit, with-bit}
 use Rattle.g704_crc4.proofs.reporting.EBitReporter.octet.Goals as goal
 

@@ -1,4 +1,4 @@
-use Rattle.std.proofs.Common.{arith}
+use Rattle.g704_crc4.proofs.Common.{arith}
 use Rattle.g704_crc4.proofs.Reports.{unreported-errored}
 use Rattle.g704_crc4.proofs.reporting.EBitReporter.report.Goals as goal
 

@@ -1,13 +1,8 @@
-use Rattle.std.proofs.Common.{arith}
-use Rattle.g704_crc4.proofs.Steps.{next-within, next-begins}
+use Rattle.g704_crc4.proofs.Common.{arith}
+use Rattle.g704_crc4.proofs.Steps.{next-begins}
 use Rattle.g704_crc4.proofs.sending.Crc4Inserter.begin_submultiframe.Goals as goal
 
 pub returns-then-self-eq0 : goal.returns-then-self-eq0
 returns-then-self-eq0 c history s =
     let p = s.place in
     next-begins c.args.self.now history s (omega (arith, c.if-self-eq0.true))
-
-pub returns-else-self-eq0 : goal.returns-else-self-eq0
-returns-else-self-eq0 c history s =
-    let p = s.place in
-    next-within c.args.self.now history s (λ z. c.if-self-eq0.false (omega (arith, z)))

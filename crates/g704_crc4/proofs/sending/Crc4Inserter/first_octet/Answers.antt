@@ -1,7 +1,5 @@
-use Rattle.std.proofs.Common.{◌≡◌, ◌/◌, ◌%◌, length, ap, sym, ◌∙◌, refl, arith}
-use Rattle.std.specs.Prelude.{nat_le}
-use Rattle.g704_crc4.specs.Remainder.{no_remainder}
-use Rattle.g704_crc4.specs.Multiframe.{si_at, with_si, check_bits_after, sent_octet}
+use Rattle.g704_crc4.proofs.Common.{◌≡◌, ◌/◌, ◌%◌, length, ap, sym, ◌∙◌, refl, arith, nat_le, no_remainder, si_at}
+use Rattle.g704_crc4.proofs.Common.{with_si, check_bits_after, sent_octet}
 use Rattle.g704_crc4.proofs.Sent.{at-frame}
 use Rattle.g704_crc4.proofs.Steps.{sends-more}
 use Rattle.g704_crc4.proofs.sending.Crc4Inserter.first_octet.Goals as goal

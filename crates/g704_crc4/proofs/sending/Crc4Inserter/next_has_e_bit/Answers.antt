@@ -1,4 +1,4 @@
-use Rattle.std.proofs.Common.{◌∙◌, length}
+use Rattle.g704_crc4.proofs.Common.{◌∙◌, length}
 use Rattle.g704_crc4.proofs.Reports.{e-bit-place}
 use Rattle.g704_crc4.proofs.sending.Crc4Inserter.next_has_e_bit.Goals as goal
 

@@ -1,7 +1,4 @@
-use Rattle.std.proofs.Common.{◌%◌, length, sym, arith}
-use Rattle.std.specs.Prelude.{◌≢◌}
-use Rattle.g704_crc4.specs.Remainder.{no_remainder}
-use Rattle.g704_crc4.specs.Multiframe.{check_bits_after, sent_octet}
+use Rattle.g704_crc4.proofs.Common.{◌%◌, length, sym, arith, ◌≢◌, no_remainder, check_bits_after, sent_octet}
 use Rattle.g704_crc4.proofs.Sent.{at-other}
 use Rattle.g704_crc4.proofs.Steps.{next-within, sends-more}
 use Rattle.g704_crc4.proofs.sending.Crc4Inserter.octet.Goals as goal
