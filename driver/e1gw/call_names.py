@@ -1,7 +1,9 @@
 """How often each line was seized, by which calls are named: the next follower, and the next service, go on counting.
 
 A follower counts seizures since the state with which it has begun, its session. A note in memory says what has to be
-added to them, so that a service that is started again counts as the one before it did."""
+added to them, so that a service that is started again counts as the one before it did. It also says how the lines stood
+last: of another state, behind the death of both, that is all that is known.
+"""
 from __future__ import annotations
 
 import json
@@ -9,8 +11,8 @@ import os
 import secrets
 from typing import Mapping
 
-from .ring import put_file
-from .lines import Line
+from .lines import IN_CALL, Line
+from .writers import put_file
 
 Seizures = dict[int, int]       # by circuit
 
@@ -21,7 +23,7 @@ def note_of(tell: str) -> str:
     return os.path.join(folder, 'calls.json') if folder else f'{tell}.calls'
 
 
-class Naming:
+class CallNames:
     """Counts seizures across sessions. `life` names the count: as long as it is the same, the count goes on. It is
     empty until a follower has told how the lines stand."""
 
@@ -29,6 +31,9 @@ class Naming:
         self.life, self._path = '', path
         self._session = ''
         self._base: Seizures = {}       # seizures before that session
+        self._last: Seizures = {}       # all of them, when the lines were looked at last
+        self._in_call = list[int]()     # the lines that were in a call then
+        self._counts = False            # whether the follower of now tells seizures
         self._noted, self._noted_life = '', ''
         self._read()
 
@@ -38,27 +43,40 @@ class Naming:
             with open(self._path, encoding='utf-8') as file:
                 self._noted = file.read()
             found = json.loads(self._noted)
-            base = {int(n): int(count) for n, count in found['base'].items()}
+            # (one of an earlier version has no more than a base)
+            base, last = ({int(n): int(count) for n, count in its.items()} for its in (
+                found['base'], found.get('last', {})))
+            in_call = [int(n) for n in found.get('in_call', ())]
             self._noted_life, self._session, self._base = str(found['life']), str(found['session']), base
+            self._last, self._in_call = last, in_call
         except (OSError, ValueError, KeyError, TypeError, AttributeError):
             pass
 
-    def begin(self, session: str, before: Seizures | None, told: Seizures, lines: Mapping[int, Line]) -> None:
+    def begin(self, session: str, told: Seizures, lines: Mapping[int, Line]) -> None:
         """A follower has told how all lines stand, and how often each was seized in its session, unless it is of an
-        earlier version. `before` are the seizures that were known when it began to tell; None if nothing was."""
-        if told and session == self._session:
-            self.life = self._noted_life
-        self.life = self.life or secrets.token_hex(4)
+        earlier version."""
+        self._counts = bool(told)
+        goes_on = told and (self._last or session == self._session)
+        self.life = self.life or (self._noted_life if goes_on else '') or secrets.token_hex(4)
         if not told:
             return
         if session != self._session:
-            known = before or {}
-            # (a line that was idle before and is seized is counted already)
-            total = {n: max(known.get(n, 0) + count, lines[n].seizures) for n, count in told.items()}
-            self._session, self._base = session, {n: total[n] - count for n, count in told.items()}
+            # (a line that is in a call, and was in none, was seized while nobody looked)
+            new = {n: bool(self._last) and lines[n].state in IN_CALL and n not in self._in_call for n in told}
+            self._session = session
+            self._base = {n: self._last.get(n, 0) + max(new[n], count) - count for n, count in told.items()}
         for n, count in told.items():
             lines[n].seizures = self._base.get(n, 0) + count
+        self.look(lines)
         self._note()
+
+    def look(self, lines: Mapping[int, Line]) -> None:
+        """To be called when a follower has told another state of a line: notes how they stand."""
+        last = {n: line.seizures for n, line in lines.items()}
+        in_call = [n for n, line in lines.items() if line.state in IN_CALL]
+        if self._counts and (last, in_call) != (self._last, self._in_call):
+            self._last, self._in_call = last, in_call
+            self._note()
 
     def saved(self, session: str, lines: Mapping[int, Line]) -> None:
         """A session of this name is to begin where this one has ended."""
@@ -67,7 +85,8 @@ class Naming:
             self._note()
 
     def _note(self) -> None:
-        text = json.dumps({'life': self.life, 'session': self._session, 'base': self._base})
+        text = json.dumps({'life': self.life, 'session': self._session, 'base': self._base, 'last': self._last,
+                           'in_call': self._in_call})
         self._noted_life = self.life
         if text != self._noted:
             self._noted = text

@@ -17,10 +17,10 @@ KEPT = 9                    # FILE.1 to FILE.9
 EACH = ('sent', 'admitted', 'lost', 'Late')     # what is counted, by the words of the counts
 
 
-def csv_line(fields: Iterable[object]) -> bytes:
+def csv_line(fields: Iterable[object]) -> str:
     text = io.StringIO()
-    csv.writer(text, lineterminator='\n').writerow(fields)
-    return text.getvalue().encode()
+    csv.writer(text, lineterminator='').writerow(fields)
+    return text.getvalue()
 
 
 def moment(seconds: float | None) -> str:
@@ -48,13 +48,13 @@ class CallRecord:
 class CallLog:
     """Follows the calls of a trunk. `put` is given a line for each; `clock` is that of the day."""
 
-    def __init__(self, trunk: str, lines: Mapping[int, Line], counts: DatagramCounts, put: Callable[[bytes], None],
+    def __init__(self, trunk: str, lines: Mapping[int, Line], counts: DatagramCounts, put: Callable[[str], None],
                  clock: Callable[[], float] = time.time) -> None:
         self._trunk, self._lines, self._counts, self._put, self._clock = trunk, lines, counts, put, clock
         self._calls: dict[int, CallRecord] = {}
         self._ended: list[CallRecord] = []                # whose packets are not all counted yet
         self._before: dict[int, dict[str, int]] = {}   # the counts at the end of the last call of each circuit
-        self.life = ''                                  # names the count of calls of each line
+        self.life = ''
         self.changed: frozenset[int] = frozenset()      # circuits that were configured otherwise while nobody told
 
     def took(self, event: Event) -> None:
@@ -72,8 +72,10 @@ class CallLog:
     def _begin(self, circuit: int, seized: float | None) -> None:
         self._calls[circuit] = CallRecord(circuit, seized, self._lines[circuit].unacknowledged)
 
-    def begun(self) -> None:
-        """The state of all lines is known again: there may be calls that nobody reported, and counts from 0."""
+    def begun(self, life: str) -> None:
+        """The state of all lines is known again: there may be calls that nobody reported, and counts from 0. `life`
+        names the count of calls of each line."""
+        self.life = life
         for n, line in self._lines.items():
             if line.state in IN_CALL and n not in self._calls:
                 self._begin(n, None)

@@ -8,54 +8,49 @@ from __future__ import annotations
 
 import itertools
 from collections import deque
-from dataclasses import dataclass
-from typing import Any
+from typing import Any, Callable, Protocol
 
 from .session import FRAME
 from .slots import PLACE, SLOTS, Slot16
-from .trunks import Trunk
 
 _SIGNAL, _NO_SIGNAL = b'\x9B', b'\xDF'      # slot 0 of even and odd frames, with all spare bits one (ITU-T G.704, 2.3)
 IDLE = {'A': 0xD5, 'mu': 0xFF}
 DROPPED, SILENT, SENT = range(3)    # what becomes of what is sent
 
 
-@dataclass
-class Place:
-    """The gateway's place in its frames, which goes on when a device ends and another one is opened."""
+class SlotDevice(Protocol):
+    """A device that has slots 1 to 31."""
 
-    law: str = ''               # of the configuration, once a device was opened
-    given: int = 0              # octets that the gateway was given, modulo two frames
-    found: bool = False         # slot 16 was found once
+    def read(self, most: int, /) -> bytes:
+        """Octets that have come, at most this number. EOFError where it has ended."""
+
+    def write(self, octets: bytes, /) -> None:
+        """Sends octets."""
 
 
-class Clear(Trunk):
-    """The 32 slots of a trunk of which a device has slots 1 to 31."""
+class Clear:
+    """The 32 slots of a trunk of which a device has slots 1 to 31. `tell` is called with each change of slot 16."""
 
-    def __init__(self, device: Trunk, place: Place | None = None) -> None:
-        self._device, self.paced, self.name = device, device.paced, device.name
-        self._place = place or Place()
-        self._idle = bytes([IDLE[self._place.law or 'A']])
+    def __init__(self, device: SlotDevice, law: str = 'A', given: int = 0, found: bool = False) -> None:
+        """`given` are the octets that the gateway was given, modulo two frames: its place in its frames goes on when a
+        device ends and another one is opened. `found` is whether slot 16 was found once."""
+        self._device, self.given, self.found = device, given, found
+        self.tell: Callable[[dict[str, Any]], None] = lambda event: None
+        self._idle = bytes([IDLE[law]])
         self._silence = self._idle * 16 + b'\xFF' + self._idle * 15     # a frame without a signal in slot 16
-        self._slots = Slot16(self._place.found)
-        self._taken = self._place.given % FRAME     # the slot of the next octet that is sent
+        self._slots = Slot16(self.found)
+        self._taken = self.given % FRAME     # the slot of the next octet that is sent
         self._missing = -self._taken % FRAME        # an earlier device ended inside a frame: what is missing of it
         self._ways: deque[list[int]] = deque()      # of octets that were given: how many, and what becomes of answers
         self._ready = bytearray()
         self.lost = self.moved = 0
-
-    def fileno(self) -> int:
-        return self._device.fileno()
-
-    def writer(self) -> int:
-        return self._device.writer()
 
     def read(self, most: int) -> bytes:
         if not self._ready:
             self._take(self._device.read(self._most_of(most)))
         out = bytes(self._ready[:most])
         del self._ready[:most]
-        self._place.given = (self._place.given + len(out)) % (2 * FRAME)
+        self.given = (self.given + len(out)) % (2 * FRAME)
         return out
 
     def _most_of(self, most: int) -> int:
@@ -70,7 +65,7 @@ class Clear(Trunk):
             self._missing = 0
         at = 0
         while at < len(octets):
-            place = (self._place.given + len(self._ready)) % (2 * FRAME)
+            place = (self.given + len(self._ready)) % (2 * FRAME)
             slot = place % FRAME
             if slot == 0 and (frames := self._take_frames(octets, at, place)):
                 at += frames * SLOTS
@@ -114,7 +109,7 @@ class Clear(Trunk):
             self._tell('moved', by=by)
         elif silent:
             self._tell('found')
-        self._place.found = True
+        self.found = True
         return self._idle * by + octets[at:], 0
 
     def _give(self, octets: bytes, way: int) -> None:
@@ -126,8 +121,7 @@ class Clear(Trunk):
             self._ways.append([len(octets), way])
 
     def _tell(self, what: str, **more: Any) -> None:
-        if self.tell:
-            self.tell({'event': 'slots', 'what': what, **more})
+        self.tell({'event': 'slots', 'what': what, **more})
 
     def write(self, octets: bytes) -> None:
         out = bytearray()
@@ -156,15 +150,7 @@ class Clear(Trunk):
         del out[-self._taken % FRAME::FRAME]
         return out
 
-    def waiting(self) -> int:
-        return self._device.waiting()
-
-    def flush(self) -> None:
-        self._device.flush()
-
-    def close(self) -> None:
-        self._device.close()
-
     def status(self) -> dict[str, Any]:
-        return {**self._device.status(), 'slots': 'clear', 'silent': self._slots.silent, 'slots_lost': self.lost,
-                'slots_moved': self.moved}
+        """Slot 16, as plain values."""
+        return {'silent': self._slots.silent, 'slots_lost': self.lost, 'slots_moved': self.moved,
+                'found': self.found}

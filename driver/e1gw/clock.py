@@ -1,4 +1,4 @@
-"""The trunk's time against this machine's: stalls, gaps and the rate.
+"""The trunk's time against this machine's: gaps and the rate.
 
 An octet is behind by the time since the first one less its place at 256,000 octets a second. What it is behind by more
 than is usual is the displacement. It is measured where octets flow steadily; a slow change of it is the rate of a
@@ -22,15 +22,11 @@ RATE_LIMIT = 200            # parts in a million
 
 @dataclass(frozen=True)
 class ClockFinding:
-    """What was found: `stalled` and `flows` (with the seconds without octets), `gap` and `ahead` (with those that
-    octets were displaced by) or `rate` (with parts in a million)."""
+    """What was found: `gap` and `ahead` (with the seconds that octets were displaced by) or `rate` (with parts in a
+    million)."""
 
     what: str
     value: float
-
-
-def _spread(values: deque[float]) -> float:
-    return max(values) - min(values)
 
 
 class Clock:
@@ -39,12 +35,10 @@ class Clock:
     def __init__(self, now: float, gap: float = 0.1) -> None:
         self.gap = gap
         self.octets = 0
-        self.stalls = self.gaps = 0
-        self.lost_seconds = 0.0             # the gaps in all
-        self.stalled = False
+        self.gaps, self.lost_seconds = 0, 0.0       # how many there were, and how long in all
         self.ppm: float | None = None
         self.off_rate = False
-        self._began = self._last = self._stood = self._looked = now
+        self._began = self._last = self._looked = now
         self._low: float | None = None      # the least that octets were behind since the last look, as they came
         self._lows: deque[float] = deque(maxlen=WINDOW)
         self._base: float | None = None     # what octets are behind by as a rule
@@ -60,41 +54,29 @@ class Clock:
 
     def steady(self) -> bool:
         """Whether octets flow at their rate."""
-        return not self.stalled and len(self._lows) == WINDOW and _spread(self._lows) < STEADY
+        return len(self._lows) == WINDOW and max(self._lows) - min(self._lows) < STEADY
 
     def look(self, now: float) -> list[ClockFinding]:
         """To be called each TICK: what has become of the flow since."""
         if now - self._looked >= self.gap:
             self._last = now    # this process stood still
         self._looked = now
-        found = self._look_at_flow(now)
+        if self._low is not None:
+            self._lows.append(self._low)
+            self._low = None
+        elif now - self._last > self.gap:
+            self._lows.clear()  # no octets come
         if not self.steady():
-            return found
+            return []
         behind = min(self._lows)
         if self._base is None:
             self._base = behind
-        displaced = behind - self._base
+        displaced, found = behind - self._base, list[ClockFinding]()
         if abs(displaced) > self.gap:
             found.append(self._step(displaced))
         else:
             self._base += max(-DRIFT * TICK, min(DRIFT * TICK, displaced))
         return found + self._look_at_rate(now, behind - self._steps)
-
-    def _look_at_flow(self, now: float) -> list[ClockFinding]:
-        if self._low is None:
-            quiet = now - self._last
-            if quiet <= self.gap or self.stalled or not self.octets:
-                return []
-            self.stalled, self._stood = True, self._last
-            self.stalls += 1
-            self._lows.clear()
-            return [ClockFinding('stalled', quiet)]
-        self._lows.append(self._low)
-        self._low = None
-        if not self.stalled:
-            return []
-        self.stalled = False
-        return [ClockFinding('flows', self._last - self._stood)]
 
     def _step(self, displaced: float) -> ClockFinding:
         self._base = (self._base or 0.0) + displaced
@@ -124,5 +106,5 @@ class Clock:
 
     def status(self) -> dict[str, Any]:
         """All of it, as plain values."""
-        return {'stalled': self.stalled, 'stalls': self.stalls, 'gaps': self.gaps,
-                'gap_seconds': round(self.lost_seconds, 3), 'ppm': None if self.ppm is None else round(self.ppm, 1)}
+        return {'gaps': self.gaps, 'gap_seconds': round(self.lost_seconds, 3),
+                'ppm': None if self.ppm is None else round(self.ppm, 1)}

@@ -11,23 +11,12 @@ COUNTS = ('submultiframes', 'errored', 'far_end_errored', 'multiframes_found', '
 QUIET = 10                      # counts without an error after which errors are over
 
 
-def _counts_in(words: list[str]) -> dict[str, int] | None:
-    """The counts among these names and numbers, or None if one is missing."""
-    found = {name: int(digits) for name, digits in zip(words[::2], words[1::2])
-             if name in COUNTS and digits.isascii() and digits.isdecimal()}
-    return found if len(found) == len(COUNTS) else None
-
-
-def live_counts(line: str) -> dict[str, int] | None:
-    """The counts in a line that a check prints after a second, or None if it is another line."""
-    first, *words = line.split() or ['']
-    return _counts_in(words) if first == 'live' else None
-
-
-def counts_of(lines: list[str]) -> dict[str, int] | None:
-    """The counts that a check prints at its end, a line each, or None if they are none."""
-    pairs = [words for line in lines if len(words := line.split()) == 2]
-    return _counts_in([word for pair in pairs for word in pair])
+def counts_in(line: str) -> dict[str, int]:
+    """The counts in a line that a check prints: after a second all of them behind `live`, at its end one; none in
+    another line."""
+    words = line.removeprefix('live ').split()
+    return {name: int(digits) for name, digits in zip(words[::2], words[1::2])
+            if name in COUNTS and digits.isascii() and digits.isdecimal()}
 
 
 class ErroredSubmultiframes:
@@ -55,7 +44,6 @@ class Crc4:
     """What is known of a trunk's CRC-4, over all devices that are opened one after another for one gateway."""
 
     def __init__(self) -> None:
-        self.sent = 0                           # octets that the gateway has sent
         self.checked = 0                        # octets that came and whose counts are known
         self.counts = dict.fromkeys(COUNTS, 0)
         self.aligned: bool | None = None        # whether alignment stood at the last count of this device

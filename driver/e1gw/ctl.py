@@ -3,9 +3,9 @@
 PATH is the socket of --control of e1gw-trunk, or the name of a trunk, whose socket is /run/e1gw/NAME/control.
 COMMAND is one of e1gw-trunk(1): seize N, clear N, answer N, clear-back N, block N, unblock N, codec N CODEC TYPE,
 status, status N, status json, events, on-loss, role, promote, demote, move, reload, quit, help. N may be several
-circuits: seize 1-4,7. move NODE, as root, is for a trunk under Pacemaker, which looks away meanwhile. With a PATH and
-no command, commands are read from standard input, a line each. --all gives the command to each trunk of this machine.
-Without any word there is a line for each trunk of this machine.
+circuits: seize 1-4,7. move NODE, as root, has Pacemaker move the trunk. With a PATH and no command, commands are read
+from standard input, a line each. --all gives the command to each trunk of this machine. Without any word there is a
+line for each trunk of this machine.
 
 Statuses: 0 all was done; 1 a trunk refused something, or does not answer; 2 the command line, or nobody listens at
 PATH.
@@ -14,7 +14,6 @@ from __future__ import annotations
 
 import argparse
 import os
-import re
 import socket
 import subprocess
 import sys
@@ -120,25 +119,17 @@ def run_all(words: list[str]) -> int:
     return status
 
 
-def move(path: str, name: str, node: str) -> int:
-    """Moves a trunk to another node of Pacemaker, which looks away meanwhile; returns the status."""
-    crm = ['crm_resource', '--resource', name]
-    where = subprocess.run([*crm, '--locate'], capture_output=True, text=True, check=True).stdout
-    if not re.search(rf'on: {re.escape(node)} *$', where, re.MULTILINE):
-        print(f'move: {node} has no standby of {name}')
-        return 1
-    managed = [*crm, '--meta', '--set-parameter', 'is-managed', '--parameter-value']
-    subprocess.run([*managed, 'false'], stdout=subprocess.DEVNULL, check=True)
-    try:
-        return run(path, ['move'])
-    finally:
-        for words in ([*crm, '--refresh'], [*crm, '--wait'], [*managed, 'true']):
-            subprocess.run(words, stdout=subprocess.DEVNULL, stderr=subprocess.DEVNULL, check=False)
+def move(name: str, node: str) -> int:
+    """Has Pacemaker move a trunk, whose resource has its name, to another node; returns the status."""
+    steps = ['--move', '--promoted', '--node', node], ['--wait'], ['--clear']
+    return max(subprocess.run(['crm_resource', '--resource', name, *words], check=False).returncode for words in steps)
 
 
 def started(asked: argparse.Namespace, parser: argparse.ArgumentParser) -> int:
     """What the words ask for."""
     words = [asked.path] * bool(asked.path) + asked.command
+    if asked.path == '' or not all(word.strip() and word.isprintable() for word in asked.command):
+        parser.error('a word is empty, or cannot be printed')
     if asked.all and (not words or words == ['events']):
         parser.error('--all wants a command that is answered at once')
     if asked.all:
@@ -146,7 +137,7 @@ def started(asked: argparse.Namespace, parser: argparse.ArgumentParser) -> int:
     if asked.command[:1] and asked.command[0] in [name for name, _ in trunks_here()]:
         parser.error(f'{asked.command[0]} is a trunk: a command goes to one of them, and with --all to each')
     if asked.command[:1] == ['move'] and len(asked.command) == 2:
-        return move(path_of(asked.path), asked.path, asked.command[1])
+        return move(asked.path, asked.command[1])
     return run(path_of(asked.path), asked.command) if asked.path else overview()
 
 
@@ -193,6 +184,9 @@ def main() -> None:
         status = 1
     except OSError as fault:
         path = path_of(asked.path or '')
-        print(f'e1gw-ctl: {path}: {fault.strerror}{unit_words(path, fault)}', file=sys.stderr)
+        print(f'e1gw-ctl: {path}: {fault.strerror or fault}{unit_words(path, fault)}', file=sys.stderr)
+        status = 2
+    except UnicodeError:
+        print('e1gw-ctl: a command cannot be read', file=sys.stderr)
         status = 2
     sys.exit(status)

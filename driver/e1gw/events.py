@@ -30,7 +30,7 @@ _WORDS: dict[str, Callable[[Event], str]] = {
     'lost': lambda e: f'{e["what"]} alignment lost',
     'codec': lambda e: f'{e["circuit"]}: codec {e["codec"]}, payload type {e["payload"]}',
     'command': lambda e: f'{e["circuit"]}: {e["command"]}: {e["answer"]}',
-    'renewed': lambda e: f'jitter buffer resynchronised{_times(e)}, {e["why"]}: circuits {_circuits(e)}',
+    'renewed': lambda e: f'jitter buffer resynchronised, {e["why"]}: circuits {_circuits(e)}',
     'cleared': lambda e: f'calls cleared, {e["why"]}: circuits {_circuits(e)}',
     'stalled': lambda e: f'no octets of the trunk for {e["seconds"]} s',
     'flows': lambda e: f'octets again after {e["seconds"]} s',
@@ -61,10 +61,6 @@ def _circuits(event: Event) -> str:
 
 def _more_than_once(event: Event) -> str:
     return f', {event["count"]} times' if event.get('count', 1) > 1 else ''
-
-
-def _times(event: Event) -> str:
-    return f' {event["count"]} times more' if 'count' in event else ''
 
 
 def words_of(event: Event) -> str:

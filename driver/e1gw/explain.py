@@ -17,8 +17,9 @@ import os
 import re
 import socket
 import tomllib
+from contextlib import suppress
 from dataclasses import dataclass
-from typing import Any, Callable
+from typing import Any, Callable, Iterator
 
 LONGEST, DEEPEST = 65_536, 80
 MOST_SHOWN = 120            # characters of a value, or of the TOML reader's words
@@ -253,13 +254,12 @@ def socket_fault(host: str, circuit: dict[str, Any]) -> str | None:
     return None
 
 
-def first_socket_fault(table: dict[str, Any]) -> tuple[int, str] | None:
-    """Opens each socket by itself: the circuit of the first that cannot be opened, and why; None if all can."""
+def socket_faults(table: dict[str, Any]) -> Iterator[tuple[int, str]]:
+    """Opens each socket by itself, in the order of the circuits: those that cannot be opened, and why."""
     with_ports = [circuit for circuit in table.get('circuit', []) if 'local_port' in circuit]
     for circuit in sorted(with_ports, key=lambda it: int(it['number'])):
         if why := socket_fault(table.get('host', '127.0.0.1'), circuit):
-            return circuit['number'], why
-    return None
+            yield circuit['number'], why
 
 
 # ---- the words ----
@@ -289,23 +289,14 @@ def config_words(path: str) -> str | None:
     return None
 
 
-def socket_words(path: str, number: int) -> str | None:
-    """Why the socket of a circuit cannot be opened, in words; None if it can now."""
-    try:
-        table = check(read_octets(path))
-    except (ConfigFault, OSError):
-        return None
-    for circuit in table.get('circuit', []):
-        if circuit['number'] == number and 'local_port' in circuit:
-            return socket_fault(table.get('host', '127.0.0.1'), circuit)
-    return None
-
-
 def gateway_words(line: str, path: str) -> str | None:
     """The words for a line with which `e1gw serve` ended at its start; None for another line."""
-    if found := re.fullmatch(r'socket (\d+)', line):
-        return socket_words(path, int(found[1])) or 'its port is free now, or its peer cannot be reached'
-    return None
+    if not (found := re.fullmatch(r'socket (\d+)', line)):
+        return None
+    why = None
+    with suppress(ConfigFault, OSError):
+        why = dict(socket_faults(check(read_octets(path)))).get(int(found[1]))
+    return why or 'its port is free now, or its peer cannot be reached'
 
 
 def explain() -> int:
@@ -328,7 +319,7 @@ def explain() -> int:
     print('the configuration has no fault')
     if given.no_sockets:
         return 0
-    if found := first_socket_fault(table):
+    if found := next(socket_faults(table), None):
         print(f'socket {found[0]}\n  {found[1]}')
         return 1
     print(f'{sum("local_port" in circuit for circuit in table.get("circuit", []))} sockets can be opened')

@@ -50,6 +50,16 @@ def number(least: float, most: float, kind: type = int) -> Callable[[str], Any]:
     return read
 
 
+def checked(read: Callable[[str], Any], what: str = '') -> Callable[[str], Any]:
+    """A reader for an option, whose ValueError is what is said of it, or that it is not `what`."""
+    def reads(text: str) -> Any:
+        try:
+            return read(text)
+        except ValueError as fault:
+            raise argparse.ArgumentTypeError(f'{text} is not {what}' if what else str(fault)) from None
+    return reads
+
+
 class Parser(argparse.ArgumentParser):
     """A parser that names the file of a unit's options."""
 

@@ -1,10 +1,10 @@
-"""The thirty lines and the alarms of a trunk: how they stand and what changes, in the words of the listing."""
+"""The thirty lines of a trunk, in the words of the listing, and what a configuration says of them."""
 from __future__ import annotations
 
 import tomllib
 from dataclasses import dataclass
 from enum import StrEnum
-from typing import Any, Callable, Mapping, TypeVar
+from typing import Any, Callable, Mapping
 
 from .session import CIRCUITS, SAMPLES_A_SECOND, Codec, Command
 
@@ -128,13 +128,10 @@ def tables_of(config: Mapping[str, Any]) -> dict[int, Any]:
     return {table['number']: (law_of(config), table) for table in config.get('circuit', [])}
 
 
-ALine = TypeVar('ALine', bound=Line)
-
-
-def lines_of(config: Mapping[str, Any], kind: type[ALine]) -> dict[int, ALine]:
+def lines_of(config: Mapping[str, Any]) -> dict[int, Line]:
     """The thirty lines of a configuration, as a session begins."""
     law = law_of(config)
-    lines = {n: kind(n, codec=Codec.G711.word(law), payload=8 if law == 'A' else 0) for n in CIRCUITS}
+    lines = {n: Line(n, codec=Codec.G711.word(law), payload=8 if law == 'A' else 0) for n in CIRCUITS}
     for table in config.get('circuit', []):
         line = lines[table['number']]
         line.role = Role(table.get('role', line.role))
@@ -145,69 +142,3 @@ def lines_of(config: Mapping[str, Any], kind: type[ALine]) -> dict[int, ALine]:
     for line in lines.values():
         line.configured = line.codec, line.payload
     return lines
-
-
-def both(value: bool) -> dict[Alignment, bool]:
-    return dict.fromkeys(Alignment, value)
-
-
-class TrunkState:
-    """The lines and the alarms of a trunk. `tell(event)` is called with a dictionary at each change."""
-
-    def __init__(self, law: str, lines: Mapping[int, Line], tell: Tell | None = None) -> None:
-        self.law, self.lines = law, lines
-        self.tell: Tell = tell or (lambda event: None)
-        self.place = 0                          # octets of the trunk so far
-        self.losses = {each: 0 for each in Alignment}
-        self.remote = both(False)               # alarms that the other end sends
-        self.alarms = both(True)                # alarms that the gateway sends
-
-    def when(self, place: int) -> float:
-        """The time of this place of the trunk, in seconds, for the times of lines."""
-        raise NotImplementedError
-
-    def alarm(self) -> bool:
-        """Whether the gateway sends an alarm."""
-        return any(self.alarms.values())
-
-    def outage(self) -> str | None:
-        """Why no seizure can reach the other end, or None."""
-        if self.alarm():
-            return 'no alignment'
-        return 'the other end has no alignment' if any(self.remote.values()) else None
-
-    def open_circuits(self) -> list[int]:
-        return [n for n, line in self.lines.items() if line.state in OPEN]
-
-    def _remote(self, what: Alignment, on: bool) -> None:
-        if self.remote[what] != on:
-            self.remote[what] = on
-            self._event('remote alarm', what=str(what), on=on, place=self.place)
-
-    def _alarm(self, what: Alignment, on: bool, place: int) -> None:
-        if self.alarms[what] != on:
-            self.alarms[what] = on
-            self._event('alarm', what=str(what), on=on, place=place)
-
-    def _changed(self, line: Line, before: State, place: int, **more: Any) -> None:
-        line.changed(before, self.when(place))
-        self._event('state', circuit=line.circuit, role=str(line.role), was=str(before), state=str(line.state),
-                    place=place, **more)
-
-    def _codec(self, line: Line, codec: str, payload_type: int) -> None:
-        line.codec, line.payload = codec, payload_type
-        self._event('codec', circuit=line.circuit, codec=codec, payload=payload_type, place=self.place)
-
-    def _event(self, event: str, **fields: Any) -> None:
-        self.tell({'event': event, **fields})
-
-    def status(self) -> dict[str, Any]:
-        """All that is known, as a dictionary of plain values."""
-        now = self.when(self.place)
-        return {
-            'octets': self.place, 'law': self.law,
-            'alarm': {str(what): on for what, on in self.alarms.items()},
-            'remote_alarm': {str(what): on for what, on in self.remote.items()},
-            'losses': {str(what): n for what, n in self.losses.items()},
-            'circuits': [line.status(now) for line in self.lines.values()],
-        }

@@ -9,13 +9,23 @@ from .lines import State
 
 Status = Mapping[str, Any]
 Labels = Mapping[str, object]
-Samples = Iterable[tuple[Labels, float | int]]
+Samples = Iterable[tuple[Labels, float | int]] | float | int
 
 ALIGNED = 'aligned'
+TRANSPORT = 'e1gw_transport'        # of what a transport tells, its own names and kinds
 OTHERS = ('program', 'shadow')      # with which e1gw-trunk is connected
-CIRCUIT_COUNTS = (('seizures', 'Calls begun.'), ('answers', 'Calls answered.'),
-                  ('unacknowledged', 'Seizures that were not acknowledged.'),
-                  ('faults', 'Invalid line signals.'))
+# A number of each circuit's row: its name, what it is, its key, and how many of its units are one.
+CIRCUIT_NUMBERS = (
+    ('e1gw_circuit_state_seconds', 'Time in state, by the trunk.', 'for', 1),
+    ('e1gw_circuit_seizures_total', 'Calls begun.', 'seizures', 1),
+    ('e1gw_circuit_answers_total', 'Calls answered.', 'answers', 1),
+    ('e1gw_circuit_unacknowledged_total', 'Seizures that were not acknowledged.', 'unacknowledged', 1),
+    ('e1gw_circuit_faults_total', 'Invalid line signals.', 'faults', 1),
+    ('e1gw_circuit_open_seconds_total', 'Time with the speech path connected.', 'open', 1),
+    ('e1gw_rtp_lost', 'Packets that did not come, by sequence number.', 'lost', 1),
+    ('e1gw_rtp_jitter_seconds', 'Interarrival jitter (RFC 3550, 6.4.1).', 'jitter_ms', 1000),
+    ('e1gw_jitter_buffer_seconds', 'Depth of the jitter buffer, prefill of the configuration.', 'jitter_buffer_ms',
+     1000))
 
 
 # ---- the text of Prometheus, version 0.0.4 ----
@@ -24,40 +34,41 @@ def _escaped(value: object) -> str:
     return str(value).replace('\\', r'\\').replace('"', r'\"').replace('\n', r'\n')
 
 
-def family(name: str, kind: str, about: str, samples: Samples, common: str = '') -> str:
-    """A family of samples; `common` are labels that each has."""
+def family(name: str, about: str, samples: Samples, common: str = '') -> str:
+    """A family of samples, or of one that is a number, whose kind its name shows; `common` are labels that each has."""
+    kind = 'counter' if name.endswith('_total') else 'untyped' if name == TRANSPORT else 'gauge'
+    samples = [({}, samples)] if isinstance(samples, (int, float)) else samples
     text = [f'# HELP {name} {about}\n# TYPE {name} {kind}\n']
     for labels, value in samples:
         inside = ','.join([common] * bool(common) + [f'{key}="{_escaped(each)}"' for key, each in labels.items()])
-        text.append(f'{name}{{{inside}}} {value}\n' if inside else f'{name} {value}\n')
+        text.append(f'{name}{{{inside}}} {value + 0}\n' if inside else f'{name} {value + 0}\n')     # (0 for False)
     return ''.join(text)
 
 
 def exposition(status: Status, trunk: str = '') -> str:
     """All metrics of a trunk, which `trunk` names."""
     common = f'trunk="{_escaped(trunk)}"' if trunk else ''
-    families = [*_of_trunk(status), *crc4_families(status), *_of_lines(status), *_of_packets(status),
-                *_of_datagrams(status), *_of_service(status)]
+    families = [*_of_trunk(status), *crc4_families(status), *_of_circuits(status), *_of_service(status)]
     return ''.join(family(*each, common) for each in families)
 
 
-Family = tuple[str, str, str, Samples]
+Family = tuple[str, str, Samples]
 
 
 def _of_trunk(status: Status) -> list[Family]:
     clock, ends = status['clock'], (('this', status['alarm']), ('other', status['remote_alarm']))
     found: list[Family] = [
-        ('e1gw_trunk_up', 'gauge', '1 where the trunk is open.', [({}, int(status['trunk_up']))]),
-        ('e1gw_alarm', 'gauge', 'Alarms: loss of alignment at this end, RAI or distant multiframe alarm of the other.',
-         [({'end': end, 'alignment': what}, int(on)) for end, alarms in ends for what, on in alarms.items()]),
-        ('e1gw_alignment_losses_total', 'counter', 'How often alignment was lost.',
+        ('e1gw_trunk_up', '1 where the trunk is open.', status['trunk_up']),
+        ('e1gw_alarm', 'Alarms: loss of alignment at this end, RAI or distant multiframe alarm of the other.',
+         [({'end': end, 'alignment': what}, on) for end, alarms in ends for what, on in alarms.items()]),
+        ('e1gw_alignment_losses_total', 'How often alignment was lost.',
          [({'alignment': what}, n) for what, n in status['losses'].items()]),
-        ('e1gw_trunk_stalled', 'gauge', '1 while no octets come.', [({}, int(clock['stalled']))]),
-        ('e1gw_trunk_stalls_total', 'counter', 'Times without octets.', [({}, clock['stalls'])])]
+        ('e1gw_trunk_stalled', '1 while no octets come.', clock['stalled']),
+        ('e1gw_trunk_stalls_total', 'Times without octets.', clock['stalls'])]
     if 'shadow' in status:
-        found.append(('e1gw_connected', 'gauge', '1 where there is a connection.',
-                      [({'to': other}, int(status[other])) for other in OTHERS]))
-    found.append(('e1gw_trunk_octets_total', 'counter', 'Octets of the trunk.', [({}, status['octets'])]))
+        found.append(('e1gw_connected', '1 where there is a connection.',
+                      [({'to': other}, status[other]) for other in OTHERS]))
+    found.append(('e1gw_trunk_octets_total', 'Octets of the trunk.', status['octets']))
     return found + _of_pair(status) + _of_flow(status, clock)
 
 
@@ -65,29 +76,25 @@ def _of_pair(status: Status) -> list[Family]:
     """What is known of the other machine of a trunk, if there is one."""
     if 'role' not in status:
         return []
-    age = status['feed_age']
-    return [('e1gw_role', 'gauge', '1 where this machine carries the trunk, 0 where it stands by.',
-             [({}, int(status['role'] == 'active'))]),
-            ('e1gw_fed', 'gauge', '1 where the standby has what the trunk gave and took.', [({}, int(status['fed']))]),
-            ('e1gw_feed_age_seconds', 'gauge', 'Seconds since the standby had all.',
-             [({}, age)] if age is not None else [])]
+    return [('e1gw_role', '1 where this machine carries the trunk, 0 where it stands by.', status['role'] == 'active'),
+            ('e1gw_fed', '1 where the standby has what the trunk gave and took.', status['fed']),
+            ('e1gw_feed_age_seconds', 'Seconds since the standby had all.',
+             [] if status['feed_age'] is None else status['feed_age'])]
 
 
 def _of_flow(status: Status, clock: Status) -> list[Family]:
     """What is known of the flow of octets, and of the transport of a trunk that is carried."""
     found: list[Family] = []
     if 'gaps' in clock:
-        found += [('e1gw_trunk_gaps_total', 'counter', 'Slips, at which octets of the trunk were lost.',
-                   [({}, clock['gaps'])]),
-                  ('e1gw_trunk_gap_seconds_total', 'counter', 'Seconds of the trunk that slips have lost.',
-                   [({}, clock['gap_seconds'])])]
+        found += [('e1gw_trunk_gaps_total', 'Slips, at which octets of the trunk were lost.', clock['gaps']),
+                  ('e1gw_trunk_gap_seconds_total', 'Seconds of the trunk that slips have lost.', clock['gap_seconds'])]
     if clock.get('ppm') is not None:
-        found.append(('e1gw_trunk_rate_ppm', 'gauge', 'The rate relative to this machine\'s clock, over a minute.',
-                      [({}, clock['ppm'])]))
+        found.append(('e1gw_trunk_rate_ppm', 'The rate relative to this machine\'s clock, over a minute.',
+                      clock['ppm']))
     if 'transport' in status:
         numbers = [({'what': what}, n) for what, n in status['transport'].items()
                    if isinstance(n, (int, float)) and not isinstance(n, bool)]
-        found.append(('e1gw_transport', 'untyped', 'What the transport of the trunk tells of itself.', numbers))
+        found.append((TRANSPORT, 'What the transport of the trunk tells of itself.', numbers))
     return found
 
 
@@ -96,77 +103,49 @@ def crc4_families(status: Status) -> list[Family]:
     if crc4 is None:
         return []
     return [
-        ('e1gw_crc4_aligned', 'gauge', '1 if CRC multiframe alignment stood at the last count.',
-         [({}, int(crc4['aligned']))] if crc4['aligned'] is not None else []),
-        ('e1gw_crc4_submultiframes_total', 'counter', 'Submultiframes whose CRC-4 was checked.',
-         [({}, crc4['submultiframes'])]),
-        ('e1gw_crc4_errored_total', 'counter', 'Errored submultiframes that this end received, and those that the '
-         'other end reports by E bits.',
+        ('e1gw_crc4_aligned', '1 if CRC multiframe alignment stood at the last count.',
+         crc4['aligned'] if crc4['aligned'] is not None else []),
+        ('e1gw_crc4_submultiframes_total', 'Submultiframes whose CRC-4 was checked.', crc4['submultiframes']),
+        ('e1gw_crc4_errored_total', 'Errored submultiframes that this end received, and those that the other end '
+         'reports by E bits.',
          [({'end': 'this'}, crc4['errored']), ({'end': 'other'}, crc4['far_end_errored'])]),
-        ('e1gw_crc4_alignments_total', 'counter', 'How often CRC multiframe alignment was found.',
-         [({}, crc4['multiframes_found'])]),
-        ('e1gw_crc4_alignment_losses_total', 'counter', 'How often CRC multiframe alignment was lost.',
-         [({}, crc4['multiframes_lost'])]),
-        ('e1gw_crc4_given_up_total', 'counter', 'Losses of alignment for 915 of 1000 errored submultiframes (G.706, '
-         '4.3.2).', [({}, crc4['given_up'])])]
+        ('e1gw_crc4_alignments_total', 'How often CRC multiframe alignment was found.', crc4['multiframes_found']),
+        ('e1gw_crc4_alignment_losses_total', 'How often CRC multiframe alignment was lost.', crc4['multiframes_lost']),
+        ('e1gw_crc4_given_up_total', 'Losses of alignment for 915 of 1000 errored submultiframes (G.706, '
+         '4.3.2).', crc4['given_up'])]
 
 
-def _of_lines(status: Status) -> list[Family]:
-    rows = status['circuits']
-    found: list[Family] = [
-        ('e1gw_circuit_state', 'gauge', 'The state of each line: 1 for the one that it is in.',
-         [({'circuit': row['circuit'], 'role': row['role'], 'state': state}, int(state == row['state']))
-          for row in rows for state in State]),
-        ('e1gw_circuit_state_seconds', 'gauge', 'Time in state, by the trunk.',
-         [({'circuit': row['circuit']}, row['for']) for row in rows])]
-    for name, about in CIRCUIT_COUNTS:
-        found.append((f'e1gw_circuit_{name}_total', 'counter', about,
-                      [({'circuit': row['circuit']}, row[name]) for row in rows]))
-    found.append(('e1gw_circuit_open_seconds_total', 'counter', 'Time with the speech path connected.',
-                  [({'circuit': row['circuit']}, row['open']) for row in rows]))
-    return found
-
-
-def _of_packets(status: Status) -> list[Family]:
+def _of_circuits(status: Status) -> list[Family]:
     rows = [({'circuit': row['circuit']}, row) for row in status['circuits']]
     way = {'sent': 'sent', 'admitted': 'received'}
     counts = [(labels, what, n) for labels, row in rows for what, n in row['datagrams'].items()]
+    sockets = [(labels, row['socket']) for labels, row in rows if row['socket']]
     return [
-        ('e1gw_rtp_packets_total', 'counter', 'RTP packets sent, and received and not discarded.',
+        ('e1gw_circuit_state', 'The state of each line: 1 for the one that it is in.',
+         [({**labels, 'role': row['role'], 'state': state}, state == row['state']) for labels, row in rows
+          for state in State]),
+        *((name, about, [(labels, row[key] if unit == 1 else round(row[key] / unit, 6)) for labels, row in rows])
+          for name, about, key, unit in CIRCUIT_NUMBERS),
+        ('e1gw_rtp_packets_total', 'RTP packets sent, and received and not discarded.',
          [({**labels, 'direction': way[what]}, n) for labels, what, n in counts if what in way]),
-        ('e1gw_rtp_discarded_total', 'counter', 'Packets that were received and discarded, by cause.',
+        ('e1gw_rtp_discarded_total', 'Packets that were received and discarded, by cause.',
          [({**labels, 'cause': what}, n) for labels, what, n in counts if what not in way]),
-        ('e1gw_rtp_lost', 'gauge', 'Packets that did not come, by sequence number.',
-         [(labels, row['lost']) for labels, row in rows]),
-        ('e1gw_rtp_jitter_seconds', 'gauge', 'Interarrival jitter (RFC 3550, 6.4.1).',
-         [(labels, round(row['jitter_ms'] / 1000, 6)) for labels, row in rows]),
-        ('e1gw_jitter_buffer_seconds', 'gauge', 'Depth of the jitter buffer, prefill of the configuration.',
-         [(labels, row['jitter_buffer_ms'] / 1000) for labels, row in rows])]
-
-
-def _of_datagrams(status: Status) -> list[Family]:
-    rows = status['circuits']
-    sockets = [row for row in rows if row['socket']]
-    return [
-        ('e1gw_counts_stale', 'gauge', '1 where the counts of packets are not those of now.',
-         [({}, int(status['stale']))]),
-        ('e1gw_socket_dropped_total', 'counter', 'Packets for which the kernel had no room.',
-         [({'circuit': row['circuit']}, row['socket']['dropped']) for row in sockets]),
-        ('e1gw_socket_waiting_octets', 'gauge', 'Octets that wait in the socket.',
-         [({'circuit': row['circuit']}, row['socket']['waiting']) for row in sockets])]
+        ('e1gw_counts_stale', '1 where the counts of packets are not those of now.', status['stale']),
+        ('e1gw_socket_dropped_total', 'Packets for which the kernel had no room.',
+         [(labels, its['dropped']) for labels, its in sockets]),
+        ('e1gw_socket_waiting_octets', 'Octets that wait in the socket.',
+         [(labels, its['waiting']) for labels, its in sockets])]
 
 
 def _of_service(status: Status) -> list[Family]:
     return [
-        ('e1gw_commands_total', 'counter', 'Commands by answer.',
+        ('e1gw_commands_total', 'Commands by answer.',
          [({'command': row['command'], 'answer': row['answer']}, row['count']) for row in status['commands']]),
-        ('e1gw_jitter_buffer_resyncs_total', 'counter', 'Jitter buffers that were resynchronised.',
-         [({}, status['renewed'])]),
-        ('e1gw_ended', 'gauge', '1 where something other than the calls has ended.',
-         [({'what': what}, int(why is not None)) for what, why in status['ended'].items()]),
-        ('e1gw_uptime_seconds', 'gauge', 'Seconds since the trunk was opened, 0 while it is not.',
-         [({}, status['uptime'])]),
-        ('e1gw_build_info', 'gauge', 'The version of e1gw; always 1.', [({'version': status['version']}, 1)])]
+        ('e1gw_jitter_buffer_resyncs_total', 'Jitter buffers that were resynchronised.', status['renewed']),
+        ('e1gw_ended', '1 where something other than the calls has ended.',
+         [({'what': what}, why is not None) for what, why in status['ended'].items()]),
+        ('e1gw_uptime_seconds', 'Seconds since the trunk was opened, 0 while it is not.', status['uptime']),
+        ('e1gw_build_info', 'The version of e1gw; always 1.', [({'version': status['version']}, 1)])]
 
 
 # ---- the table ----
@@ -223,9 +202,9 @@ def _pair_line(status: Status) -> list[str]:
         return []
     whose = 'the standby is' if status['role'] == 'active' else 'standby,'
     why = f': {status["feed_fault"]}' if status.get('feed_fault') else ''
-    others = ', '.join(map(str, status.get('differs', [])))
-    differs = f'; configured otherwise there: circuits {others}' if others else ''
-    return [f'two machines: {whose} {"fed" if status["fed"] else "not fed"}{why}{differs}']
+    if others := ', '.join(map(str, status.get('differs', []))):
+        why += f'; configured otherwise there: circuits {others}'
+    return [f'two machines: {whose} {"fed" if status["fed"] else "not fed"}{why}']
 
 
 def _crc4_line(status: Status) -> list[str]:

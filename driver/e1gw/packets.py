@@ -4,6 +4,7 @@ from __future__ import annotations
 
 import struct
 from collections.abc import Iterator
+from contextlib import suppress
 from typing import BinaryIO, NamedTuple
 
 PCAP = {b'\xD4\xC3\xB2\xA1': ('<', 1_000_000), b'\xA1\xB2\xC3\xD4': ('>', 1_000_000),
@@ -12,15 +13,14 @@ SECTION, INTERFACE, PACKET = 0x0A0D0D0A, 1, 6
 # What comes before the IP header, by link type, and where in it the type of the packet is, if there is one.
 LINKS = {0: (4, None), 1: (14, 12), 12: (0, None), 101: (0, None), 113: (16, 14), 228: (0, None), 229: (0, None),
          276: (20, 0)}
-VLAN, IPV4, IPV6, UDP = (0x8100, 0x88A8), 0x0800, 0x86DD, 17
-ICMP, ICMP6 = 1, 58
+VLAN, IP, UDP = (b'\x81\x00', b'\x88\xA8'), (b'\x08\x00', b'\x86\xDD'), 17
 NOBODY, NO_WAY, FORBIDDEN, CIRCLE = ('nobody listens at that port', 'there is no way to that host',
                                      'a firewall forbids it', 'it goes round in a circle')
-# Why a datagram was not delivered, by type and code (RFC 792, RFC 1812, RFC 4443).
-REASONS = {(3, 0): NO_WAY, (3, 1): NO_WAY, (3, 3): NOBODY, (3, 9): FORBIDDEN, (3, 10): FORBIDDEN, (3, 13): FORBIDDEN,
-           (11, 0): CIRCLE}
-REASONS6 = {(1, 0): NO_WAY, (1, 1): FORBIDDEN, (1, 3): NO_WAY, (1, 4): NOBODY, (1, 5): FORBIDDEN, (1, 6): FORBIDDEN,
-            (3, 0): CIRCLE}
+# Why a datagram was not delivered, by protocol (ICMP, ICMPv6), type and code (RFC 792, RFC 1812, RFC 4443).
+REASONS: dict[tuple[int, ...], str] = {
+    (1, 3, 0): NO_WAY, (1, 3, 1): NO_WAY, (1, 3, 3): NOBODY, (1, 3, 9): FORBIDDEN, (1, 3, 10): FORBIDDEN,
+    (1, 3, 13): FORBIDDEN, (1, 11, 0): CIRCLE, (58, 1, 0): NO_WAY, (58, 1, 1): FORBIDDEN, (58, 1, 3): NO_WAY,
+    (58, 1, 4): NOBODY, (58, 1, 5): FORBIDDEN, (58, 1, 6): FORBIDDEN, (58, 3, 0): CIRCLE}
 MOST = 1 << 20              # octets of a block
 
 
@@ -33,39 +33,35 @@ class CutCapture(BadCapture):
 
 
 class Datagram(NamedTuple):
-    """A datagram on the network: time, ports, addresses and payload. With `answer` it was not delivered, and the answer
+    """A datagram on the network: time, ports, payload and addresses. With `answer` it was not delivered, and the answer
     says why."""
     time: float
     source: int
     target: int
     body: bytes
-    source_host: bytes = b''
-    target_host: bytes = b''
-    answer: str = ''
+    source_host: bytes
+    target_host: bytes
+    answer: str
 
 
-def packets(file: BinaryIO) -> Iterator[tuple[int, float, bytes | None]]:
-    """The link type, the time and the octets of each packet of a capture; None for octets of a packet that was cut.
-    CutCapture at an end inside a packet, as in a file still being written."""
+def packets(file: BinaryIO) -> Iterator[Datagram | None]:
+    """Of each packet of a capture the UDP datagram, over IPv4 or IPv6, or the one that an answer of ICMP is about; None
+    for others, and for what is cut or fragmented. CutCapture at an end inside a packet, as in a file still being
+    written."""
     magic = file.read(4)
-    if magic in PCAP:
-        yield from _pcap(file, *PCAP[magic])
-    elif magic == b'\x0A\x0D\x0D\x0A':
-        yield from _pcapng(file)
-    else:
+    if magic not in PCAP and magic != b'\x0A\x0D\x0D\x0A':
         raise BadCapture('not a capture: neither pcap nor pcapng')
+    for link, time, octets in _pcap(file, *PCAP[magic]) if magic in PCAP else _pcapng(file):
+        skip, word = LINKS.get(link, (0, 0))
+        while word == 12 and octets[12:14] in VLAN:
+            octets = octets[:12] + octets[16:]
+        yield _carried(octets[skip:], time) if word is None or octets[word:word + 2] in IP else None
 
 
 def datagrams(file: BinaryIO) -> Iterator[Datagram]:
-    """The UDP datagrams of a capture, also of one that ends inside a packet; packets that are cut, fragmented or not
-    UDP are skipped."""
-    try:
-        for link, time, octets in packets(file):
-            found = udp_of(link, octets) if octets else None
-            if found:
-                yield Datagram(time, *found)
-    except CutCapture:
-        return
+    """The datagrams of a capture, also of one that ends inside a packet."""
+    with suppress(CutCapture):
+        yield from filter(None, packets(file))
 
 
 def _read(file: BinaryIO, length: int) -> bytes:
@@ -76,7 +72,10 @@ def _read(file: BinaryIO, length: int) -> bytes:
     return octets
 
 
-def _pcap(file: BinaryIO, order: str, parts: int) -> Iterator[tuple[int, float, bytes | None]]:
+Framed = tuple[int, float, bytes]       # the link type, the time, and the octets of a packet, none of one that was cut
+
+
+def _pcap(file: BinaryIO, order: str, parts: int) -> Iterator[Framed]:
     link = struct.unpack(order + '16xI', _read(file, 20))[0] & 0xFFFF
     if link not in LINKS:
         raise BadCapture(f'packets of link type {link}')
@@ -84,10 +83,10 @@ def _pcap(file: BinaryIO, order: str, parts: int) -> Iterator[tuple[int, float, 
     while head := file.read(16):
         seconds, part, length, whole = entry.unpack(head + _read(file, 16 - len(head)))
         octets = _read(file, length)
-        yield link, seconds + part / parts, octets if length == whole else None
+        yield link, seconds + part / parts, octets * (length == whole)
 
 
-def _pcapng(file: BinaryIO) -> Iterator[tuple[int, float, bytes | None]]:
+def _pcapng(file: BinaryIO) -> Iterator[Framed]:
     """Blocks: sections, interfaces and packets; others are skipped."""
     order, links, kind = '<', list[tuple[int, float]](), SECTION
     while True:
@@ -104,8 +103,7 @@ def _pcapng(file: BinaryIO) -> Iterator[tuple[int, float, bytes | None]]:
         elif kind == PACKET and len(body) >= 20:
             number, high, low, size, whole = struct.unpack_from(order + '5I', body)
             if number < len(links):
-                yield (links[number][0], (high << 32 | low) * links[number][1],
-                       body[20:20 + size] if size == whole else None)
+                yield links[number][0], (high << 32 | low) * links[number][1], body[20:20 + size * (size == whole)]
         if not (word := file.read(4)):
             return
         kind = struct.unpack(order + 'I', word + _read(file, 4 - len(word)))[0]
@@ -119,59 +117,23 @@ def _resolution(order: str, options: bytes) -> float:
         if code == 9 and length == 1:
             power = options[at + 4]
             return 2.0 ** -(power & 127) if power & 128 else 10.0 ** -power
-        if code == 0:
-            break
         at += 4 + length + -length % 4
     return 1e-6
 
 
-Found = tuple[int, int, bytes, bytes, bytes, str]      # all of a datagram but its time
-
-
-def udp_of(link: int, octets: bytes) -> Found | None:
-    """The ports, the body and the addresses of a UDP datagram over IPv4 or IPv6, and why it was not delivered if the
-    packet is such an answer; or None."""
-    if link not in LINKS:
+def _carried(ip: bytes, time: float, answer: str = '') -> Datagram | None:
+    """The datagram of an IP packet, or of the begin of one that is quoted in an answer."""
+    if len(ip) >= 20 and ip[0] >> 4 == 4 and not int.from_bytes(ip[6:8], 'big') & 0x3FFF:
+        kind, body, hosts = ip[9], ip[4 * (ip[0] & 15):], (ip[12:16], ip[16:20])
+    elif len(ip) >= 40 and ip[0] >> 4 == 6:
+        kind, body, hosts = ip[6], ip[40:], (ip[8:24], ip[24:40])
+    else:
         return None
-    skip, word = LINKS[link]
-    while word == 12 and len(octets) >= 16 and struct.unpack_from('>H', octets, 12)[0] in VLAN:
-        octets = octets[:12] + octets[16:]
-    if word is not None and (len(octets) < word + 2 or
-                             struct.unpack_from('>H', octets, word)[0] not in (IPV4, IPV6)):
+    if not answer and len(body) >= 8 and (reason := REASONS.get((kind, *body[:2]))):
+        return _carried(body[8:], time, reason)
+    if kind != UDP or len(body) < (4 if answer else 8):
         return None
-    ip = octets[skip:]
-    found = _carried(ip)
-    if not found:
+    source, target, length = struct.unpack_from('>HHH', body + bytes(2))
+    if not answer and not 8 <= length <= len(body):
         return None
-    kind, at = found
-    if kind in (ICMP, ICMP6):
-        return _undelivered(ip[at:], REASONS if kind == ICMP else REASONS6)
-    if kind != UDP or len(ip) < at + 8:
-        return None
-    source, target, length = struct.unpack_from('>HHH', ip, at)
-    return (source, target, ip[at + 8:at + length], *_hosts(ip), '') if 8 <= length <= len(ip) - at else None
-
-
-def _carried(ip: bytes) -> tuple[int, int] | None:
-    """The protocol of an IP packet and where it begins; None for a fragment and other packets."""
-    if len(ip) >= 20 and ip[0] >> 4 == 4 and not struct.unpack_from('>H', ip, 6)[0] & 0x3FFF:
-        return ip[9], 4 * (ip[0] & 15)
-    if len(ip) >= 40 and ip[0] >> 4 == 6:
-        return ip[6], 40
-    return None
-
-
-def _hosts(ip: bytes) -> tuple[bytes, bytes]:
-    """The source and destination of an IP packet."""
-    return (ip[12:16], ip[16:20]) if ip[0] >> 4 == 4 else (ip[8:24], ip[24:40])
-
-
-def _undelivered(icmp: bytes, reasons: dict[tuple[int, int], str]) -> Found | None:
-    """The datagram quoted in an ICMP answer."""
-    quoted = icmp[8:]
-    found = _carried(quoted)
-    reason = reasons.get((icmp[0], icmp[1])) if len(icmp) >= 8 else None
-    if not reason or not found or found[0] != UDP or len(quoted) < found[1] + 4:
-        return None
-    source, target = struct.unpack_from('>HH', quoted, found[1])
-    return source, target, b'', *_hosts(quoted), reason
+    return Datagram(time, source, target, b'' if answer else body[8:length], *hosts, answer)

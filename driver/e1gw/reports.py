@@ -5,7 +5,7 @@ import time
 from typing import Any, Callable, Mapping
 
 from .counts import DatagramCounts
-from .lines import LEADS, PAIRS, Alignment, Line, Role, State, Tell, TrunkState, both, law_of, lines_of
+from .lines import LEADS, OPEN, PAIRS, Alignment, Line, Role, State, Tell, law_of, lines_of
 from .session import Codec, Command, codec_record, command_record
 
 VERSION = '1'
@@ -18,20 +18,22 @@ class BadTelling(Exception):
     """A report is not understood; the words say what it is."""
 
 
-class Told(TrunkState):
-    """Follows what a shadow tells. Its clock is this machine's. `began` is called with each whole state."""
+class TrunkState:
+    """The lines and the alarms of a trunk, as a shadow tells them. Its clock is this machine's. `tell` is called with
+    each change, `began` with each whole state."""
 
     def __init__(self, config: Mapping[str, Any], tell: Tell, counts: DatagramCounts,
                  clock: Callable[[], float] = time.monotonic, began: Callable[[], None] = lambda: None) -> None:
-        super().__init__(law_of(config), lines_of(config, Line), tell)
+        self.law, self.lines, self.tell = law_of(config), lines_of(config), tell
         self.counts, self.began, self._clock = counts, began, clock
         self.commanded: Callable[[bytes], None] = lambda record: None   # called with each C and K record that was given
-        self.alarms = both(False)
+        self.place = 0                      # octets of the trunk so far
+        self.losses = {each: 0 for each in Alignment}
+        self.alarms = {each: False for each in Alignment}       # that the gateway sends
+        self.remote = {each: False for each in Alignment}       # that the other end sends
         self.known = False                  # whether a whole state was ever told
         self.live = False                   # whether changes are reported now
-        self._before = 0                    # octets of the sessions before this one
-        self._session: object = None
-        self._is_placed = False
+        self._before = 0                    # the place at which this session has begun
         self._held = ''
         self.seizures: dict[int, int] = {}  # how often each line was seized in this session, if reported
         self._led: dict[int, State] = {}    # where commands have led lines whose state is still to be told
@@ -41,14 +43,30 @@ class Told(TrunkState):
             'datagram': self._datagram, 'command': self._command, 'codec': self._change}
         self._words = self._greeting        # those that may come now
 
-    def when(self, place: int) -> float:
-        return self._clock()
+    def outage(self) -> str | None:
+        """Why no seizure can reach the other end, or None."""
+        if any(self.alarms.values()):
+            return 'no alignment'
+        return 'the other end has no alignment' if any(self.remote.values()) else None
 
-    def begin(self, session: object) -> None:
-        """A shadow is there that will tell the whole state; `session` is equal for one that told before."""
-        if session != self._session:
-            self._session, self._before = session, self.place
-        self._held, self.live, self._is_placed, self._words = '', False, False, self._greeting
+    def open_circuits(self) -> list[int]:
+        return [n for n, line in self.lines.items() if line.state in OPEN]
+
+    def status(self) -> dict[str, Any]:
+        """All that is known, as a dictionary of plain values."""
+        now = self._clock()
+        return {
+            'octets': self.place, 'law': self.law,
+            'alarm': {str(what): on for what, on in self.alarms.items()},
+            'remote_alarm': {str(what): on for what, on in self.remote.items()},
+            'losses': {str(what): n for what, n in self.losses.items()},
+            'circuits': [line.status(now) for line in self.lines.values()]}
+
+    def begin(self, place: int | None = None) -> None:
+        """A shadow is there that will tell the whole state; its session has begun at this place, by default that of
+        now."""
+        self._before = self.place if place is None else place
+        self._held, self.live, self._words = '', False, self._greeting
         self._led.clear()
         self.seizures = {}
         for row in self.counts.circuits.values():
@@ -80,15 +98,7 @@ class Told(TrunkState):
         self.law = law
         self._words = self._changes
 
-    def reach(self, place: int) -> int:
-        """The session is at this place, or was. Returns the place of the trunk."""
-        self.place = max(self.place, self._before + place)
-        return self.place
-
     def _at(self, place: str) -> None:
-        if not self._is_placed and self._before + int(place) < self.place:
-            self._before = self.place       # another session after all
-        self._is_placed = True
         self.place = self._before + int(place)
 
     def _seizures(self, *counts: str) -> None:
@@ -103,10 +113,15 @@ class Told(TrunkState):
             lost = bool(int(bit))
             if self.known and lost is not self.alarms[what]:
                 self.losses[what] += lost
-                self._event('lost' if lost else 'aligned', what=str(what), place=self.place)
-            self._alarm(what, lost, self.place)
-        self._remote(Alignment.FRAME, bool(int(far_frame)))
-        self._remote(Alignment.MULTIFRAME, bool(int(far_multiframe)))
+                self._event('lost' if lost else 'aligned', what=str(what))
+            self._alarm('alarm', self.alarms, what, lost)
+        for what, bit in (Alignment.FRAME, far_frame), (Alignment.MULTIFRAME, far_multiframe):
+            self._alarm('remote alarm', self.remote, what, bool(int(bit)))
+
+    def _alarm(self, event: str, alarms: dict[Alignment, bool], what: Alignment, on: bool) -> None:
+        if alarms[what] is not on:
+            alarms[what] = on
+            self._event(event, what=str(what), on=on)
 
     def _datagram(self, circuit: str, code: str, sequence: str, timestamp: str, ssrc: str) -> None:
         self.counts.count(int(circuit), int(code), self.place, int(sequence), int(timestamp), int(ssrc))
@@ -131,7 +146,8 @@ class Told(TrunkState):
             line.codec, line.payload = codec, int(payload_type)
             return line.begin(State(state), self._clock())
         if (codec, int(payload_type)) != (line.codec, line.payload):
-            self._codec(line, codec, int(payload_type))
+            line.codec, line.payload = codec, int(payload_type)
+            self._event('codec', circuit=line.circuit, codec=codec, payload=line.payload)
         if state != line.state:
             self._move(line, State(state))
 
@@ -141,7 +157,12 @@ class Told(TrunkState):
         commanded = self._led.pop(line.circuit, None)
         if before is State.SEIZED and state in (State.RELEASING, State.IDLE) and self.live and not commanded:
             line.unacknowledged += 1
-        self._changed(line, before, self.place, **({} if self.live else {'unwatched': True}))
+        line.changed(before, self._clock())
+        self._event('state', circuit=line.circuit, role=str(line.role), was=str(before), state=str(state),
+                    **({} if self.live else {'unwatched': True}))
+
+    def _event(self, event: str, **fields: Any) -> None:
+        self.tell({'event': event, **fields, 'place': self.place})
 
     def _count(self, circuit: int, sent: int, admitted: int, refused: int) -> None:
         """All datagrams of a circuit since its gateway was new."""

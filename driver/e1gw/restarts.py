@@ -17,7 +17,6 @@ from .session import OCTETS_A_SECOND, DatagramRefusal
 REFUSED_FOR = 0.5           # seconds of the trunk whose datagrams are looked at
 FEWEST = 3                  # refused datagrams in them
 APART = 10.0                # seconds between two restarts of a call for lost octets, and two for refusals
-TOLD = 60.0                 # seconds in which further restarts of a call are counted and not told
 REFUSED = 'datagrams are refused for their time'
 _SPAN = round(REFUSED_FOR * OCTETS_A_SECOND)
 # What is answered to datagrams of the call itself, and whether it refuses them for their time.
@@ -83,8 +82,6 @@ class Restarts:
     def __init__(self, restart: Callable[[list[int]], None], tell: Callable[[Event], None]) -> None:
         self._restart, self._tell = restart, tell
         self._calls: dict[int, OpenCall] = {}
-        self._told: dict[int, float] = {}       # when a restart of a circuit was last told
-        self._untold: dict[int, int] = {}       # restarts since then
 
     def counted(self, circuit: int, code: int, place: int) -> None:
         """What was answered to a datagram that came at this place of the trunk."""
@@ -113,28 +110,4 @@ class Restarts:
                 call.restarted(place)
         for why, circuits in due.items():
             self._restart(circuits)
-            self._tell_of(circuits, why, now)
-        self._tell_rest(now)
-
-    def _tell_of(self, circuits: list[int], why: str, now: float) -> None:
-        fresh = [n for n in circuits if n not in self._told]
-        self._told |= dict.fromkeys(fresh, now)
-        for n in circuits:
-            if n not in fresh:
-                self._untold[n] = self._untold.get(n, 0) + 1
-        if fresh:
-            self._tell({'event': 'renewed', 'why': why, 'circuits': sorted(fresh)})
-
-    def _tell_rest(self, now: float) -> None:
-        """The restarts that were only counted, in one line."""
-        over = [n for n, at in self._told.items() if now - at >= TOLD]
-        if not over:
-            return
-        count = sum(self._untold.get(n, 0) for n in over)
-        circuits = [n for n in sorted(over) if n in self._untold]
-        for n in over:
-            del self._told[n]
-            if self._untold.pop(n, 0):
-                self._told[n] = now
-        if circuits:
-            self._tell({'event': 'renewed', 'why': 'again within a minute', 'circuits': circuits, 'count': count})
+            self._tell({'event': 'renewed', 'why': why, 'circuits': sorted(circuits)})

@@ -1,27 +1,27 @@
-"""Sessions that are kept in a ring of files by time, each of which says what it is."""
+"""A session that is kept in a folder: files one behind another, each of which says what it is."""
 from __future__ import annotations
 
-import hashlib
-import itertools
 import json
 import os
 import re
+import shutil
 import time
 from collections import deque
+from concurrent.futures import ThreadPoolExecutor
 from contextlib import suppress
-from dataclasses import dataclass, field
-from typing import Any, Callable, Sized
+from typing import Any, Iterable, Sequence
 
-from .archive import RECORDS, STATE, UNFINISHED, FinishedPieces, forget
-from .session_files import by_time
-from .lines import SEIZURE_WAIT, WAIT
-from .writers import write_all
+from .priority import run_last
+from .session import OCTETS_A_SECOND
+from .session_files import by_time, read_object
+from .writers import put_file
 
 UNITS = {'s': 1, 'm': 60, 'h': 3600, 'd': 86400}
 FILES = 12                  # the number of files into which the time that is kept is cut
-MOST_EARLIER = 3 * FILES    # files of earlier runs
+MOST_EARLIER = 3 * FILES    # files of earlier sessions
+MOST_OWN = 4 * FILES        # of this one, whose programs may follow one another soon
 MOST_SLIPS = 1000           # that are noted for a file
-FRESH = os.O_WRONLY | os.O_CREAT | os.O_TRUNC | os.O_CLOEXEC
+RECORDS, STATE = '.e1gw', '.state'
 
 
 def seconds_of(text: str) -> int:
@@ -32,161 +32,79 @@ def seconds_of(text: str) -> int:
     return int(number) * UNITS[unit]
 
 
-def hold(octets: bytes) -> int:
-    """A descriptor of these octets, which stay as they are whatever becomes of the file that they came from."""
-    file = os.memfd_create('e1gw.toml')
-    write_all(file, octets)
-    return file
-
-
-@dataclass
 class Ring:
-    """A session in files of a twelfth of the time that is kept, in a folder; the oldest are taken away.
+    """The files of a session in a folder, of which those of the last seconds stay.
 
-    A file is NAME-TIME.e1gw, and NAME-TIME.json says the sum of the configuration, the time, the place on the
-    trunk, whether the file begins where the session began or in the middle of it, and where octets of the trunk were
-    lost: each slip's place and seconds, which the octets themselves do not show. Nothing here trusts the clock of
-    the day: it may be set at any time, and tells no more than a name.
+    A file is NAME-TIME.e1gw, packed once it is whole; NAME-TIME.json says what is in it, and where octets of the trunk
+    were lost, which the octets themselves do not show; NAME-TIME.state is what the gateway was when it begins. How old
+    a file is, its place on the trunk says: the clock of the day may be set at any time, and tells no more than a
+    name."""
 
-    NAME-TIME.state is what the gateway was when the file begins, so that it replays as it was. The first file of a
-    ring begins with `state`, or with a gateway that is new, and has none. `named` is the configuration's path, if it is
-    read elsewhere."""
+    def __init__(self, folder: str, name: str, keep: int, own: Iterable[Sequence[Any]] = ()) -> None:
+        """`own` are files that this session has already, without their endings, and their places on the trunk."""
+        self._folder, self._name, self._keep = folder, name, keep * OCTETS_A_SECOND
+        self.own = tuple((str(front), int(place)) for front, place in own)
+        self._about, self._front = dict[str, Any](), ''     # of the file that is written
+        self.zstd = shutil.which('zstd')
+        self._packs = ThreadPoolExecutor(1)
 
-    folder: str
-    name: str
-    config: str
-    keep: int
-    behind: FinishedPieces = field(default_factory=FinishedPieces)
-    wait: int = SEIZURE_WAIT        # of a seizure, in milliseconds
-    state: bytes = b''              # the gateway when the first file begins; none for a new one
-    named: str = ''
-    _file: int = -1
-    _front: str = ''        # the path of the file that is written, without its ending
-    _due: float = 0.0
-    _began: float | None = None
-    _own: deque[str] = field(default_factory=deque)         # files of this ring, the one that is written behind them
-    _earlier: deque[str] = field(default_factory=deque)     # those of rings before it
-    places: deque[int] = field(default_factory=deque)   # of each piece that is to be written, where it begins
-    slips: deque[tuple[int, float]] = field(default_factory=deque)      # that are to be noted: place, seconds
-    announce: Callable[[], None] = field(default=lambda: None)      # is called before a file is begun
-    _about: dict[str, Any] = field(default_factory=dict)
+    def next(self, place: int) -> str:
+        """The path of another file, without its ending, which begins at this place."""
+        stamp = time.strftime('%Y%m%dT%H%M%SZ', time.gmtime())
+        front = _fresh(os.path.join(self._folder, f'{self._name}-{stamp}'), (its for its, _ in self.own))
+        self.own = *self.own, (front, place)
+        return front
 
-    def open(self) -> None:
-        """Makes the folder, and looks at what is in it."""
-        os.makedirs(self.folder, mode=0o750, exist_ok=True)
-        with open(self.config, 'rb') as file:
-            config = file.read()
-        self._sum = hashlib.sha256(config).hexdigest()
-        if self.behind.program:
-            self.behind.config = hold(config)
-        self._each = max(5, self.keep // FILES)
+    def begin(self, front: str, about: dict[str, Any], state: bytes) -> None:
+        """The last file is written from now on. What is there of it stays; else this is what is said of it."""
+        os.makedirs(self._folder, mode=0o750, exist_ok=True)
+        before = {'after': os.path.basename(its) for its, _ in self.own[-2:-1]}
+        self._front, self._about = front, read_object(f'{front}.json') or about | before
+        if state and not os.path.exists(f'{front}{STATE}'):
+            put_file(f'{front}{STATE}', state, 0o640)
+        self._put_about()
+        self._drop_old(self.own[-1][1])
+        if self.zstd:
+            self._packs.submit(self._pack, self.zstd)
 
-    def standing(self) -> dict[str, Any]:
-        """What a ring has to know that goes on with the file that is written."""
-        return {'front': self._front, 'began': self._began, 'due': self._due, 'own': [*self._own]}
-
-    def go_on(self, place: int, front: str, began: float, due: float, own: list[str]) -> None:
-        """Goes on with the file that another ring has written, or had announced; it begins at this place. States that
-        are still missing are made."""
-        self._front, self._began, self._due, self._own = front, began, due, deque(own)
-        self._about = self._told(place, own[1:])
-        with suppress(FileNotFoundError), open(f'{front}.json', encoding='utf-8') as file:
-            self._about = json.load(file)
-        self._create(os.O_APPEND | os.O_CREAT)
-        known = [each for each in own if os.path.exists(f'{each}{STATE}')]
-        if known:
-            self.behind.begin(f'{known[-1]}{STATE}')
-        elif self.state and not own[1:]:
-            self._put_state()
-        for piece, following in itertools.pairwise(own[own.index(known[-1]) if known else 0:]):
-            self.behind.put(piece, following)
-
-    def size(self) -> int:
-        """The octets of the file that is written."""
-        return os.fstat(self._file).st_size if self._file >= 0 else 0
-
-    def complete(self, octets: bytes) -> None:
-        """Writes the rest of a record that the file has in part."""
-        write_all(self._file, octets)
-
-    def write(self, octets: bytes) -> None:
-        """Writes whole records."""
-        place = self.places.popleft()
-        if time.monotonic() >= self._due:
-            self._next(place)
-        write_all(self._file, octets)
-        if self.slips:
-            self._note_slips()
-
-    def _note_slips(self) -> None:
-        """Notes slips in the file's .json, at once: a reader sees what was noted before, or all of it."""
+    def note(self, slips: deque[tuple[int, float]]) -> None:
+        """Notes slips at once: a reader sees what was noted before, or all of it."""
         noted = self._about.setdefault('slips', [])
-        while self.slips:
-            slip = self.slips.popleft()
+        while slips:
+            slip = slips.popleft()
             if len(noted) < MOST_SLIPS:
                 noted.append(slip)
         self._put_about()
 
     def _put_about(self) -> None:
-        """Says in the file's .json what it is, at once."""
-        part = f'{self._front}.json.part'
-        with open(os.open(part, FRESH, 0o640), 'w', encoding='utf-8') as file:
-            file.write(json.dumps(self._about) + '\n')
-        os.rename(part, f'{self._front}.json')
+        put_file(f'{self._front}.json', json.dumps(self._about).encode() + b'\n', 0o640, '.part')
 
-    def _next(self, place: int) -> None:
-        self._finish()
-        now, whole, self._about = time.monotonic(), self._front, self._told(place, self._own)
-        stamp = time.strftime('%Y%m%dT%H%M%SZ', time.gmtime())
-        self._front = _fresh(os.path.join(self.folder, f'{self.name}-{stamp}'))
-        self._own.append(self._front)
-        self._began = now if self._began is None else self._began
-        self._due = now + self._each
-        self.announce()
-        self._create(os.O_EXCL | os.O_CREAT)
-        if whole:
-            self.behind.put(whole, self._front)
-        elif self.state:
-            self._put_state()
-        self._drop_old(now - self._began)
+    def _pack(self, zstd: str) -> None:
+        """Compresses the files that are whole and are not yet, in a thread of its own."""
+        for path in (f'{front}{RECORDS}' for front, _ in self.own[:-1] if front != self._front):
+            with suppress(OSError):
+                if os.path.exists(path) and run_last([zstd, '-q', '-f', path, '-o', f'{path}.part'])[0] == 0:
+                    os.rename(f'{path}.part', f'{path}.zst')
+                    if not os.path.exists(path):    # (it was taken away meanwhile)
+                        os.unlink(f'{path}.zst')
+                    os.unlink(path)
+            with suppress(OSError):
+                os.unlink(f'{path}.part')
 
-    def _told(self, place: int, before: Sized) -> dict[str, Any]:
-        """What is noted of a file that begins at a place, and of the ring behind those before it."""
-        return {'config': os.path.abspath(self.named or self.config), 'config_sha256': self._sum,
-                'time': round(time.time(), 3), 'monotonic': round(time.monotonic(), 3), 'place': place, WAIT: self.wait,
-                'begins': 'middle' if self.state or len(before) else 'start'}
-
-    def _create(self, flags: int) -> None:
-        """Opens the file, and says in its .json what it is."""
-        self._file = os.open(f'{self._front}{RECORDS}', os.O_WRONLY | os.O_CLOEXEC | flags, 0o640)
-        if not os.path.lexists(f'{self._front}.json'):
-            self._put_about()
-
-    def _put_state(self) -> None:
-        """Puts the state of the first file next to it."""
-        path = f'{self._front}{STATE}'
-        with open(os.open(f'{path}{UNFINISHED}', FRESH, 0o640), 'wb') as file:
-            file.write(self.state)
-        os.rename(f'{path}{UNFINISHED}', path)
-        self.behind.begin(path)
-
-    def _drop_old(self, seconds: float) -> None:
-        """Takes away what is older than is to be kept; `seconds` is how long this ring has been writing."""
-        while len(self._own) > FILES + 1:
-            _drop(self._own.popleft())
-        self._earlier = deque(front for front in _fronts_in(self.folder, self.name) if front not in self._own)
-        while self._earlier and (len(self._earlier) > MOST_EARLIER or seconds >= self.keep):
-            _drop(self._earlier.popleft())
-
-    def _finish(self) -> None:
-        if self._file >= 0:
-            os.close(self._file)
-            self._file = -1
+    def _drop_old(self, place: int) -> None:
+        """Takes away what lies before the time that is kept."""
+        while len(self.own) > MOST_OWN or self.own[1:] and self.own[1][1] + self._keep <= place:
+            _drop(self.own[0][0])
+            self.own = self.own[1:]
+        own = {front for front, _ in self.own}
+        earlier = [front for front in _fronts_in(self._folder, self._name) if front not in own]
+        is_covered = self.own[0][1] + self._keep <= place
+        for front in earlier if is_covered else earlier[:-MOST_EARLIER]:
+            _drop(front)
 
     def close(self) -> None:
-        """The last file stays as it is, since nobody waits for what would compress it."""
-        self._finish()
-        self.behind.finish()
+        """The last file stays as it is, since nobody waits for what would pack it."""
+        self._packs.shutdown(wait=False)
 
 
 def _fronts_in(folder: str, name: str) -> list[str]:
@@ -196,29 +114,23 @@ def _fronts_in(folder: str, name: str) -> list[str]:
     return [os.path.join(folder, front) for front in sorted(fronts, key=by_time)]
 
 
-def _fresh(front: str) -> str:
-    """The path of a file that was not there before, without its ending; it gets a number if it has to."""
-    fronts = (front if number == 1 else f'{front}_{number}' for number in itertools.count(1))
-    return next(each for each in fronts
-                if not any(os.path.lexists(f'{each}{ending}') for ending in ('.json', RECORDS, f'{RECORDS}.zst')))
+def _fresh(front: str, own: Iterable[str]) -> str:
+    """The path of a file, without its ending; it gets a number behind those of this time that are there. (One that was
+    taken away may still be packed, so no name is taken twice.)"""
+    is_one = re.compile(rf'{re.escape(os.path.basename(front))}(?:_(\d+))?\b').match
+    names = [os.path.basename(its) for its in own]
+    with suppress(OSError):
+        names += os.listdir(os.path.dirname(front))
+    numbers = [int(found[1] or 1) for name in names if (found := is_one(name))]
+    return f'{front}_{max(numbers) + 1}' if numbers else front
 
 
 def _drop(front: str) -> None:
-    """Takes a file away, and what says what it is behind it. (What works on it has to find its part gone first.)"""
-    for ending in (f'{RECORDS}.part', f'{RECORDS}.zst', RECORDS, '.json.part', '.json'):
+    """Takes a file away, and what says what it is behind it. (Who packs it has to find its part gone first.)"""
+    for ending in (f'{RECORDS}.part', f'{RECORDS}.zst', RECORDS, '.json.part', '.json', f'{STATE}.new', STATE):
         try:
             os.unlink(f'{front}{ending}')
         except FileNotFoundError:
             pass
         except OSError:
             return
-    forget(front)
-
-
-def put_file(path: str, text: bytes) -> None:
-    """Puts a file in place at once: a reader sees the old one or the new one, whole."""
-    fresh = f'{path}.new'
-    with open(fresh, 'wb') as file:
-        file.write(text)
-    os.chmod(fresh, 0o644)
-    os.rename(fresh, path)

@@ -1,42 +1,21 @@
 """An emulated circuit: a trunk as SAToP packets over UDP (RFC 4553). `e1gw satop` receives and sends them, plays them
-at their rate and aligns their octets; these are its options, and what starts it."""
+at their rate and aligns their octets. These are its options, and what it says on standard error, a line at most once a
+second: `satop received=1000 sent=1000 ..`. These numbers are the status of the transport."""
 from __future__ import annotations
 
 import argparse
 import socket
-from dataclasses import dataclass
 
+from .faults import number
 from .session import FRAME
 from .trunks import host_and_port
 
 SIZES = range(FRAME, 1280 + 1, FRAME)
-JITTERS = range(0, 501)
-FILLS, CLOCKS = ('again', 'ones'), ('packets', 'own')
-
-
-@dataclass(frozen=True)
-class SatopCircuit:
-    """The settings of an emulated circuit; both ends agree on all except jitter, fill and clock."""
-
-    size: int = 256                 # octets of the trunk in a packet
-    jitter: int = 4                 # depth of the jitter buffer in packets
-    rtp: int | None = None          # the payload type of the RTP header, if there is one
-    fill: str = 'again'             # what replaces a lost packet
-    clock: str = 'packets'          # what gives the rate
-
-    def __post_init__(self) -> None:
-        if self.size not in SIZES:
-            raise ValueError('a packet has whole frames: 32 to 1280 octets, a multiple of 32')
-        if self.jitter not in JITTERS:
-            raise ValueError('the jitter buffer is 0 to 500 packets')
-        if self.rtp is not None and not 0 <= self.rtp <= 127:
-            raise ValueError('payload types are 0 to 127')
-
-    def words(self) -> list[str]:
-        """The options of `e1gw satop`."""
-        rtp = [] if self.rtp is None else ['--rtp', str(self.rtp)]
-        sizes = ['--size', str(self.size), '--jitter', str(self.jitter)]
-        return [*sizes, *rtp, '--fill', self.fill, '--clock', self.clock]
+FIRST = 'satop '            # how a line of counts begins
+# What is reported: the name in the status, the count that grows, and the words. In silence the program plays by its own
+# clock and counts each tick; bits L and R are those of the packets that come (RFC 4553, 4.3).
+CONDITIONS = (('silent', 'ticks', 'packets missing'), ('far_fault', 'with_l', 'line fault at the far end (bit L)'),
+              ('far_silent', 'with_r', 'packets missing at the far end (bit R)'))
 
 
 def _text_of(address: str, port: int) -> str:
@@ -58,22 +37,55 @@ def ends_of(text: str) -> tuple[tuple[str, int], tuple[str, int]]:
     return host_and_port(local), host_and_port(peer)
 
 
+def size(text: str) -> int:
+    if int(text) not in SIZES:
+        raise argparse.ArgumentTypeError('whole frames: 32 to 1280 octets, a multiple of 32')
+    return int(text)
+
+
 def add_arguments(parser: argparse.ArgumentParser) -> None:
-    """The options of an emulated circuit, besides --satop with its two ends."""
+    """The options of an emulated circuit, besides --satop with its two ends; both ends agree on size and RTP header."""
     group = parser.add_argument_group('SAToP (RFC 4553)')
-    group.add_argument('--satop-size', type=int, default=256, metavar='OCTETS',
+    group.add_argument('--satop-size', type=size, default=256, metavar='OCTETS',
                        help='octets of the trunk in a packet, a multiple of 32 [default: 256, 1 ms]')
-    group.add_argument('--satop-jitter', type=int, default=4, metavar='PACKETS',
+    group.add_argument('--satop-jitter', type=number(0, 500), default=4, metavar='PACKETS',
                        help='depth of the jitter buffer in packets [default: 4]')
-    group.add_argument('--satop-rtp', type=int, metavar='TYPE', help='adds an RTP header with this payload type')
-    group.add_argument('--satop-fill', choices=FILLS, default='again',
+    group.add_argument('--satop-rtp', type=number(0, 127), metavar='TYPE',
+                       help='adds an RTP header with this payload type')
+    group.add_argument('--satop-fill', choices=('again', 'ones'), default='again',
                        help='what replaces a lost packet: the octets of the multiframe before, or ones '
                        '[default: again]')
-    group.add_argument('--satop-clock', choices=CLOCKS, default='packets',
+    group.add_argument('--satop-clock', choices=('packets', 'own'), default='packets',
                        help='the clock: the received packets, or this machine [default: packets]')
 
 
-def circuit_of(options: argparse.Namespace) -> SatopCircuit:
-    """The circuit of these options, or ValueError."""
-    return SatopCircuit(options.satop_size, options.satop_jitter, options.satop_rtp, options.satop_fill,
-                        options.satop_clock)
+def words_of(asked: argparse.Namespace) -> list[str]:
+    """The options of `e1gw satop`."""
+    values = {'size': asked.satop_size, 'jitter': asked.satop_jitter, 'rtp': asked.satop_rtp, 'fill': asked.satop_fill,
+              'clock': asked.satop_clock}
+    return [word for name, value in values.items() if value is not None for word in (f'--{name}', str(value))]
+
+
+def counts_of(line: str) -> dict[str, int] | None:
+    """The counts of a line that the program printed, or None if it is another line."""
+    pairs = [each.partition('=') for each in line.removeprefix(FIRST).split()]
+    if not line.startswith(FIRST) or not all(digits.isascii() and digits.isdecimal() for _, _, digits in pairs):
+        return None
+    return {name: int(digits) for name, _, digits in pairs}
+
+
+class SatopCondition:
+    """Whether something holds that a count tells of: from when the count grows, until packets come and it does not."""
+
+    def __init__(self, count: str) -> None:
+        self.on = False
+        self._name, self._count, self._received = count, 0, 0
+
+    def changes(self, counts: dict[str, int]) -> bool:
+        """Whether that changes with these counts."""
+        count, received = counts.get(self._name, 0), counts.get('received', 0)
+        grew, came = count > self._count, received > self._received
+        self._count, self._received = count, received
+        before = self.on
+        self.on = grew or self.on and not came
+        return self.on != before

@@ -1,10 +1,11 @@
 """Records of a session, e1gw-session(5): their words and numbers, reading and spelling them, and RTP headers."""
 from __future__ import annotations
 
+import io
 import struct
 from dataclasses import dataclass
 from enum import IntEnum
-from typing import BinaryIO, Iterable, Iterator, NamedTuple, Protocol
+from typing import BinaryIO, Iterator, NamedTuple, Protocol
 
 CIRCUITS = range(1, 31)
 OCTETS_A_SECOND = 256_000       # of the trunk
@@ -38,10 +39,6 @@ class Kind(IntEnum):
         """The letter that the manual names it by."""
         return chr(self)
 
-
-EVERY_KIND = frozenset(Kind)
-KINDS_READ = frozenset((Kind.TRUNK, Kind.DATAGRAM, Kind.COMMAND, Kind.CODEC))       # by replay and check
-KINDS_WRITTEN = frozenset((Kind.TRUNK, Kind.DATAGRAM, Kind.ANSWER))                 # by replay
 
 
 class _Named(IntEnum):
@@ -218,10 +215,8 @@ _KIND_OF = {int(kind): kind for kind in Kind}
 _LENGTHS = {Kind.COMMAND: 1, Kind.CODEC: 2, Kind.ANSWER: 2}
 
 
-def _bad_head(kind: Kind | None, circuit: int, length: int, kinds: frozenset[Kind]) -> Fault | None:
-    """The first fault of the four octets before a body."""
-    if kind not in kinds:
-        return Fault.BAD_KIND
+def _bad_head(kind: Kind, circuit: int, length: int) -> Fault | None:
+    """The first fault of the four octets before a body of a kind."""
     if circuit != 0 if kind is Kind.TRUNK else circuit not in CIRCUITS:
         return Fault.BAD_CIRCUIT
     if length != _LENGTHS.get(kind, length):
@@ -243,8 +238,7 @@ class Reader:
 
     Of a record the faults are looked for in the order of e1gw-session(5). An R record has two octets."""
 
-    def __init__(self, kinds: Iterable[Kind] = EVERY_KIND) -> None:
-        self.kinds = frozenset(kinds)
+    def __init__(self) -> None:
         self.place = 0              # in the stream, of the record that is read next
         self._held = bytearray()
         self._at = 0                # of that record in what is held
@@ -267,17 +261,16 @@ class Reader:
             return None
         number, circuit, length = HEAD.unpack_from(held, at)
         kind = _KIND_OF.get(number)
-        fault = _bad_head(kind, circuit, length, self.kinds)
-        if fault is not None or kind is None:
-            raise BadSession(fault or Fault.BAD_KIND, self.place)
+        if kind is None:
+            raise BadSession(Fault.BAD_KIND, self.place)
+        if fault := _bad_head(kind, circuit, length):
+            raise BadSession(fault, self.place)
         after = at + 4 + length
         if len(held) < after:
             return None
         body = bytes(held[at + 4:after])
-        if kind in _LENGTHS:
-            fault = _bad_body(kind, body)
-            if fault is not None:
-                raise BadSession(fault, self.place)
+        if fault := _bad_body(kind, body):
+            raise BadSession(fault, self.place)
         self._at = after
         self.place += 4 + length
         return Record(kind, circuit, body)
@@ -300,9 +293,9 @@ class Readable(Protocol):
         ...
 
 
-def records(stream: Readable | BinaryIO, kinds: Iterable[Kind] = EVERY_KIND) -> Iterator[Record]:
+def records(stream: Readable | BinaryIO) -> Iterator[Record]:
     """The records of a stream, one by one. BadSession where it is no session, behind the records before the fault."""
-    reader = Reader(kinds)
+    reader = Reader()
     read = getattr(stream, 'read1', stream.read)
     while octets := read(PIECE):
         reader.push(octets)
@@ -310,12 +303,9 @@ def records(stream: Readable | BinaryIO, kinds: Iterable[Kind] = EVERY_KIND) -> 
     reader.end()
 
 
-def records_in(octets: bytes, kinds: Iterable[Kind] = EVERY_KIND) -> Iterator[Record]:
+def records_in(octets: bytes) -> Iterator[Record]:
     """The records that octets are."""
-    reader = Reader(kinds)
-    reader.push(octets)
-    yield from reader.whole()
-    reader.end()
+    return records(io.BytesIO(octets))
 
 
 # ---- RTP ----

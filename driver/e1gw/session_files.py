@@ -34,7 +34,7 @@ class Break(NamedTuple):
 
 
 @dataclass
-class KeptSession:
+class RecordedSession:
     """The files of a session, and the .json of the first of them."""
     files: list[str]
     config: str | None = None
@@ -47,11 +47,11 @@ class KeptSession:
     state: str = ''                     # the file of what the gateway was then; none for a new one
 
 
-def kept(path: str, last: int | None = None) -> KeptSession:
+def kept(path: str, last: int | None = None) -> RecordedSession:
     """A session in one file, or what was kept in a folder. Of a folder the last octets of the trunk,
     this number, are enough, if it was kept what the gateway was before them."""
     if not os.path.isdir(path):
-        return _told(KeptSession([path]))
+        return _told(RecordedSession([path]))
     every = {name for name in os.listdir(path) if name.endswith(ENDINGS)}
     # While one is packed both are there, and the packed one is not whole.
     names = sorted((name for name in every if not name.endswith('.zst') or name.removesuffix('.zst') not in every),
@@ -61,10 +61,25 @@ def kept(path: str, last: int | None = None) -> KeptSession:
         raise InputError(f'{path} holds no session (files of NAME.e1gw)')
     if len(trunks) > 1:
         raise InputError(f'{path} holds sessions of several trunks: {", ".join(sorted(trunks))}')
-    files = [os.path.join(path, name) for name in names]
+    files = _in_order([os.path.join(path, name) for name in names])
     begun = _begun([note_of(file) for file in files])
     files = files[begun[-1] if begun else 0:]
-    return _told(KeptSession(files[_enough(files, last):] if last else files))
+    return _told(RecordedSession(files[_enough(files, last):] if last else files))
+
+
+def _in_order(files: list[str]) -> list[str]:
+    """Files that are sorted by their names; each one is behind the one that it says it follows, since the clock may
+    have been set back in between."""
+    after = {file: note_of(file).get('after') for file in files}
+    following = {its: file for file, its in after.items() if its}
+    names = {os.path.basename(front_of(file)) for file in files}
+    found: list[str] = []
+    for first in files:
+        file = first if after[first] not in names else None
+        while file and file not in found:
+            found.append(file)
+            file = following.get(os.path.basename(front_of(file)))
+    return found + [file for file in files if file not in found]
 
 
 def _begun(abouts: list[dict[str, Any]]) -> list[int]:
@@ -113,7 +128,7 @@ def read_object(path: str) -> dict[str, Any]:
         return {}
 
 
-def _told(session: KeptSession) -> KeptSession:
+def _told(session: RecordedSession) -> RecordedSession:
     about = note_of(session.files[0])
     session.config = about.get('config')
     session.wait = about.get(WAIT, SEIZURE_WAIT)

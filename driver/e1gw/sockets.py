@@ -1,7 +1,7 @@
 """What the kernel tells of the UDP sockets of circuits."""
 from __future__ import annotations
 
-import threading
+import asyncio
 import time
 from typing import Any, Iterable, Iterator, Mapping
 
@@ -51,21 +51,15 @@ class SocketTables:
         self._lines = list(lines)
         self._found: Sockets = {}
         self._looked = 0.0
-        self._done = threading.Event()
-        self._done.set()
+        self._look: asyncio.Task[Sockets] | None = None
 
-    def found(self) -> Sockets:
+    async def found(self) -> Sockets:
         """What the last look found, of now or of a second ago."""
-        now = time.monotonic()
-        if self._done.is_set() and now - self._looked > EVERY:
-            self._looked = now
-            self._done.clear()
-            threading.Thread(target=self._look, name='sockets', daemon=True).start()
-        self._done.wait(PATIENCE)
+        if not self._look and time.monotonic() - self._looked > EVERY:
+            self._looked = time.monotonic()
+            self._look = asyncio.create_task(asyncio.to_thread(sockets_of, self._lines))
+        if (look := self._look) and (await asyncio.wait([look], timeout=PATIENCE))[0]:
+            if self._look is look:      # (others may have waited for it too)
+                self._look = None
+            self._found = look.result()
         return self._found
-
-    def _look(self) -> None:
-        try:
-            self._found = sockets_of(self._lines)
-        finally:
-            self._done.set()

@@ -1,4 +1,4 @@
-"""Descriptors that are written to: whole, opened behind what a file has, and none of the first three by mistake."""
+"""What is written: whole, in its place at once, behind what a file has, and to none of the first three by mistake."""
 from __future__ import annotations
 
 import errno
@@ -16,6 +16,18 @@ def write_all(file: int, octets: bytes) -> None:
             octets = octets[os.write(file, octets):]
         except BlockingIOError:
             time.sleep(0.02)
+
+
+def put_file(path: str, octets: bytes, mode: int = 0o644, part: str = '.new', is_synced: bool = False) -> None:
+    """Puts a file in its place at once: a reader sees the old one or the new one, whole; if it `is_synced` also after
+    the machine has died. `part` is behind its name before that."""
+    with open(os.open(f'{path}{part}', os.O_WRONLY | os.O_CREAT | os.O_TRUNC | os.O_CLOEXEC, mode), 'wb') as file:
+        os.fchmod(file.fileno(), mode)
+        file.write(octets)
+        file.flush()
+        if is_synced:
+            os.fsync(file.fileno())
+    os.replace(f'{path}{part}', path)
 
 
 def open_to_append(path: str) -> int:

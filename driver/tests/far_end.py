@@ -1,16 +1,14 @@
 """The far end of an emulated circuit, for the tests of `e1gw satop`."""
 from __future__ import annotations
 
-import contextlib
 import os
 import select
-import signal
 import socket
 import struct
 import subprocess
-from typing import Iterator
+from typing import ContextManager
 
-from e1gw.satop_process import counts_of
+from e1gw.satop import counts_of
 from e1gw.testing.ports import free_port
 
 from . import support
@@ -42,13 +40,9 @@ class FarEnd:
         """Sends a packet, with bits L (8) and R (4)."""
         self.send_datagram(struct.pack('>BBH', flags, 0, sequence % 65536) + octets)
 
-    @contextlib.contextmanager
-    def at_once(self) -> Iterator[None]:
+    def at_once(self) -> ContextManager[None]:
         """What is sent meanwhile has all come before the program goes on: no pause is one to it."""
-        self.program.send_signal(signal.SIGSTOP)
-        os.waitid(os.P_PID, self.program.pid, os.WSTOPPED)
-        yield
-        self.program.send_signal(signal.SIGCONT)
+        return support.stopped(self.program.pid)
 
     def send_datagram(self, datagram: bytes) -> None:
         self.line.sendto(datagram, self.near)

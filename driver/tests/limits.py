@@ -14,6 +14,10 @@ GIVEN = 'E1GW_LIMITS'
 LONG = 900.0                # seconds
 # Where the follower tells of each command an answer waits for that. (A follower that comes meanwhile may not.)
 TELLS = {'service.connection.PATIENCE': LONG}
+# Octets come when a test gives them, and by no clock: a flow that is never steady has no gap, behind which calls are
+# restarted. (A test that had taken ten seconds longer than its trunk found one.) Nor is a version tried for a minute.
+# Files of a ring are of a second there, and of each program: more of them are kept than of hours.
+STARTED = {'clock.STEADY': 0.0, 'service.version.TRIED': LONG, 'ring.MOST_OWN': 1000}
 LIMITS: dict[str, Any] = {
     'service.lifecycle.START': LONG, 'service.lifecycle.GRACE': LONG, 'service.follower.PATIENCE': LONG,
     'service.version.CHECK': LONG, 'service.version.LOOK_UP': LONG, 'service.status.FIRST': LONG,
@@ -21,11 +25,14 @@ LIMITS: dict[str, Any] = {
     'service.feed.PATIENCE': LONG, 'service.standby.PATIENCE': LONG, 'service.pair.PATIENCE': LONG,
     'service.standby.MOST_AGE': LONG, 'service.recordings.FLUSH': LONG, 'service.chain.GRACE': LONG,
     'service.connection.NEXT': LONG, 'service.line_process.QUICK': 0.0, 'service.checkpoints.PAUSE': 0.0,
-    'service.checkpoints.QUICK': 0.0, 'service.pages.SECONDS': LONG, 'ctl_all.PATIENCE': LONG,
+    'service.checkpoints.QUICK': 0.0, 'service.pages.SECONDS': LONG, 'service.pages.EVERY': 0.0,
+    'ctl_all.PATIENCE': LONG,
     'programs.PATIENCE': LONG, 'tie.trunk.PATIENCE': LONG, 'writers.OPENS': LONG,
-    'service.slot_trunk.TAKES': LONG,
+    'service.slot_trunk.TAKES': LONG, 'service.crc4_trunk.GRACE': LONG,
+    'service.pair.GRACE': LONG, 'service.service.GRACE': LONG, 'service.recovery.GRACE': LONG,
+    'service.events.FLUSH': LONG, 'service.journal.FLUSH': LONG,
     # (A process that gets what others leave gets next to nothing on a loaded machine.)
-    'archive.put_last': lambda process: None}
+    'priority.put_last': lambda process: None}
 
 
 def around(limits: Mapping[str, Any]) -> dict[str, str]:
@@ -44,11 +51,17 @@ def put(limits: Mapping[str, Any]) -> None:
 
 def put_given() -> None:
     """Sets all of them, as a command has them."""
-    put(LIMITS | json.loads(os.environ.get(GIVEN, '{}')))
+    put(LIMITS | STARTED | json.loads(os.environ.get(GIVEN, '{}')))
 
 
 def put_here() -> None:
-    """Sets all of them in this process."""
+    """Sets all of them in this process. A module that has imported one of another module has it by itself."""
     for path in LIMITS:
         importlib.import_module(f'e1gw.{path.rpartition(".")[0]}')
+    for path in LIMITS:
+        name, _, limit = path.rpartition('.')
+        value = getattr(sys.modules[f'e1gw.{name}'], limit)
+        has = {f'{each.removeprefix("e1gw.")}.{limit}' for each, module in sys.modules.items()
+               if each.startswith('e1gw.') and getattr(module, limit, None) is value}
+        assert has <= {*LIMITS}, has
     put(LIMITS)

@@ -2,7 +2,6 @@
 too. A machine dies when all its processes are killed at once."""
 from __future__ import annotations
 
-import contextlib
 import functools
 import os
 import re
@@ -16,16 +15,16 @@ from concurrent.futures import ThreadPoolExecutor
 from typing import Any, Callable
 
 from . import support
+from .hand_clock import HandClock
 from .support import SECONDS
 from .test_program_killed import CIRCUITS, KeeperCase
 from .world import LAUNCHER, children, words_of
-from e1gw.session import Kind, packet_of, records_in
+from e1gw.session import Kind, Packet, packet_of, records_in
 from e1gw.testing.ports import free_port
 from e1gw.testing.service import ask
 
 ADDRESSES = {'a': '127.0.0.11', 'b': '127.0.0.12'}      # of the machines
 TRUNK, SPEECH = '127.0.0.100', '127.0.0.101'            # of the trunk, wherever it is: SAToP and RTP
-PREFILL = 1200
 
 
 class GivenFile:
@@ -36,11 +35,8 @@ class GivenFile:
         path = words[words.index(option) + 1] if option in words else os.devnull
         self.file = os.open(path.replace('/dev/fd', f'/proc/{pid}/fd'), os.O_RDONLY)
 
-    def __len__(self) -> int:
-        return os.fstat(self.file).st_size
-
     def octets(self) -> bytes:
-        return os.pread(self.file, len(self), 0)
+        return os.pread(self.file, os.fstat(self.file).st_size, 0)
 
 
 class Machine:
@@ -52,12 +48,12 @@ class Machine:
         case.addCleanup(self.power_off)
         self.control, self._told, self._from = case.path(f'{name}.control'), case.path(f'{name}.told'), 0
         own, other = ((ADDRESSES[each], ports[each]) for each in (name, 'b' if name == 'a' else 'a'))
-        options = [*words, '--gap', '10000', '--control', self.control, '--folder', self._memory.name,
+        options = [*words, '--control', self.control, '--folder', self._memory.name,
                    '--feed', f'{own[0]}:{own[1]}', '--standby', f'{other[0]}:{other[1]}']
         with open(self._told, 'wb') as told:
             self.process = subprocess.Popen([sys.executable, '-B', LAUNCHER, '--program', support.program(), *options],
                                             stderr=told, stdin=subprocess.DEVNULL, env={**os.environ, **around})
-        self.awaits('stands by')
+        self.awaits('is to be standby')
         support.until(lambda: os.path.exists(self.control))
 
     def told(self) -> str:
@@ -80,16 +76,21 @@ class Machine:
         """The process of it that has this subcommand, if need be waited for."""
         return support.until(lambda: next(iter(children(self.process.pid, word)), 0))
 
+    def cut_off(self) -> None:
+        """What it has started is killed, and its link goes down: its connections end for nobody."""
+        self.process.send_signal(signal.SIGSTOP)
+        support.until(lambda: support.state_of(self.process.pid) in 'TZ')       # (it starts no other one)
+        pids = children(self.process.pid)
+        for pid in pids:
+            os.kill(pid, signal.SIGKILL)
+        support.until(lambda: not any(words_of(pid) for pid in pids))
+
     def power_off(self) -> None:
         """Nothing of it goes on."""
         if self.process.poll() is None:
-            self.process.send_signal(signal.SIGSTOP)
-            pids = children(self.process.pid)
-            for pid in (self.process.pid, *pids):
-                with contextlib.suppress(ProcessLookupError):
-                    os.kill(pid, signal.SIGKILL)
+            self.cut_off()
+            self.process.kill()
             self.process.wait(SECONDS)
-            support.until(lambda: not any(words_of(pid) for pid in pids))
 
 
 class PairCase(KeeperCase):
@@ -98,27 +99,36 @@ class PairCase(KeeperCase):
     def setUp(self) -> None:
         super().setUp()
         self.device.listener.listen(8)
-        text = self.peers.config().replace('[[circuit]]\n', f'[[circuit]]\nprefill = {PREFILL}\n')
-        self.config = self.write('trunk.toml', f'host = "{SPEECH}"\n{text}')
+        text = self.peers.config().replace('[[circuit]]\n', '[[circuit]]\nprefill = 1200\n')
+        self.text = f'host = "{SPEECH}"\n{text}'
+        self.config = self.write('trunk.toml', self.text)
         self.ports = {name: free_port(address) for name, address in ADDRESSES.items()}
-        self.now, self._spoken = 0, -1          # multiframes of the trunk's time, and packets of each peer
+        self.clock, self.now, self._spoken = HandClock(self.path('clock')), 0, -1   # (multiframes, and packets of each)
 
-    def machine(self, name: str, config: str = '', **within: Any) -> Machine:
+    def machine(self, name: str, config: str = '', *more: str, **within: Any) -> Machine:
         words = '--config', config or self.config, '--unix', self.device.path, '--program-control', self.path(
             f'{name}.program')
-        return Machine(self, name, self.ports, *words, **self.within(**within))
+        return Machine(self, name, self.ports, *words, *more, **self.within(**within), **self.clock.around)
+
+    def words(self, name: str) -> list[str]:      # (a certificate that is its own authority)
+        key, own = self.path(f'{name}.key'), self.path(f'{name}.pem')
+        subprocess.run(['openssl', 'req', '-x509', '-newkey', 'ec', '-pkeyopt', 'ec_paramgen_curve:P-256', '-nodes',
+                        '-subj', f'/CN={name}', '-addext', f'subjectAltName=IP:{ADDRESSES["a"]}', '-keyout', key,
+                        '-out', own], check=True, capture_output=True)
+        return ['--tls', own, key, own]
 
     def client(self) -> socket.socket:
+        path = self.path(f'{self.active}.program')
+        support.until(lambda: os.path.exists(path))     # (the program may answer octets before)
         line = socket.socket(socket.AF_UNIX)
         line.settimeout(SECONDS)
-        line.connect(self.path(f'{self.active}.program'))
+        line.connect(path)
         return line
 
-    def promoted(self, machine: Machine, name: str, is_handed: bool = False) -> None:
+    def promoted(self, machine: Machine, name: str) -> None:
         """It carries the trunk from now on."""
         self.active = name
-        if not is_handed:
-            self.assertEqual(machine.ask('promote'), 'promote: done', machine.told())
+        self.assertEqual(machine.ask('promote'), 'promote: done', machine.told())
         self.device.accept()
 
     def asks(self, machine: Machine, word: str) -> Callable[[], str]:
@@ -142,9 +152,9 @@ class PairCase(KeeperCase):
             head = struct.pack('>BBHII', 0x80, 8, number & 0xffff, 160 * number & 0xffffffff, circuit)
             self.peers.socket.sendto(head + bytes([circuit]) * 160, (SPEECH, port))
 
-    def calls_with_standby(self) -> tuple[Machine, Machine]:
+    def calls_with_standby(self, *more: str, **given: Machine) -> tuple[Machine, Machine]:
         """Thirty calls at machine a, for which machine b stands by."""
-        a, b = self.machine('a'), self.machine('b')
+        a, b = (given.get(name) or self.machine(name, '', *more) for name in 'ab')
         self.promoted(a, 'a')
         self.calls()
         self.fed(b)
@@ -157,27 +167,17 @@ class PairCase(KeeperCase):
 
     # ---- what must hold ----
 
-    def replayed(self, *given: bytes, state: GivenFile | None = None) -> tuple[bytes, list[bytes], list[bytes]]:
-        """What one replay makes of all this: octets of the trunk, packets, and answers to other records."""
-        words = ['--load', f'/proc/{os.getpid()}/fd/{state.file}'] if state and len(state) else []
-        found: dict[int, list[bytes]] = {kind: [] for kind in Kind}
-        for record in records_in(support.run('replay', '--config', self.config, *words, given=b''.join(given))):
-            found[record.kind].append(record.body)
-        return b''.join(found[Kind.TRUNK]), found[Kind.DATAGRAM], found[Kind.ANSWER]
-
-    def last_packets(self) -> dict[int, tuple[int, int, int]]:
-        """Sequence number, timestamp and SSRC of the last packet of each circuit."""
+    def last_packets(self) -> dict[int, Packet]:
         self.peers.take()
-        its = {circuit: packet_of(self.peers.packets[circuit][-1]) for circuit in CIRCUITS}
-        return {circuit: (packet.sequence, packet.timestamp, packet.ssrc) for circuit, packet in its.items()}
+        return {circuit: packet_of(self.peers.packets[circuit][-1]) for circuit in CIRCUITS}
 
-    def numbers_go_on(self, before: dict[int, tuple[int, int, int]]) -> None:
+    def numbers_go_on(self, before: dict[int, Packet]) -> None:
         """The packets of each circuit go on behind these: the same source, and as many numbers as time."""
-        for circuit, (sequence, timestamp, source) in self.last_packets().items():
-            packets = sequence - before[circuit][0] & 0xffff
+        for circuit, last in self.last_packets().items():
+            packets = last.sequence - before[circuit].sequence & 0xffff
             self.assertGreater(packets, 0)
-            self.assertEqual(source, before[circuit][2])
-            self.assertEqual(timestamp - before[circuit][1] & 0xffffffff, 160 * packets, f'circuit {circuit}')
+            self.assertEqual(last.ssrc, before[circuit].ssrc)
+            self.assertEqual(last.timestamp - before[circuit].timestamp & 0xffffffff, 160 * packets, circuit)
 
     def up_again(self) -> None:
         """Within 16 ms of the trunk the other end has alignment again, and no call has ended."""
@@ -185,11 +185,6 @@ class PairCase(KeeperCase):
         self.assertFalse(self.device.exchange.remote_alarms)
         self.step(60)
         self.assertEqual(self.device.exchange.signals, self.up())
-
-
-def trunk_octets(records: bytes) -> int:
-    """The octets of the trunk that records have."""
-    return sum(len(record.body) for record in records_in(records) if record.kind is Kind.TRUNK)
 
 
 def unread(address: str) -> int:

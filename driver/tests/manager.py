@@ -82,6 +82,12 @@ class Manager:
             for file in held:
                 os.close(file)
 
+    def forget(self) -> None:
+        """Nothing is kept of what was told before."""
+        self._take_all()
+        while self.files:
+            os.close(self.files.popitem()[1])
+
     def close(self) -> None:
         self.line.shutdown(socket.SHUT_RDWR)
         self._taker.join()                  # (else it could read from a later file with this number)

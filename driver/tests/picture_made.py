@@ -2,43 +2,61 @@
 from __future__ import annotations
 
 import bisect
+import contextlib
 import functools
 import math
 import os
 import random
 import struct
+import subprocess
 import tempfile
 import tomllib
 from collections.abc import Callable, Iterator
-from dataclasses import dataclass, field
+from dataclasses import dataclass, field, replace
 
-from .support import Exchange, program, run
+from .support import SECONDS, TOP, Exchange, config_text, program, run
 
+from e1gw.exchange import ACKNOWLEDGED, ANSWERED, IDLE
 from e1gw.g711 import TONES, VALUES
 from e1gw.picture.facts import Facts
 from e1gw.picture.reading import SessionReading, rows_of
 from e1gw.picture.replay import Replay
-from e1gw.session import Command, Kind, command_record, datagram_record, records_in, trunk_record
+from e1gw.session import (OCTETS_A_SECOND, Command, Kind, Packet, command_record, datagram_record, records_in,
+                          trunk_record)
 
-IDLE, SEIZED, ACKNOWLEDGED, ANSWERED = 0b10, 0b00, 0b11, 0b01        # the pairs ab of ITU-T Q.421
-MULTIFRAME, SECOND = 512, 256_000
+COMMAND = os.path.join(TOP, 'driver', 'e1gw-picture')
+SECOND = OCTETS_A_SECOND
 TONE = TONES['A']
 PACKET = 160
-BITS = {'g726-16': 2, 'g726-24': 3, 'g726-32': 4, 'g726-40': 5}
 Event = tuple[float, str, int, int]
+Change = Callable[[float, bytearray], object]         # of a multiframe, at a time
 
 
 def rtp(sequence: int, stamp: int, ssrc: int, kind: int = 8, payload: bytes = TONE * 20) -> bytes:
     """A datagram (RFC 3550, 5.1)."""
-    return struct.pack('>BBHII', 0x80, kind, sequence & 0xFFFF, stamp & 0xFFFFFFFF, ssrc) + payload
+    return Packet(kind, sequence & 0xFFFF, stamp & 0xFFFFFFFF, ssrc, payload).encode()
+
+
+@contextlib.contextmanager
+def configured(config: str) -> Iterator[str]:
+    """The path of a file with this configuration."""
+    with tempfile.NamedTemporaryFile('w', encoding='utf-8') as file:
+        file.write(config)
+        file.flush()
+        yield file.name
+
+
+def page_of(*words: str, status: int = 0, given: bytes = b'') -> tuple[str, str]:
+    """The page that the command draws, and what it says."""
+    done = subprocess.run([COMMAND, '--program', program(), *words], input=given, stdout=subprocess.PIPE,
+                          stderr=subprocess.PIPE, check=False, timeout=SECONDS)
+    assert done.returncode == status, done.stderr.decode()
+    return done.stdout.decode(), done.stderr.decode()
 
 
 def read_session(config: str, given: bytes, last: int | None = None) -> Facts:
     """The facts of a session with this configuration."""
-    with tempfile.TemporaryDirectory() as folder:
-        path = os.path.join(folder, 'trunk.toml')
-        with open(path, 'w', encoding='utf-8') as file:
-            file.write(config)
+    with configured(config) as path:
         replay = Replay(program(), path)
     facts = Facts(rows_of(tomllib.loads(config)), last)
     SessionReading(facts, replay, program()).read([given])
@@ -133,7 +151,7 @@ class MadeSession:
     tables: dict[int, dict[str, object]] = field(default_factory=dict)
     events: list[Event] = field(default_factory=list)
     senders: list[PictureSender] = field(default_factory=list)
-    change: Callable[[float, bytearray], None] | None = None        # of a multiframe, at a time
+    change: Change | None = None
     silent: bool = False
     speech: bytes = TONE * 2            # in each time slot, again and again
     law: str = 'A'                      # of the exchange
@@ -146,14 +164,14 @@ class MadeSession:
             self.events += [(begin + 0.03, 'pair', circuit, ACKNOWLEDGED),
                             (begin + 0.03 + answered, 'pair', circuit, ANSWERED)]
 
+    def plus(self, *senders: PictureSender) -> MadeSession:
+        """The same with more senders."""
+        self.senders += senders
+        return self
+
     def config(self) -> str:
         """The configuration, as text."""
-        out = ['law = "A"']
-        for n, table in self.tables.items():
-            out += ['', '[[circuit]]', f'number = {n}']
-            out += [f'{key} = {f"{chr(34)}{value}{chr(34)}" if isinstance(value, str) else value}'
-                    for key, value in table.items()]
-        return '\n'.join(out) + '\n'
+        return config_text(self.tables)
 
     def given(self) -> Iterator[bytes]:
         """The records that the gateway is given, 2 ms at a time."""
@@ -186,77 +204,21 @@ class MadeSession:
 # ---- a session for each trouble ----
 
 OUT: dict[str, object] = {'prefill': 320, 'local_port': 24006, 'peer_port': 24106}
+STUN = bytes.fromhex('000100002112a442') + bytes(range(12))         # RFC 5389
 
 
-def one_call(seconds: float, table: dict[str, object] | None = None, **sender: object) -> MadeSession:
+def one_call(seconds: float = 6, table: dict[str, object] | None = None, **sender: object) -> MadeSession:
     """A call on circuit 3, and what its peer sends."""
     made = MadeSession(seconds, {3: {**OUT, **(table or {})}})
     made.call(3, 0.1, seconds - 0.3)
-    made.senders.append(PictureSender(3, 0.25, seconds - 0.3, **sender))     # type: ignore[arg-type]
-    return made
-
-
-def no_datagrams() -> MadeSession:
-    made = one_call(6)
-    made.senders.clear()
-    return made
-
-
-def other_type() -> MadeSession:
-    return one_call(6, kind=0)
-
-
-def other_codec() -> MadeSession:
-    """G.726 at 32 kbit/s under the type of PCMA."""
-    return one_call(6, payload=bytes(range(80)))
-
-
-def silent_peer() -> MadeSession:
-    """The peer sends silence alone."""
-    return one_call(6, payload=b'\xd5' * PACKET)
-
-
-def no_rtp() -> MadeSession:
-    """STUN (RFC 5389) and keep-alives of one octet come among the peer's datagrams."""
-    made = one_call(6)
-    stun = bytes.fromhex('000100002112a442') + bytes(range(12))
-    made.senders += [PictureSender(3, first, 5.7, each=0.5, datagram=octets)
-                     for first, octets in ((0.3, stun), (0.4, b'\0'))]
-    return made
-
-
-def repeated() -> MadeSession:
-    """The network doubles each datagram."""
-    made = one_call(6)
-    made.senders *= 2
-    return made
-
-
-def too_long() -> MadeSession:
-    """The peer's packets have 250 ms."""
-    return one_call(6, each=0.25, payload=TONE * 250)
+    return made.plus(PictureSender(3, 0.25, seconds - 0.3, **sender))       # type: ignore[arg-type]
 
 
 def not_open() -> MadeSession:
     """The peer speaks two seconds before the call, and one second behind its end."""
     made = MadeSession(6, {3: dict(OUT)})
     made.call(3, 2.3, 4.7)
-    made.senders.append(PictureSender(3, 0.25, 5.7))
-    return made
-
-
-def other_law() -> MadeSession:
-    """The peer sends mu-law under the type of A-law."""
-    made = one_call(6, payloads=packets(coded('mu')))
-    made.speech = coded('A')
-    return made
-
-
-def other_law_trunk() -> MadeSession:
-    """The exchange has mu-law, and the configuration A-law."""
-    made = one_call(6, payloads=packets(coded('A')))
-    made.speech, made.law = coded('mu'), 'mu'
-    return made
+    return made.plus(PictureSender(3, 0.25, 5.7))
 
 
 def of_codec(codec: str, bits: int, aal2: bool) -> MadeSession:
@@ -264,116 +226,42 @@ def of_codec(codec: str, bits: int, aal2: bool) -> MadeSession:
     payloads = g726(codec, coded('A'))
     made = one_call(6, {'codec': codec, 'payload': 96}, kind=96,
                     payloads=[of_aal2(each, bits) for each in payloads] if aal2 else payloads)
-    made.speech = coded('A')
-    return made
-
-
-def other_order() -> MadeSession:
-    return of_codec('g726-32', 4, True)
-
-
-def slow_clock() -> MadeSession:
-    return one_call(60, {'prefill': 160}, ppm=-500)
-
-
-def fast_clock() -> MadeSession:
-    return one_call(30, {'prefill': 1600}, ppm=8000)
+    return replace(made, speech=coded('A'))
 
 
 def hold() -> MadeSession:
     """The peer puts the call on hold for a second: another source speaks, then the first one again."""
-    made = one_call(6)
+    made = one_call()
     made.senders[0].end = 2.5
-    made.senders += [PictureSender(3, 2.52, 5.7, ssrc=0x9999)]
-    return made
+    return made.plus(PictureSender(3, 2.52, 5.7, ssrc=0x9999))
 
 
-def jump() -> MadeSession:
-    return one_call(6, jump=(3.0, 8000))
-
-
-def jitter() -> MadeSession:
-    return one_call(6, {'prefill': 0}, jitter=0.02)
-
-
-def stranger() -> MadeSession:
-    """Somebody else's datagrams come before those of the peer."""
-    made = one_call(6)
-    made.senders.append(PictureSender(3, 0.17, 0.22, ssrc=0xBAD))
-    return made
-
-
-def lost() -> MadeSession:
-    return one_call(6, lost=0.1)
-
-
-def burst() -> MadeSession:
-    return one_call(10, {'prefill': 160}, burst=0.256)
-
-
-def gap() -> MadeSession:
-    """The device loses 380 ms of the trunk."""
-    made = MadeSession(8, {n: {'prefill': 320} for n in range(1, 7)})
+def six_calls(seconds: float, end: float, change: Change) -> MadeSession:
+    made = MadeSession(seconds, {n: {'prefill': 320} for n in range(1, 7)}, change=change)
     for n in range(1, 7):
-        made.call(n, 0.1, 7.7)
-        made.senders.append(PictureSender(n, 0.25, 7.7, ssrc=n))
-
-    def lose(now: float, octets: bytearray) -> None:
-        if 4.0 <= now < 4.38:
-            octets.clear()
-    made.change = lose
+        made.call(n, 0.1, end)
+        made.plus(PictureSender(n, 0.25, end, ssrc=n))
     return made
 
 
-def gaps() -> MadeSession:
-    """The device loses 30 ms of the trunk each two seconds."""
-    made = gap()
-    made.seconds = 30
-    for n in range(1, 7):
-        made.senders[n - 1].end = 29.5
-    made.events = []
-    for n in range(1, 7):
-        made.call(n, 0.1, 29.5)
-
-    def lose(now: float, octets: bytearray) -> None:
-        if now % 2 >= 1.97:
-            octets.clear()
-    made.change = lose
-    return made
+def changed(when: Callable[[float], bool], does: Callable[[bytearray], object]) -> Change:
+    """Changes multiframes at some times."""
+    return lambda now, octets: does(octets) if when(now) else None
 
 
-def double_rate() -> MadeSession:
-    """The trunk runs at double the rate: a second of the sender is two of the trunk."""
-    return one_call(6, {'prefill': 160}, ppm=-500_000)
+def ones(octets: bytearray) -> None:
+    octets[:] = b'\xff' * len(octets)
 
 
-def slips() -> MadeSession:
-    """The device loses an octet each half second."""
-    made = one_call(6)
-
-    def slip(now: float, octets: bytearray) -> None:
-        if round(now * 500) % 250 == 120:
-            del octets[300]
-    made.change = slip
-    return made
+def none(octets: bytearray) -> None:
+    octets.clear()
 
 
 def all_ones() -> MadeSession:
     """The line is cut, and a seizure falls into that."""
-    made = one_call(6)
+    made = replace(one_call(), change=changed(lambda now: 3.0 <= now < 4.5, ones))
     made.call(5, 3.2, 5.0)
     made.tables[5] = {}
-
-    def cut(now: float, octets: bytearray) -> None:
-        if 3.0 <= now < 4.5:
-            octets[:] = b'\xff' * len(octets)
-    made.change = cut
-    return made
-
-
-def silent_slot() -> MadeSession:
-    made = one_call(6)
-    made.silent = True
     return made
 
 
@@ -384,18 +272,37 @@ def unacknowledged() -> MadeSession:
     return made
 
 
-def sound() -> MadeSession:
-    """A call with nothing wrong."""
-    return one_call(6)
-
-
 TROUBLES: dict[str, Callable[[], MadeSession]] = {
-    'no-datagrams': no_datagrams, 'other-type': other_type, 'other-codec': other_codec, 'other-law': other_law,
-    'silent-peer': silent_peer, 'no-rtp': no_rtp, 'repeated': repeated, 'too-long': too_long, 'not-open': not_open,
-    'other-law-trunk': other_law_trunk, 'other-order': other_order, 'slow-clock': slow_clock,
-    'fast-clock': fast_clock, 'hold': hold, 'jump': jump, 'jitter': jitter, 'stranger': stranger, 'lost': lost,
-    'burst': burst, 'gap': gap, 'gaps': gaps, 'double-rate': double_rate, 'slips': slips, 'all-ones': all_ones,
-    'silent-slot': silent_slot, 'unacknowledged': unacknowledged, 'sound': sound}
+    'no-datagrams': lambda: replace(one_call(), senders=[]),
+    'other-type': lambda: one_call(kind=0),
+    'other-codec': lambda: one_call(payload=bytes(range(80))),          # G.726 at 32 kbit/s under the type of PCMA
+    'other-law': lambda: replace(one_call(payloads=packets(coded('mu'))), speech=coded('A')),
+    'silent-peer': lambda: one_call(payload=b'\xd5' * PACKET),
+    'no-rtp': lambda: one_call().plus(*(PictureSender(3, first, 5.7, each=0.5, datagram=octets)
+                                        for first, octets in ((0.3, STUN), (0.4, b'\0')))),
+    'repeated': lambda: replace(one_call(), senders=one_call().senders * 2),        # by the network
+    'too-long': lambda: one_call(each=0.25, payload=TONE * 250),
+    'not-open': not_open,
+    'other-law-trunk': lambda: replace(one_call(payloads=packets(coded('A'))), speech=coded('mu'), law='mu'),
+    'other-order': lambda: of_codec('g726-32', 4, True),
+    'slow-clock': lambda: one_call(60, {'prefill': 160}, ppm=-500),
+    'fast-clock': lambda: one_call(30, {'prefill': 1600}, ppm=8000),
+    'hold': hold,
+    'jump': lambda: one_call(jump=(3.0, 8000)),
+    'jitter': lambda: one_call(6, {'prefill': 0}, jitter=0.02),
+    'stranger': lambda: one_call().plus(PictureSender(3, 0.17, 0.22, ssrc=0xBAD)),  # before the peer
+    'lost': lambda: one_call(lost=0.1),
+    'burst': lambda: one_call(10, {'prefill': 160}, burst=0.256),
+    # the device loses 380 ms of the trunk, or 30 ms each two seconds, or an octet each half second
+    'gap': lambda: six_calls(8, 7.7, changed(lambda now: 4.0 <= now < 4.38, none)),
+    'gaps': lambda: six_calls(30, 29.5, changed(lambda now: now % 2 >= 1.97, none)),
+    'slips': lambda: replace(one_call(), change=changed(lambda now: round(now * 500) % 250 == 120,
+                                                        lambda octets: octets.pop(300))),
+    'double-rate': lambda: one_call(6, {'prefill': 160}, ppm=-500_000),     # of the trunk
+    'all-ones': all_ones,
+    'silent-slot': lambda: replace(one_call(), silent=True),
+    'unacknowledged': unacknowledged,
+    'sound': one_call}                      # nothing is wrong
 
 
 @functools.cache
@@ -448,10 +355,7 @@ def both_ways(config: str, given: bytes) -> tuple[bytes, Packets, Packets]:
         else:
             bare.append(record.encode())
             place += len(record.body) * (record.kind is Kind.TRUNK)
-    with tempfile.TemporaryDirectory() as folder:
-        path = os.path.join(folder, 'trunk.toml')
-        with open(path, 'w', encoding='utf-8') as file:
-            file.write(config)
+    with configured(config) as path:
         answers = run('replay', '--config', path, given=given)
     for record in records_in(answers):
         if record.kind is Kind.DATAGRAM:

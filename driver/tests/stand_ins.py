@@ -61,17 +61,16 @@ class StandInShadow(StandInListener):
 
     def __init__(self, path: str, rows: list[str] | None = None, greeting: str = 'e1gw tell 1 A') -> None:
         self.rows = dict(enumerate(rows or IDLE, 1))
-        self.place, self.alarms, self.greeting, self.flows = 0, '0 0 0 0', greeting, True
+        self.place, self.alarms, self.greeting = 0, '0 0 0 0', greeting
         self.seizures = [0] * 30
         super().__init__(path)
 
     def came(self, line: socket.socket) -> None:
-        if self.flows:
-            rows = [f'line {row}' for row in self.rows.values()]
-            text = '\n'.join([self.greeting, f'at {self.place}', f'alarms {self.alarms}', *rows,
-                              f'seizures {" ".join(map(str, self.seizures))}', 'now', ''])
-            with suppress(OSError):
-                line.sendall(text.encode())
+        rows = [f'line {row}' for row in self.rows.values()]
+        text = '\n'.join([self.greeting, f'at {self.place}', f'alarms {self.alarms}', *rows,
+                          f'seizures {" ".join(map(str, self.seizures))}', 'now', ''])
+        with suppress(OSError):
+            line.sendall(text.encode())
 
     def tell(self, *lines: str) -> None:
         """Tells changes behind the next record of the trunk."""
@@ -116,7 +115,7 @@ class StandInProgram(StandInListener):
         threading.Thread(target=self._serve, args=(line,), daemon=True).start()
 
     def _serve(self, line: socket.socket) -> None:
-        reader = Reader((Kind.COMMAND, Kind.CODEC))
+        reader = Reader()
         with suppress(OSError):
             while octets := line.recv(4096):
                 reader.push(octets)

@@ -2,10 +2,13 @@
 from __future__ import annotations
 
 import atexit
+import contextlib
 import fcntl
 import functools
+import json
 import os
 import random
+import signal
 import socket
 import subprocess
 import sys
@@ -13,11 +16,12 @@ import tempfile
 import termios
 import time
 import unittest
-from typing import Callable, TypeVar
+from typing import Callable, Iterator, Mapping, TypeVar
 
 from . import limits
 from e1gw.__main__ import COMMANDS
 from e1gw.exchange import Exchange
+from e1gw.session import Kind, Reader, Record
 from e1gw.testing import service
 from e1gw.testing.limited import SECONDS
 from e1gw.testing.service import Service
@@ -25,8 +29,9 @@ from e1gw.testing.service import Service
 TOP = os.path.dirname(os.path.dirname(os.path.dirname(os.path.abspath(__file__))))
 sys.dont_write_bytecode = True
 
-__all__ = ['Exchange', 'FolderCase', 'SECONDS', 'Service', 'TOP', 'all_read', 'chance_of', 'in_memory', 'launcher',
-           'program', 'run', 'until', 'without']
+__all__ = ['Exchange', 'FolderCase', 'ReplayInSteps', 'SECONDS', 'Service', 'TOP', 'all_read', 'chance_of',
+           'config_text', 'connected', 'in_memory', 'launcher', 'listening', 'octets_of', 'program', 'read_from',
+           'run', 'state_of', 'stopped', 'text_of', 'until', 'without']
 
 T = TypeVar('T')
 
@@ -36,6 +41,23 @@ def until(holds: Callable[[], T | None], pause: float = 0.005) -> T:
     while not (found := holds()):
         time.sleep(pause)
     return found
+
+
+def octets_of(path: str) -> bytes:
+    """What a file has."""
+    with open(path, 'rb') as file:
+        return file.read()
+
+
+def text_of(path: str) -> str:
+    """The same as text."""
+    return octets_of(path).decode(errors='replace')
+
+
+def config_text(circuits: Mapping[int, Mapping[str, object]], law: str = 'A') -> str:
+    """A configuration in which circuits have these keys."""
+    return f'law = "{law}"\n' + ''.join(f'[[circuit]]\nnumber = {circuit}\n' + ''.join(
+        f'{key} = {json.dumps(value)}\n' for key, value in keys.items()) for circuit, keys in circuits.items())
 
 
 def in_memory() -> tempfile.TemporaryDirectory[str]:
@@ -93,9 +115,94 @@ def chance_of(test: unittest.TestCase) -> random.Random:
     return random.Random(f'{test.id()} {os.environ.get("E1GW_SEED", "1")}')
 
 
+def connected(path: str) -> socket.socket:
+    """A connection to a Unix socket."""
+    line = socket.socket(socket.AF_UNIX)
+    line.connect(path)                      # (with a time limit it would be refused while there is no place)
+    line.settimeout(SECONDS)
+    return line
+
+
+def listening(path: str) -> socket.socket:
+    """A Unix socket at which one connection may wait."""
+    listener = socket.socket(socket.AF_UNIX)
+    listener.bind(path)
+    listener.listen(1)
+    listener.settimeout(SECONDS)
+    return listener
+
+
+def read_from(line: socket.socket, count: int) -> bytes:
+    """Reads this number of octets. EOFError if the stream ends before."""
+    octets = b''
+    while len(octets) < count:
+        octets += (piece := line.recv(count - len(octets)))
+        if not piece:
+            raise EOFError
+    return octets
+
+
 def all_read(line: socket.socket) -> None:
     """Returns once the other end of a Unix socket has read all that was sent."""
     until(lambda: not int.from_bytes(fcntl.ioctl(line, termios.TIOCOUTQ, bytes(4)), sys.byteorder), 0.001)
+
+
+class ReplayInSteps:
+    """`e1gw replay`, record by record."""
+
+    def __init__(self, *words: str) -> None:
+        self.process = subprocess.Popen([program(), 'replay', *words], stdin=subprocess.PIPE, stdout=subprocess.PIPE)
+        assert self.process.stdin and self.process.stdout
+        self._input, self._output, self._reader = self.process.stdin, self.process.stdout, Reader()
+        self.given, self.written = bytearray(), bytearray()
+
+    def passes(self, record: bytes) -> Record:
+        """The answer to a record."""
+        self.given += record
+        self._input.write(record)
+        self._input.flush()
+        while True:
+            while answer := self._reader.take():
+                if answer.kind in (Kind.TRUNK, Kind.ANSWER):
+                    return answer
+            more = os.read(self._output.fileno(), 65_536)
+            assert more, 'the replay has ended'
+            self.written += more
+            self._reader.push(more)
+
+    def ends(self) -> int:
+        """The status, once the records end."""
+        self._input.close()
+        self.written += self._output.read()
+        return self.process.wait(SECONDS)
+
+    def close(self) -> None:
+        """Ends what a test leaves."""
+        self.process.kill()
+        self.process.wait(SECONDS)
+        self._input.close()
+        self._output.close()
+
+
+@contextlib.contextmanager
+def stopped(*pids: int) -> Iterator[None]:
+    """These processes stand still meanwhile."""
+    for pid in pids:
+        os.kill(pid, signal.SIGSTOP)
+        until(lambda: state_of(pid) in 'TZ')
+    try:
+        yield
+    finally:
+        for pid in reversed(pids):
+            os.kill(pid, signal.SIGCONT)
+
+
+def state_of(pid: int) -> str:
+    """The state of a process (proc(5)): Z has ended, T stands still; nothing if there is none."""
+    try:
+        return text_of(f'/proc/{pid}/stat').rpartition(')')[2].split()[0]
+    except OSError:
+        return ''
 
 
 def without(sent: bytes, circuit: int) -> bytes:

@@ -1,15 +1,12 @@
-"""A line for each call: who ended it, its packets, a file that is rotated, and a disk that is full."""
+"""A line for each call: who ended it, its packets, and a file that is rotated."""
 from __future__ import annotations
 
 import csv
 import os
 import unittest
-from typing import Any
 from unittest import mock
 
 from . import support
-from .test_trunk import FOUR, aligned, call
-from .world import World, config_of
 from e1gw.calls import FIELDS, KEPT, CallLog
 from e1gw.counts import DatagramCounts
 from e1gw.lines import Line, Role
@@ -25,8 +22,8 @@ class CallEndTests(unittest.TestCase):
         self.counts = DatagramCounts()
         self.calls = CallLog('west', self.lines, self.counts, self.put, lambda: self.now)
 
-    def put(self, line: bytes) -> None:
-        self.rows += csv.reader([line.decode()])
+    def put(self, line: str) -> None:
+        self.rows += csv.reader([line])
 
     def states(self, circuit: int, *states: str) -> None:
         for was, state in zip(states, states[1:]):
@@ -61,9 +58,10 @@ class CallEndTests(unittest.TestCase):
             counts.sent += packets
             counts.admitted += packets - 3
             counts.refused['Late'] = counts.refused.get('Late', 0) + 3
+            counts.stream.lost += 2
             self.states(1, 'idle', 'seized', 'acked', 'answered', 'releasing', 'idle')
             self.calls.look()
-            self.assertEqual(self.rows.pop()[8:12], [str(packets), str(packets - 3), '0', '3'])
+            self.assertEqual(self.rows.pop()[8:12], [str(packets), str(packets - 3), '2', '3'])
 
     def test_the_trunk_ends_before_the_call(self) -> None:
         self.counts.ended = 'it fell behind'
@@ -76,7 +74,7 @@ class CallFileTests(support.FolderCase):
     def test_a_full_file_is_moved_away(self) -> None:
         head = ','.join(FIELDS) + '\n'
         with mock.patch.object(events, 'MOST_OCTETS', len(head) + 25):
-            file = events.EventFile('calls', events.CallFile(self.path('calls.csv')), lambda _, why: self.fail(why))
+            file = events.EventFile('calls', self.path('calls.csv'), lambda _, why: self.fail(why), head.strip())
             for number in range(10, 40):
                 file.put(f'line of {number}')
             file.close()
@@ -85,38 +83,3 @@ class CallFileTests(support.FolderCase):
         for name, line in (('calls.csv', '39'), ('calls.csv.1', '37'), (f'calls.csv.{KEPT}', '21')):
             with open(self.path(name), encoding='ascii') as held:
                 self.assertEqual((held.readline(), line in held.read()), (head, True), name)
-
-
-class CallServiceTests(unittest.TestCase):
-    def rows(self, path: str, count: int) -> list[dict[str, Any]]:
-        def found() -> list[dict[str, Any]] | None:
-            with open(path, encoding='utf-8', newline='') as file:
-                rows = list(csv.DictReader(file))
-            return rows if len(rows) >= count else None
-        return support.until(found)
-
-    def test_a_call(self) -> None:
-        with World(config_of(FOUR), '--calls', '@/calls.csv') as world:
-            aligned(world)
-            call(world, 1)
-            world.step(30)
-            world.ask('clear 1')
-            world.step(30)
-            rows = self.rows(world.path('calls.csv'), 1)
-            counts = world.status()['circuits'][0]['datagrams']
-            self.assertEqual(list(rows[0]), list(FIELDS))
-            self.assertEqual([(row['trunk'], row['circuit'], row['by']) for row in rows], [('trunk', '1', 'gateway')])
-            self.assertTrue(rows[0]['seized'] <= rows[0]['answered'] <= rows[0]['ended'])
-            self.assertEqual(int(rows[0]['sent']), counts['sent'])
-            self.assertGreater(counts['sent'], 0)
-
-    def test_a_full_disk_ends_no_call(self) -> None:
-        with World(config_of(FOUR), '--calls', '/dev/full') as world:
-            aligned(world)
-            call(world, 1)
-            self.assertEqual(world.state(1), 'answered')
-            world.until(lambda: 'No space left' in (world.told()['ended']['calls'] or ''))
-
-
-if __name__ == '__main__':
-    unittest.main()

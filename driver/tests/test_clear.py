@@ -9,14 +9,9 @@ from typing import Any
 
 from . import support
 from .world import World, config_of
-from e1gw.clear import Clear, Place
+from e1gw.clear import Clear
 from e1gw.events import words_of
-from e1gw.exchange import ACKNOWLEDGED, ServeProcess
 from e1gw.service.slot_trunk import PUMP
-from e1gw.session import Command, command_record, trunk_record
-from e1gw.testing import datagrams
-from e1gw.testing.replayed import ReplayedTrunk
-from e1gw.trunks import Trunk
 
 IDLE = 0xD5
 LOST = 33               # frames: two multiframe signals in error, 4 ms, and the frame in which octets were lost
@@ -24,14 +19,11 @@ FOUND = 100             # frames from there to a circuit's own octets: three mul
 LOSSES = (1, 2, 15, 16, 29, 30, -1, 31)         # octets that are lost; -1 is one too many
 
 
-class ClearDevice(Trunk):
+class ClearDevice:
     """Gives octets, in pieces of random lengths where there is a chance, and keeps what it is given."""
 
     def __init__(self, octets: bytes, chance: random.Random | None = None) -> None:
         self.left, self.chance, self.taken, self.asked = octets, chance, b'', 0
-
-    def fileno(self) -> int:
-        return 7
 
     def read(self, most: int) -> bytes:
         self.asked = most
@@ -43,9 +35,6 @@ class ClearDevice(Trunk):
 
     def write(self, octets: bytes) -> None:
         self.taken += octets
-
-    def close(self) -> None:
-        self.left = b''
 
 
 def frames(slots: bytes) -> bytes:
@@ -121,7 +110,7 @@ class ClearSlipTests(unittest.TestCase):
     def opened(self) -> tuple[Clear, ClearDevice]:
         self.given, self.events = 0, []
         device = ClearDevice(b'')
-        trunk = Clear(device, Place('A'))
+        trunk = Clear(device)
         trunk.tell = self.events.append
         given = self.carry(trunk, device, self.frames(self.chance.randrange(80, 120)))
         self.assertEqual((self.foreign(given), self.events), ({}, []))
@@ -186,7 +175,7 @@ class ClearSlipTests(unittest.TestCase):
 
     def test_the_idle_code_is_the_laws(self) -> None:
         device = ClearDevice(self.frames(90) + bytes([0x35]) * 31 * 40)
-        trunk = Clear(device, Place('mu'))
+        trunk = Clear(device, 'mu')
         given = b''.join(iter(lambda: trunk.read(256) if device.left else b'', b''))
         self.assertEqual(given[-31:], b'\xFF' * 31)
 
@@ -194,7 +183,7 @@ class ClearSlipTests(unittest.TestCase):
         for first in range(31):
             self.setUp()
             self.given, device = 0, ClearDevice(b'')
-            trunk = Clear(device, Place('A'))
+            trunk = Clear(device)
             trunk.tell = self.events.append
             given = self.carry(trunk, device, self.frames(200)[first:])
             self.assertEqual(self.foreign(given[32 * 100:]), {})
@@ -211,10 +200,10 @@ class ClearSlipTests(unittest.TestCase):
 
     def test_a_second_device(self) -> None:
         """Behind a device in whose frames slot 16 was found, silence goes before speech."""
-        place = Place('A')
+        trunk = Clear(ClearDevice(b''))
         for first in (0, 5):
-            self.given, device = place.given, ClearDevice(b'')
-            trunk = Clear(device, place)
+            self.given, device = trunk.given, ClearDevice(b'')
+            trunk = Clear(device, 'A', trunk.given, trunk.found)
             trunk.tell = self.events.append
             self.assertEqual(trunk.status()['silent'], first > 0)
             given = self.carry(trunk, device, self.frames(200)[first:-7])
@@ -223,93 +212,16 @@ class ClearSlipTests(unittest.TestCase):
         self.assertEqual(self.events, [{'event': 'slots', 'what': 'moved', 'by': 5}])
 
 
-class ClearGatewayTests(support.FolderCase):
-    """The same with the gateway between: what each circuit's peer hears, and how the lines stand."""
-
-    def setUp(self) -> None:
-        self.program = support.program()
-        super().setUp()
-
-    def multiframes(self, call: datagrams.UdpCalls, count: int) -> bytes:
-        """Slots 1 to 31 of multiframes in which each circuit speaks its own octet."""
-        out = b''
-        for _ in range(count):
-            for n in call.circuits:
-                call.exchange.speech[n] = bytearray([datagrams.spoken(n)] * 16)
-            octets = call.exchange.multiframe()
-            out += b''.join(octets[at + 1:at + 32] for at in range(0, len(octets), 32))
-        return out
-
-    def test_calls_through_lost_octets(self) -> None:
-        for count in (1, 2, 30, -1):
-            circuits = tuple(range(1, 31))
-            with self.subTest(count), datagrams.UdpCalls(self.program, self.folder, circuits, '127.0.0.1') as call:
-                self.calls_through_a_loss(call, count)
-
-    def calls_through_a_loss(self, call: datagrams.UdpCalls, count: int) -> None:
-        events: list[dict[str, Any]] = []
-        device, lines = ClearDevice(b''), ReplayedTrunk(self.program, self.path('wire.toml'), events.append)
-        trunk = Clear(device, Place('A'))
-        trunk.tell = events.append
-
-        def carry(octets: bytes) -> None:
-            device.left += octets
-            while device.left:
-                given = trunk.read(256)
-                sent = call.serve.trunk(given)
-                lines.given(trunk_record(given))
-                trunk.write(sent)
-        carry(self.multiframes(call, 12))
-        for n in call.circuits:
-            self.assertEqual(call.serve.command(n, 'seize'), 0)
-            lines.given(command_record(n, Command.SEIZE))
-        call.exchange.pairs.update({n: ACKNOWLEDGED for n in call.circuits})
-        carry(self.multiframes(call, 24))
-        self.heard(call)
-        del events[:]
-        octets = self.multiframes(call, 30)
-        carry(octets[:1000] + octets[1000 + count if count > 0 else 999:])
-        for n, octets in self.heard(call).items():
-            others = [octet for octet in octets if octet not in (datagrams.spoken(n), IDLE)]
-            self.assertLessEqual(len(others), LOST)
-            self.assertEqual(octets[-datagrams.PACKET:], bytes([datagrams.spoken(n)]) * datagrams.PACKET)
-            self.assertLessEqual(octets.count(IDLE), FOUND)
-        told = [(event['event'], event['what']) for event in events if 'alarm' not in event['event']]
-        self.assertEqual(told, [('slots', 'lost'), ('lost', 'multiframe'), ('slots', 'moved'),
-                                ('aligned', 'multiframe')])
-        self.assertEqual({str(line.state) for line in lines.lines.values()}, {'acked'})
-        lines.end()
-
-    def heard(self, call: datagrams.UdpCalls) -> dict[int, bytes]:
-        """The speech that each circuit's peer got."""
-        return {n: b''.join(packet[12:] for packet, _ in datagrams.packets(call.peers[n])) for n in call.circuits}
-
-    def test_a_device_that_ends_inside_a_frame(self) -> None:
-        config = os.path.join(self.folder, 'trunk.toml')
-        with open(config, 'w', encoding='ascii') as file:
-            file.write('law = "A"\n')
-        for first in range(63):
-            serve, place = ServeProcess(self.program, config), Place('A')
-            for octets in (bytes([IDLE]) * first, bytes([IDLE]) * 31 * 64):
-                device = ClearDevice(octets)
-                trunk = Clear(device, place)
-                while device.left:
-                    trunk.write(serve.trunk(trunk.read(256)))
-                self.assertEqual(len(device.taken), len(octets))
-            serve.end()
-            assert serve.process.stdout
-            serve.process.stdout.close()
-            self.assertEqual(wrong_slots(device.taken), [], first)
-
-
 class ClearServiceTests(unittest.TestCase):
     def test_the_driver_opens_another_device(self) -> None:
+        """The one before has ended inside a frame."""
         with World(config_of(range(1, 2)), '--clear', '--reopen') as world:
-            self.assertEqual(len(self.through(world, 496)), 496)       # a multiframe of 31 slots
-            world.line.close()
-            with world.new_listener() as listener:
-                world.take(listener)
-            self.assertEqual(wrong_slots(self.through(world, 31 * 64)), [])
+            for count in 496, 501, 37, 31 * 64:
+                back = self.through(world, count)
+                world.line.close()
+                with world.new_listener() as listener:
+                    world.take(listener)
+            self.assertEqual(wrong_slots(back), [])
 
     def test_the_pump_and_the_program_die(self) -> None:
         """Each slot goes on in its place, both ways."""
@@ -331,10 +243,7 @@ class ClearServiceTests(unittest.TestCase):
     def through(self, world: World, count: int) -> bytes:
         """Idle octets to the driver; as many that come back."""
         world.line.sendall(bytes([IDLE]) * count)
-        back = b''
-        while len(back) < count:
-            back += world.line.recv(count - len(back)) or self.fail('the driver has ended')
-        return back
+        return support.read_from(world.line, count)
 
 
 def wrong_slots(octets: bytes) -> list[int]:
@@ -344,10 +253,3 @@ def wrong_slots(octets: bytes) -> list[int]:
     signals = [n for n, octet in enumerate(octets[15::31]) if octet >> 4 == 0]
     regular = len(signals) == 4 and all(b - a == 16 for a, b in zip(signals, signals[1:]))
     return wrong if regular and IDLE not in octets[15::31] else [*wrong, 15]
-
-
-class ClearStatusTests(unittest.TestCase):
-    def test_the_rest_is_the_devices(self) -> None:
-        trunk = Clear(ClearDevice(b''))
-        self.assertEqual((trunk.fileno(), trunk.waiting(), trunk.paced, trunk.status()),
-                         (7, 0, True, {'slots': 'clear', 'silent': False, 'slots_lost': 0, 'slots_moved': 0}))

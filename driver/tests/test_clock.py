@@ -26,9 +26,10 @@ class ClockedTrunk:
             self._wait(RECORD / rate)
             self.clock.took(256, self.now)
 
-    def stand_still(self, seconds: float) -> None:
-        """Nobody looks for so long."""
+    def looked_late(self, seconds: float) -> None:
+        """Nobody looks for so long, and then one does."""
         self.now += seconds
+        self.found += self.clock.look(self.now)
         self._look = self.now + TICK
 
     def at_once(self, seconds: float) -> None:
@@ -47,79 +48,39 @@ class ClockedTrunk:
             self.found += self.clock.look(self._look)
             self._look += TICK
 
-    def words(self) -> list[str]:
-        return [finding.what for finding in self.found]
-
 
 class ClockTests(unittest.TestCase):
-    def test_a_steady_trunk(self) -> None:
-        trunk = ClockedTrunk()
-        trunk.go(70)
-        self.assertEqual(trunk.words(), [])
-        self.assertAlmostEqual(trunk.clock.ppm or 0.0, 0.0, delta=5)
+    # The seconds of a gap, what happens, and what is found.
+    ROWS: dict[str, tuple[float, list[tuple[str, float]], list[str]]] = {
+        'lost octets': (0.1, [('go', 2), ('quiet', 0.5), ('go', 1)], ['gap']),
+        'octets that waited': (0.1, [('go', 2), ('quiet', 0.5), ('at_once', 0.5), ('go', 1)], []),
+        'a late look': (0.1, [('go', 2), ('looked_late', 0.5)], []),
+        'no octets behind it': (0.1, [('go', 2), ('looked_late', 0.5), ('quiet', 0.2)], []),
+        'small gaps add up': (0.1, [('go', 2), *[('quiet', 0.02), ('go', 10.0)] * 6], ['gap']),
+        "a gap of one's own": (0.3, [('go', 2), ('quiet', 0.25), ('go', 1)], []),
+        'too many octets': (0.1, [('go', 2), ('at_once', 0.3), ('go', 1)], ['ahead'])}
 
-    def test_lost_octets_are_a_gap(self) -> None:
-        trunk = ClockedTrunk()
-        trunk.go(2)
-        trunk.quiet(0.5)
-        trunk.go(1)
-        self.assertEqual(trunk.words(), ['stalled', 'flows', 'gap'])
-        self.assertAlmostEqual(trunk.found[1].value, 0.5, delta=0.03)
-        self.assertAlmostEqual(trunk.found[2].value, 0.5, delta=0.02)
-        self.assertEqual((trunk.clock.stalls, trunk.clock.gaps), (1, 1))
+    def test_what_is_found(self) -> None:
+        for name, (gap, steps, words) in self.ROWS.items():
+            with self.subTest(name):
+                trunk = ClockedTrunk(gap)
+                for what, seconds in steps:
+                    getattr(trunk, what)(seconds)
+                self.assertEqual([finding.what for finding in trunk.found], words)
+                self.assertEqual(trunk.clock.gaps, words.count('gap'))
+                if name == 'lost octets':
+                    self.assertAlmostEqual(trunk.found[0].value, 0.5, delta=0.03)
 
-    def test_octets_that_waited_are_none(self) -> None:
-        trunk = ClockedTrunk()
-        trunk.go(2)
-        trunk.quiet(0.5)
-        trunk.at_once(0.5)
-        trunk.go(1)
-        self.assertEqual(trunk.words(), ['stalled', 'flows'])
-
-    def test_a_look_that_is_late_says_nothing_of_octets(self) -> None:
-        trunk = ClockedTrunk()
-        trunk.go(2)
-        trunk.now += 0.5
-        trunk.found += trunk.clock.look(trunk.now)
-        self.assertEqual(trunk.words(), [])
-        trunk.stand_still(0)
-        trunk.quiet(0.2)
-        self.assertEqual(trunk.words(), ['stalled'])
-
-    def test_small_gaps_add_up(self) -> None:
-        trunk = ClockedTrunk()
-        trunk.go(2)
-        for _ in range(6):
-            trunk.quiet(0.02)
-            trunk.go(10)
-        self.assertEqual(trunk.words(), ['gap'])
-
-    def test_a_gap_of_ones_own(self) -> None:
-        trunk = ClockedTrunk(gap=0.3)
-        trunk.go(2)
-        trunk.quiet(0.25)
-        trunk.go(1)
-        self.assertEqual(trunk.words(), [])
-
-    def test_octets_that_are_too_many(self) -> None:
-        trunk = ClockedTrunk()
-        trunk.go(2)
-        trunk.at_once(0.3)
-        trunk.go(1)
-        self.assertEqual(trunk.words(), ['ahead'])
-
-    def test_clocks_of_networks_are_no_gaps(self) -> None:
-        for ppm in (-50, 50):
+    def test_rates(self) -> None:
+        """Clocks of networks are no gaps; another rate is reported."""
+        for ppm, words in ((0, []), (-50, []), (50, []), (-500, ['rate'])):
             trunk = ClockedTrunk()
-            trunk.go(130, 1 + ppm / 1e6)
-            self.assertEqual(trunk.words(), [])
-            self.assertAlmostEqual(trunk.clock.ppm or 0.0, ppm, delta=5)
-
-    def test_another_rate_is_told(self) -> None:
-        trunk = ClockedTrunk()
-        trunk.go(70, 1 - 500e-6)
-        self.assertEqual(trunk.words(), ['rate'])
-        self.assertAlmostEqual(trunk.found[0].value, -500, delta=20)
+            trunk.go(130 if words == [] else 70, 1 + ppm / 1e6)
+            with self.subTest(ppm):
+                self.assertEqual([finding.what for finding in trunk.found], words)
+                self.assertAlmostEqual(trunk.clock.ppm or 0.0, ppm, delta=20 if words else 5)
+                for finding in trunk.found:
+                    self.assertAlmostEqual(finding.value, -500, delta=20)
 
 
 class ReceiverStatisticsTests(unittest.TestCase):
@@ -133,7 +94,3 @@ class ReceiverStatisticsTests(unittest.TestCase):
         self.assertEqual((stream.lost, stream.jitter), (1, 2.0))
         stream.take(9, 0, 8, 5)
         self.assertEqual((stream.lost, stream.jitter), (1, 0.0))
-
-
-if __name__ == '__main__':
-    unittest.main()

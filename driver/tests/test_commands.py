@@ -5,7 +5,6 @@ import os
 import subprocess
 import sys
 import tomllib
-import unittest
 
 from . import support
 from e1gw.__main__ import COMMANDS
@@ -26,25 +25,20 @@ class CommandNameTests(support.FolderCase):
                  for name in os.listdir(os.path.join(support.TOP, folder))]
         found = {}
         for path in filter(os.path.isfile, paths):
-            with open(path, encoding='utf-8') as file:
-                if 'from e1gw.__main__ import launch' in file.read() and os.path.basename(path) != 'launch':
-                    found[os.path.basename(path).removeprefix('e1gw-')] = path
+            name = os.path.basename(path)
+            if 'from e1gw.__main__ import launch' in support.text_of(path) and name != 'launch':
+                found[name.removeprefix('e1gw-')] = path
         return found
 
     def test_one_text_finds_the_package(self) -> None:
         """The toolchain takes no links, so each folder with scripts has the same file."""
         found = [os.path.join(folder, 'paths.py') for folder, _, names in os.walk(support.TOP)
                  if 'paths.py' in names and os.sep + 'out' + os.sep not in folder + os.sep]
-        texts = set()
-        for path in found:
-            with open(path, encoding='utf-8') as file:
-                texts.add(file.read())
         self.assertGreater(len(found), 1)
-        self.assertEqual(len(texts), 1)
+        self.assertEqual(len({*map(support.text_of, found)}), 1)
 
     def test_each_command_has_a_program_and_an_entry_point(self) -> None:
-        with open(os.path.join(support.TOP, 'pyproject.toml'), 'rb') as file:
-            project = tomllib.load(file)
+        project = tomllib.loads(support.text_of(os.path.join(support.TOP, 'pyproject.toml')))
         self.assertEqual(sorted(self.starters()), sorted(COMMANDS))
         self.assertEqual(project['project']['scripts'], {f'e1gw-{name}': 'e1gw.__main__:launch' for name in COMMANDS})
         folders = {path[len(DRIVER) + 1:].replace('/', '.') for path, _, names in os.walk(os.path.join(DRIVER, 'e1gw'))
@@ -75,9 +69,8 @@ class ProgramBuiltTests(support.FolderCase):
 
     def built(self, status: int) -> tuple[int, str, str]:
         os.makedirs(self.path('scripts'), exist_ok=True)
-        with open(self.path('scripts/build'), 'w', encoding='ascii') as file:
-            file.write(f'#!/bin/sh\necho "e1gw: proving gw_switch" >&2\necho /program\nexit {status}\n')
-        os.chmod(self.path('scripts/build'), 0o755)
+        os.chmod(self.write('scripts/build', f'#!/bin/sh\necho "e1gw: proving gw_switch" >&2\necho /program\n'
+                            f'exit {status}\n'), 0o755)
         code = f'from e1gw import programs; programs.TOP = {self.folder!r}; print(programs.program_of(None))'
         return ran(sys.executable, '-c', code, PYTHONPATH=DRIVER, E1GW='')
 
@@ -86,7 +79,3 @@ class ProgramBuiltTests(support.FolderCase):
 
     def test_a_failed_build_ends_it(self) -> None:
         self.assertEqual(self.built(70), (70, '', 'e1gw: proving gw_switch\n'))
-
-
-if __name__ == '__main__':
-    unittest.main()

@@ -6,7 +6,6 @@ import re
 import subprocess
 import sys
 import tomllib
-import unittest
 from typing import Any
 
 from . import support
@@ -26,12 +25,10 @@ class ConfigTests(support.FolderCase):
         done = subprocess.run([support.program(), 'check', '--config', self.path(name)], stdin=subprocess.DEVNULL,
                               capture_output=True, text=True, check=False)
         self.assertEqual((done.returncode, len(done.stdout.splitlines()), done.stderr), (0, 30, ''))
-        with open(self.path(name), 'rb') as file:
-            return tomllib.load(file)
+        return tomllib.loads(support.text_of(self.path(name)))
 
     def test_the_example_of_the_package(self) -> None:
-        with open(f'{support.TOP}/dist/system/thirty.toml', encoding='utf-8') as file:
-            self.assertEqual(self.made(), (0, file.read(), ''))
+        self.assertEqual(self.made(), (0, support.text_of(f'{support.TOP}/dist/system/thirty.toml'), ''))
 
     def test_thirty_circuits_of_each_codec(self) -> None:
         for words, codec, payload in ((['--law', 'mu'], 'pcmu', None), (['--codec', 'g726-32'], 'g726-32', 96),
@@ -66,9 +63,7 @@ class ConfigTests(support.FolderCase):
 
     def test_firewalls_of_the_documents_have_all_ports(self) -> None:
         """Those of RTP and the odd ones behind them, of the first trunk and of the second."""
-        with open(f'{support.TOP}/docs/OPERATING.md', encoding='utf-8') as file:
-            page = file.read()
-        ranges = []
+        page, ranges = support.text_of(f'{support.TOP}/docs/OPERATING.md'), []
         for trunk in ('1', '2'):
             table = tomllib.loads(self.made('--trunk', trunk)[1])
             ports = [circuit['local_port'] for circuit in table['circuit']]
@@ -77,49 +72,21 @@ class ConfigTests(support.FolderCase):
         self.assertEqual(set(re.findall(r'with `--trunk 2` ([\d-]+)', page)), {ranges[1]})
         self.assertEqual(page.count(ranges[0]), 3)
 
-    def test_the_first_steps_go_together(self) -> None:
-        """Pasted from top to bottom in one folder: each configuration is written, and each trunk that is commanded is
-        started in its part, with a configuration that is there. (What is for root has a folder of its own.)"""
-        with open(f'{support.TOP}/docs/START.md', encoding='utf-8') as file:
-            blocks = re.findall(r'(?s)```sh\n(.*?)```', file.read())
-        written = 0
-        for block in (block for block in blocks if '/etc/e1gw' not in block):
-            for line in re.findall('(?m)^e1gw-config (.*)$', block):
-                status, _, fault = self.made(*line.split())
-                self.assertEqual((status, fault), (0, ''), line)
-                written += 1
-            sites = (re.findall('(?m)^for site in (.*);', block) or [''])[0].split()
-            started = {name.replace('$site', site) for site in sites or [''] for name in
-                       re.findall(r'e1gw-trunk --config (\S+)\.toml', block)}
-            self.assertEqual([name for name in started if not os.path.exists(self.path(f'{name}.toml'))], [])
-            self.assertLessEqual(set(re.findall(r'e1gw-ctl (\w+)\.control', block)), started, block)
-        self.assertEqual(written, 3)
-
-    def test_a_clash_is_found(self) -> None:
-        self.made('--write', 'rack1')
-        self.made('--write', 'rack2', '--first-local', '24060')
-        status, said, _ = self.made('--check', 'rack1.toml', 'rack2.toml')
-        self.assertEqual((status, said), (2, 'rack2.toml, circuit 1: 127.0.0.1:24060 is also the port of rack1.toml, '
-                                          'circuit 30\n'))
-
-    def test_a_clash_of_many_is_one_line(self) -> None:
-        """Two trunks with the same number have all ports in common."""
-        self.made('--write', 'rack1')
-        self.made('--write', 'west')
-        self.assertEqual(self.made('--check', 'rack1.toml', 'west.toml')[:2],
-                         (2, 'west.toml: the ports of 30 circuits, of circuit 1 127.0.0.1:24002, are also those of '
-                             'rack1.toml; e1gw-config --trunk N gives each trunk its own\n'))
-
-    def test_the_example_of_the_package_has_no_port(self) -> None:
-        self.made('--write', 'rack1')
-        self.made('--write', 'example')
-        self.assertEqual(self.made('--check', 'example.toml', 'rack1.toml')[:2],
-                         (0, '2 configurations have no fault\n'))
+    def test_clashes(self) -> None:
+        """One port, and all of two trunks with the same number. The example of the package has none."""
+        for name, *words in (('rack1',), ('rack2', '--first-local', '24060'), ('west',), ('example',)):
+            self.made('--write', name, *words)
+        for other, status, said in (
+                ('rack2', 2, 'rack2.toml, circuit 1: 127.0.0.1:24060 is also the port of rack1.toml, circuit 30'),
+                ('west', 2, 'west.toml: the ports of 30 circuits, of circuit 1 127.0.0.1:24002, are also those of '
+                            'rack1.toml; e1gw-config --trunk N gives each trunk its own'),
+                ('example', 0, '2 configurations have no fault')):
+            with self.subTest(other):
+                self.assertEqual(self.made('--check', 'rack1.toml', f'{other}.toml')[:2], (status, f'{said}\n'))
 
     def test_what_is_refused(self) -> None:
         self.made('--write', 'old')
-        with open(self.path('bad.toml'), 'w', encoding='utf-8') as file:
-            file.write('law = "A"\ncodecc = 1\n')
+        self.write('bad.toml', 'law = "A"\ncodecc = 1\n')
         for words, told in ((['--law', 'mu', '--codec', 'pcma'], 'not G.711 in the law'),
                             (['--first-local', '65500', '--first-peer', '9002'], 'local_port'),
                             (['--write', 'old'], 'old.toml, ./old.options: already there; nothing was written (--over'),
@@ -129,7 +96,3 @@ class ConfigTests(support.FolderCase):
             with self.subTest(words=words):
                 status, said, fault = self.made(*words)
                 self.assertEqual((status, told in said + fault), (2, True), said + fault)
-
-
-if __name__ == '__main__':
-    unittest.main()

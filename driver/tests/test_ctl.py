@@ -61,32 +61,21 @@ class CtlMachineTests(unittest.TestCase):
             ctl.main()
         return ended.exception.code, said.getvalue().splitlines()
 
-    def test_a_line_for_each_trunk(self) -> None:
-        version = support.run('--version').decode().split()[1]
+    def test_each_trunk_and_one(self) -> None:
+        version, path = support.run('--version').decode().split()[1], self.world.path('ctl')
         status, lines = self.ctl()
         self.assertEqual((status, len(lines)), (1, 4))
         self.assertRegex(lines[2], rf'^west +{re.escape(version)} +\d{{4}}-\d\d-\d\d \d\d:\d\d +0 +0 +0  aligned$')
         self.assertRegex(lines[1], r'^east +does not answer: .*/run/east/control: Connection refused$')
         self.assertRegex(lines[3], r'^north +not in service: systemctl status e1gw-trunk@north$')
-
-    def test_a_command_to_each(self) -> None:
         status, lines = self.ctl('--all', 'status', '1')
         self.assertEqual((status, len(lines)), (1, 3))
         self.assertTrue(lines[0].startswith('east: it does not answer: '))
         self.assertRegex(lines[2], '^west:  1 outgoing idle ')
-
-    def test_several_circuits_of_one(self) -> None:
-        path = self.world.path('ctl')
         self.assertEqual(self.ctl(path, 'seize', '1-2'), (0, ['seize 1: done', 'seize 2: done']))
         self.assertEqual(self.ctl(path, 'seize', '1,40'), (1, ['seize 1: not idle', 'seize 40: circuits are 1 to 30']))
-
-    def test_the_status_names_the_trunk(self) -> None:
         said = self.world.status()
-        self.assertEqual((said['name'], bool(said['version'])), ('trunk', True))
-        self.assertTrue(self.world.ask('status').startswith(f'trunk trunk, e1gw {said["version"]}, up '))
+        self.assertEqual((said['name'], said['version']), ('trunk', version))
+        self.assertTrue(self.world.ask('status').startswith(f'trunk trunk, e1gw {version}, up '))
         self.assertEqual(self.world.ask('status 31'), 'status 31: circuits are 1 to 30')
         self.assertRegex(self.world.ask('status 2').splitlines()[1], '^ 2 outgoing')
-
-
-if __name__ == '__main__':
-    unittest.main()

@@ -66,54 +66,41 @@ def dialled(config: str, *options: str) -> DialledWorld:
 class LineSignalTests(unittest.TestCase):
     """Those of Q.421, as both sides have them: circuits 1 to 15 are called by the exchange, the others by us."""
 
-    def setUp(self) -> None:
+    def asked(self, command: str, pattern: str = '', answer: str = 'done') -> None:
+        """A command to the driver, and what the exchange reports then."""
+        self.assertEqual(self.world.ask(command), f'{command}: {answer}')
+        if pattern:
+            self.world.reports(int(command.split()[1]), pattern, LATEST_MS // 2)
+
+    def ordered(self, command: str, pattern: str = '', state: str = '') -> None:
+        """A command to the exchange, what it reports then, and the state of the circuit at the driver."""
+        circuit = int(command.split()[1])
+        self.world.openr2.command(command)
+        if pattern:
+            self.world.reports(circuit, pattern, LATEST_MS // 2)
+        if state:
+            self.assertTrue(self.world.has_state(circuit, state), command)
+
+    def test_each_signal(self) -> None:
         self.world = dialled(config_of(range(1, 31), incoming=tuple(range(1, 16))))
         self.addCleanup(self.world.__exit__)
-
-    def asked(self, command: str, answer: str = 'done') -> None:
-        self.assertEqual(self.world.ask(command), f'{command}: {answer}')
-
-    def ordered(self, command: str, circuit: int, pattern: str) -> None:
-        """A command to the exchange, and what it reports then."""
-        self.world.openr2.command(command)
-        self.world.reports(circuit, pattern, LATEST_MS // 2)
-
-    def test_called_by_the_exchange(self) -> None:
-        self.ordered('call 5 1 2', 5, ACKNOWLEDGED)
-        self.assertTrue(self.world.has_state(5, 'acked'))
-        self.asked('answer 5')
-        self.world.reports(5, ANSWERED, LATEST_MS // 2)
-        self.asked('clear-back 5')
-        self.world.reports(5, ACKNOWLEDGED, LATEST_MS // 2)
+        self.ordered('call 5 1 2', ACKNOWLEDGED, 'acked')
+        self.asked('answer 5', ANSWERED)
+        self.asked('clear-back 5', ACKNOWLEDGED)
         self.world.reports(5, 'ended')
         self.assertTrue(self.world.has_state(5, 'idle'))
-
-    def test_cleared_before_the_answer(self) -> None:
-        self.ordered('call 6 1 2', 6, ACKNOWLEDGED)
-        self.ordered('hangup 6', 6, 'ended')
-        self.assertTrue(self.world.has_state(6, 'idle'))
-
-    def test_called_by_us(self) -> None:
-        self.asked('seize 20')
-        self.world.reports(20, 'seized', LATEST_MS // 2)
+        self.ordered('call 6 1 2', ACKNOWLEDGED)
+        self.ordered('hangup 6', 'ended', 'idle')
+        self.asked('seize 20', 'seized')
         self.assertTrue(self.world.has_state(20, 'acked'))
-        self.asked('clear 20')
-        self.world.reports(20, 'ended', LATEST_MS // 2)
+        self.asked('clear 20', 'ended')
         self.assertTrue(self.world.has_state(20, 'idle'))
-
-    def test_blocked_by_the_exchange(self) -> None:
-        self.world.openr2.command('block 21')
-        self.assertTrue(self.world.has_state(21, 'blocked'))
-        self.asked('seize 21', 'not idle')
-        self.world.openr2.command('unblock 21')
-        self.assertTrue(self.world.has_state(21, 'idle'))
-
-    def test_blocked_by_us(self) -> None:
-        self.asked('block 7')
-        self.world.reports(7, 'blocked', LATEST_MS // 2)
-        self.ordered('call 7 1 2', 7, 'refused')
-        self.asked('unblock 7')
-        self.world.reports(7, 'idle', LATEST_MS // 2)
+        self.ordered('block 21', state='blocked')
+        self.asked('seize 21', answer='not idle')
+        self.ordered('unblock 21', state='idle')
+        self.asked('block 7', 'blocked')
+        self.ordered('call 7 1 2', 'refused')
+        self.asked('unblock 7', 'idle')
 
 
 class DialledCallTests(unittest.TestCase):
@@ -136,7 +123,3 @@ class DialledCallTests(unittest.TestCase):
         self.assertEqual(world.ask('clear 4'), 'clear 4: done')
         world.reports(4, 'ended')
         self.assertFalse([event for event in world.openr2.events if event.text.startswith('error')])
-
-
-if __name__ == '__main__':
-    unittest.main()

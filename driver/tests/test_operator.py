@@ -4,16 +4,12 @@ from __future__ import annotations
 import csv
 import json
 import os
-import socket
 import unittest
-import urllib.request
 from typing import Any, Mapping
 
-from .support import SECONDS
+from . import support
 from .stand_ins import IDLE, StandInProgram, StandInShadow, WatchedTrunk, row
-from .test_web import samples
 from e1gw.session import Codec, Command, Record, codec_record, command_record
-from e1gw.testing.ports import free_port
 
 CONFIG = 'law = "A"\n[[circuit]]\nnumber = 1\nprefill = 320\n[[circuit]]\nnumber = 2\nrole = "incoming"\n'
 ROWS = [IDLE[0], row(2, 'idle', role='incoming')[5:], *IDLE[2:]]
@@ -37,43 +33,15 @@ class WatcherCase(unittest.TestCase):
 
     def lines(self, world: WatchedTrunk) -> list[dict[str, str]]:
         """The lines of --calls @/calls, once there are some."""
-        def found() -> list[dict[str, str]]:
-            with open(world.path('calls'), encoding='utf-8', newline='') as file:
-                return list(csv.DictReader(file))
-        lines: list[dict[str, str]] = world.until(lambda: os.path.exists(world.path('calls')) and found())
-        return lines
+        world.until(lambda: os.path.exists(world.path('calls')))
+        return [*csv.DictReader(support.text_of(world.path('calls')).splitlines())]
 
 
-class WatcherServiceTests(WatcherCase):
-    def test_status(self) -> None:
-        world = self.watched('--name', 'west')
-        world.shadow.row(1, 'answered', '00 01', (101, 100, 0))
-        found = world.has(1, state='answered')
-        self.assertEqual([found[key] for key in ('sent', 'recognised', 'datagrams', 'jitter_buffer_ms')],
-                         ['00', '01', {'sent': 101, 'admitted': 100}, 40])
-        status = world.told()
-        self.assertEqual([status[key] for key in ('name', 'law', 'shadow', 'program', 'trunk_up', 'stale')],
-                         ['west', 'A', True, True, True, False])
-        # what a shadow can't know is not there
-        self.assertEqual([key for key in ('transport', 'crc4', 'slowest_turn', 'wrong_signals', 'counted')
-                          if key in status], [])
-        self.assertEqual(status['clock'], {'stalled': False, 'stalls': 0})
-        table = world.ask('status').splitlines()
-        self.assertEqual((len(table), table[0][:11]), (34, 'trunk west,'))
-        self.assertRegex(table[1], r' s of the trunk at ..:..:.. UTC, aligned; the other end: no alarm$')
-        self.assertRegex(world.ask('status 1').splitlines()[1], '^ 1 outgoing answered ')
-
-    def test_commands_are_records(self) -> None:
-        world = self.watched()
-        for words, record in (('seize 1', command_record(1, Command.SEIZE)),
-                              ('answer 2', command_record(2, Command.ANSWER)),
-                              ('codec 1 g726-32 96', codec_record(1, Codec.G726_32, 96))):
-            front = ' '.join(words.split()[:2])
-            self.assertEqual(world.ask(words), f'{front}: done')
-            self.assertEqual(world.program.taken[-1].encode(), record)
-
-    def test_an_answer_comes_behind_what_follows_from_it(self) -> None:
-        """As with e1gw-trunk: a change, then the answer to the command that made it, and a status that has it."""
+class WatcherConnectionTests(WatcherCase):
+    def test_answers(self) -> None:
+        """A change, then the answer to the command that made it, and a status that has it, as with e1gw-trunk. Several
+        clients at once get their own, some of which the program refuses; it is not asked to seize while the other end
+        has no alignment."""
         world = self.watched()
         events = self.events(world)
         world.program.shadow = None
@@ -84,94 +52,38 @@ class WatcherServiceTests(WatcherCase):
         world.program.answers = seized
         self.assertEqual((world.ask('seize 1'), world.state(1)), ('seize 1: done', 'seized'))
         self.assertEqual([json.loads(next(events))['event'] for _ in range(2)], ['state', 'command'])
-
-    def test_a_shadow_that_does_not_tell_of_a_command(self) -> None:
-        world = self.watched(within={'service.connection.PATIENCE': 0.1})
-        world.program.shadow = None
-        self.assertEqual([world.ask(f'clear {n}') for n in (1, 3)], ['clear 1: done', 'clear 3: done'])
-
-    def test_refusals(self) -> None:
-        world = self.watched()
-        world.program.answers = lambda record: 1 if record.circuit == 2 else 31 if len(record.body) == 2 else 2
-        wrong = 'wrong role (circuit 2 is incoming; the exchange seizes and clears it)'
-        for words, answer in (('seize 1', 'not idle'), ('seize 2', wrong),
-                              ('codec 1 pcma 0', 'no payload type of the codec')):
-            self.assertEqual(world.ask(words), f'{" ".join(words.split()[:2])}: {answer}')
-        self.assertEqual({(each['command'], each['answer']) for each in world.told()['commands']},
-                         {('seize', 'not idle'), ('seize', 'wrong role'), ('codec', 'no payload type of the codec')})
-        world.shadow.tell('alarms 0 0 1 0')
-        world.until(lambda: world.told()['remote_alarm']['frame'])
-        self.assertEqual(world.ask('seize 1'), 'seize 1: the other end has no alignment')
-        self.assertEqual(len(world.program.taken), 3)
-        self.assertEqual(world.ask('hello').partition(';')[0], 'hello: no such command')
-
-    def test_answers_are_in_order(self) -> None:
-        """Commands of several clients at once, some of which the program refuses."""
-        world = self.watched()
-        world.program.answers = lambda record: record.circuit % 3
-        lines = [socket.socket(socket.AF_UNIX) for _ in range(15)]
+        world.program.shadow, world.program.answers = world.shadow, lambda record: record.circuit % 3
+        lines = [support.connected(world.path('ctl')) for _ in range(15)]
         for circuit, line in enumerate(lines, 1):
-            line.connect(world.path('ctl'))
-            line.settimeout(SECONDS)
             line.sendall(f'clear {circuit}\n'.encode())
         said = ['done', 'wrong role', 'not idle']
         self.assertEqual(len(world.told()['circuits']), 30)
         for circuit, line in enumerate(lines, 1):
             self.assertTrue(line.recv(200).startswith(f'clear {circuit}: {said[circuit % 3]}'.encode()))
             line.close()
+        world.shadow.tell('alarms 0 0 1 0')
+        world.until(lambda: world.told()['remote_alarm']['frame'])
+        self.assertEqual(world.ask('seize 1'), 'seize 1: the other end has no alignment')
+        self.assertEqual(len(world.program.taken), 16)
 
-    def test_events(self) -> None:
-        world = self.watched('--json', '@/json')
+    def test_a_shadow_that_does_not_tell_of_a_command(self) -> None:
+        world = self.watched(within={'service.connection.PATIENCE': 0.1})
+        world.program.shadow = None
+        self.assertEqual([world.ask(f'clear {n}') for n in (1, 3)], ['clear 1: done', 'clear 3: done'])
+
+    def test_a_program_that_talks_nonsense_or_goes(self) -> None:
+        world = self.watched(within={'service.connection.NEXT': 0.0})
         events = self.events(world)
-        world.shadow.tell('command 1 1 0', row(1, 'seized', '00 10'))
-        self.assertEqual(self.next(events, 'state', 'circuit', 'was', 'state'), [1, 'idle', 'seized'])
-        world.ask('clear 1')
-        self.assertEqual(self.next(events, 'command', 'circuit', 'command', 'answer'), [1, 'clear', 'done'])
-        world.shadow.tell('alarms 1 0 0 0')
-        self.assertEqual(self.next(events, 'alarm', 'what'), ['frame'])
-        world.quit()
-        with open(world.path('json'), encoding='utf-8') as file:
-            self.assertLessEqual({'state', 'command', 'alarm', 'lost'}, {json.loads(line)['event'] for line in file})
-
-    def test_quit(self) -> None:
-        """It asks for the end of the whole, which the test plays."""
-        world = self.watched()
-        self.assertEqual(world.ask('quit'), 'quit: done')
-        self.assertEqual(world.wait()[0], 0)
-
-    def test_pages(self) -> None:
-        port = free_port()
-        world = self.watched('--http', f'127.0.0.1:{port}', '--name', 'west')
-        world.shadow.row(1, 'answered', '00 01', (101, 100, 3))
-
-        def page(path: str) -> str:
-            with urllib.request.urlopen(f'http://127.0.0.1:{port}{path}', timeout=SECONDS) as answer:
-                text: str = answer.read().decode()
-                return text
-        world.has(1, state='answered')
-        found = samples(page('/metrics'))
-        for name, value in (('e1gw_circuit_state{trunk="west",circuit="1",role="outgoing",state="answered"}', 1),
-                            ('e1gw_rtp_packets_total{trunk="west",circuit="1",direction="received"}', 100),
-                            ('e1gw_rtp_discarded_total{trunk="west",circuit="1",cause="Unwatched"}', 3),
-                            ('e1gw_connected{trunk="west",to="shadow"}', 1),
-                            ('e1gw_trunk_up{trunk="west"}', 1), ('e1gw_trunk_stalled{trunk="west"}', 0)):
-            self.assertEqual(found.get(name), value, name)
-        for name in ('e1gw_trunk_gaps', 'e1gw_trunk_rate', 'e1gw_transport', 'e1gw_crc4'):
-            self.assertFalse([each for each in found if each.startswith(name)], name)
-        self.assertEqual(json.loads(page('/status'))['circuits'][0]['state'], 'answered')
-        self.assertIn(' 1 outgoing answered ', page('/table'))
-
-
-class WatcherConnectionTests(WatcherCase):
-    def without_program(self, **within: Any) -> WatchedTrunk:
-        world = self.watched(within={f'service.connection.{name}': value for name, value in within.items()})
-        events = self.events(world)
-        world.program.close()
-        self.assertEqual(self.next(events, 'disconnected', 'from'), ['program'])
-        return world
-
-    def test_no_program(self) -> None:
-        world = self.without_program(NEXT=0.0)
+        world.program.answers = lambda record: 99
+        self.assertEqual(world.ask('seize 1'), 'seize 1: no answer, the connection to the program is lost')
+        world.connected()
+        world.program.answers = lambda record: None
+        with support.connected(world.path('ctl')) as line:
+            line.sendall(b'seize 1\n')
+            world.until(lambda: len(world.program.taken) == 2)
+            world.program.close()
+            self.assertEqual(line.recv(200), b'seize 1: no answer, the connection to the program is lost\n\n')
+        self.assertEqual([self.next(events, 'disconnected', 'from') for _ in range(2)], [['program']] * 2)
         self.assertEqual(world.ask('seize 1'), 'seize 1: no connection to the program')
         status = world.told()
         self.assertEqual((status['program'], status['trunk_up'], status['program_since'] > 1e9), (False, False, True))
@@ -181,96 +93,49 @@ class WatcherConnectionTests(WatcherCase):
         self.assertEqual(world.program.taken, [])
         self.assertEqual(world.ask('seize 1'), 'seize 1: done')
 
-    def test_the_next_program(self) -> None:
-        """It is given what was asked for before it came, once."""
-        world = self.without_program()
-        lines = [socket.socket(socket.AF_UNIX) for _ in range(3)]
-        for circuit, line in enumerate(lines, 1):
-            self.addCleanup(line.close)
-            line.connect(world.path('ctl'))
-            line.settimeout(SECONDS)
-            line.sendall(f'clear {circuit}\n'.encode())
-        self.assertFalse(world.told()['program'])
-        world.program = StandInProgram(world.path('program'), world.shadow)
-        for circuit, line in enumerate(lines, 1):
-            self.assertEqual(line.recv(200), f'clear {circuit}: done\n\n'.encode())
-        self.assertEqual(sorted(record.encode() for record in world.program.taken),
-                         [command_record(circuit, Command.CLEAR) for circuit in (1, 2, 3)])
-
-    def test_a_program_that_goes_before_it_answers(self) -> None:
-        world = self.watched()
-        world.program.answers = lambda record: None
-        with socket.socket(socket.AF_UNIX) as line:
-            line.connect(world.path('ctl'))
-            line.settimeout(SECONDS)
-            line.sendall(b'seize 1\n')
-            world.until(lambda: world.program.taken)
-            world.program.close()
-            self.assertEqual(line.recv(200), b'seize 1: no answer, the connection to the program is lost\n\n')
-        world.program = StandInProgram(world.path('program'))
-
-    def test_a_program_that_answers_nonsense(self) -> None:
-        world = self.watched()
-        world.program.answers = lambda record: 99
-        self.assertEqual(world.ask('seize 1'), 'seize 1: no answer, the connection to the program is lost')
-        world.connected()
-        world.program.answers = lambda record: 0
-        self.assertEqual(world.ask('seize 1'), 'seize 1: done')
-
     def test_another_shadow(self) -> None:
-        """A shadow goes and another one comes; a link leads to each, as e1gw-trunk makes it."""
+        """A shadow goes and another one comes; a link leads to each, as e1gw-trunk makes it. Circuit 1 was configured
+        otherwise and begins as new, circuit 3 goes on; each had another call before."""
         world = self.watched('--calls', '@/calls')
-        world.shadow.tell('command 1 1 0', row(1, 'seized', '00 10'))
-        world.shadow.row(1, 'answered', '00 01', (50, 40, 0))
-        world.shadow.row(3, 'answered', '00 01')
-        world.has(3, state='answered')
+        for n in (1, 3):
+            self.calls(world, n, (20, 10, 0))
+            world.shadow.tell(f'command {n} 1 0', row(n, 'seized', '00 10', (20, 10, 0)))
+            world.shadow.row(n, 'answered', '00 01', (320, 300, 0))
+            world.has(n, state='answered')
+        world.configure(CONFIG.replace('number = 1\n', 'number = 1\ncodec = "g726-32"\npayload = 96\n'))
         events = self.events(world)
         world.shadow.close()
         self.assertEqual(self.next(events, 'disconnected', 'from'), ['shadow'])
         status = world.told()
-        self.assertEqual((status['shadow'], status['stale']), (False, True))
-        self.assertEqual(status['circuits'][0]['state'], 'answered')
+        self.assertEqual((status['shadow'], status['stale'], status['circuits'][0]['state']),
+                         (False, True, 'answered'))
         self.assertEqual(world.ask('seize 4'), 'seize 4: done')        # what the alarms are is not known to be wrong
-        rows = [row(1, 'idle', counts=(60, 45, 2))[5:], *ROWS[1:2], row(3, 'answered', '00 01')[5:], *ROWS[3:]]
+        codec = 'g726-32  96'
+        rows = [row(1, 'fault', codec=codec)[5:], ROWS[1], row(3, 'idle', counts=(330, 305, 0))[5:], *ROWS[3:]]
         world.shadow = StandInShadow(world.path('tell.2'), rows)
         os.symlink('tell.2', world.path('tell'))
-        self.assertEqual(self.next(events, 'state', 'circuit', 'was', 'state', 'unwatched'),
-                         [1, 'answered', 'idle', True])
+        for circuit, state in (1, 'fault'), (3, 'idle'):
+            self.assertEqual(self.next(events, 'state', 'circuit', 'was', 'state', 'unwatched'),
+                             [circuit, 'answered', state, True])
         self.assertEqual(self.next(events, 'connected', 'to'), ['shadow'])
         self.assertEqual(world.told()['shadow'], True)
-        line = self.lines(world)[0]
-        self.assertEqual([line[key] for key in ('circuit', 'by', 'sent', 'received', 'lost', 'late')],
-                         ['1', 'unwatched', '60', '45', '', ''])
-        self.assertTrue(line['seized'] and line['answered'] and line['ended'])
-
-    def test_a_call_that_a_reload_ends(self) -> None:
-        """Circuit 1 was configured otherwise and begins as new, circuit 3 goes on; each had another call before."""
-        world = self.watched('--calls', '@/calls')
-        for n in (1, 3):
-            world.shadow.tell(f'command {n} 1 0', row(n, 'seized', '00 10', (20, 10, 0)))
-            world.shadow.tell(f'command {n} 2 0', row(n, 'releasing', '10 10', (20, 10, 0)))
-            world.shadow.row(n, 'idle', counts=(20, 10, 0))
-            world.has(n, state='idle')
-            world.shadow.tell(f'command {n} 1 0', row(n, 'seized', '00 10', (20, 10, 0)))
-            world.shadow.row(n, 'answered', '00 01', (320, 300, 0))
-            world.has(n, state='answered')
-        with open(world.config, 'w', encoding='utf-8') as file:
-            file.write(CONFIG.replace('number = 1\n', 'number = 1\ncodec = "g726-32"\npayload = 96\n'))
-        world.shadow.close()
-        rows = [row(1, 'fault', '11 --', codec='g726-32  96')[5:], ROWS[1], row(3, 'idle', counts=(330, 305, 0))[5:],
-                *ROWS[3:]]
-        world.shadow = StandInShadow(world.path('tell.2'), rows)
-        os.symlink('tell.2', world.path('tell'))
-        world.has(1, state='fault')
-        world.shadow.row(1, 'idle', codec='g726-32  96')
-        world.shadow.tell('command 1 1 0', row(1, 'seized', '00 10', codec='g726-32  96'))
-        world.shadow.tell('command 1 2 0', row(1, 'releasing', '10 10', (7, 5, 0), codec='g726-32  96'))
+        world.shadow.row(1, 'idle', codec=codec)
+        self.calls(world, 1, (7, 5, 0), codec)
         lines = world.until(lambda: (found := self.lines(world)) and len(found) == 5 and found)
         self.assertEqual([[line[key] for key in ('circuit', 'by', 'codec', 'sent', 'received')] for line in lines],
                          [['1', 'gateway', 'pcma', '20', '10'], ['3', 'gateway', 'pcma', '20', '10'],
                           ['1', 'reload', 'pcma', '300', '290'], ['3', 'unwatched', 'pcma', '310', '295'],
                           ['1', 'gateway', 'g726-32', '7', '5']])
-        self.assertEqual(len({line['call'] for line in lines}), 5)
+        self.assertEqual((len({line['call'] for line in lines}), lines[3]['lost'], lines[3]['late']), (5, '', ''))
+        self.assertTrue(lines[3]['seized'] and lines[3]['answered'] and lines[3]['ended'])
+
+    def calls(self, world: WatchedTrunk, circuit: int, counts: tuple[int, int, int],
+              codec: str = 'pcma      8') -> None:
+        """A circuit seizes and clears, and has these counts behind it."""
+        world.shadow.tell(f'command {circuit} 1 0', row(circuit, 'seized', '00 10', codec=codec))
+        world.shadow.tell(f'command {circuit} 2 0', row(circuit, 'releasing', '10 10', counts, codec=codec))
+        world.shadow.row(circuit, 'idle', counts=counts, codec=codec)
+        world.has(circuit, state='idle')
 
     def test_a_call_of_two_watchers(self) -> None:
         """Each writes a line, and both name the call alike; the next call has another name."""
@@ -306,14 +171,11 @@ class WatcherConnectionTests(WatcherCase):
     def test_a_trunk_without_octets(self) -> None:
         world = self.watched(within={'service.status.QUIET': 1.0})
         events = self.events(world)
-        world.shadow.flows = False
+        os.mkdir(f'{world.config}.quiet')
         world.until(lambda: world.told()['clock']['stalled'])
         self.assertEqual(world.ask('seize 1'), 'seize 1: the trunk is stalled')
         self.assertIn(' UTC, stalled; the other end: not heard', world.ask('status'))
-        with world.shadow.lock:
-            world.shadow.flows = True
-            for line in world.shadow.clients[1:]:       # those that wait are let in now
-                world.shadow.came(line)
+        os.rmdir(f'{world.config}.quiet')
         world.until(lambda: not world.told()['clock']['stalled'])
         self.assertGreater(world.told()['clock']['stalls'], 0)          # (more if the machine stood still)
         world.quit()
@@ -321,51 +183,9 @@ class WatcherConnectionTests(WatcherCase):
 
 
 class WatcherCallTests(WatcherCase):
-    """What is done with calls by itself."""
-
-    def test_a_line_for_each_call(self) -> None:
-        world = self.watched('--calls', '@/calls', '--name', 'west')
-        world.shadow.tell('command 1 1 0', row(1, 'seized', '00 10'))
-        for state, bits in ('acked', '00 11'), ('answered', '00 01'):
-            world.shadow.row(1, state, bits)
-        for number, code in enumerate((0, 0, 14, 0)):
-            world.shadow.tell(f'datagram 1 {code} {number} {160 * number} 9')
-        world.shadow.tell('command 1 2 0', row(1, 'releasing', '10 01', (7, 3, 1)))
-        world.shadow.tell('command 1 1 0', row(1, 'idle', counts=(7, 3, 1)))
-        world.has(1, state='idle')
-        line = self.lines(world)[0]
-        self.assertEqual([line[key] for key in ('trunk', 'circuit', 'direction', 'by', 'codec', 'sent', 'received',
-                                                'lost', 'late')],
-                         ['west', '1', 'outgoing', 'gateway', 'pcma', '7', '3', '1', '1'])
-
-    def test_a_dark_trunk(self) -> None:
-        world = self.watched('--dark', '0')
-        events = self.events(world)
-        world.shadow.row(1, 'answered', '00 01')
-        world.shadow.row(2, 'answered', '01 00', role='incoming')
-        world.shadow.tell('alarms 1 1 0 0')
-        self.assertEqual(self.next(events, 'cleared', 'circuits'), [[1, 2]])
-        world.until(lambda: len(world.program.taken) == 2)
-        self.assertEqual([record.encode() for record in world.program.taken],
-                         [command_record(1, Command.CLEAR), command_record(2, Command.CLEAR_BACK)])
-
-    def test_the_last_client_is_gone(self) -> None:
-        world = self.watched('--on-loss', 'block', '0')
-        events = self.events(world)
-        world.shadow.row(1, 'answered', '00 01')
-        world.has(1, state='answered')
-        with socket.socket(socket.AF_UNIX) as line:
-            line.connect(world.path('ctl'))
-            line.settimeout(SECONDS)
-            line.sendall(b'on-loss\n')
-            self.assertEqual(line.recv(100), b'on-loss: done\n\n')
-        self.assertEqual(self.next(events, 'cleared', 'circuits'), [[1]])
-        world.until(lambda: len(world.program.taken) == 2)
-        self.assertEqual(world.program.taken[1].encode(), command_record(2, Command.BLOCK))
-
-    def test_a_playout_is_restarted(self) -> None:
-        """Half a second of datagrams that are refused for their time."""
-        world = self.watched()
+    def test_what_is_done_with_calls_by_itself(self) -> None:
+        """Behind half a second of datagrams refused for their time, when the last client is gone, and in the dark."""
+        world = self.watched('--dark', '0', '--on-loss', 'block', '0')
         events = self.events(world)
         world.shadow.row(1, 'answered', '00 01')
         for number in range(60):
@@ -373,9 +193,16 @@ class WatcherCallTests(WatcherCase):
                 world.shadow.place += 5120 - 512
                 world.shadow.tell(f'datagram 1 16 {number} {160 * number} 9')
         self.assertEqual(self.next(events, 'renewed', 'circuits'), [[1]])
-        world.until(lambda: world.program.taken)
-        self.assertEqual(world.program.taken[0].encode(), codec_record(1, Codec.G711, 8))
-
-
-if __name__ == '__main__':
-    unittest.main()
+        with support.connected(world.path('ctl')) as line:
+            line.sendall(b'on-loss\n')
+            self.assertEqual(line.recv(100), b'on-loss: done\n\n')
+        self.assertEqual(self.next(events, 'cleared', 'circuits'), [[1]])
+        world.until(lambda: len(world.program.taken) == 3)
+        world.shadow.row(2, 'answered', '01 00', role='incoming')
+        world.shadow.tell('alarms 1 1 0 0')
+        self.assertEqual(self.next(events, 'cleared', 'circuits'), [[1, 2]])
+        world.until(lambda: len(world.program.taken) == 5)
+        self.assertEqual([record.encode() for record in world.program.taken],
+                         [codec_record(1, Codec.G711, 8), command_record(1, Command.CLEAR),
+                          command_record(2, Command.BLOCK), command_record(1, Command.CLEAR),
+                          command_record(2, Command.CLEAR_BACK)])

@@ -1,20 +1,28 @@
-"""The manual pages and the completion name the options and commands that the programs have."""
+"""The manual pages name the options and commands that the programs have, and bash offers them."""
 from __future__ import annotations
 
 import argparse
+import os
 import re
+import shutil
+import subprocess
 import unittest
 
 from . import support
 from e1gw import ctl
+from e1gw.picture import main as picture
 from e1gw.service import commands as control
 from e1gw.service import service
 from e1gw.tie import main as tie
 
+COMPLETION = os.path.join(support.TOP, 'dist', 'completions', 'e1gw-ctl.bash')
+ASKS = '''. "$0"; cd "$1"; COMP_LINE=$2 COMP_POINT=${#2} COMP_TYPE=9; _python_argcomplete "./${2%% *}"
+printf '%s\\n' "${COMPREPLY[@]}"'''
+DEBIAN = '/usr/bin:/bin'            # whose python3 has Debian's packages
+
 
 def page(name: str) -> str:
-    with open(f'{support.TOP}/dist/man/{name}', encoding='utf-8') as file:
-        return file.read()
+    return support.text_of(f'{support.TOP}/dist/man/{name}')
 
 
 def offered(*words: str) -> list[str]:
@@ -24,7 +32,8 @@ def offered(*words: str) -> list[str]:
 
 class PagesTests(unittest.TestCase):
     def test_options(self) -> None:
-        for command, parser in (('e1gw-trunk', service.parser()), ('e1gw-tie', tie.parser())):
+        for command, parser in (('e1gw-trunk', service.parser()), ('e1gw-tie', tie.parser()),
+                                ('e1gw-picture', picture.parser())):
             options = {word for action in parser._actions for word in action.option_strings if word.startswith('--')}
             synopsis, described = page(f'{command}.1').split('.Sh DESCRIPTION')
             named = {f'--{word}' for word in re.findall(r'(?:Fl|\|) -([\w-]+)', synopsis)} - {'--force'}     # of reload
@@ -48,9 +57,30 @@ class PagesTests(unittest.TestCase):
     def test_where_the_socket_of_a_name_is(self) -> None:
         self.assertEqual(ctl.path_of('trunk1'), '/run/e1gw/trunk1/control')
         self.assertIn(ctl.path_of('NAME'), page('e1gw-ctl.1'))
-        with open(f'{support.TOP}/dist/system/e1gw-trunk@.service', encoding='utf-8') as file:
-            self.assertIn(' --control /run/e1gw/%i/control', file.read())
+        self.assertIn(' --control /run/e1gw/%i/control', support.text_of(
+            f'{support.TOP}/dist/system/e1gw-trunk@.service'))
 
 
-if __name__ == '__main__':
-    unittest.main()
+class CompletionTests(unittest.TestCase):
+    def offered(self, line: str, path: str = DEBIAN) -> tuple[list[str], str]:
+        """The words that are offered for a line, and standard error."""
+        ran = subprocess.run(['/bin/bash', '-c', ASKS, COMPLETION, os.path.join(support.TOP, 'driver'), line],
+                             capture_output=True, text=True, env={'PATH': path}, timeout=support.SECONDS)
+        return sorted(each.strip() for each in ran.stdout.splitlines()), ran.stderr
+
+    @unittest.skipUnless(shutil.which('register-python-argcomplete', path=DEBIAN), 'python3-argcomplete')
+    def test_words(self) -> None:
+        for line, words in (('e1gw-tie --congestion ', 'clear-back wait'),
+                            ('e1gw-tie --co', '--congestion --connect --control'),
+                            ('e1gw-trunk --senders ', 'any host peer'), ('e1gw-trunk --satop-f', '--satop-fill'),
+                            ('e1gw-config --role o', 'odd outgoing'), ('e1gw-picture --la', '--last'),
+                            ('e1gw-ctl ./west cl', 'clear clear-back'), ('e1gw-ctl --all se', 'seize'),
+                            ('e1gw-ctl ./west status j', 'json'), ('e1gw-ctl ./west seize 2', ' '.join(
+                                ['2', *map(str, range(20, 30))])), ('e1gw-ctl ./west codec 3 g726-1', 'g726-16'),
+                            ('e1gw-ctl ./west on-loss ', 'block clear keep')):
+            with self.subTest(line):
+                self.assertEqual(self.offered(line), (sorted(words.split()), ''))
+
+    def test_without_argcomplete(self) -> None:
+        """A shell that cannot find it gets the package's name."""
+        self.assertIn('python3-argcomplete', self.offered('e1gw-tie --', '/none')[1])

@@ -8,12 +8,11 @@ import random
 import re
 import subprocess
 import sys
-import tempfile
 import unittest
 
 from .support import TOP, run
 
-from .picture_made import TROUBLES, MadeSession, PictureSender, read_session, recorded, rtp
+from .picture_made import TROUBLES, MadeSession, PictureSender, configured, one_call, read_session, recorded, rtp
 
 from e1gw.picture.facts import MOST, RANK, Facts, Row, Spans
 from e1gw.picture.findings import findings
@@ -22,21 +21,9 @@ from e1gw.picture.page import draw, numbers
 from e1gw.picture.svg import Scale, apart, clock, duration, runs
 from e1gw.session import OCTETS_A_SECOND, Codec, Kind, codec_record, records_in, trunk_record
 
-# What is found in a session with each trouble.
-FOUND = {'no-datagrams': 'none', 'other-type': 'type', 'other-codec': 'words', 'slow-clock': 'clock slower',
-         'fast-clock': 'clock faster', 'hold': 'source', 'jump': 'jump', 'jitter': 'late', 'stranger': 'source',
-         'lost': 'lost', 'burst': 'late', 'gap': 'gap', 'gaps': 'gap', 'double-rate': 'rate', 'slips': 'lost frame',
-         'all-ones': 'ones', 'silent-slot': 'silent slot', 'other-law': 'came other', 'other-law-trunk': 'slot other',
-         'silent-peer': 'silent came', 'no-rtp': 'code 2', 'repeated': 'repeated', 'too-long': 'code 15',
-         'not-open': 'not open', 'other-order': 'order other', 'unacknowledged': 'unacknowledged'}
-
 
 def facts_of(session: MadeSession, last: int | None = None) -> Facts:
     return read_session(session.config(), b''.join(session.given()), last)
-
-
-def page_of(session: MadeSession) -> str:
-    return draw(facts_of(session), 'e1gw')
 
 
 @functools.cache
@@ -48,59 +35,36 @@ def made_of(name: str) -> Facts:
 class FactsTests(unittest.TestCase):
     """What becomes of each datagram."""
 
-    def call(self, count: int = 40, **sender: object) -> MadeSession:
-        session = MadeSession(0.4 + 0.02 * count, {3: {'prefill': 320}})
-        session.call(3, 0.05, 9.0)
-        session.senders.append(PictureSender(3, 0.2, 0.2 + 0.02 * count - 0.001, **sender))    # type: ignore[arg-type]
-        return session
-
-    def test_counts(self) -> None:
-        row = Row(3)
-        for n, code in enumerate([20, 11, 0, 12, 13, 14, 16] + [0] * 33):
-            row.came(5120 * n, code, rtp(n, 160 * n, 7)[:12], 172, n)
-        self.assertEqual(row.cell.admitted, 34)
-        self.assertEqual({code: seen[0] for code, seen in row.cell.refused.items()},
-                         {20: 1, 11: 1, 12: 1, 13: 1, 14: 1, 16: 1})
-
     def test_how_early(self) -> None:
         """The first is the prefill before its turn; the next ones come 10 ms, 80 samples, after their time."""
         row = Row(3, prefill=320)
         for place, stamp in ((0, 0), (7680, 160), (12800, 320)):
-            row.came(place, 0, rtp(0, stamp, 7)[:12], 172, stamp)
+            row.came(place, 0, rtp(0, stamp, 7), 0, stamp, 7)
         self.assertEqual((row.cell.low, row.cell.high), (240, 320))
 
-    def test_lost_by_sequence_numbers(self) -> None:
-        row = Row(3)
-        for sequence in (65534, 65535, 2, 1, 3):        # 0 is missing; 1 comes behind 2
-            row.came(0, 0, rtp(sequence, 0, 7)[:12], 172, sequence)
-        self.assertEqual(row.cell.lost, 1)
-
-    def test_repetitions_hide_no_loss(self) -> None:
-        row = Row(3)
-        for sequence, code in ((1, 0), (2, 0), (1, 13), (4, 0), (2, 14), (5, 0), (4, 13)):      # 3 is missing
-            row.came(0, code, rtp(sequence, 0, 7)[:12], 172, sequence)
-        self.assertEqual(row.cell.lost, 1)
-        self.assertEqual((row.cell.counts['repetitions'], row.cell.refused), (3, {}))
-        row.came(0, 0, rtp(3, 0, 7)[:12], 172, 3)       # its repetition comes
-        self.assertEqual(row.cell.lost, 0)
-
-    def test_other_octets_are_no_repetition(self) -> None:
-        row = Row(3)
-        for mark, code in ((1, 0), (2, 13)):
-            row.came(0, code, rtp(5, 0, 7)[:12], 172, mark)
-        self.assertEqual((row.cell.counts, row.cell.refused[13][0]), ({}, 1))
-
-    def test_states_by_the_signals(self) -> None:
-        facts = facts_of(self.call())
-        states = [state for _, state in facts.rows[3].states.items]
-        self.assertEqual(states, ['fault', 'idle', 'seized', 'acked', 'answered'])
-        self.assertEqual(facts.rows[3].count().counts, {'calls': 1, 'answers': 1})
+    def test_lost_and_repeated(self) -> None:
+        """By sequence numbers, with a mark of the octets and an answer: how many are lost, repeated, and refused."""
+        again = [(n, n, code) for n, code in ((1, 0), (2, 0), (1, 13), (4, 0), (2, 14), (5, 0), (4, 13))]
+        rows: tuple[tuple[list[tuple[int, int, int]], int, int, int], ...] = (
+            # 0 is missing; 1 comes behind 2
+            ([(n, n, 0) for n in (65534, 65535, 2, 1, 3)], 1, 0, 0),
+            # 3 is missing, and then its repetition comes
+            (again, 1, 3, 0), ([*again, (3, 3, 0)], 0, 3, 0),
+            # other octets are no repetition
+            ([(5, 1, 0), (5, 2, 13)], 0, 0, 1))
+        for came, lost, repeated, refused in rows:
+            row = Row(3)
+            for sequence, mark, code in came:
+                row.came(0, code, rtp(sequence, 0, 7, payload=bytes([mark & 255])), sequence, 0, 7)
+            with self.subTest(came=came):
+                self.assertEqual((row.cell.lost, row.cell.counts['repetitions'], row.cell.discarded()),
+                                 (lost, repeated, refused))
 
     def test_last_part_alone(self) -> None:
-        facts = facts_of(self.call(100), OCTETS_A_SECOND)
+        """The session ends 0.3 s behind the last datagram, so 0.7 s of datagrams are shown, 50 a second."""
+        facts = facts_of(one_call(3), OCTETS_A_SECOND)
         self.assertEqual(facts.place - facts.start, OCTETS_A_SECOND)
-        # The session ends 0.2 s behind the last datagram, so 0.8 s of datagrams are shown, 50 a second.
-        self.assertAlmostEqual(facts.rows[3].count().admitted, 40, delta=2)
+        self.assertAlmostEqual(facts.rows[3].count().admitted, 35, delta=2)
 
     def test_columns_are_few_and_lose_nothing(self) -> None:
         facts = Facts()
@@ -133,10 +97,8 @@ class FactsBesideCheckTests(unittest.TestCase):
         for name in TROUBLES:
             config, given = recorded(name)
             facts = made_of(name)
-            with self.subTest(name), tempfile.NamedTemporaryFile('w') as file:
-                file.write(config)
-                file.flush()
-                for line in run('check', '--config', file.name, given=given).decode().splitlines():
+            with self.subTest(name), configured(config) as path:
+                for line in run('check', '--config', path, given=given).decode().splitlines():
                     number, _, state, _, _, *counts, _, _ = line.split()
                     row = facts.rows[int(number)]
                     cell = row.count()
@@ -144,14 +106,9 @@ class FactsBesideCheckTests(unittest.TestCase):
                     self.assertEqual([row.states.value, cell.sent, cell.admitted, refused],
                                      [state, *map(int, counts)], line)
 
-    def test_each_trouble_is_found(self) -> None:
-        for name in TROUBLES:
-            with self.subTest(name):
-                kinds = [each.kind for each in findings(made_of(name))]
-                if name == 'sound':
-                    self.assertEqual(kinds, [])
-                else:
-                    self.assertIn(FOUND[name], kinds)
+    def test_nothing_is_found_where_all_is_well(self) -> None:
+        """What is found in a session with a trouble, the documents quote."""
+        self.assertEqual(findings(made_of('sound')), [])
 
     def test_records_of_any_length(self) -> None:
         """Long ones are given in pieces of a millisecond, so nothing is drawn later."""
@@ -172,16 +129,13 @@ class FactsBesideCheckTests(unittest.TestCase):
         words = next(each.seen for each in findings(made_of('slow-clock')) if each.kind == 'clock slower')
         self.assertAlmostEqual(int(words.split(' ppm')[0].split()[-1]), 500, delta=10)
 
-    def test_gap_is_measured(self) -> None:
-        self.assertIn('come 380 ms earlier', next(each.seen for each in findings(made_of('gap')) if each.kind == 'gap'))
-
 
 class PicturePackageTests(unittest.TestCase):
     def test_nothing_of_the_service_is_loaded(self) -> None:
         code = 'import sys, e1gw.picture.main; print(*(name for name in sys.modules if name.startswith("e1gw.")))'
         loaded = subprocess.run([sys.executable, '-B', '-c', code], cwd=os.path.join(TOP, 'driver'), check=True,
                                 stdout=subprocess.PIPE, text=True).stdout.split()
-        self.assertEqual([name for name in loaded if name.split('.')[1] in ('service', 'tie', 'told', 'testing')], [])
+        self.assertEqual([name for name in loaded if name.split('.')[1] in ('service', 'tie', 'testing')], [])
 
 
 class PageChecker(html.parser.HTMLParser):
@@ -205,28 +159,6 @@ class PageChecker(html.parser.HTMLParser):
 
     def handle_data(self, data: str) -> None:
         self.words.append(data)
-
-
-# Advance widths of DejaVu Sans and of its bold, in thousandths of the size: the widest of the fonts that are usual.
-WIDTHS = {
-    False: dict(zip(' abcdefghijklmnopqrstuvwxyz0123456789-/,.:BNWOPTRFLS\N{RIGHTWARDS ARROW}', (
-        318, 613, 635, 550, 635, 615, 352, 635, 634, 278, 278, 579, 278, 974, 634, 612, 635, 635, 411, 521, 392, 634,
-        592, 818, 592, 592, 525, *[636] * 10, 361, 337, 318, 318, 337, 686, 748, 989, 787, 603, 611, 695, 575, 557,
-        635, 838))),
-    True: dict(zip(' abcdefghijklmnopqrstuvwxyz0123456789-/,.:BNWOPTRFLS\N{RIGHTWARDS ARROW}', (
-        348, 675, 716, 593, 716, 678, 435, 716, 712, 343, 343, 665, 343, 1042, 712, 687, 716, 716, 493, 595, 478, 712,
-        652, 924, 645, 652, 582, *[696] * 10, 415, 365, 380, 380, 400, 762, 837, 1103, 850, 733, 682, 770, 683, 637,
-        720, 838)))}
-
-
-def wide(words: str, size: float, bold: bool = False) -> float:
-    """The pixels that words take."""
-    return sum(WIDTHS[bold][each] for each in words) * size / 1000
-
-
-def wide_of(cells: list[str], size: float, bold: bool = False) -> list[float]:
-    """Of each cell of a row the pixels of its longest word."""
-    return [max((wide(word, size, bold) for word in cell.split()), default=0.0) for cell in cells]
 
 
 @functools.cache
@@ -267,12 +199,10 @@ class PicturePageTests(unittest.TestCase):
         self.assertLess(MOST_OCTETS, 2_000_000)
 
     def test_says_what_was_counted(self) -> None:
-        session = MadeSession(1.4, {3: {'prefill': 320, 'local_port': 24006, 'peer_port': 24106}})
-        session.call(3, 0.05, 9.0)
-        session.senders.append(PictureSender(3, 0.2, 1.0 - 0.001, kind=13))
-        words = self.checked(page_of(session))
-        self.assertIn('40 of 40 packets were discarded as PayloadType: type 13 came, the circuit has 8', words)
-        self.assertIn('65 sent, 0 received, 40 discarded', words)      # 20 ms each from 0.1 s on, as it is acknowledged
+        session = one_call(1.4, kind=13)
+        words = self.checked(draw(facts_of(session), 'e1gw'))
+        self.assertIn('43 of 43 packets were discarded as PayloadType: type 13 came, the circuit has 8', words)
+        self.assertIn('47 sent, 0 received, 43 discarded', words)      # 20 ms each, from 0.149 s to 1.1 s
         self.assertIn('127.0.0.1:24106', words)
 
     def test_wrong_sources_are_those_of_their_call(self) -> None:
@@ -306,40 +236,16 @@ class PicturePageTests(unittest.TestCase):
         # two again, one change; each is one mark, and one more of each is in the key
         self.assertEqual((text.count('class="c-again"'), text.count('class="c-done"')), (2, 2))
 
-    def test_calls_of_before(self) -> None:
-        facts = Facts(last=OCTETS_A_SECOND)
-        facts.rows[3].state(0, 'answered')
-        facts.turn(10 * OCTETS_A_SECOND)
-        self.assertIn('0 calls, 0 answered, 1 connected before', self.checked(draw(facts, 'x')))
-
-    def test_slips_that_were_noted(self) -> None:
-        facts = Facts()
-        facts.slips = [(100, 0.3)]
-        self.assertIn('the driver noted 1 slip, first at', self.checked(draw(facts, 'x')))
-
-    def test_the_table_of_counts_is_not_cut(self) -> None:
-        """On a screen of 1280 pixels, less a scroll bar and the page's margins."""
-        text = busy_page()
-        table = re.search(r'<table class="counts">.*?</table>', text)
-        assert table
-        size, right = 12, 8
-        self.assertIn(f'.counts td,.counts th{{white-space:normal;padding-right:{right}px;font-size:{size}px}}', text)
-        columns = [wide_of(re.findall('<th>(.*?)</th>', table[0]), size, True)]
-        columns += [wide_of(re.findall('<td.*?>(.*?)</td>', row), size) for row in table[0].split('<tr>')[2:]]
-        self.assertEqual((len(columns), len(columns[0])), (31, 17))
-        self.assertLess(sum(map(max, zip(*columns))) + right * len(columns[0]), 1280 - 15 - 2 * 22)
-
     def test_the_last_time_is_not_cut(self) -> None:
+        """It ends a pixel before the drawings of the trunk and of the circuits do."""
         for begin, last in ((None, '60:00 min'), (1_700_000_400.0, '23:20:00')):
             facts = Facts()
             facts.turn(3600 * OCTETS_A_SECOND)
             facts.begin = begin
             text = draw(facts, 'x')
-            sheet = re.search(r'<svg viewBox="0 0 (\d+)', text)
+            self.assertEqual(re.findall(r'<svg viewBox="0 0 (\d{4}) ', text), ['1140'] * 2)
             times = re.findall(rf'<text x="([\d.]+)" y="\d+" class="tick" text-anchor="(\w+)">{last}<', text)
-            self.assertEqual((len(times), bool(sheet)), (2, True))        # of the trunk and of the circuits
-            part = {'middle': 0.5, 'end': 0.0}[times[0][1]]
-            self.assertLessEqual(float(times[0][0]) + part * wide(last, 10.5), float(sheet[1] if sheet else 0))
+            self.assertEqual(times, [('1139.0', 'end')] * 2)
 
     def test_words_are_escaped(self) -> None:
         text = draw(Facts(), '<b>&"')
@@ -349,14 +255,6 @@ class PicturePageTests(unittest.TestCase):
     def test_nothing_at_all(self) -> None:
         words = self.checked(draw(read_session('law = "A"\n', b''), 'e1gw'))
         self.assertIn('No datagrams came', words)
-
-    def test_times_of_the_day(self) -> None:
-        facts = Facts()
-        facts.turn(90 * OCTETS_A_SECOND)
-        facts.begin = 1_700_000_000.0           # 2023-11-14 22:13:20 UTC
-        words = self.checked(draw(facts, 'x'))
-        self.assertIn('2023-11-14 22:13:20 UTC', words)
-        self.assertIn('22:14:00', words)
 
     def test_small_things(self) -> None:
         self.assertEqual(numbers([1, 2, 3, 4, 7, 9, 10]), '1 to 4, 7, 9, 10')
@@ -369,7 +267,3 @@ class PicturePageTests(unittest.TestCase):
         self.assertEqual([words for _, words in day], [f'{4 * n} h' for n in range(7)])
         self.assertEqual([duration(each * OCTETS_A_SECOND) for each in (90, 600, 86_400, 9000)],
                          ['90.00 s', '10 min 0 s', '24 h 0 min', '2 h 30 min'])
-
-
-if __name__ == '__main__':
-    unittest.main()

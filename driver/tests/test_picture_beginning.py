@@ -5,21 +5,16 @@ import argparse
 import os
 import random
 import re
-import subprocess
-import unittest
 from typing import Iterator
 
 from . import support
-from .picture_made import MadeSession, PictureSender, coded, packets
-from .support import SECONDS
-from .test_archive import RingCase, octets_in
+from .picture_made import MadeSession, PictureSender, coded, packets, page_of
+from e1gw.ring import Ring
 from e1gw.session_files import kept
 from e1gw.picture.beginning import begin
 from e1gw.picture.facts import Facts
 from e1gw.picture.main import gathered
 from e1gw.session import OCTETS_A_SECOND, Kind, trunk_record
-
-PICTURE = os.path.join(support.TOP, 'driver', 'e1gw-picture')
 
 
 def divided(records: Iterator[bytes], rng: random.Random) -> Iterator[bytes]:
@@ -33,11 +28,17 @@ def divided(records: Iterator[bytes], rng: random.Random) -> Iterator[bytes]:
             yield record
 
 
-class MidCallPictureTests(RingCase):
+def octets_in(records: list[bytes]) -> int:
+    """The octets of the trunk in records."""
+    return sum(len(record) - 4 for record in records if record[0] == Kind.TRUNK)
+
+
+class MidCallPictureTests(support.FolderCase):
     """What is drawn of a piece that begins in a call."""
 
     def setUp(self) -> None:
         super().setUp()
+        self.program, self.ring = support.program(), self.path('ring')
         made = MadeSession(4.0, {3: {'prefill': 320}, 4: {'prefill': 320, 'codec': 'g726-32', 'payload': 96}})
         made.call(3, 0.1, 3.8)
         made.call(4, 3.2, 3.7, 0.1)
@@ -51,6 +52,25 @@ class MidCallPictureTests(RingCase):
         self.keep(pieces, self.config)
         self.places = [octets_in(self.records[:whole * n // 4]) for n in range(4)]
 
+    def keep(self, pieces: list[list[bytes]], config: str) -> None:
+        """Keeps pieces of a session, each with the state in which it begins."""
+        ring, state, place = Ring(self.ring, 'west', 60), b'', 0
+        ring.zstd = None
+        for number, records in enumerate(pieces):
+            front, octets = ring.next(place), b''.join(records)
+            about = {'config': config, 'time': 1_800_000_000 + 5 * number, 'monotonic': 5 * number, 'place': place,
+                     'begins': 'middle' if state else 'start'}
+            ring.begin(front, about, state)
+            self.write(f'{front}.e1gw', octets)
+            load = ['--load', f'{front}.state'] if state else []
+            support.run('replay', '--config', config, *load, '--save', self.path('state'), given=octets)
+            state = support.octets_of(self.path('state'))
+            place += octets_in(records)
+        ring.close()
+
+    def files(self, ending: str) -> list[str]:
+        return sorted(os.path.join(self.ring, name) for name in os.listdir(self.ring) if name.endswith(ending))
+
     def facts(self, path: str) -> Facts:
         """What is gathered of a session."""
         options = argparse.Namespace(capture=None, begin=None, last=None)
@@ -59,13 +79,6 @@ class MidCallPictureTests(RingCase):
         facts, word = gathered(options, begun)
         self.assertEqual(word, '')
         return facts
-
-    def drawn(self, *words: str) -> tuple[str, str]:
-        """The page, and what was said."""
-        done = subprocess.run([PICTURE, '--program', self.program, *words], stdout=subprocess.PIPE,
-                              stderr=subprocess.PIPE, check=False, timeout=SECONDS)
-        self.assertEqual(done.returncode, 0, done.stderr.decode())
-        return done.stdout.decode(), done.stderr.decode()
 
     def test_a_call_that_was_up(self) -> None:
         whole = self.facts(self.write('whole.rec', b''.join(self.records)))
@@ -93,35 +106,28 @@ class MidCallPictureTests(RingCase):
         self.assertGreater(count.heard['came'].own + count.heard['slot'].own, 0)    # speech, in the law of the trunk
         self.assertEqual(part.rows[4].count().counts, {'calls': 1, 'answers': 1})
 
-    def test_the_page(self) -> None:
-        page, said = self.drawn(self.files('.e1gw')[-1])
-        self.assertEqual(said, '')
-        self.assertIn('1 call, 1 answered, 1 connected before', page)
-        self.assertIn('Calls were up when the session began (circuits 3)', page)
-        self.assertNotIn('discarded as NotOpen', page)
-
     def test_the_last_part_of_a_folder(self) -> None:
         """It begins with the last piece that is far enough from the end."""
         for last, files in ((0.5, 2), (1.5, 3), (2.5, 4), (100, 4)):
             self.assertEqual(len(kept(self.ring, int(last * OCTETS_A_SECOND)).files), files)
-        page, said = self.drawn('--last', '1s', self.ring)
-        self.assertEqual(said, '')
-        whole, _ = self.drawn('--last', '1s', '--config', self.config, self.write('whole.rec', b''.join(self.records)))
+        page, said = page_of('--last', '1s', self.ring)
+        self.assertEqual((said, 'discarded as NotOpen' in page), ('', False))
+        self.assertIn('Calls were up when the session began (circuits 3)', page)
+        whole, _ = page_of('--last', '1s', '--config', self.config, self.write('whole.rec', b''.join(self.records)))
         told = re.findall(r'packets: [^<]*', page)
         self.assertEqual(told, re.findall(r'packets: [^<]*', whole))
         self.assertIn('1 connected before', page)
         for path in self.files('.state'):
             os.unlink(path)
         self.assertEqual(len(kept(self.ring, OCTETS_A_SECOND).files), 4)
-        self.assertEqual(self.drawn('--last', '1s', self.ring)[1], '')
+        self.assertEqual(page_of('--last', '1s', self.ring)[1], '')
 
     def test_no_state(self) -> None:
         path, state = self.files('.e1gw')[-1], self.files('.state')[-1]
-        with open(state, 'rb') as file:
-            octets = file.read()
+        octets = support.octets_of(state)
         os.unlink(state)
-        page, said = self.drawn(path)
-        self.assertIn(f'e1gw-picture: {os.path.basename(path)} has no state beside it; the session begins in the '
+        page, said = page_of(path)
+        self.assertIn(f'e1gw-picture: {os.path.basename(path)} has no state next to it; the session begins in the '
                       'middle', said)
         notes = re.compile('<p><b>.*?</b></p>')
         today = notes.sub('', page)
@@ -130,9 +136,8 @@ class MidCallPictureTests(RingCase):
         for broken, config, told in ((octets[:-1], self.config, 'state 4 Sum at 0'),
                                      (b'', self.config, 'state 1 Short at 0'),
                                      (octets, other, 'circuit 4 begins as new')):
-            with open(state, 'wb') as file:
-                file.write(broken)
-            page, said = self.drawn('--config', config, path)
+            self.write(state, broken)
+            page, said = page_of('--config', config, path)
             self.assertIn(f'{state} is not used ({told}', said)
             self.assertIn('the session begins in the middle', said)
             self.assertEqual(len(said.splitlines()), 1)
@@ -141,13 +146,8 @@ class MidCallPictureTests(RingCase):
 
     def test_a_state_that_is_refused_leaves_the_whole_folder(self) -> None:
         for state in self.files('.state'):
-            with open(state, 'r+b') as file:
-                file.truncate(600)
-        page, said = self.drawn('--last', '1s', self.ring)
+            os.truncate(state, 600)
+        page, said = page_of('--last', '1s', self.ring)
         self.assertIn('state 4 Sum at 0', said)
         self.assertNotIn('begins in the middle', said)      # it is read from its first piece on
         self.assertIn('1 connected before', page)
-
-
-if __name__ == '__main__':
-    unittest.main()

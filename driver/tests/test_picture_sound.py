@@ -7,9 +7,10 @@ import unittest
 
 from .support import FolderCase, program, run
 
-from .picture_made import BITS, coded, g726, of_aal2, of_codec, packets, read_session, recorded
+from .picture_made import coded, g726, of_aal2, of_codec, packets, read_session, recorded
 
 from e1gw.g711 import OTHER, TONES, VALUES, level, power
+from e1gw.picture.facts import BITS
 from e1gw.picture.findings import findings
 from e1gw.picture.orders import Orders, reordered
 from e1gw.picture.sound import EACH, HeardSamples, ListeningTimes, heard
@@ -123,27 +124,20 @@ class WordOrderTests(unittest.TestCase):
         self.assertEqual(reordered(bytes.fromhex('053977'), 3).hex(), '88c6fa')     # 000 001 010 .. 111
         self.assertEqual(reordered(bytes.fromhex('00443214c7'), 5).hex(), '2088418a39')
 
-    def test_back_again(self) -> None:
-        octets = random.Random(6).randbytes(120)
-        for bits in BITS.values():
-            self.assertEqual(reordered(of_aal2(octets, bits), bits), octets)
-
-    def told(self, payloads: list[bytes], codec: str, path: str | None) -> list[HeardSamples]:
-        told: list[HeardSamples] = []
-        orders = Orders(path, 'A', lambda circuit, place, seen: told.append(seen))
+    def told(self, payloads: list[bytes], codec: str, path: str | None) -> HeardSamples:
+        whole = HeardSamples()
+        orders = Orders(path, 'A', lambda circuit, place, seen: whole.join(seen))
         for at in range(0, len(payloads), 10):
             orders.put(3, at, codec, payloads[at:at + 10])
         orders.look()
-        return told
+        return whole
 
     def test_each_rate(self) -> None:
         path = program()
         for codec, bits in BITS.items():
             payloads = g726(codec, coded('A'))
             for other, sent in ((False, payloads), (True, [of_aal2(each, bits) for each in payloads])):
-                whole = HeardSamples()
-                for seen in self.told(sent, codec, path):
-                    whole.join(seen)
+                whole = self.told(sent, codec, path)
                 self.assertEqual(whole.is_other(), other, (codec, whole))
                 self.assertGreater(whole.other if other else whole.own, 10, (codec, whole))
 
@@ -151,15 +145,13 @@ class WordOrderTests(unittest.TestCase):
         path = program()
         for codec in BITS:
             for octets in (b'\xd5' * 16_000, TONES['A'] * 2000, random.Random(7).randbytes(16_000)):
-                whole = HeardSamples()
-                for seen in self.told(g726(codec, octets), codec, path):
-                    whole.join(seen)
+                whole = self.told(g726(codec, octets), codec, path)
                 self.assertFalse(whole.is_other(), (codec, whole))
 
     def test_without_a_program(self) -> None:
         payloads = [bytes(80)] * 10
         for path in (None, '/nowhere', '/bin/false', '/bin/echo'):
-            self.assertEqual(self.told(payloads, 'g726-32', path), [])
+            self.assertEqual(self.told(payloads, 'g726-32', path), HeardSamples())
 
 
 class ListeningTimesTests(unittest.TestCase):
@@ -176,7 +168,3 @@ class ListeningTimesTests(unittest.TestCase):
         turns = ListeningTimes()
         looks = [place for place in range(0, 60 * 256_000, 512) if turns.come(place, 256_000)]
         self.assertLessEqual(max(b - a for a, b in zip(looks, looks[1:])), 256_000)
-
-
-if __name__ == '__main__':
-    unittest.main()

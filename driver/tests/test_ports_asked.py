@@ -8,14 +8,13 @@ from __future__ import annotations
 import contextlib
 import random
 import socket
-import subprocess
-import unittest
 from collections import deque
 from typing import Callable, Iterator
 
 from . import support
+from .hand_clock import threads_of
 from .support import SECONDS
-from .test_trunk_served import octets_in, read_all
+from .test_trunk_served import TrunkProcess, octets_in
 from e1gw.exchange import SEIZED, ServeProcess, slot_of
 from e1gw.session import CIRCUITS, FRAME, Kind, Packet, datagram_record, records_in, trunk_record
 from e1gw.testing.ports import free_ports
@@ -86,37 +85,26 @@ class PortsAskedTests(support.FolderCase):
         super().setUp()
         self.ports = dict(zip(CIRCUITS, free_ports(len(CIRCUITS))))
         self.peers = {circuit: socket.socket(socket.AF_INET, socket.SOCK_DGRAM) for circuit in CIRCUITS}
-        text = 'law = "A"\n'
-        for circuit, peer in self.peers.items():
+        for peer in self.peers.values():
             self.addCleanup(peer.close)
             peer.bind(('127.0.0.1', 0))
             peer.settimeout(SECONDS)
-            text += (f'[[circuit]]\nnumber = {circuit}\nrole = "incoming"\n'
-                     f'local_port = {self.ports[circuit]}\npeer_port = {peer.getsockname()[1]}\n')
-        self.config = self.write('trunk.toml', text)
+        self.config = self.write('trunk.toml', support.config_text({circuit: {
+            'role': 'incoming', 'local_port': self.ports[circuit], 'peer_port': peer.getsockname()[1]}
+            for circuit, peer in self.peers.items()}))
 
     @contextlib.contextmanager
-    def serve(self) -> Iterator[Exchanges]:
+    def serve(self) -> Iterator[tuple[int, Exchanges]]:
         process = ServeProcess(support.program(), self.config)
         with process.process:
-            yield process.trunk
+            yield process.process.pid, process.trunk
             self.assertEqual(process.end(), 0)
 
     @contextlib.contextmanager
-    def trunk(self) -> Iterator[Exchanges]:
-        here, there = socket.socketpair()
-        words = [support.program(), 'trunk', '--config', self.config]
-        with here, subprocess.Popen(words, stdin=there.fileno(), stdout=there.fileno()) as process:
-            there.close()
-            here.settimeout(SECONDS)
-
-            def exchange(octets: bytes) -> bytes:
-                here.sendall(octets)
-                return read_all(here, len(octets))
-
-            yield exchange
-            here.shutdown(socket.SHUT_WR)
-            self.assertEqual(process.wait(SECONDS), 0)
+    def trunk(self) -> Iterator[tuple[int, Exchanges]]:
+        with TrunkProcess([support.program(), 'trunk', '--config', self.config], '', waits=True) as trunk:
+            yield trunk.serving.pid, trunk.passes
+            self.assertEqual(trunk.ends(), (0, ''))
 
     def send(self, circuit: int, datagram: bytes) -> None:
         """Sends a datagram to a circuit, and returns once it is in the circuit's socket."""
@@ -125,10 +113,12 @@ class PortsAskedTests(support.FolderCase):
         self.peers[circuit].sendto(datagram, ('127.0.0.1', port))
         support.until(lambda: waiting_at(port) > before, 0.001)
 
-    def answers(self, steps: list[Step], exchange: Exchanges) -> bytes:
-        """The octets that are sent in a session."""
+    def answers(self, steps: list[Step], pid: int, exchange: Exchanges) -> bytes:
+        """The octets that a process sends in a session. Behind its answers it may still receive what was there before,
+        so nothing is sent to it until it waits for octets."""
         back = b''
         for datagrams, octets in steps:
+            support.until(lambda: all(each[0] == 'S' for each in threads_of(pid)), 0.001)
             for circuit, datagram in datagrams:
                 self.send(circuit, datagram)
             back += exchange(octets)
@@ -143,12 +133,8 @@ class PortsAskedTests(support.FolderCase):
             self.assertGreater(len(played), 100)
             for served in (self.serve, self.trunk):
                 with self.subTest(seed=seed, served=served.__name__):
-                    with served() as exchange:
-                        back = self.answers(steps, exchange)
+                    with served() as process:
+                        back = self.answers(steps, *process)
                     sent = [self.peers[record.circuit].recv(2048) for record in packets]
                     self.assertEqual(back, octets_in(wanted))
                     self.assertEqual(sent, [record.body for record in packets])
-
-
-if __name__ == '__main__':
-    unittest.main()

@@ -8,18 +8,18 @@ import contextlib
 import os
 import random
 import re
-import select
 import signal
 import socket
 import subprocess
-import sys
 import time
 import unittest
+from types import SimpleNamespace
 from typing import Any, Callable
+from unittest import mock
 
 from . import limits, support
 from .support import SECONDS
-from .world import LAUNCHER
+from .world import trunk_command, words_of
 from e1gw.exchange import ACKNOWLEDGED, ANSWERED, SEIZED
 from e1gw.session import MULTIFRAME, Codec, Command, Kind, codec_record, command_record, packet_of, records_in
 from e1gw.session import trunk_record
@@ -36,13 +36,10 @@ class KeeperDevice:
 
     def __init__(self, folder: str) -> None:
         self.path = os.path.join(folder, 'card')
-        self.listener = socket.socket(socket.AF_UNIX)
-        self.listener.bind(self.path)
-        self.listener.listen(1)
-        self.listener.settimeout(SECONDS)
+        self.listener = support.listening(self.path)
         self.exchange = support.Exchange()
         self.speech = random.Random(5)
-        self.line = self.listener
+        self.line: Any = self.listener
 
     def accept(self) -> None:
         self.line = self.listener.accept()[0]
@@ -53,15 +50,6 @@ class KeeperDevice:
         for circuit in CIRCUITS:
             self.exchange.speech[circuit] = bytearray(self.speech.randbytes(16))
         return self.exchange.multiframe()
-
-    def read(self, length: int) -> bytes:
-        got = b''
-        while len(got) < length:
-            piece = self.line.recv(length - len(got))
-            if not piece:
-                raise EOFError
-            got += piece
-        return got
 
     def close(self) -> None:
         self.line.close()
@@ -113,17 +101,17 @@ class KeeperCase(support.FolderCase):
         self.heard: list[bytes | None] = []     # the answer to each record of the trunk, or None where it is lost
         self.told_from = self.first = 0         # what was heard before the keeper of now counted octets
         self.program = self.shadow = 0
-
-    def starts(self, *options: str, **around: str) -> None:
-        """Starts a keeper, which opens the device."""
-        told = open(self.path('told'), 'ab')
-        self.addCleanup(told.close)
         memory = support.in_memory()
         self.addCleanup(memory.cleanup)
         self.memory = memory.name
-        words = [sys.executable, '-B', LAUNCHER, '--program', support.program(), '--config', self.config, '--unix',
-                 self.device.path, '--program-control', self.path('control'), '--folder', memory.name, *options]
-        self.keeper = subprocess.Popen(words, stderr=told, stdin=subprocess.DEVNULL, env={**os.environ, **around})
+        self.command = trunk_command('--config', self.config, '--unix', self.device.path, '--program-control',
+                                   self.path('control'), '--folder', self.memory)
+
+    def starts(self, *options: str, **around: str) -> None:
+        """Starts a keeper, which opens the device."""
+        with open(self.path('told'), 'ab') as told:
+            self.keeper = subprocess.Popen([*self.command, *options], stderr=told, stdin=subprocess.DEVNULL,
+                                           env={**os.environ, **around})
         self.addCleanup(self._end)
         self.device.accept()
         self.goes_on()
@@ -180,16 +168,13 @@ class KeeperCase(support.FolderCase):
     def take(self, count: int) -> None:
         """Takes the answers to this number of records."""
         for _ in range(count):
-            back = self.device.read(MULTIFRAME)
+            back = support.read_from(self.device.line, MULTIFRAME)
             self.heard.append(back)
             self.device.exchange.hear(back)
             self.peers.take()
 
     def client(self) -> socket.socket:
-        line = socket.socket(socket.AF_UNIX)
-        line.settimeout(SECONDS)
-        line.connect(self.path('control'))
-        return line
+        return support.connected(self.path('control'))
 
     def commands(self, circuits: range, command: Command) -> None:
         """Gives a command to each of these circuits, and sees it done."""
@@ -230,12 +215,19 @@ class KeeperCase(support.FolderCase):
         """The next program goes on behind all that was answered."""
         self.assertIn(f'behind octet {(len(self.heard) - self.first) * MULTIFRAME}', self.goes_on())
 
-    def other_program(self, *cases: str) -> str:
-        """A program that does what these cases of a shell say, else what the program does."""
-        own = ''.join(f'{case} ;;\n' for case in cases)
-        path = self.write('program', f'#!/bin/sh\ncase $1 in\n{own}*) exec {support.program()} "$@" ;;\nesac\n')
+    def other_program(self, *cases: str) -> None:
+        """From the next one on, a program that does what these cases of a shell say, else what the program does."""
+        own, path = ''.join(f'{case} ;;\n' for case in cases), self.path('program')
+        with contextlib.suppress(FileNotFoundError):
+            os.unlink(path)
+        self.write('program', f'#!/bin/sh\ncase $1 in\n{own}*) exec {support.program()} "$@" ;;\nesac\n')
         os.chmod(path, 0o755)
-        return path
+        self.command[self.command.index('--program') + 1] = path
+
+    def log_of(self) -> str:
+        """The path of the log of the program."""
+        words = words_of(self.program)
+        return f'/proc/{self.program}/fd/{os.path.basename(words[words.index("--record") + 1])}'
 
     def killed(self, number: int) -> None:
         """The program is sent a signal at any moment behind a record, and another one goes on."""
@@ -244,7 +236,8 @@ class KeeperCase(support.FolderCase):
         self.send()
         for _ in range(self.chance.randrange(0, 400)):
             pass
-        os.kill(self.program, number)
+        with contextlib.suppress(ProcessLookupError):
+            os.kill(self.program, number)
         said = self.goes_on()
         self.assertIn('octets (8 ms) at most', said)
         taken = int(said.split('behind octet ')[1].split(',')[0])
@@ -268,7 +261,8 @@ class KeeperCase(support.FolderCase):
             self.assertEqual(len(line.recv(6)), 6)
         self.device.line.setblocking(False)
         try:
-            return self.device.line.recv(65_536)
+            back: bytes = self.device.line.recv(65_536)
+            return back
         except BlockingIOError:
             return b''
         finally:
@@ -305,18 +299,26 @@ class KeeperCase(support.FolderCase):
         lost = self.heard.count(None)
         self.peers.take()
         for circuit in sorted({*CIRCUITS} - {but}):
-            due = packets[circuit]
-            got = [packet for packet in self.peers.packets[circuit] if packet in set(due)]
+            due, came = packets[circuit], self.peers.packets[circuit]
+            both = {*due} & {*came}
+            got = [packet for packet in came if packet in both]
             self.assertLessEqual(len(due) - len(got), lost)
-            self.assertEqual(got, [packet for packet in due if packet in set(got)], f'circuit {circuit}')
+            self.assertEqual(got, [packet for packet in due if packet in both], f'circuit {circuit}')
             numbers = [packet_of(packet).sequence for packet in due]
             # A packet of a record in hand may have left before the program was killed: its number is sent again.
-            early = [packet_of(packet).sequence for packet in self.peers.packets[circuit] if packet not in set(due)]
+            early = [packet_of(packet).sequence for packet in came if packet not in both]
             self.assertLessEqual(len(early), self.unknown, f'circuit {circuit}')
             self.assertLessEqual({*early}, {*numbers}, f'circuit {circuit}')
             self.assertEqual(numbers, list(range(numbers[0], numbers[0] + len(numbers))))
         self.assertEqual({**self.device.exchange.signals, but: 0}, {**self.up(), but: 0})
         self.assertFalse(self.device.exchange.remote_alarms)
+
+    def survives(self) -> None:
+        """All goes on over a death of the program, and the trunk ends in order."""
+        self.dies()
+        self.step(20)
+        self.as_uncut()
+        self.ends()
 
     def ends(self) -> None:
         self.keeper.terminate()
@@ -324,61 +326,29 @@ class KeeperCase(support.FolderCase):
         self.assertFalse(os.path.lexists(self.path('control')))
 
 
-class KeeperHandoverTests(KeeperCase):
-    """What an operator asks for."""
-
-    def test_another_configuration(self) -> None:
-        """Of one with another circuit 7 all other circuits go on."""
-        self.starts()
-        self.calls()
-        self.write('trunk.toml', self.peers.config(prefill=400))
-        self.keeper.send_signal(signal.SIGHUP)
-        self.goes_on()
-        self.awaits('program: circuit 7 begins as new')
-        self.step(60)
-        self.assertNotEqual(self.device.exchange.signals[7], self.up()[7])
-        self.dies()
-        self.step(10)
-        self.assertEqual(self.told().count('begins as new'), 1)
-        self.write('trunk.toml', self.peers.config())
-        self.as_uncut(7)
-
-
-class KeeperFifoTests(support.FolderCase):
-    """A trunk that is a pair of FIFOs, without a control socket."""
-
-    def read(self, name: str) -> str:
-        with open(self.path(name), encoding='utf-8') as file:
-            return file.read()
-
+class KeeperFifoTests(KeeperCase):
     def test_goes_on(self) -> None:
-        support.program()
-        config = self.write('trunk.toml', 'law = "A"\n')
-        for name in ('in', 'out'):
-            os.mkfifo(self.path(name))
-        told = open(self.path('told'), 'wb')
-        self.addCleanup(told.close)
-        keeper = subprocess.Popen([sys.executable, '-B', LAUNCHER, '--program', support.program(), '--config', config,
-                                   '--in', self.path('in'), '--out', self.path('out')], stderr=told)
-        self.addCleanup(keeper.wait)
-        self.addCleanup(keeper.terminate)
-        with open(self.path('in'), 'wb', buffering=0) as into, open(self.path('out'), 'rb', buffering=0) as out:
-            exchange = support.Exchange()
-            for turn in range(3):
-                while len(found := GOES_ON.findall(self.read('told'))) <= turn:
-                    self.assertIsNone(keeper.poll())
-                    time.sleep(0.002)
-                for _ in range(30):
-                    into.write(exchange.multiframe())
-                    self.assertTrue(select.select([out], [], [], SECONDS)[0])
-                    exchange.hear(out.read(MULTIFRAME))
-                if turn == 0:
-                    os.kill(int(found[-1][0]), signal.SIGKILL)
-                elif turn == 1:
-                    keeper.send_signal(signal.SIGHUP)
-            self.assertFalse(exchange.remote_alarms)
-            into.close()
-            self.assertEqual(keeper.wait(SECONDS), 0)
+        """A trunk that is a pair of FIFOs, without a control socket."""
+        pair = [self.path(name) for name in ('in', 'out')]
+        for path in pair:
+            os.mkfifo(path)
+        self.command = trunk_command('--config', self.config, '--in', pair[0], '--out', pair[1])
+
+        def opens() -> None:
+            into, out = open(pair[0], 'wb', buffering=0), open(pair[1], 'rb', buffering=0)
+            self.addCleanup(out.close)
+            self.device.line = SimpleNamespace(sendall=into.write, recv=out.read, close=into.close)
+        with mock.patch.object(self.device, 'accept', opens):
+            self.starts()
+        self.step(30)
+        self.dies()
+        self.step(30)
+        self.keeper.send_signal(signal.SIGHUP)
+        self.goes_on_behind()
+        self.step(30)
+        self.assertEqual(self.heard, self.uncut()[0])
+        self.device.line.close()
+        self.assertEqual(self.keeper.wait(SECONDS), 0)
 
 
 if __name__ == '__main__':

@@ -1,11 +1,12 @@
 """Who reads the status or events and who asks much has no more than a share."""
 from __future__ import annotations
 
+import os
 import socket
 import unittest
+from contextlib import suppress
 
-from .readers import EVENTS
-from .support import SECONDS
+from . import support
 from .test_trunk import FOUR
 from .world import World, config_of
 from e1gw.service import commands
@@ -17,10 +18,8 @@ class ControlConnectionTests(unittest.TestCase):
         self.addCleanup(self.world.__exit__)
 
     def connect(self, said: bytes = b'') -> socket.socket:
-        line = socket.socket(socket.AF_UNIX)
+        line = support.connected(self.world.path('ctl'))
         self.addCleanup(line.close)
-        line.connect(self.world.path('ctl'))
-        line.settimeout(SECONDS)
         line.sendall(said)
         return line
 
@@ -34,6 +33,19 @@ class ControlConnectionTests(unittest.TestCase):
             while True:
                 line.sendall(bytes(65536))
 
+    def test_a_socket_that_is_removed(self) -> None:
+        """Another one is there soon, and who was connected stays."""
+        line = self.connect(b'events\n')
+        self.until_told(line, b'following\n\n')
+        os.unlink(self.world.path('ctl'))
+        support.until(self.answers)
+        self.until_told(line, b'"command"')
+
+    def answers(self) -> bool:
+        with suppress(OSError):
+            return bool(self.world.ask('codec 3 pcma 8'))
+        return False
+
     def test_those_who_say_nothing_lock_nobody_out(self) -> None:
         silent = [self.connect() for _ in range(100)]
         self.assertIn('circuits are', self.world.ask('seize 31'))
@@ -45,13 +57,13 @@ class ControlConnectionTests(unittest.TestCase):
         for _ in range(commands.MOST_CLIENTS):
             lines.append(self.connect(b'events\n'))
             self.assertEqual(lines[-1].recv(100), b'following\n\n')
-        lines[0].sendall(EVENTS.encode() + b'\n')
+        lines[0].sendall(b'codec 3 pcma 8\n')
         self.until_told(lines[0], b'codec 3: done\n')
         for _ in range(2):
             self.assertIn('circuits are', self.world.ask_at_once('seize 31'))
         while lines[1].recv(65536):
             pass
-        self.world.ask(EVENTS)
+        self.world.ask('codec 3 pcma 8')
         for line in lines[0], lines[2]:
             self.until_told(line, b'"command"')
 
@@ -60,7 +72,3 @@ class ControlConnectionTests(unittest.TestCase):
         while words not in told:
             self.assertTrue(piece := line.recv(65536))
             told += piece
-
-
-if __name__ == '__main__':
-    unittest.main()

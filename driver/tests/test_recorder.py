@@ -4,15 +4,12 @@ A file of a ring, too, replays from its state. The disk may be full: the calls g
 from __future__ import annotations
 
 import glob
-import json
 import os
 import signal
-import time
-import unittest
 
 from . import support
 from .test_program_killed import KeeperCase
-from e1gw.archive import run_last
+from e1gw.priority import run_last
 from e1gw.session_files import by_time, kept, note_of, octets_of
 from e1gw.session import MULTIFRAME, Kind, records_in
 
@@ -55,29 +52,14 @@ class RecorderCase(KeeperCase):
             self.assertEqual(self.answers(its, *load), octets[begin:end], begin)
         return fronts
 
-    def handed_over(self, number: int | None, pid: int = 0) -> None:
-        """A handover in which nothing is lost: a process is sent a signal, or the trunk is reloaded."""
-        waiting = self.send(2)
-        os.kill(pid or self.keeper.pid, number or signal.SIGHUP)
-        waiting += self.send(2)
-        self.take(waiting)
+    def reloaded(self) -> None:
+        """A handover in which nothing is lost."""
+        self.under_way(lambda: self.keeper.send_signal(signal.SIGHUP))
         self.goes_on()
         self.step(self.chance.randrange(1, 40))
 
 
 class RecordedFileTests(RecorderCase):
-    def test_full_disk(self) -> None:
-        """It ends what is kept, and nothing else."""
-        self.starts('--session', '/dev/full')
-        self.calls()
-        self.awaits('session ended, the calls go on: No space left on device: /dev/full')
-        self.step(20)
-        os.kill(self.program, signal.SIGKILL)
-        self.assertIn('at most', self.goes_on())
-        self.step(60)
-        self.assertEqual(self.device.exchange.signals, self.up())
-        self.ends()
-
     def test_reader_that_stands_still(self) -> None:
         """What waits for it stays in memory up to a bound. Then the recording ends, and no call does."""
         os.mkfifo(self.path('kept'))
@@ -88,61 +70,82 @@ class RecordedFileTests(RecorderCase):
         self.calls()
         while 'session ended, the calls go on: it takes too little' not in self.told():
             self.step(20)
-        self.dies()
-        self.step(20)
-        self.as_uncut()
-        self.ends()
+        self.survives()
 
 
 class RecordedRingTests(RecorderCase):
-    def starts_ring(self, keep: str = LONG) -> None:
-        self.starts('--session', self.path('ring'), '--keep', keep, '--name', 'west')
+    def starts_ring(self, keep: str = LONG, **around: str) -> None:
+        self.starts('--session', self.path('ring'), '--keep', keep, '--name', 'west', **around)
         self.calls()
 
     def test_what_a_crash_lost(self) -> None:
-        """It is noted where the next file begins, which has the state of the shadow."""
+        """It is noted where the next file begins, which has the state of the shadow. Those who read a ring read it."""
         self.starts_ring()
         os.kill(self.program, signal.SIGKILL)
         self.goes_on()
         self.step(40)
         self.ends()
         first, about = [note_of(f'{front}.e1gw') for front in self.each_file_replays()]
-        self.assertEqual((first['begins'], 'slips' in first, about['begins']), ('start', False, 'middle'))
+        self.assertEqual((first['begins'], 'slips' in first, about['begins'], about['config']),
+                         ('start', False, 'middle', self.config))
         self.assertEqual(about['slips'], [[about['place'], 0.008]])
         self.assertEqual(about['place'], len(self.given_trunk()) - 40 * MULTIFRAME)
+        page, picture = self.path('page.html'), os.path.join(support.TOP, 'driver', 'e1gw-picture')
+        records = os.path.join(support.TOP, 'tools', 'records')
+        for words in ([picture, '--program', support.program(), '-o', page, self.path('ring')],
+                      *([records, path] for front in self.files() for path in glob.glob(f'{front}.e1gw*')
+                        if not path.endswith('.part'))):
+            self.assertEqual(run_last(words)[0], 0, words)
+        self.assertTrue(os.path.exists(page))
 
     def test_another_configuration(self) -> None:
-        """What is read of the ring begins where the configuration changed, with the state."""
+        """Of one with another circuit 7 all other circuits go on. What is read of the ring begins where it changed,
+        with the state."""
         self.starts_ring()
-        self.handed_over(None)
+        self.reloaded()
         self.write('trunk.toml', self.peers.config(prefill=400))
-        self.keeper.send_signal(signal.SIGHUP)
-        self.goes_on()
+        self.reloaded()
         self.awaits('program: circuit 7 begins as new')
+        self.step(60)
+        self.assertNotEqual(self.device.exchange.signals[7], self.up()[7])
+        self.dies()
         self.step(40)
         self.ends()
-        session = kept(self.path('ring'))
+        self.assertEqual(self.told().count('begins as new'), 1)
+        session, files = kept(self.path('ring')), [f'{front}.e1gw' for front in self.files()]
         self.assertEqual((session.files, session.state, session.middle),
-                         ([f'{self.files()[2]}.e1gw'], f'{self.files()[2]}.state', True))
+                         (files[2:], f'{self.files()[2]}.state', True))
         self.assertEqual(self.answers(self.kept_of(self.path('ring')), '--load', session.state),
                          self.heard_all()[session.place:])
+        self.write('trunk.toml', self.peers.config())
+        self.as_uncut(7)
 
-    def test_state_behind_a_file(self) -> None:
-        """A ring that goes on makes the state of its second file, which begins after five seconds of the clock, from
-        that of its first."""
-        self.starts_ring('1m')
-        while len(fronts := self.files()) < 2 or not os.path.exists(f'{fronts[1]}.state'):
+    def test_files_of_one_program(self) -> None:
+        """Each begins at a checkpoint, with its state, where the one before it ends."""
+        self.starts('--session', self.path('ring'), '--keep', '1m', '--name', 'west',
+                    **self.within(checkpoints_LOG_ROOM=65_536, recordings_FILES=600))
+        self.calls()
+        while len(self.files()) < 5:
             self.step(10)
-            time.sleep(0.05)
         self.ends()
         self.each_file_replays()
+
+    def test_a_checkpoint_at_the_end(self) -> None:
+        """One that the reader of the log has not seen before its program is gone begins no file."""
+        self.starts('--session', self.path('ring'), '--keep', '1m', '--name', 'west',
+                    **self.within(checkpoints_LOG_ROOM=65_536, recordings_FILES=600, reader_TICK=3600.0))
+        self.calls()
+        while os.path.exists(f'/proc/{self.shadow}'):   # (it ends when it has saved)
+            self.step(10)
+        self.ends()
+        self.assertEqual(len(self.each_file_replays()), 1)
 
     def test_a_ring_that_begins_again(self) -> None:
         """With no other program: the file that is begun has the state of a checkpoint, and replays from that."""
         self.write('ring', '')
         self.starts('--session', self.path('ring'), '--keep', LONG, '--name', 'west', **self.within(reader_AGAIN=0.1))
         self.calls()
-        self.awaits('session ended, the calls go on: File exists')
+        support.until(lambda: 'session ended, the calls go on: File exists' in self.told())
         program = self.program
         os.unlink(self.path('ring'))
         self.awaits('the recording begins again: program')
@@ -152,22 +155,3 @@ class RecordedRingTests(RecorderCase):
         self.ends()
         (front,) = self.each_file_replays()
         self.assertGreater(note_of(f'{front}.e1gw')['place'], 0)
-
-    def test_picture_and_records(self) -> None:
-        """Those who read a ring read this one."""
-        self.starts_ring()
-        self.handed_over(None)
-        self.ends()
-        page = self.path('page.html')
-        picture = os.path.join(support.TOP, 'driver', 'e1gw-picture')
-        status, said = run_last([picture, '--program', support.program(), '-o', page, self.path('ring')])
-        self.assertEqual((status, os.path.exists(page)), (0, True), said)
-        for front in self.files():
-            with open(f'{front}.json', encoding='utf-8') as file:
-                self.assertEqual(json.load(file)['config'], self.config)
-            status, said = run_last([os.path.join(support.TOP, 'tools', 'records'), f'{front}.e1gw'])
-            self.assertEqual(status, 0, said)
-
-
-if __name__ == '__main__':
-    unittest.main()

@@ -1,12 +1,16 @@
 """What a shadow tells, in the words of the manual, and what is known by it."""
 from __future__ import annotations
 
+import asyncio
 import unittest
 from typing import Any
+from unittest import mock
 
+from . import support
 from .stand_ins import IDLE, row
 from e1gw.counts import DatagramCounts
-from e1gw.reports import BadTelling, Told
+from e1gw.reports import BadTelling, TrunkState
+from e1gw.service import status
 
 BEGIN = ['e1gw tell 1 A', 'at 512', 'alarms 0 0 0 0', *(f'line {each}' for each in IDLE)]
 
@@ -16,18 +20,18 @@ class ToldTests(unittest.TestCase):
         self.now, self.events = 100.0, list[dict[str, Any]]()
         self.counted: list[tuple[int, ...]] = []
         self.counts = DatagramCounts(lambda *answer: self.counted.append(answer))
-        self.told = Told({'law': 'A', 'circuit': [{'number': 1, 'prefill': 320}]}, self.events.append, self.counts,
-                         lambda: self.now)
-        self.told.begin(1)
+        self.told = TrunkState({'law': 'A', 'circuit': [{'number': 1, 'prefill': 320}]}, self.events.append,
+                               self.counts, lambda: self.now)
+        self.told.begin()
         self.take(*BEGIN, 'now')
 
     def take(self, *lines: str) -> None:
         self.told.take(('\n'.join(lines) + '\n').encode())
 
-    def again(self, session: int, *changed: str, place: int = 512) -> None:
+    def again(self, *changed: str, place: int = 512, begun: int | None = None) -> None:
         """Another connection; the whole state has these lines."""
         self.told.lost()
-        self.told.begin(session)
+        self.told.begin(begun)
         rows = {line[5:7]: line for line in (*BEGIN[3:], *changed) if line.startswith('line')}
         alarms = [line for line in changed if line.startswith('alarms')] or [BEGIN[2]]
         self.take(BEGIN[0], f'at {place}', *alarms, *rows.values(), 'now')
@@ -116,39 +120,37 @@ class ToldTests(unittest.TestCase):
 
     def test_what_was_refused_while_nobody_was_told(self) -> None:
         self.take('datagram 1 14 0 0 0')
-        self.again(2, row(1, 'idle', counts=(5, 2, 8)))
+        self.again(row(1, 'idle', counts=(5, 2, 8)))
         self.assertEqual(self.circuit()['datagrams'], {'sent': 5, 'admitted': 2, 'Late': 1, 'Unwatched': 7})
-        self.again(3, row(1, 'idle', counts=(1, 0, 2)))      # a new gateway
+        self.again(row(1, 'idle', counts=(1, 0, 2)))      # a new gateway
         self.assertEqual(self.circuit()['datagrams'], {'sent': 1, 'admitted': 0, 'Unwatched': 2})
 
     def test_numbers_that_nobody_was_told_are_not_lost(self) -> None:
         self.take('datagram 1 0 10 0 7')
-        self.again(2)
+        self.again()
         self.take('datagram 1 0 500 9999 7', 'datagram 1 0 502 9999 7')
         self.assertEqual(self.circuit()['lost'], 1)
 
     def test_changes_that_nobody_was_told(self) -> None:
         self.take(row(1, 'answered', '00 01'))
         self.events.clear()
-        self.again(2, 'alarms 1 0 0 0', row(2, 'acked', '11 00', role='incoming'))
+        self.again('alarms 1 0 0 0', row(2, 'acked', '11 00', role='incoming'))
         self.assertEqual(self.names(), [('lost', 'frame'), ('alarm', 'frame', True), ('state', 'answered', 'idle'),
                                         ('state', 'idle', 'acked')])
         self.assertEqual([event.get('unwatched') for event in self.events], [None, None, True, True])
 
     def test_the_place_goes_on(self) -> None:
         self.take('at 4096')
-        self.again(2, place=512)
+        self.again()
         self.assertEqual(self.told.place, 4096 + 512)
         self.take('at 1024')
-        self.again(2, place=2048)       # the same shadow as before
-        self.assertEqual(self.told.place, 4096 + 2048)
-        self.told.reach(1024)
+        self.again(place=2048, begun=4096)      # the same shadow as before
         self.assertEqual(self.told.place, 4096 + 2048)
 
     def test_counts_are_stale_while_nobody_tells(self) -> None:
         self.told.lost()
         self.assertTrue(self.circuit()['stale'])
-        self.told.begin(2)
+        self.told.begin()
         self.take(*BEGIN)
         self.assertTrue(self.circuit()['stale'])
         self.take('now')
@@ -164,14 +166,14 @@ class ToldTests(unittest.TestCase):
         for line in ('line 1', row(1, 'asleep'), row(31, 'idle'), 'alarms 1 1', 'alarms a b c d', 'at x',
                      'datagram 1 0', 'datagram 99 0 1 1 1', 'command 1 9 0'):
             with self.subTest(line), self.assertRaises(BadTelling):
-                self.told.begin(1)
+                self.told.begin()
                 self.take(*BEGIN[:1], line)
         with self.assertRaises(BadTelling) as fault:
-            self.told.begin(1)
+            self.told.begin()
             self.take('e1gw tell 2 A')
         self.assertEqual(str(fault.exception), 'it speaks version 2, and 1 is known')
         with self.assertRaises(BadTelling):
-            self.told.begin(1)
+            self.told.begin()
             self.take('at 512')
         with self.assertRaises(BadTelling):
             self.told.take(b'x' * 5000)
@@ -181,5 +183,30 @@ class ToldTests(unittest.TestCase):
         self.assertEqual(self.events, [])
 
 
-if __name__ == '__main__':
-    unittest.main()
+class ReadInOrderTests(support.FolderCase, unittest.IsolatedAsyncioTestCase):
+    async def test_a_change_while_the_state_is_asked_for(self) -> None:
+        """It was taken before the one that the loop had read and not taken yet: a line was in a state of long ago, or
+        two halves of lines were none."""
+        events, config = list[dict[str, Any]](), self.write('trunk.toml', 'law = "A"\n[[circuit]]\nnumber = 1\n')
+        tell = self.path('tell')
+        trunk = mock.Mock(tell=tell, **{'config_path.return_value': config, 'facts.return_value': {},
+                                        'follower.return_value': (tell, '', None)})
+        with support.listening(tell) as listener, mock.patch.object(status, 'REST', 0.0):
+            its = status.TrunkStatus(trunk, 'west', events.append, DatagramCounts(), lambda line: None)
+            follows = asyncio.create_task(its.follow())
+            await asyncio.sleep(0)
+            with listener.accept()[0] as line:
+                line.sendall('\n'.join([*BEGIN, 'now', '']).encode())
+                while not its.lines.live:
+                    await asyncio.sleep(0.001)
+                await asyncio.sleep(0.01)           # (it waits for more)
+                line.sendall(f'{row(1, "seized", "00 10")}\n'.encode())
+                await asyncio.sleep(0)
+                await asyncio.sleep(0)              # (the loop has seen it, and nobody was woken yet)
+                line.sendall(f'{row(1, "acked", "00 11")}\n'.encode())
+                its.take_now()
+                while its.lines.lines[1].state != 'acked':
+                    await asyncio.sleep(0.001)
+            follows.cancel()
+            await asyncio.wait([follows])
+        self.assertEqual([each['state'] for each in events if each['event'] == 'state'], ['seized', 'acked'])

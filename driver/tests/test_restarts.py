@@ -1,14 +1,18 @@
 """Which calls have their playout restarted: by the rule alone, and in simulated time with the gateway's playout."""
 from __future__ import annotations
 
+import random
 import unittest
 from itertools import product
-from typing import Any, Callable
+from typing import Any
 
-from .simulated import SimulatedCall, stalls
+from . import support
+from e1gw.clock import TICK, Clock
 from e1gw.events import words_of
+from e1gw.lines import Event
 from e1gw.restarts import REFUSED, Restarts
-from e1gw.session import DatagramRefusal
+from e1gw.session import (FRAME, MULTIFRAME, Codec, Command, DatagramRefusal, Packet, codec_record, command_record,
+                          datagram_record, trunk_record)
 
 LATE, FULL = int(DatagramRefusal.LATE), int(DatagramRefusal.FULL)
 SECOND = 256_000
@@ -30,31 +34,24 @@ class RestartRuleTests(unittest.TestCase):
                 self.rule.counted(circuit, codes[n % len(codes)], round(self.now * SECOND))
             self.rule.look(self.now, round(self.now * SECOND), [1, 2, 3], self.counts)
 
-    def test_refused_datagrams(self) -> None:
-        for code in (LATE, FULL):
-            self.setUp()
-            self.go(0.6, code)
-            self.assertEqual(len(self.restarted), 1)
-
-    def test_half_of_them_and_less(self) -> None:
-        self.go(3, 0, LATE)
-        self.assertEqual(len(self.restarted), 1)
+    def test_how_often(self) -> None:
+        """Half a second in which half of the datagrams or more are refused for their time. A stranger's and those that
+        come twice say nothing of it, nor do counts that are not those of now."""
+        stranger, others = int(DatagramRefusal.WRONG_SOURCE), [int(each) for each in DatagramRefusal
+                                                               if each not in (LATE, FULL)]
+        rows: list[tuple[float, float, list[int], int]] = [
+            (0.6, 0.02, [LATE], 1), (0.6, 0.02, [FULL], 1), (3, 0.02, [0, LATE], 1), (3, 0.02, [0, 0, LATE], 0),
+            (3, 0.02, others, 0), (0.6, 0.02, [LATE, stranger, stranger], 1),
+            *[(0.8, every, [LATE], 1) for every in (0.005, 0.01, 0.03, 0.06, 0.1, 0.2)]]
+        for seconds, every, codes, count in rows:
+            with self.subTest(every=every, codes=codes):
+                self.setUp()
+                self.go(seconds, *codes, every=every)
+                self.assertEqual(len(self.restarted), count)
         self.setUp()
-        self.go(3, 0, 0, LATE)
+        self.counts = False
+        self.go(3, LATE)
         self.assertEqual(self.restarted, [])
-
-    def test_other_refusals(self) -> None:
-        """A stranger's datagrams and those that come twice say nothing of the time."""
-        self.go(3, *(int(each) for each in DatagramRefusal if each not in (LATE, FULL)))
-        self.assertEqual(self.restarted, [])
-        self.go(0.6, LATE, int(DatagramRefusal.WRONG_SOURCE), int(DatagramRefusal.WRONG_SOURCE))
-        self.assertEqual(len(self.restarted), 1)
-
-    def test_packets_of_any_length(self) -> None:
-        for every in (0.005, 0.01, 0.03, 0.06, 0.1, 0.2):
-            self.setUp()
-            self.go(0.8, LATE, every=every)
-            self.assertEqual(len(self.restarted), 1, every)
 
     def test_a_burst_that_was_held_back(self) -> None:
         for _ in range(12):
@@ -72,11 +69,6 @@ class RestartRuleTests(unittest.TestCase):
     def test_once_in_ten_seconds(self) -> None:
         self.go(60.5, LATE)
         self.assertEqual([round(at) for at, _ in self.restarted], [0, 10, 20, 30, 40, 50, 60])
-
-    def test_counts_that_are_not_those_of_now(self) -> None:
-        self.counts = False
-        self.go(3, LATE)
-        self.assertEqual(self.restarted, [])
 
     def test_lost_octets(self) -> None:
         for at in (0.0, 3.0, 5.0):
@@ -107,95 +99,176 @@ class RestartRuleTests(unittest.TestCase):
         self.assertEqual(len(self.restarted), 2)
 
     def test_what_is_told(self) -> None:
-        self.go(119, LATE, circuits=(1, 2))
-        self.assertEqual(len(self.restarted), 24)
-        self.assertEqual([words_of(event) for event in self.told], [
-            f'jitter buffer resynchronised, {REFUSED}: circuits 1, 2',
-            'jitter buffer resynchronised 10 times more, again within a minute: circuits 1, 2'])
-        self.assertEqual(self.told[1]['count'], 10)
+        self.go(19, LATE, circuits=(1, 2))
+        self.assertEqual(len(self.restarted), 4)
+        self.assertEqual([words_of(event) for event in self.told],
+                         [f'jitter buffer resynchronised, {REFUSED}: circuits 1, 2'] * 2)
 
 
-class RestartSimulationTests(unittest.TestCase):
+STEP = 0.002                # a multiframe
+PACKET = 0.02
+IDLE, SPOKEN = 0xD5, 0x55
+ACKNOWLEDGED, ANSWERED = 3, 1
+
+
+class SimulatedCall:
+    """Circuit 1 in a call, to which a packet is sent each 20 ms: the driver's clock, counts and restarts about `e1gw
+    replay`, whose playout is the gateway's. Nothing waits for a moment to come, so a stall of the machine changes
+    nothing."""
+
+    def __init__(self, config: str, gap: float = 0.1, counts: bool = True) -> None:
+        self._counts = counts
+        self._replay = support.ReplayInSteps('--config', config)
+        self.events: list[Event] = []
+        self.restarts: list[float] = []         # when
+        self.exchange, self._place = support.Exchange(), 0
+        self.clock = Clock(0.0, gap)
+        self._restarts = Restarts(self._restart, self.events.append)
+        self.now, self._tick = 0.0, TICK
+        self.sent, self.heard, self._speaks = 0, 0, False
+        self._began = 0.0
+        self._up()
+
+    def __enter__(self) -> SimulatedCall:
+        return self
+
+    def __exit__(self, *_: object) -> None:
+        self._replay.close()
+
+    def _up(self) -> None:
+        """From alignment to a call that is answered, and half a second more."""
+        self.flow(0.1)
+        self._replay.passes(command_record(1, Command.SEIZE))
+        for pair in (ACKNOWLEDGED, ANSWERED):
+            self.exchange.pairs[1] = pair
+            self.flow(0.06)
+        self.flow(0.5)
+
+    def speak(self, behind: float = 0.003) -> None:
+        """Sends packets, the first one `behind` seconds from now."""
+        self._speaks, self._began = True, self.now + behind
+
+    def lost(self) -> float:
+        """Seconds of the speech that was sent which were not heard; no more is sent."""
+        self._speaks = False
+        self.flow(0.5)
+        return self.sent * PACKET - self.heard / 8000
+
+    # ---- what the trunk and the machine do ----
+
+    def flow(self, seconds: float) -> None:
+        """Octets come at their rate."""
+        for _ in range(round(seconds / STEP)):
+            self._wait(STEP)
+            self._read()
+
+    def at_once(self, seconds: float) -> None:
+        """Octets of this time come at one moment."""
+        for _ in range(round(seconds / STEP)):
+            self._read()
+
+    def hold(self, seconds: float) -> None:
+        """The trunk's octets come late, and then at once."""
+        self._wait(seconds)
+        self.at_once(seconds)
+
+    def lose(self, seconds: float) -> None:
+        """Octets are lost."""
+        self._wait(seconds)
+
+    def stand_still(self, seconds: float) -> None:
+        """This machine stalls. Octets and packets wait; then they are read as fast as it goes, four times."""
+        self.now += seconds
+        self._tick = max(self._tick, self.now)
+        waiting = seconds
+        while waiting > 0:
+            self._wait(STEP / 4)
+            waiting += STEP / 4 - STEP
+            self._read()
+
+    # ---- the driver ----
+
+    def _wait(self, seconds: float) -> None:
+        until = self.now + seconds
+        while self._tick <= until:
+            self.now = self._tick
+            self._tick += TICK
+            for finding in self.clock.look(self.now):
+                self.events.append({'event': finding.what, 'seconds': finding.value})
+                if finding.what in ('gap', 'ahead'):
+                    self._restarts.want([1], finding.what)
+            self._restarts.look(self.now, self._place, [1], self._counts)
+        self.now = until
+
+    def _restart(self, circuits: list[int]) -> None:
+        assert circuits == [1]
+        self.restarts.append(self.now)
+        self._replay.passes(codec_record(1, Codec.G711, 8))
+
+    def _read(self) -> None:
+        """A multiframe is given to the gateway behind the packets that have come."""
+        while self._speaks and self._began + self.sent * PACKET <= self.now:
+            packet = Packet(8, self.sent & 0xFFFF, 160 * self.sent, 7, bytes([SPOKEN]) * 160)
+            answer = self._replay.passes(datagram_record(1, packet.encode()))
+            self._restarts.counted(1, answer.body[1], self._place)
+            self.sent += 1
+        self.clock.took(MULTIFRAME, self.now)
+        answered = self._replay.passes(trunk_record(self.exchange.multiframe())).body
+        self.heard += answered[(1 - self._place) % FRAME::FRAME].count(SPOKEN)
+        self._place += MULTIFRAME
+
+
+# What happens to a call, for how many seconds each; the seconds of speech that may be lost, and with each restart; the
+# most restarts.
+SCENES: dict[str, tuple[list[tuple[str, float]], float, float, int]] = {
+    # each later packet is later by as much, for the call
+    **{f'{early} s of octets come early': ([('speak', 0.003), ('flow', 2), ('at_once', early), ('flow', 15)],
+                                           early + LESS, 0.0, 1) for early in (0.026, 0.06, 0.09, 0.12)},
+    # its first packet comes with octets that had waited: all later ones are late
+    'a call begins in a stall': ([('flow', 0.5), ('lose', 0.16), ('speak', -0.017), ('at_once', 0.16), ('flow', 5)],
+                                 0.16 + LESS, 0.0, 1),
+    # before the first packet it is of the time that all later ones have
+    'a loss that is no gap': ([('flow', 1), ('lose', 0.06), ('speak', 0.003), ('flow', 12)], 0.01, 0.0, 0),
+    # the first one restarts the call; those behind it add up until all is Full
+    'gaps one after another': ([('speak', 0.003), ('flow', 2), *[('lose', 0.15), ('flow', 2.0)] * 5, ('flow', 10)],
+                               5 * 0.15 + LESS, 0.4, 3)}
+
+
+class RestartSimulationTests(support.FolderCase):
     """Speech that is lost, by the playout of the program."""
 
-    def test_octets_that_come_early_from_a_moment_on(self) -> None:
-        """Those of J ms come at once: each later packet is later by J, for the call."""
-        for prefill in (160, 320):
-            for early in (0.026, 0.06, 0.09, 0.12):
-                with self.subTest(prefill=prefill, early=early), SimulatedCall(prefill) as call:
-                    call.speak()
-                    call.flow(2)
-                    call.at_once(early)
-                    call.flow(15)
-                    self.assertLessEqual(len(call.restarts), 1)
-                    self.assertLessEqual(call.lost(), early + LESS)
+    def call(self, prefill: int, **more: Any) -> SimulatedCall:
+        config = f'law = "A"\n[[circuit]]\nnumber = 1\nprefill = {prefill}\n'
+        return SimulatedCall(self.write('trunk.toml', config), **more)
 
-    def again_and_again(self, happens: Callable[[SimulatedCall, float], None], seed: int, prefill: int) -> None:
-        with self.subTest(prefill=prefill, seed=seed), SimulatedCall(prefill) as call:
-            call.speak()
-            still = 0.0
-            for length, between in stalls(seed, 40):
-                happens(call, length)
-                call.flow(between)
-                still += length
-            self.assertLessEqual(call.lost(), still)
-            self.assertLessEqual(len(call.restarts), 1 + call.now // 10)
+    def test_scenes(self) -> None:
+        for prefill, (name, (steps, lost, each, most)) in product((160, 320), SCENES.items()):
+            with self.subTest(name, prefill=prefill), self.call(prefill) as call:
+                for what, seconds in steps:
+                    getattr(call, what)(seconds)
+                self.assertLessEqual(len(call.restarts), most)
+                self.assertLessEqual(call.lost(), lost + each * len(call.restarts))
 
-    def test_a_machine_that_stands_still_again_and_again(self) -> None:
-        for prefill, seed in product((160, 320), range(2)):
-            self.again_and_again(SimulatedCall.stand_still, seed, prefill)
-
-    def test_octets_that_come_late_again_and_again(self) -> None:
-        for prefill in (160, 320):
-            self.again_and_again(SimulatedCall.hold, 5, prefill)
-
-    def test_a_call_that_begins_in_a_stall(self) -> None:
-        """Its first packet comes with octets that had waited: all later ones are late."""
-        for prefill in (160, 320):
-            with self.subTest(prefill=prefill), SimulatedCall(prefill) as call:
-                call.flow(0.5)
-                call._wait(0.14)
+    def test_again_and_again(self) -> None:
+        """A machine that stands still, and octets that come late: 20 to 160 ms at a time."""
+        for prefill, (happens, seed) in product((160, 320), ((SimulatedCall.stand_still, 0), (SimulatedCall.hold, 5))):
+            with self.subTest(prefill=prefill, seed=seed), self.call(prefill) as call:
                 call.speak()
-                call.now += 0.02
-                call.at_once(0.16)
-                call.flow(5)
-                self.assertLessEqual(len(call.restarts), 1)
-                self.assertLessEqual(call.lost(), 0.16 + LESS)
+                chance, still = random.Random(seed), 0.0
+                for _ in range(40):
+                    happens(call, length := chance.uniform(0.02, 0.16))
+                    call.flow(chance.uniform(0.05, 1.0))
+                    still += length
+                self.assertLessEqual(call.lost(), still)
+                self.assertLessEqual(len(call.restarts), 1 + call.now // 10)
 
     def test_lost_octets_that_are_no_gap(self) -> None:
         """After 0.5 s all datagrams are Full. Without the counts nobody knows, and the call stays deaf."""
         for counts in (True, False):
-            with SimulatedCall(160, gap=10.0, counts=counts) as call:
+            with self.call(160, gap=10.0, counts=counts) as call:
                 call.speak()
                 call.flow(2)
                 call.lose(0.5)
                 call.flow(5)
                 self.assertEqual(len(call.restarts), int(counts))
                 self.assertEqual(call.lost() <= 0.5 + LESS + 0.4, counts)
-
-    def test_octets_that_stay_late(self) -> None:
-        """A loss that is no gap before the first packet: it is of the time that all later ones have."""
-        with SimulatedCall(160) as call:
-            call.flow(1)
-            call.lose(0.06)
-            call.speak()
-            call.flow(12)
-            self.assertEqual(call.restarts, [])
-            self.assertLess(call.lost(), 0.01)
-
-    def test_gaps_one_after_another(self) -> None:
-        """The first one restarts the call; those behind it add up until all is Full."""
-        with SimulatedCall(160) as call:
-            call.speak()
-            call.flow(2)
-            for _ in range(5):
-                call.lose(0.15)
-                call.flow(2)
-            call.flow(10)
-            self.assertEqual([event['event'] for event in call.events].count('gap'), 5)
-            self.assertLessEqual(len(call.restarts), 3)
-            self.assertLessEqual(call.lost(), 5 * 0.15 + LESS + 0.4 * len(call.restarts))
-
-
-if __name__ == '__main__':
-    unittest.main()

@@ -1,4 +1,4 @@
-"""The options of an emulated circuit, and what the program is given of them."""
+"""The options of an emulated circuit, what the program is given of them, and what it counts."""
 import argparse
 import contextlib
 import io
@@ -6,28 +6,40 @@ import socket
 import unittest
 
 from e1gw import satop
-from e1gw.satop import SatopCircuit
+from e1gw.satop import SatopCondition, counts_of
+
+# Says its words, gives each octet back with its bits turned, says some counts, and ends at the end of its input.
+SCRIPT = '''
+import os, sys
+print('words', *sys.argv[1:], file=sys.stderr, flush=True)
+while octets := os.read(0, 4096):
+    os.write(1, bytes(octet ^ 0xFF for octet in octets))
+    print('satop received=3 sent=2 lost=1 ticks=0', file=sys.stderr, flush=True)
+'''
+# Ends at once, and says why.
+ENDS = '''
+import sys
+print('e1gw: 127.0.0.1:5000: Address already in use', file=sys.stderr, flush=True)
+sys.exit(3)
+'''
 
 
 class SatopOptionTests(unittest.TestCase):
-    def test_what_can_not_be(self) -> None:
-        for bad in ({'size': 0}, {'size': 255}, {'size': 1312}, {'jitter': -1}, {'jitter': 501}, {'rtp': 128}):
-            with self.assertRaises(ValueError):
-                SatopCircuit(**bad)      # type: ignore[arg-type]
+    def setUp(self) -> None:
+        self.parser = argparse.ArgumentParser()
+        satop.add_arguments(self.parser)
 
-    def test_options(self) -> None:
-        parser = argparse.ArgumentParser()
-        satop.add_arguments(parser)
-        self.assertEqual(satop.circuit_of(parser.parse_args([])), SatopCircuit())
-        words = '--satop-size 512 --satop-jitter 8 --satop-rtp 97 --satop-fill ones --satop-clock own'.split()
-        self.assertEqual(satop.circuit_of(parser.parse_args(words)), SatopCircuit(512, 8, 97, 'ones', 'own'))
-        with self.assertRaises(SystemExit), contextlib.redirect_stderr(io.StringIO()):
-            parser.parse_args(['--satop-fill', 'noise'])
+    def test_what_can_not_be(self) -> None:
+        for bad in ('size 0', 'size 255', 'size 1312', 'jitter -1', 'jitter 501', 'rtp 128', 'fill noise'):
+            with self.subTest(bad), self.assertRaises(SystemExit), contextlib.redirect_stderr(io.StringIO()):
+                self.parser.parse_args(f'--satop-{bad}'.split())
 
     def test_words_of_the_program(self) -> None:
-        self.assertEqual(' '.join(SatopCircuit().words()), '--size 256 --jitter 4 --fill again --clock packets')
-        self.assertEqual(' '.join(SatopCircuit(512, 8, 0, 'ones', 'own').words()),
-                         '--size 512 --jitter 8 --rtp 0 --fill ones --clock own')
+        for words, given in (
+                ('', '--size 256 --jitter 4 --fill again --clock packets'),
+                ('--satop-size 512 --satop-jitter 8 --satop-rtp 0 --satop-fill ones --satop-clock own',
+                 '--size 512 --jitter 8 --rtp 0 --fill ones --clock own')):
+            self.assertEqual(' '.join(satop.words_of(self.parser.parse_args(words.split()))), given)
 
 
 class SatopOpeningTests(unittest.TestCase):
@@ -46,5 +58,17 @@ class SatopOpeningTests(unittest.TestCase):
             satop.addresses_of(('127.0.0.1', 5000), ('::1', 5001))
 
 
-if __name__ == '__main__':
-    unittest.main()
+class SatopCountLineTests(unittest.TestCase):
+    def test_counts(self) -> None:
+        self.assertEqual(counts_of('satop received=1000 sent=999 malformed_short=0'),
+                         {'received': 1000, 'sent': 999, 'malformed_short': 0})
+        for line in ('received=1', 'satop received=-1', 'satop received', 'satop: no socket', 'satop received=1.5'):
+            self.assertIsNone(counts_of(line), line)
+
+    def test_missing_packets(self) -> None:
+        """They are missing from the first tick on, until packets come and no tick."""
+        missing, told = SatopCondition('ticks'), []
+        for received, ticks in ((5, 0), (9, 0), (9, 80), (9, 1080), (40, 1100), (1040, 1100), (2040, 1100)):
+            if missing.changes({'received': received, 'ticks': ticks}):
+                told.append((received, missing.on))
+        self.assertEqual(told, [(9, True), (1040, False)])

@@ -2,13 +2,12 @@
 from __future__ import annotations
 
 import shutil
-import struct
 import subprocess
 import time
-import unittest
 
 from . import support
 from .far_end import FarEnd
+from .picture_made import pcap, udp
 from .support import SECONDS
 
 OCTETS = bytes(range(256)) * 16         # of the trunk
@@ -18,17 +17,6 @@ RTP_FIELDS = ['rtp.version', 'rtp.marker', 'rtp.p_type', 'rtp.seq', 'rtp.timesta
 NOTED = '_ws.malformed or _ws.expert'
 SILENCE = 0.1                           # seconds without packets
 PORT = 5000                             # in the file; the packets' own ports are whatever was free
-
-
-def capture(packets: list[bytes]) -> bytes:
-    """A file of packets as UDP over IPv4, each a millisecond after the one before."""
-    file = struct.pack('<IHHiIII', 0xA1B2C3D4, 2, 4, 0, 0, 65535, 101)
-    host = bytes([127, 0, 0, 1])
-    for at, packet in enumerate(packets):
-        udp = struct.pack('>HHHH', PORT, PORT, 8 + len(packet), 0) + packet
-        ip = struct.pack('>BBHHHBBH4s4s', 0x45, 0, 20 + len(udp), at, 0, 64, 17, 0, host, host)
-        file += struct.pack('<IIII', at // 1000, at % 1000 * 1000, len(ip + udp), len(ip + udp)) + ip + udp
-    return file
 
 
 class SatopDissectedTests(support.FolderCase):
@@ -47,7 +35,7 @@ class SatopDissectedTests(support.FolderCase):
 
     def tshark(self, packets: list[bytes], dissector: str, *words: str) -> list[list[str]]:
         """What tshark writes of these packets, a row each."""
-        path = self.write('satop.pcap', capture(packets))
+        path = self.write('satop.pcap', pcap([(at / 1000, udp(PORT, PORT, each)) for at, each in enumerate(packets)]))
         run = subprocess.run(['tshark', '-r', path, '-d', f'udp.port=={PORT},{dissector}', *words], check=True,
                              stdout=subprocess.PIPE, stderr=subprocess.DEVNULL, timeout=SECONDS)
         return [line.split('\t') for line in run.stdout.decode().splitlines()]
@@ -111,7 +99,3 @@ class SatopDissectedTests(support.FolderCase):
         behind = self.numbers([packet[12:] for packet in packets])
         self.assertEqual([row[5] for row in behind], numbers)
         self.assertEqual([bytes.fromhex(row[6].replace(':', '')) for row in rows], [packet[12:] for packet in packets])
-
-
-if __name__ == '__main__':
-    unittest.main()

@@ -8,7 +8,6 @@ import time
 import unittest
 
 from . import support
-from .bits import expected, late
 from .far_end import FarEnd
 from .test_ports_asked import waiting_at
 
@@ -19,9 +18,14 @@ ONES = b'\xff' * SIZE
 SILENCE = 0.1               # seconds
 
 
-def octets(n: int, bits: int = 0, size: int = SIZE) -> bytes:
-    """Those of a packet: frames that begin late by this number of bits."""
-    return bytes(late(bits, place) for place in range(size * n, size * (n + 1)))
+def trunk(place: int) -> int:
+    """The octet at a place of the far end's trunk: slot 0 as it is to be, and speech that is no signal."""
+    return {0: 0x9B, 32: 0xDF}.get(place % 64, place % 251 | 0x44)
+
+
+def octets(n: int) -> bytes:
+    """Those of a packet."""
+    return bytes(trunk(place) for place in range(SIZE * n, SIZE * (n + 1)))
 
 
 def packets(*numbers: int) -> bytes:
@@ -49,28 +53,27 @@ class SatopPlayedCase(unittest.TestCase):
         self.assertEqual({name: seen[name] for name in counts}, counts)
 
 
-class SatopOrderTests(SatopPlayedCase):
-    def test_reordered_packets_are_put_in_order(self) -> None:
-        far = self.far_end()
-        self.send(far, 0, *(n for last in range(4, 24, 4) for n in range(last, last - 4, -1)), 21)
-        self.see(far, packets(*range(18)), received=22, lost=0, late=0, repeated=0, restarts=0)
+# Options, the packets that are sent, what is played, and the counts.
+PLAYED: dict[str, tuple[tuple[str, ...], list[int], bytes, dict[str, int]]] = {
+    'in order': ((), [0, *(n for last in range(4, 24, 4) for n in range(last, last - 4, -1)), 21], packets(*range(18)),
+                 {'received': 22, 'lost': 0, 'late': 0, 'repeated': 0, 'restarts': 0}),
+    # in the place of the one that comes after its turn is the packet of a multiframe before
+    'each refusal': ((), [0, 1, 2, 2, *range(4, 10), 3, 9 + 125, 10], packets(0, 1, 2, 1, 4, 5, 6),
+                     {'received': 13, 'repeated': 1, 'late': 1, 'too_far': 1, 'lost': 1, 'restarts': 0}),
+    'lost, filled with ones': (('--fill', 'ones'), [*range(5), *range(6, 12)],
+                               packets(*range(5)) + ONES + packets(6, 7), {'received': 11, 'lost': 1}),
+    # the packets before the first one too, which fill the jitter buffer, and all that came
+    'by its own clock': (('--clock', 'own'), [*range(20)], packets(*range(20)),
+                         {'received': 20, 'late': 0, 'too_far': 0, 'restarts': 0})}
 
-    def test_doubled_packets_are_played_once(self) -> None:
-        far = self.far_end()
-        self.send(far, *(n for n in range(20) for _ in range(2)), 20)
-        self.see(far, packets(*range(17)), received=41, repeated=20, lost=0, late=0)
 
-    def test_a_packet_after_its_turn(self) -> None:
-        """It is not played: another one was in its place, that of a multiframe before."""
-        far = self.far_end()
-        self.send(far, 0, 1, 2, *range(4, 10), 3, 10)
-        self.see(far, packets(0, 1, 2, 1, 4, 5, 6), received=11, lost=1, late=1, repeated=0)
-
-    def test_a_packet_far_ahead(self) -> None:
-        """The window has 125 ms (twice the jitter, if that is more)."""
-        far = self.far_end()
-        self.send(far, *range(10), 6 + 125, 10)
-        self.see(far, packets(*range(7)), received=12, too_far=1, lost=0, restarts=0)
+class SatopPlayedTests(SatopPlayedCase):
+    def test_order_and_losses(self) -> None:
+        for name, (options, sent, played, counts) in PLAYED.items():
+            with self.subTest(name):
+                far = self.far_end(*options)
+                self.send(far, *sent)
+                self.see(far, played, **counts)
 
     def test_packets_of_others(self) -> None:
         far = self.far_end()
@@ -83,78 +86,22 @@ class SatopOrderTests(SatopPlayedCase):
         self.see(far, packets(*range(16)), received=20, repeated=0)
 
     def test_what_is_no_packet(self) -> None:
-        far = self.far_end()
-        number = struct.pack('>H', (FIRST + 1) % 65536)
-        with far.at_once():
-            far.send(FIRST, 0, octets(0))
-            for datagram in (b'', b'\0\0' + number[:1], b'\x10\0' + number + ONES, b'\0\x0a' + number + ONES,
-                             b'\0\0' + number + ONES[1:], b'\0\0' + number):
-                far.send_datagram(datagram)
-            for n in range(1, 6):
-                far.send(FIRST + n, 0, octets(n))
-        self.see(far, packets(0, 1), received=6, malformed_short=2, malformed_no_control_word=1,
-                 malformed_other_length=1, malformed_other_size=2, malformed_no_rtp_header=0)
-
-
-class SatopLossTests(SatopPlayedCase):
-    def test_lost_packets_are_those_of_a_multiframe_before(self) -> None:
-        far = self.far_end()
-        self.send(far, *range(5), *range(8, 15))
-        self.see(far, packets(0, 1, 2, 3, 4, 3, 4, 3, 8, 9, 10), received=12, lost=3, restarts=0)
-
-    def test_after_8_ms_ones_are_played(self) -> None:
-        far = self.far_end()
-        self.send(far, *range(6), *range(15, 22))
-        self.see(far, packets(*range(6), *[4, 5] * 4) + ONES + packets(15, 16, 17), received=13, lost=9)
-
-    def test_lost_packets_are_ones_if_asked_for(self) -> None:
-        far = self.far_end('--fill', 'ones')
-        self.send(far, *range(5), *range(6, 12))
-        self.see(far, packets(*range(5)) + ONES + packets(6, 7), received=11, lost=1)
-
-    def test_bit_l_is_ones(self) -> None:
-        """With and without octets (RFC 4553, 4.3)."""
-        far = self.far_end()
-        with far.at_once():
-            for n in range(13):
-                far.send(FIRST + n, 8 if n in (5, 6) else 0, octets(n) if n != 6 else b'')
-        self.see(far, packets(*range(5)) + ONES * 2 + packets(7, 8), received=13, with_l=2, lost=0)
-
-
-class SatopFormTests(SatopPlayedCase):
-    def test_frames_at_each_bit(self) -> None:
-        """After the third signal, in octet 64, the octets are those of the time slots (ITU-T G.706, 4.1.2)."""
-        for bits in range(8):
-            with self.subTest(bits=bits):
-                far = self.far_end()
-                with far.at_once():
-                    for n in range(10):
-                        far.send(FIRST + n, 0, octets(n, bits))
-                ones = SIZE - len(octets(0, bits).lstrip(b'\xff'))      # (which are passed over)
-                played = far.played(6 * SIZE - ones)
-                self.assertEqual(played[96 - ones:].hex(), bytes(expected(bits, n) for n in range(96, 6 * SIZE)).hex())
-
-    def test_sizes(self) -> None:
-        """Shorter packets than 64 octets say their length (RFC 4553, 4.3)."""
-        for size, length in ((32, 36), (1280, 0)):
-            with self.subTest(size=size):
-                far = self.far_end('--size', str(size))
-                with far.at_once():
-                    for n in range(10):
-                        number = (FIRST + n) % 65536
-                        far.send_datagram(struct.pack('>BBH', 0, length, number) + octets(n, 0, size))
-                self.see(far, b''.join(octets(n, 0, size) for n in range(6)), received=10, malformed_other_length=0)
-
-    def test_an_rtp_header(self) -> None:
-        """Its payload type is ignored; a packet without one is refused."""
+        """Nor one without RTP's header, whose payload type is ignored. L is ones, with and without octets (RFC 4553,
+        4.3); R is counted."""
         far = self.far_end('--rtp', '97')
+        rtp, bad = struct.pack('>BBHII', 0x80, 97, 0, 0, 7), struct.pack('>H', (FIRST + 1) % 65536)
         with far.at_once():
-            for n in range(10):
-                number = (FIRST + n) % 65536
-                packet = struct.pack('>BBH', 0, 0, number) + octets(n)
-                far.send_datagram(packet)
+            for packet in (b'', b'\0\0' + bad[:1], b'\x10\0' + bad + ONES, b'\0\x0a' + bad + ONES,
+                           b'\0\0' + bad + ONES[1:], b'\0\0' + bad):
+                far.send_datagram(rtp + packet)
+            far.send_datagram(b'\0\0' + bad + ONES)
+            for n in range(13):
+                flags, number = 8 * (n in (5, 6)) + 4 * (n > 9), (FIRST + n) % 65536
+                packet = struct.pack('>BBH', flags, 0, number) + (octets(n) if n != 6 else b'')
                 far.send_datagram(struct.pack('>BBHII', 0x80, 96 + n % 2, number, 8 * n, 7) + packet)
-        self.see(far, packets(*range(6)), received=10, malformed_no_rtp_header=10)
+        self.see(far, packets(*range(5)) + ONES * 2 + packets(7, 8), received=13, with_l=2, with_r=3, lost=0,
+                 malformed_short=2, malformed_no_control_word=1, malformed_other_length=1, malformed_other_size=2,
+                 malformed_no_rtp_header=1)
 
 
 class SatopClockTests(SatopPlayedCase):
@@ -179,12 +126,6 @@ class SatopClockTests(SatopPlayedCase):
         counts = far.counts()
         self.assertEqual([counts[name] for name in ('received', 'too_far', 'restarts')], [30, 7, 1])
         self.assertIn(counts['silences'], (1, 2))       # (there may be one behind the last packet)
-
-    def test_by_its_own_clock(self) -> None:
-        """It plays the packets before the first one too, which fills the jitter buffer, and all that came."""
-        far = self.far_end('--clock', 'own')
-        self.send(far, *range(20))
-        self.see(far, packets(*range(20)), received=20, late=0, too_far=0, restarts=0)
 
     def test_packets_that_come_too_fast(self) -> None:
         """After a second's packets, no more than a thousandth above the rate are played."""
@@ -219,7 +160,3 @@ class SatopClockTests(SatopPlayedCase):
             for n in range(10, 60):
                 far.send(FIRST + n, 0, octets(n))
         return pause < SILENCE
-
-
-if __name__ == '__main__':
-    unittest.main()

@@ -6,9 +6,8 @@ import json
 import os
 import signal
 import subprocess
-import sys
 import unittest
-from typing import Any
+from typing import Any, Callable
 
 from . import support
 from .manager import Manager
@@ -16,6 +15,8 @@ from .support import SECONDS
 from .test_program_killed import KeeperCase
 from .world import LAUNCHER
 from e1gw.service.process import UNKNOWN, Child, start_of
+from e1gw.service.recovery import note_in
+from e1gw.testing.service import ask
 
 
 class RestartedKeeperCase(KeeperCase):
@@ -25,11 +26,6 @@ class RestartedKeeperCase(KeeperCase):
         super().setUp()
         self.manager = Manager(self.path('notify'))
         self.addCleanup(self.manager.close)
-        memory = support.in_memory()
-        self.addCleanup(memory.cleanup)
-        self.memory = memory.name
-        self.words = [sys.executable, '-B', LAUNCHER, '--program', support.program(), '--config', self.config,
-                      '--unix', self.device.path, '--program-control', self.path('control'), '--folder', self.memory]
         self.addCleanup(self._end_all)
 
     def _end_all(self) -> None:
@@ -50,7 +46,7 @@ class RestartedKeeperCase(KeeperCase):
     def again(self) -> None:
         with open(self.path('told'), 'ab') as told:
             self.told_from = len(self.told())
-            self.keeper = self.manager.starts([*self.words, *self.options], told.fileno())
+            self.keeper = self.manager.starts([*self.command, *self.options], told.fileno())
         self.addCleanup(self._end)
 
     def settles(self) -> None:
@@ -66,10 +62,18 @@ class RestartedKeeperCase(KeeperCase):
     def noted(self) -> dict[str, Any]:
         """What the service of now has noted, with a program that is up; nothing before that."""
         file = self.manager.files.get('kept')
-        octets = os.pread(file, 65_536, 0).partition(b'\n')[0] if file is not None else b''
-        found: dict[str, Any] = json.loads(octets) if octets else {}
+        found = note_in(os.pread(file, 65_536, 0) if file is not None else b'')     # (it may be written now)
         is_its = found.get('service', [0])[0] == self.keeper.pid
         return found if is_its and found['program'] and found['program']['up'] else {}
+
+    def known(self, holds: Callable[[list[dict[str, Any]]], object]) -> dict[str, Any]:
+        """The status at --control its-control, once the service knows the circuits and this holds of them."""
+        while True:
+            with contextlib.suppress(OSError, EOFError):
+                status: dict[str, Any] = json.loads(ask(self.path('its-control'), b'status json'))
+                if status['shadow'] and holds(status['circuits']):
+                    return status
+            self.step()
 
     def comes_back(self) -> None:
         """The service is begun again, and goes on with the program that is there."""
@@ -86,7 +90,7 @@ class RestartedKeeperCase(KeeperCase):
         """The service is killed where nobody keeps descriptors, and the next one opens the device again."""
         self.kill_keeper()
         self.step(20)
-        self.manager.files.clear()
+        self.manager.forget()
         self.again()
         line = self.device.line
         self.device.accept()
@@ -102,18 +106,24 @@ class RestartedKeeperCase(KeeperCase):
 class KilledKeeperTests(RestartedKeeperCase):
     """It is killed, and started again as systemd does it."""
 
-    def test_descriptors_that_are_held(self) -> None:
-        """Those of a program of which nothing is noted are forgotten."""
+    def test_what_systemd_keeps_and_is_told(self) -> None:
+        """Descriptors of a program of which nothing is noted are forgotten."""
         self.manager.files['trunk-in'] = os.open(os.devnull, os.O_RDONLY)
         self.begins()
+        self.keeper.send_signal(signal.SIGHUP)
+        self.goes_on()
+        self.settles()
         self.ends()
         support.until(lambda: not self.manager.files)
-        self.assertLessEqual({'READY=1', 'WATCHDOG=1', 'STOPPING=1'}, {*self.manager.told})
+        told = [line.partition('=')[0] for line in self.manager.told if not line.startswith('FD')]
+        self.assertIn('WATCHDOG', told)
+        self.assertEqual([word for word in told if word != 'WATCHDOG'],
+                         ['READY', 'STATUS', 'RELOADING', 'MONOTONIC_USEC', 'READY', 'STATUS', 'STOPPING'])
 
     def test_another_trunk(self) -> None:
         """What was killed of another trunk in the same folder is none of its business."""
         self.begins()
-        other = [word if word != self.path('control') else self.path('other') for word in self.words]
+        other = [word if word != self.path('control') else self.path('other') for word in self.command]
         self.kill_keeper()
         done = subprocess.Popen(other, stderr=subprocess.PIPE, stdin=subprocess.DEVNULL)
         line = self.device.line
@@ -126,9 +136,22 @@ class KilledKeeperTests(RestartedKeeperCase):
         self.device.line.close()
         self.device.line = line
         self.comes_back()
+        self.survives()
+
+    def test_an_update_that_fails(self) -> None:
+        """A service that could not take up ended the trunk. The program goes on, and the next service takes it up."""
+        self.command[2] = self.path('e1gw-trunk')
+        os.symlink(LAUNCHER, self.command[2])
+        self.begins()
+        os.unlink(self.command[2])
+        self.write('e1gw-trunk', 'raise RuntimeError("an update with a fault")\n')
+        self.keeper.send_signal(signal.SIGUSR2)
+        self.assertEqual(self.keeper.wait(), 1)
         self.step(20)
-        self.as_uncut()
-        self.ends()
+        os.unlink(self.command[2])
+        os.symlink(LAUNCHER, self.command[2])
+        self.comes_back()
+        self.survives()
 
 
 class ChildTests(unittest.IsolatedAsyncioTestCase):
@@ -146,7 +169,3 @@ class ChildTests(unittest.IsolatedAsyncioTestCase):
         support.until(its.is_stopped)
         await its.kill()
         self.assertEqual((its.status, its.words()), (UNKNOWN, 'ended while no keeper was there'))
-
-
-if __name__ == '__main__':
-    unittest.main()

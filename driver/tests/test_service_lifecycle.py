@@ -1,4 +1,5 @@
-"""One process a trunk: what it does when something of it is killed, hangs, fails or is full, with thirty calls up.
+"""One process a trunk: what it does when something of it is killed, hangs, fails or is full, with thirty calls up, as
+calls in trunks before this one were ended.
 
 It goes in lock step, as test_program_killed does; what is received is what one uncut replay of all records gives."""
 from __future__ import annotations
@@ -9,25 +10,31 @@ import glob
 import itertools
 import json
 import os
+import shutil
+import resource
 import signal
-import socket
 import subprocess
+import time
 import unittest
 from typing import Any, Callable
 from unittest import mock
 
 from . import support
-from .support import SECONDS
 from .test_program_killed import CIRCUITS, NO_EFFECT, KeeperCase
 from .test_service_killed import RestartedKeeperCase
-from .test_recorder import LONG, RecorderCase
-from .test_trunk import is_there
-from .world import children, words_of
-from e1gw.service.log import STATE_ROOM, TrunkLog, in_memory, take_file
-from e1gw.service.version import VersionRefused, look_up, with_addresses
-from e1gw.session import Codec, Kind, codec_record, records_in, trunk_record
+from .test_recorder import RecorderCase
+from .support import SECONDS
+from .test_trunk import catches, is_there
+from .world import IDLE, SEIZED, children, words_of
+from e1gw.service.checkpoints import LOG_ROOM
+from e1gw.service.version import with_addresses
+from e1gw.session import MULTIFRAME, Codec, Kind, codec_record, records_in
 from e1gw.testing.service import ask
 
+LIMIT = 600 << 9            # octets of a file, in which a state has room
+HELD = 12                   # multiframes that a device holds which nobody reads
+NAMELESS = 35               # a signal of real time: the service could not tell it, and no program followed
+SIGNALS = NAMELESS, signal.SIGKILL, signal.SIGSTOP, signal.SIGTERM, signal.SIGSEGV
 HANGS = 5.0                 # seconds, which no program takes that does not hang, on a machine that stalls
 
 
@@ -39,11 +46,11 @@ def refusals(right: str) -> list[tuple[str | None, str]]:
             ('#' * 70_000, '.*more than 65536 octets'), (None, '.*trunk.toml is no file')]
 
 
-class ServiceSequenceTests(RestartedKeeperCase, RecorderCase):
-    """Any sequence of what may happen to a trunk, with multiframes under way and commands in between. What is heard is
-    what an uncut replay gives, all of it is kept, once, and no line changes its state behind the seizures."""
+class ServiceEventsCase(RestartedKeeperCase, RecorderCase):
+    """What may happen to a trunk."""
 
     keeps: tuple[str, ...] = ()
+    limits: dict[str, Any] = {}
 
     def begins(self, *options: str) -> None:
         """With all that may be wanted of a trunk, in a folder that can be full (if the test may mount one)."""
@@ -51,37 +58,39 @@ class ServiceSequenceTests(RestartedKeeperCase, RecorderCase):
         self.is_small = not subprocess.run(mounts, stderr=subprocess.DEVNULL, check=False).returncode
         if self.is_small:
             self.addCleanup(os.system, f'umount -l {self.memory}')
-        with open(self.config, encoding='ascii') as file:
-            self.right = file.read()
+        self.right = support.text_of(self.config)
         self.ended, self.refused = 0, itertools.cycle(refusals(self.right))
+        self.signals = {name: itertools.cycle(SIGNALS) for name in ('program', 'follower')}
         own = [word for name in ('state', 'calls', 'json', 'control')
                for word in (f'--{name}', self.path(f'its-{name}'))]
-        super().begins('--reopen', '--gap', '10000', '--session', self.path('ring'), *own, *self.keeps, *options)
-        self.knows_all()
+        super().begins('--reopen', '--session', self.path('ring'), *own, *self.keeps, *options)
+        self.all_known()
         ask(self.path('its-control'), b'codec 1 g726-16 1')     # (it is refused)
         support.until(lambda: 'command' in [event['event'] for event in self.events()])
         self.changes = len(self.events('state'))
 
-    def knows_all(self) -> None:
-        """Returns once the service knows of all calls."""
-        def states() -> set[str]:
-            with contextlib.suppress(OSError, EOFError):
-                status = json.loads(ask(self.path('its-control'), b'status json'))
-                return {str(row['state']) for row in status['circuits']} if status['shadow'] else set()
-            return set()
-        while states() != {'answered'}:
-            self.step()
+    def all_known(self) -> dict[str, Any]:
+        """The status, once the service knows of all calls."""
+        return self.known(lambda circuits: {row['state'] for row in circuits} == {'answered'})
 
-    # ---- what may happen ----
+    def since(self) -> float:
+        """When the trunk was opened, as the service knows."""
+        status = self.all_known()
+        return float(status['time'] - status['uptime'])
+
+    def events(self, name: str = '') -> list[dict[str, Any]]:
+        """The events of this name, or all, that were told."""
+        told = map(json.loads, support.text_of(self.path('its-json')).splitlines())
+        return [event for event in told if event['event'] == name or not name]
 
     def program_dies(self) -> None:
-        number = self.chance.choice((signal.SIGKILL, signal.SIGSTOP, signal.SIGSEGV, signal.SIGTERM))
+        number = next(self.signals['program'])
         if self.chance.randrange(2):
             return self.dies(number)
         self.killed(number)
 
     def follower_dies(self) -> None:
-        number = self.chance.choice((signal.SIGKILL, signal.SIGSTOP, signal.SIGTERM))
+        number = next(self.signals['follower'])
         self.under_way(lambda: os.kill(self.shadow, number))
         self.goes_on()
 
@@ -90,16 +99,24 @@ class ServiceSequenceTests(RestartedKeeperCase, RecorderCase):
         for pid in self.chance.sample((self.program, self.shadow), 2):
             with contextlib.suppress(ProcessLookupError):       # (a shadow ends behind its program)
                 os.kill(pid, signal.SIGKILL)
-        while self.goes_on() and self.program == before:
-            pass
+        while self.program == before:       # (another shadow of it may be reported first)
+            self.goes_on()
+
+    def dies_inside_an_append(self) -> None:
+        """At any octet of a record, by the system. The next program has no part of that record."""
+        place = os.path.getsize(self.log_of()) + self.chance.randrange(MULTIFRAME)
+        resource.prlimit(self.program, resource.RLIMIT_FSIZE, (place, place))
+        self.killed(0)
 
     def service_and_follower_stand_still(self) -> None:
         """For more of the trunk than any pipe holds."""
-        for pid in (self.keeper.pid, self.shadow):
-            os.kill(pid, signal.SIGSTOP)
-        self.step(400)
-        for pid in (self.shadow, self.keeper.pid):
-            os.kill(pid, signal.SIGCONT)
+        with support.stopped(self.keeper.pid, self.shadow):
+            self.step(400)
+
+    def machine_stands_still(self) -> None:
+        with support.stopped(self.keeper.pid, self.program, self.shadow):
+            waiting = self.send(HELD)
+        self.take(waiting)
 
     def end_is_asked_for(self) -> None:
         """A client's record E closes its connection alone. What others ask for is a death, and loses nothing."""
@@ -110,6 +127,11 @@ class ServiceSequenceTests(RestartedKeeperCase, RecorderCase):
         with open(f'/proc/{self.program}/fd/{words[words.index("--end") + 1]}', 'wb') as end:
             end.write(b'\n')
         self.assertNotIn('at most', self.goes_on())
+
+    def signals_come(self) -> None:
+        """They end nothing."""
+        for number in (signal.SIGPIPE, signal.SIGXFSZ, signal.SIGWINCH, signal.SIGCHLD, signal.SIGUSR1):
+            self.keeper.send_signal(number)
 
     def reloaded(self) -> None:
         """Also if clients who say nothing have all places."""
@@ -136,31 +158,56 @@ class ServiceSequenceTests(RestartedKeeperCase, RecorderCase):
         self.finds_follower()                       # (a state of now was taken)
 
     def replaced(self) -> None:
-        before = self.program
+        before, since = self.program, self.since()
         self.under_way(lambda: self.keeper.send_signal(signal.SIGUSR2))
         self.awaits('the keeper was replaced; (?=program)')
         self.goes_on()
         self.assertEqual(self.program, before)
+        self.assertAlmostEqual(self.since(), since, delta=0.01)
+
+    def signals_come_while_it_begins(self) -> None:
+        """They ended it, in systemd's view in order. A reload is done behind that, if this test asked in time."""
+        is_asked = False
+        self.keeper.send_signal(signal.SIGUSR2)
+        while 'the keeper was replaced' not in self.told()[self.told_from:] and self.keeper.poll() is None:
+            self.keeper.send_signal(signal.SIGUSR1)
+            time.sleep(0.01)            # (a fork begins again with each signal, so more of them would let none be made)
+            if not (is_asked or catches(self.keeper.pid, signal.SIGHUP)):
+                self.keeper.send_signal(signal.SIGHUP)
+                is_asked = True
+        self.awaits('the keeper was replaced; (?=program)')
+        self.goes_on()
+        if is_asked:
+            self.awaits('reload: (?=program)')
+            self.goes_on()
 
     def service_dies(self) -> None:
         """It comes back alone, or with a follower or a program that died meanwhile."""
-        before, dead = self.program, self.chance.choice((None, None, self.shadow, self.program))
+        before, dead, since = self.program, self.chance.choice((None, None, self.shadow, self.program)), self.since()
         self.settles()
         self.under_way(self.kill_keeper)
         self.step(self.chance.randrange(20))
         if dead:
-            os.kill(dead, signal.SIGKILL)
+            with contextlib.suppress(ProcessLookupError):       # (a follower ends with its service)
+                os.kill(dead, signal.SIGKILL)
         if dead != before:
             self.comes_back()
+            self.assertAlmostEqual(self.since(), since, delta=0.01)
             return self.assertEqual(self.program, before)
         self.again()
         self.awaits('the keeper was killed')
         self.goes_on_behind()
 
     def service_dies_unkept(self) -> None:
-        """Its program ends in order, and another one begins with the state on the trunk opened again. (Of a program
-        before that nobody has the log.)"""
+        """Its program ends in order, and another one begins with the state on the trunk opened again, but not for a
+        service that refuses its configuration. (Of a program before that nobody has the log.)"""
         support.until(lambda: (note := self.noted()) and len(note['read']['logs']) == 1)
+        self.kill_keeper()
+        self.manager.forget()
+        self.write('trunk.toml', f'{self.right}x = 1\n')
+        self.again()
+        self.assertEqual(self.keeper.wait(SECONDS), 2)
+        self.write('trunk.toml', self.right)
         self.dies_unkept()
         self.goes_on_behind()
         self.settles()
@@ -195,18 +242,21 @@ class ServiceSequenceTests(RestartedKeeperCase, RecorderCase):
 
     def folder_is_gone(self) -> None:
         (folder,) = glob.glob(os.path.join(self.memory, '*'))
-        subprocess.run(['rm', '-r', folder], check=True)
+        gone = os.path.join(self.memory, 'gone')
+        os.rename(folder, gone)                     # (at once: the service puts files there meanwhile)
+        shutil.rmtree(gone)
         self.dies()
         support.until(lambda: os.path.isdir(folder))
 
     def folder_is_full(self) -> None:
-        """The state is put elsewhere."""
+        """Room for the states is held, or they are put elsewhere."""
         if self.is_small:
-            full = os.path.join(self.memory, 'full')
+            full, before = os.path.join(self.memory, 'full'), len(self.told())
             with open(full, 'wb', buffering=0) as file, contextlib.suppress(OSError):
                 while True:
                     file.write(bytes(4096))
             self.dies()
+            self.assertNotIn('cannot save the state', self.told()[before:])
             self.reloaded()
             os.unlink(full)
 
@@ -221,9 +271,13 @@ class ServiceSequenceTests(RestartedKeeperCase, RecorderCase):
         self.finds_follower()
 
     def finds_follower(self) -> None:
-        """Waits until there is one follower."""
-        support.until(lambda: len(children(self.keeper.pid, 'replay')) == 1)
-        (self.shadow,) = children(self.keeper.pid, 'replay')
+        """Waits until there is one follower, and no checkpoint is due, behind which there is another one."""
+        def stays() -> list[int] | None:
+            pids, its = children(self.keeper.pid, 'replay'), self.noted().get('program', {})
+            is_due = its.get('pid') != self.program or os.path.getsize(self.log_of()) - its['place'] >= self.limits.get(
+                'checkpoints_LOG_ROOM', LOG_ROOM)
+            return pids if len(pids) == 1 and not is_due else None
+        (self.shadow,) = support.until(stays)
 
     def client_asks(self) -> None:
         """Another codec of a circuit in a call, or what is refused."""
@@ -237,60 +291,61 @@ class ServiceSequenceTests(RestartedKeeperCase, RecorderCase):
         """The next program is given it."""
         os.kill(self.program, signal.SIGKILL)
         support.until(lambda: not is_there(self.program))
-        with socket.socket(socket.AF_UNIX) as line:
-            line.settimeout(SECONDS)
-            line.connect(self.path('its-control'))
+        with support.connected(self.path('its-control')) as line:
             line.sendall(b'codec 3 g726-32 96\n')
             self.goes_on()
             self.assertEqual(line.recv(100), b'codec 3: done\n\n')
         self.given.append(codec_record(3, Codec.G726_32, 96))
 
-    # ---- what must hold ----
+
+class ServiceSequenceTests(ServiceEventsCase):
+    """Any sequence of these events, with multiframes under way and commands in between. What is heard is what an uncut
+    replay gives, all of it is kept, once, and no line changes its state behind the seizures."""
 
     def ends(self) -> None:
         """All that was given is kept, and each call has a line."""
-        self.knows_all()
+        self.all_known()
         super().ends()
         self.ended += 1
         kept, given = parted(self.kept_of(self.path('ring'))), parted(b''.join(self.given))
         self.assertTrue(kept == given, f'{len(kept[0])} octets kept of {len(given[0])}, {kept[1]} of {given[1]}')
-        with open(self.path('its-calls'), encoding='utf-8', newline='') as file:
-            rows = list(csv.DictReader(file))
+        rows = list(csv.DictReader(support.text_of(self.path('its-calls')).splitlines()))
         self.assertEqual(sorted(int(row['circuit']) for row in rows), sorted([*CIRCUITS] * self.ended))
         self.assertEqual({row['by'] for row in rows}, {'stop'})
 
-    def events(self, name: str = '') -> list[dict[str, Any]]:
-        """The events of this name, or all, that were told."""
-        with open(self.path('its-json'), encoding='utf-8') as file:
-            return [event for line in file if (event := json.loads(line))['event'] == name or not name]
-
     def happens(self) -> list[Callable[[], None]]:
-        return [self.program_dies, self.follower_dies, self.both_die, self.service_and_follower_stand_still,
-                self.end_is_asked_for, self.reloaded, *[self.reload_is_refused] * 6, self.replaced, self.service_dies,
+        return [*[self.program_dies, self.follower_dies] * len(SIGNALS), self.both_die, self.dies_inside_an_append,
+                self.service_and_follower_stand_still, self.machine_stands_still, self.end_is_asked_for,
+                self.signals_come, self.reloaded, *[self.reload_is_refused] * 6, self.replaced,
+                self.signals_come_while_it_begins, self.service_dies,
                 self.service_dies_unkept, self.service_dies_in_a_reload, self.service_ends, self.trunk_is_lost,
                 self.folder_is_gone, self.folder_is_full, self.control_is_taken, self.client_asks,
                 self.operator_asks_between_programs]
 
     def test_any_sequence(self) -> None:
         done: list[str] = []
-        within = self.within(lifecycle_WITHIN=0.0)     # (no death is taken for a state's harm)
+        within = self.within(lifecycle_WITHIN=0.0, **self.limits)      # (no death is taken for a state's harm)
         with self.subTest(done=done), mock.patch.dict(os.environ, within):
             self.begins()
-            for event in (*self.happens(), *self.chance.choices(self.happens(), k=25)):
+            for event in (*self.happens(), *self.chance.choices(self.happens(), k=20)):
                 done.append(event.__name__)
+                self.finds_follower()       # (it is another one behind a checkpoint)
                 event()
                 self.step(self.chance.randrange(1, 30))
             for words in 'no state is known', 'the keeper goes on', 'the calls go on':
                 self.assertNotIn(words, self.told())
+            self.assertIn(f'the shadow ended by signal {NAMELESS}: program', self.told())
             self.as_uncut()
+            self.assertLessEqual(len(glob.glob(f'{self.memory}/*/state-*')), 3)     # (rooms for states are in memory)
             self.leaves_nothing()
             self.assertEqual(self.events('state')[self.changes:], [])
 
 
 class ServiceSequenceRingTests(ServiceSequenceTests):
-    """The same with a ring, each of whose files replays from its state."""
+    """The same with a ring, in files of a second of the trunk and of each program, which replay from their states."""
 
-    keeps = '--keep', LONG
+    keeps = '--keep', '1h'
+    limits = {'checkpoints_LOG_ROOM': 20_000, 'recordings_FILES': 3600}
 
     def happens(self) -> list[Callable[[], None]]:
         """Without an end in order, behind which places are counted again."""
@@ -313,21 +368,64 @@ def parted(octets: bytes) -> tuple[bytes, list[tuple[int, bytes]]]:
 
 
 class ServiceLogTests(KeeperCase):
-    """The state after any death is that of the log."""
+    """What may come of the log of a program."""
 
     def test_checkpoints(self) -> None:
         """Another one each 64 KiB: what lies before it is given back, and a death goes on from it."""
         self.starts(**self.within(checkpoints_LOG_ROOM=65_536))
         self.calls()
-        self.step(1000)
-        words = words_of(self.program)
-        log = os.open(f'/proc/{self.program}/fd/{os.path.basename(words[words.index("--record") + 1])}', os.O_RDONLY)
-        self.addCleanup(os.close, log)
-        while os.fstat(log).st_blocks * 512 > os.fstat(log).st_size // 2:
+        self.step(300)
+        support.until(lambda: os.stat(self.log_of()).st_blocks * 512 < os.path.getsize(self.log_of()) // 2)
+        self.survives()
+
+    def test_an_append_fails(self) -> None:
+        """The log of a program had ended, nobody noticed, and after its next death all calls went on from a state of
+        long ago. It is reported at once, and another program goes on from a state of now."""
+        self.other_program(f'trunk) trap "" XFSZ; ulimit -f {LIMIT >> 9}; exec {support.program()} "$@"')
+        self.starts()
+        self.calls()
+        before = self.program
+        while os.path.getsize(self.log_of()) < LIMIT:
             self.step()
-        self.dies()
+        self.awaits('program: recording ended: a write failed')
+        self.assertNotIn('at most', self.goes_on())
+        self.assertNotEqual(self.program, before)
         self.step(20)
-        self.as_uncut()
+        self.survives()
+
+
+class ServiceNameTests(RestartedKeeperCase):
+    """By which a tie knows calls."""
+
+    def names(self, circuit: int, state: str) -> tuple[str, list[int]]:
+        """The life of the names, and how often each line was seized, once a circuit is in this state."""
+        status = self.known(lambda circuits: circuits[circuit - 1]['state'] == state)
+        return str(status['life']), [row['seizures'] for row in status['circuits']]
+
+    def test_calls_keep_their_names(self) -> None:
+        """The next follower and the next service count seizures as those before them, and one in between, also if both
+        die with the program."""
+        self.begins('--control', self.path('its-control'))
+        before = self.names(30, 'answered')
+        self.assertEqual(before[1], [1] * 30)
+        os.kill(self.shadow, signal.SIGKILL)
+        self.goes_on()
+        self.assertEqual(self.names(30, 'answered'), before)
+        self.settles()
+        self.kill_keeper()
+        self.comes_back()
+        self.assertEqual(self.names(30, 'answered'), before)
+        self.kill_keeper()
+        for pair in IDLE, SEIZED:
+            self.device.exchange.pairs[1] = pair
+            self.step(20)
+        self.comes_back()
+        self.assertEqual(after := self.names(1, 'acked'), (before[0], [2] + [1] * 29))
+        self.kill_keeper()
+        os.kill(self.program, signal.SIGKILL)
+        self.again()
+        self.goes_on()
+        self.assertEqual(self.names(1, 'acked'), after)
         self.ends()
 
 
@@ -338,10 +436,7 @@ class ServiceFaultTests(KeeperCase):
         self.starts(**self.within(checkpoints_LOG_ROOM='none'))
         self.awaits(r'the keeper goes on: TypeError: .* \(checkpoints.py:\d+ in is_due\)')
         self.calls()
-        self.dies()
-        self.step(20)
-        self.as_uncut()
-        self.ends()
+        self.survives()
 
 
 class ServiceVersionTests(KeeperCase):
@@ -349,11 +444,9 @@ class ServiceVersionTests(KeeperCase):
 
     def renewed(self, *cases: str, **limits_: Any) -> None:
         """Starts with a program, and puts another one in its place."""
-        path = self.other_program()
-        with mock.patch.object(support, 'program', lambda: path):
-            self.starts(**self.within(**limits_))
+        self.other_program()
+        self.starts(**self.within(**limits_))
         self.calls()
-        os.unlink(path)
         self.other_program(*cases)
 
     def test_program_that_hangs(self) -> None:
@@ -361,15 +454,11 @@ class ServiceVersionTests(KeeperCase):
         self.renewed(lifecycle_START=HANGS, version_CHECK=HANGS)
         for case, words in (('check', f'does not check the configuration within {HANGS:g} s'),
                             ('trunk', f'does not begin within {HANGS:g} s')):
-            os.unlink(self.path('program'))
             self.other_program(f'{case}) exec sleep 600')
             self.keeper.send_signal(signal.SIGHUP)
             self.awaits(f'reload: refused.*{words}')
         self.goes_on()
-        self.dies()
-        self.step(20)
-        self.as_uncut()
-        self.ends()
+        self.survives()
 
     def test_two_deaths_of_a_new_program(self) -> None:
         """The first one is a death as others; the second one brings the version before back."""
@@ -391,8 +480,7 @@ class ServiceVersionTests(KeeperCase):
         self.starts()
         words = words_of(self.program)
         number = os.path.basename(words[words.index('--config') + 1])
-        with open(f'/proc/{self.program}/fd/{number}', encoding='ascii') as its:
-            text = its.read()
+        text = support.text_of(f'/proc/{self.program}/fd/{number}')
         self.assertEqual((text.count('localhost'), text.count('peer_host = "127.0.0.1"')), (0, 1))
         self.assertEqual(words[words.index('--senders') + 1], 'any')
         self.ends()
@@ -410,60 +498,8 @@ class ServiceNoRoomTests(KeeperCase):
         self.as_uncut()
 
 
-class TrunkLogTests(support.FolderCase):
-    """The log of a program as a file in memory."""
-
-    def test_boundary(self) -> None:
-        """The end of the last whole record, whatever is behind it."""
-        log = TrunkLog()
-        self.addCleanup(log.close)
-        records = [trunk_record(bytes(n)) for n in (512, 1, 2048)]
-        ends = [0]
-        for record in records:
-            ends.append(ends[-1] + len(record))
-        whole = b''.join(records)
-        for length in range(0, len(whole) + 1, 7):
-            os.ftruncate(log.file, 0)
-            os.pwrite(log.file, whole[:length], 0)
-            self.assertEqual(log.boundary(0, 1 << 20), max(end for end in ends if end <= length))
-        self.assertEqual([log.boundary(ends[1], most) for most in (4, 5, 6)], [ends[1], ends[2], ends[2]])
-
-    def test_freed(self) -> None:
-        """What lies before a place is given back, and what lies behind it is as it was."""
-        log = TrunkLog()
-        self.addCleanup(log.close)
-        os.write(log.file, bytes(range(256)) * 4096)
-        log.free(500_000)
-        self.assertLess(log.held(), 600_000)
-        self.assertEqual(log.read(500_000, 1000), (bytes(range(256)) * 4096)[500_000:501_000])
-        self.assertEqual(log.place(), 1 << 20)
-
-    def test_state_taken(self) -> None:
-        path = self.write('state', b'state')
-        file = take_file(path)
-        self.addCleanup(os.close, file)
-        self.assertEqual((os.pread(file, 10, 0), os.path.exists(path)), (b'state', False))
-        other = in_memory(bytes(STATE_ROOM))
-        self.addCleanup(os.close, other)
-        self.assertEqual(os.fstat(other).st_size, STATE_ROOM)
-
-
-class PeerNameTests(unittest.IsolatedAsyncioTestCase):
-    """The names of peers are looked up when a configuration is read."""
-
-    async def test_look_up(self) -> None:
-        tables: dict[str, Any] = {'circuit': [{'number': 1, 'peer_host': 'localhost'},
-                                              {'number': 2, 'peer_host': '10.0.0.1'}, {'number': 3}]}
-        self.assertEqual(await look_up(tables), {'localhost': '127.0.0.1'})
-        tables['circuit'][1]['peer_host'] = 'no.such.invalid'
-        with self.assertRaisesRegex(VersionRefused, 'no.such.invalid: '):
-            await look_up(tables)
-
+class PeerNameTests(unittest.TestCase):
     def test_addresses(self) -> None:
         text = b'peer_host = "west"\n  peer_host=\'west\'\npeer_host = "west.x"\n# "west"\n'
         self.assertEqual(with_addresses(text, {'west': '10.0.0.1'}),
                          b'peer_host = "10.0.0.1"\n  peer_host=\'10.0.0.1\'\npeer_host = "west.x"\n# "west"\n')
-
-
-if __name__ == '__main__':
-    unittest.main()

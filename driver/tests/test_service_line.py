@@ -14,16 +14,16 @@ from unittest import mock
 
 from . import limits, support
 from .test_crc4 import MULTIFRAME, checked
-from .test_satop_process import ENDS, SCRIPT
+from .test_satop import ENDS, SCRIPT
 from .test_service_killed import RestartedKeeperCase
 from .test_trunk import is_there
 from e1gw.lines import Event
 from e1gw.service import chain
 from e1gw.service.chain import BROKEN, CarriedTrunk
 from e1gw.service.crc4_trunk import Crc4Trunk
-from e1gw.service.devices import EmulatedStream, LineOptions
 from e1gw.service.line_process import waiting
 from e1gw.service.slot_trunk import SlotTrunk
+from e1gw.service.trunk import LineOptions
 from e1gw.trunks import Stream
 
 
@@ -51,10 +51,10 @@ class LineKilledTests(RestartedKeeperCase):
         self.process(name, process)
         self.step(20)
 
-    def test_align(self) -> None:
-        """Not an octet is lost that no process had."""
-        self.begins('--align')
-        process = self.process('align')
+    def goes_on_with(self, option: str, name: str) -> None:
+        """A process of the line goes on over the end of the service, another program and an update."""
+        self.begins(option)
+        process = self.process(name)
         self.kill_keeper()
         self.step(20)
         self.comes_back()
@@ -64,24 +64,18 @@ class LineKilledTests(RestartedKeeperCase):
         self.awaits('the keeper was replaced')
         self.step(20)
         self.settles()
-        self.assertEqual(self.process('align'), process)
+        self.assertEqual(self.process(name), process)
+
+    def test_align(self) -> None:
+        """Not an octet is lost that no process had."""
+        self.goes_on_with('--align', 'align')
         self.dies_meanwhile('align')
-        self.dies()
-        self.step(20)
-        self.as_uncut()
-        self.leaves_nothing()
+        self.survives()
+        self.assertEqual(os.listdir(self.memory), [])
 
     def test_crc4(self) -> None:
         """`e1gw crc4` goes on with the next program, as if there were one."""
-        self.begins('--crc4')
-        process = self.process('send')
-        self.kill_keeper()
-        self.step(20)
-        self.comes_back()
-        self.keeper.send_signal(signal.SIGHUP)
-        self.goes_on()
-        self.step(20)
-        self.assertEqual(self.process('send'), process)
+        self.goes_on_with('--crc4', 'send')
         octets, _ = self.uncut()
         self.assertEqual(b''.join(each or b'' for each in self.heard), support.run('crc4', given=b''.join(octets)))
         for name in 'check', 'send':
@@ -91,7 +85,8 @@ class LineKilledTests(RestartedKeeperCase):
 
     def test_the_line_ends(self) -> None:
         """The program ends behind what has come, and another one goes on with the device opened again. `e1gw crc4` goes
-        on over a program that is killed; the check begins again behind another `e1gw align`."""
+        on over a program that is killed; the check begins again behind another `e1gw align`. Where nobody keeps
+        descriptors, what is on the line ends with the service."""
         self.begins('--crc4', '--align', '--reopen')
         check, align = self.process('check'), self.process('align')
         os.kill(align, signal.SIGKILL)
@@ -105,19 +100,13 @@ class LineKilledTests(RestartedKeeperCase):
         self.dies()
         self.step(20)
         self.assertEqual(self.process('send'), before)
-        self.assertEqual(self.device.exchange.signals, self.up())
         self.settles()
-        self.ends()
-
-    def test_without_systemd(self) -> None:
-        """What is on the line ends, and another one is begun with the device opened again."""
-        self.begins('--crc4')
-        processes = [self.process(name) for name in ('check', 'send')]
+        processes = [self.process(name) for name in ('align', 'check', 'send')]
         self.dies_unkept()
         self.assertIn(f'behind octet {len(self.heard) * MULTIFRAME}', self.goes_on())
         self.step(40)
         self.assertEqual(self.device.exchange.signals, self.up())
-        self.assertEqual([is_there(process) for process in processes], [False, False])
+        self.assertEqual([is_there(process) for process in processes], [False] * 3)
         self.ends()
 
 
@@ -134,7 +123,7 @@ class LineProcessTests(support.FolderCase, unittest.IsolatedAsyncioTestCase):
         path = self.write('e1gw', f'#!{sys.executable}{script}')
         os.chmod(path, stat.S_IRWXU)
         self.told: list[Event] = []
-        line = LineOptions(path, lambda: EmulatedStream(['x']), crc4=crc4, reopens=reopens)
+        line = LineOptions(satop=lambda: ['--size', '256'], crc4=crc4, reopens=reopens, program=path)
         trunk = (Crc4Trunk if crc4 else CarriedTrunk)(line, {}, None)
         trunk.tell = self.told.append
         await trunk.open()
@@ -208,7 +197,8 @@ class CountedTrunkTests(unittest.IsolatedAsyncioTestCase):
         ours, line = socket.socketpair()
         self.addCleanup(line.close)
         file = ours.detach()
-        trunk = Crc4Trunk(LineOptions(support.program(), lambda: Stream(file, file, 'line'), crc4=True), {}, None)
+        options = LineOptions(lambda: Stream(file, file, 'line'), crc4=True, program=support.program())
+        trunk = Crc4Trunk(options, {}, None)
         await trunk.open()
         self.addAsyncCleanup(trunk.finish, None)
         exchange, place, sent = support.Exchange(), 0, b''
@@ -229,7 +219,7 @@ class CountedTrunkTests(unittest.IsolatedAsyncioTestCase):
         self.addCleanup(card.close)
         card.setblocking(False)
         file = ours.detach()
-        trunk = SlotTrunk(LineOptions('', lambda: Stream(file, file, 'card'), law=lambda: 'A'), {}, None)
+        trunk = SlotTrunk(LineOptions(lambda: Stream(file, file, 'card'), law=lambda: 'A'), {}, None)
         await trunk.open()
         self.addAsyncCleanup(trunk.finish, None)
         sent = bytes(range(1, 32)) * 16
@@ -249,7 +239,3 @@ class CountedTrunkTests(unittest.IsolatedAsyncioTestCase):
             await asyncio.sleep(0.001)
             octets += os.read(file, min(waiting(file), count - len(octets))) if waiting(file) else b''
         return octets
-
-
-if __name__ == '__main__':
-    unittest.main()

@@ -1,21 +1,27 @@
 """One process a trunk: its parts, by a clock that the test gives."""
 from __future__ import annotations
 
+import asyncio
 import logging
 import os
+import signal
 import socket
 import subprocess
 import sys
+import threading
 import unittest
+from typing import Callable
 from unittest import mock
 
 from . import support
 from .manager import Manager
-from e1gw.service import trunk
+from e1gw.service import checkpoints, events, trunk
+from e1gw.service.commands import unix_listener
+from e1gw.service.log import Checkpoint, TrunkLog
 from e1gw.service.journal import MINUTE, MOST, LineLimit
 from e1gw.service.lifecycle import DEATHS, MOST_PAUSE, DeathCount
-from e1gw.service.recovery import NOTE, Handover, Notifier, given_files, note_of
-from e1gw.service.takeover import unnoted_programs
+from e1gw.service.program import LoggedProgram
+from e1gw.service.recovery import NOTE, Handover, Notifier, given_files, note_of, unnoted_programs
 from e1gw.service.version import TRIED, ProgramVersion, VersionHistory
 
 
@@ -57,18 +63,6 @@ class VersionHistoryTests(unittest.TestCase):
         self.assertFalse(history.has_died() or history.has_died())
         second.close()
 
-    def test_two_deaths(self) -> None:
-        first, second = self.version(), self.version()
-        history = VersionHistory(first)
-        self.assertFalse(history.has_died() or history.has_died())
-        history.renew(second)
-        history.is_up(100.0)
-        self.assertEqual([history.has_died(), history.has_died()], [False, True])
-        self.assertIs(history.go_back('it dies'), second)
-        self.assertEqual((history.now, history.before), (first, None))
-        for version in (first, second):
-            version.close()
-
 
 class LineLimitTests(unittest.TestCase):
     def record(self, created: float, kind: str | None) -> logging.LogRecord:
@@ -88,6 +82,20 @@ class LineLimitTests(unittest.TestCase):
         self.assertTrue(limit.filter(later))
         self.assertEqual(later.getMessage(), 'gap: .. and 5 more in the last minute\nwords')
 
+    def test_the_clock_is_set_back(self) -> None:
+        """No line of a kind was told for as long as it was set back by."""
+        limit = LineLimit()
+        times = *[7200.0] * (MOST + 1), 3600.0, 3600.0 + MINUTE
+        passed = [limit.filter(self.record(created, 'alarm')) for created in times]
+        self.assertEqual(passed, [True] * MOST + [False, True, True])
+
+    def test_kinds_of_events(self) -> None:
+        """An alarm is one line, and not another one for the alignment that is lost."""
+        with self.assertLogs(events.logger) as told:
+            for name in 'alarm', 'lost':
+                events.tell_journal({'event': name, 'what': 'frame', 'on': True})
+        self.assertEqual([getattr(record, 'kind') for record in told.records], ['alarm'])
+
 
 class HandoverTests(support.FolderCase):
     """What the next service is given."""
@@ -104,15 +112,16 @@ class HandoverTests(support.FolderCase):
         self.addCleanup(manager.close)
         with mock.patch.dict(os.environ, {'NOTIFY_SOCKET': manager.path}):
             handover = Handover(self.folder, ['x'], Notifier(), {})
-        self.assertTrue(handover.put({'state': 'one'}, {'trunk-in': self.files[0], 'one': self.files[1]}))
-        self.assertTrue(handover.put({'state': 'two'}, {'trunk-in': self.files[0], 'two': self.files[2]}))
+        device, one, two = (os.fstat(file).st_ino for file in self.files)
+        self.assertTrue(handover.put({'its': [{'files': {'in': self.files[0]}}], 'files': {'log': self.files[1]}}))
+        self.assertTrue(handover.put({'its': [{'files': {'in': self.files[0]}}], 'files': {'log': self.files[2]}}))
         handover.forget()
         support.until(lambda: manager.told[-1:] == ['FDNAME=kept'])
         told = [f'{what} {name}' for what, name in zip(manager.told, manager.told[1:]) if name.startswith('FDNAME=')]
         self.assertEqual(told, [
-            'FDSTORE=1 FDNAME=kept', 'FDSTORE=1 FDNAME=trunk-in', 'FDSTORE=1 FDNAME=one', 'FDSTORE=1 FDNAME=two',
-            'FDSTOREREMOVE=1 FDNAME=one', 'FDSTOREREMOVE=1 FDNAME=trunk-in', 'FDSTOREREMOVE=1 FDNAME=two',
-            'FDSTOREREMOVE=1 FDNAME=kept'])
+            'FDSTORE=1 FDNAME=kept', f'FDSTORE=1 FDNAME=log-{one}', f'FDSTORE=1 FDNAME=in-{device}',
+            f'FDSTORE=1 FDNAME=log-{two}', f'FDSTOREREMOVE=1 FDNAME=log-{one}', f'FDSTOREREMOVE=1 FDNAME=in-{device}',
+            f'FDSTOREREMOVE=1 FDNAME=log-{two}', 'FDSTOREREMOVE=1 FDNAME=kept'])
 
     def test_systemd_that_takes_nothing(self) -> None:
         """It is said that not all is kept, and tried again."""
@@ -124,35 +133,114 @@ class HandoverTests(support.FolderCase):
             while notifier.tell('WATCHDOG=1'):
                 pass
             handover = Handover(self.folder, ['x'], notifier, {})
-            self.assertFalse(handover.put({}, {'one': self.files[1]}))
+            self.assertFalse(handover.put({'files': {'one': self.files[1], 'none': -1}}))
             while True:
                 try:
                     systemd.recv(100)
                 except BlockingIOError:
                     break
-            self.assertTrue(handover.put({}, {'one': self.files[1]}))
+            self.assertTrue(handover.put({'files': {'one': self.files[1], 'none': -1}}))
+            while notifier.tell('WATCHDOG=1'):
+                pass
+            forgets = threading.Thread(target=handover.forget, daemon=True)     # (what had no room was kept for ever)
+            forgets.start()
+            systemd.setblocking(True)
+            while systemd.recv(100) != b'FDSTOREREMOVE=1\nFDNAME=kept':
+                pass
+            forgets.join()
 
     def test_next_service(self) -> None:
         """It has the descriptors by the numbers that they had, since threads write to them up to then."""
         handover, given = Handover(self.folder, ['x'], Notifier(), {}), dict[str, int]()
+        handover.put({'files': {'one': self.files[1]}})
 
         def begins(*_: object) -> None:
             given.update(given_files())
             raise EOFError
         with mock.patch('os.execv', begins), mock.patch.dict(os.environ), self.assertRaises(EOFError):
-            handover.become_next({'one': self.files[1]})
-        self.assertEqual(([*given], given['one']), ([NOTE, 'one'], self.files[1]))
+            handover.become_next()
+        name = f'one-{os.fstat(self.files[1]).st_ino}'
+        self.assertEqual(([*given], given[name]), ([NOTE, name], self.files[1]))
+        self.assertEqual(signal.pthread_sigmask(signal.SIG_BLOCK, ()), set())       # (no child may inherit one)
 
     def test_note(self) -> None:
         """It is of a service that is no more, and of the same trunk; a shorter one leaves nothing of a longer one."""
         handover = Handover(self.folder, ['x'], Notifier(), {})
         for state in ('a' * 1000, 'b'):
-            handover.put({'state': state}, {})
+            handover.put({'state': state})
         found = note_of({}, self.folder, ['x'])
         self.assertEqual(found and found['state'], 'b')
         self.assertIsNone(note_of({}, self.folder, ['y']))
+        os.write(self.files[1], b'{"opens": ["x"], "serv')      # (it was killed while it wrote this)
+        found = note_of({NOTE: self.files[1]}, self.folder, ['x'])
+        self.assertEqual(found and found['state'], 'b')
         with mock.patch('os.getpid', lambda: 1):
             self.assertIsNone(note_of({}, self.folder, ['x']))      # (it is there)
+
+
+class CheckpointTests(support.FolderCase, unittest.IsolatedAsyncioTestCase):
+    async def test_no_checkpoint_is_saved(self) -> None:
+        """Where no folder had room it was tried again four times a second, each time by another follower, which read
+        all of the log. It is tried, and reported, once for each piece of the log."""
+        follower = mock.Mock(finish=mock.AsyncMock(return_value=None))
+        follower.process.last_words.return_value = 'says: cannot save the state'
+        program = LoggedProgram(1, mock.Mock(), Checkpoint(), TrunkLog())
+        self.addCleanup(program.log.close)
+        states = checkpoints.Checkpoints(self.folder, None, [])
+        followed = mock.patch.object(states, 'follow', lambda its: setattr(its, 'follower', follower))
+        with mock.patch.object(checkpoints, 'LOG_ROOM', 1000), followed, self.assertLogs(checkpoints.logger) as told:
+            states.follow(program)
+            for pieces in 1, 2:
+                os.write(program.log.file, bytes(1000))
+                self.assertTrue(states.is_due(program))
+                await states.take(program)
+                self.assertFalse(states.is_due(program))
+                self.assertEqual(len(told.output), pieces)
+
+    async def test_a_program_that_is_done(self) -> None:
+        """Its state was recovered, or it was closed, before the turn of a checkpoint, or while its follower saved.
+        Another follower was started on descriptors that were closed, or something else's by then."""
+        states = checkpoints.Checkpoints(self.folder, None, [])
+
+        async def taken(does: Callable[[LoggedProgram], object], finishes: bool) -> bool:
+            program = LoggedProgram(1, mock.Mock(), Checkpoint(), TrunkLog())
+
+            async def finish() -> Checkpoint:
+                if finishes:
+                    does(program)
+                return Checkpoint()
+            program.follower = mock.Mock(finish=finish)
+            if not finishes:
+                does(program)
+            with mock.patch.object(states, 'follow') as follow:
+                await states.take(program)
+            return bool(follow.called)
+        for finishes in False, True:
+            self.assertTrue(await taken(lambda program: None, finishes))
+            self.assertFalse(await taken(LoggedProgram.close, finishes))
+        program = LoggedProgram(1, mock.Mock(), Checkpoint(), TrunkLog())
+        saved = mock.patch.object(program, 'saved', return_value=Checkpoint())
+        with saved, mock.patch.object(states, 'follow') as follow:
+            await asyncio.gather(states.recover(program, None), states.take(program))
+        follow.assert_not_called()
+        program.close()
+
+
+class ControlSocketTests(support.FolderCase):
+    def test_there_once_it_listens(self) -> None:
+        """Who waited for it to be there was refused until it listened."""
+        found = []
+        path, listen = self.path('control'), socket.socket.listen
+
+        def listens(line: socket.socket, most: int) -> None:
+            found.append(os.path.lexists(path))
+            listen(line, most)
+        with mock.patch.object(socket.socket, 'listen', listens):
+            for _ in range(2):                          # (of one that is left nobody listens)
+                with unix_listener(path, 0o600, None), socket.socket(socket.AF_UNIX) as client:
+                    client.connect(path)
+                    self.assertEqual(os.stat(path).st_mode & 0o777, 0o600)
+        self.assertEqual((found, os.listdir(self.folder)), ([False, True], ['control']))
 
 
 class UnnotedProgramTests(unittest.TestCase):
@@ -188,7 +276,3 @@ class TrunkEndTests(support.FolderCase):
         for each in opened.values():
             each.close()
             self.assertFalse(each.is_open())
-
-
-if __name__ == '__main__':
-    unittest.main()

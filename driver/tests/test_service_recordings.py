@@ -2,7 +2,6 @@
 from __future__ import annotations
 
 import glob
-import itertools
 import json
 import os
 import tempfile
@@ -13,28 +12,12 @@ from typing import Any
 from unittest import mock
 
 from . import support
-from e1gw.clock import TICK, ClockFinding
+from e1gw.clock import TICK
 from e1gw.service import reader, recordings, watch
 from e1gw.service.log import Checkpoint, TrunkLog
-from e1gw.session import MULTIFRAME, Kind, encode_record, trunk_record
+from e1gw.session import MULTIFRAME, trunk_record
 
 RECORD = MULTIFRAME / 256_000       # seconds
-
-
-class WholeRecordTests(unittest.TestCase):
-    def test_pieces_of_any_length(self) -> None:
-        """Those that are whole, and that begin before a place, with the octets of the trunk in them."""
-        bodies = [(Kind.TRUNK, 0), (Kind.TRUNK, 256), (Kind.DATAGRAM, 172), (Kind.COMMAND, 1), (Kind.TRUNK, 2048)]
-        records = [encode_record(kind, 1, bytes(length)) for kind, length in bodies]
-        trunk = [0, *itertools.accumulate(length * (kind is Kind.TRUNK) for kind, length in bodies)]
-        ends = [0, *itertools.accumulate(map(len, records))]
-        given = b''.join(records)
-        for length in range(len(given) + 1):
-            whole = max(n for n, end in enumerate(ends) if end <= length)
-            self.assertEqual(recordings.whole_records(given[:length], length), (ends[whole], trunk[whole]))
-        for upto in range(1, len(given) + 1):
-            whole = min(n for n, end in enumerate(ends) if end >= upto)
-            self.assertEqual(recordings.whole_records(given, upto), (ends[whole], trunk[whole]))
 
 
 class RoomTests(support.FolderCase):
@@ -53,7 +36,7 @@ def program_of(number: int, octets: int = 0) -> Any:
     begun = Checkpoint(-1, 0, Counter(octets=octets))
     version = types.SimpleNamespace(program='/bin/false', config=os.open(os.devnull, os.O_RDONLY))
     return types.SimpleNamespace(number=number, version=version, log=TrunkLog(), begun=begun, checkpoint=begun,
-                                 is_adopted=False)
+                                 is_adopted=False, is_saving=False, is_done=False)
 
 
 class ServiceFlowTests(unittest.IsolatedAsyncioTestCase):
@@ -66,13 +49,8 @@ class ServiceFlowTests(unittest.IsolatedAsyncioTestCase):
         self.addCleanup(clock.stop)
 
     async def asyncSetUp(self) -> None:
-        self.told: list[tuple[str, float]] = []
         self.reader = reader.LogReader(None, 0.1, lambda: None, mock.AsyncMock())
-        self.reader.found = self.found
         self.reader.began(self.program, False)
-
-    def found(self, finding: ClockFinding) -> None:
-        self.told.append((finding.what, round(finding.value, 2)))
 
     def log(self) -> None:
         """The program logs a multiframe."""
@@ -91,39 +69,27 @@ class ServiceFlowTests(unittest.IsolatedAsyncioTestCase):
                 await self.reader.look()
 
     async def test_gaps(self) -> None:
-        """Each is as long as what was lost; a stall, and a handover, make none."""
-        await self.go(2)
-        await self.go(0.25, comes=False)
-        await self.go(2)
-        await self.go(5, looks=False)
-        await self.go(2)
-        self.program = program_of(2, self.octets)
-        self.reader.began(self.program, True)
-        await self.go(2)
-        self.assertEqual(self.told, [('gap', 0.25)])
-        status = self.reader.clock.status()
-        self.assertEqual((status['gaps'], status['gap_seconds']), (1, 0.25))
-
-    async def test_status_and_events(self) -> None:
-        """A gap is reported, counted and shown."""
+        """Each is as long as what was lost, is reported, counted and shown; a stall, and a handover, make none."""
         with tempfile.NamedTemporaryFile('w') as config:
-            path = config.name
-            found = watch.TrunkWatch(watch.WatchWants(config=lambda: path, name='west', tell=path, program=path), str)
-            self.reader.found, found.flow = found.flowed, self.reader.clock.status
+            trunk = mock.Mock(tell=config.name, flow=self.reader.clock.status, **{
+                'config_path.return_value': config.name, 'place.return_value': 0, 'facts.return_value': {}})
+            found = watch.TrunkWatch(watch.WatchWants(name='west'), trunk)
+            self.reader.found = found.flowed
             with mock.patch.object(found, 'tell') as tells:
                 await self.go(2)
                 await self.go(0.25, comes=False)
                 await self.go(2)
-            shown = await found.pages.fresh()
-        ((event,), _) = tells.call_args
-        self.assertEqual(event['event'], 'gap')
-        self.assertAlmostEqual(event['seconds'], 0.25, delta=0.01)
-        self.assertEqual((shown.status['clock']['gaps'], shown.status['clock']['stalls']), (1, 0))
+                await self.go(5, looks=False)
+                await self.go(2)
+                self.program = program_of(2, self.octets)
+                self.reader.began(self.program, True)
+                await self.go(2)
+                shown = await found.pages.fresh()
+        (((event,), _),) = tells.call_args_list
+        self.assertEqual((event['event'], round(event['seconds'], 2)), ('gap', 0.25))
+        clock = shown.status['clock']
+        self.assertEqual((clock['gaps'], clock['gap_seconds'], clock['stalls']), (1, 0.25, 0))
         self.assertRegex(shown.table, r'stalls 0, slips 1 \(0\.[23] s\)')
-
-    async def test_rate(self) -> None:
-        await self.go(70, 1.0005)
-        self.assertEqual([what for what, _ in self.told], ['rate'])
 
     async def test_slips_are_noted(self) -> None:
         """Beside the file of a ring, at the place where octets were lost; and what a program had in hand."""
@@ -138,12 +104,7 @@ class ServiceFlowTests(unittest.IsolatedAsyncioTestCase):
             await self.go(2)
             await self.reader.finish()
             (path,) = glob.glob(os.path.join(wants.session, '*.json'))
-            with open(path, encoding='utf-8') as file:
-                slips = json.load(file)['slips']
+            slips = json.loads(support.text_of(path))['slips']
         self.assertEqual(slips[0], [0, 0.008])
         self.assertEqual([seconds for _, seconds in slips[1:]], [0.25])
         self.assertLess(abs(slips[1][0] - place), 0.2 * 256_000)
-
-
-if __name__ == '__main__':
-    unittest.main()

@@ -1,6 +1,8 @@
 """One process a trunk: a reload that an operator asks for, and what it answers."""
 from __future__ import annotations
 
+import re
+import socket
 import subprocess
 import sys
 import unittest
@@ -22,10 +24,6 @@ class ServiceReloadTests(unittest.TestCase):
         self.addCleanup(self.world.__exit__)
         aligned(self.world)
 
-    def write(self, text: str) -> None:
-        with open(self.world.config, 'w', encoding='utf-8') as file:
-            file.write(text)
-
     def reload(self, *words: str) -> tuple[int, str]:
         """The status of the command, and what it prints."""
         done = subprocess.run([sys.executable, '-B', LAUNCHER, 'reload', *words, self.world.path('ctl')], text=True,
@@ -36,7 +34,8 @@ class ServiceReloadTests(unittest.TestCase):
         """The circuits with a call, once all is known of the program of now."""
         self.world.connected()
         self.world.step(20)
-        return (n for n in CIRCUITS if self.world.state(n) == 'answered')
+        rows = self.world.told()['circuits']
+        return (n for n in CIRCUITS if rows[n - 1]['state'] == 'answered')
 
     def test_calls_that_it_ends(self) -> None:
         """Up to three are named and end; more are not ended without force."""
@@ -44,23 +43,43 @@ class ServiceReloadTests(unittest.TestCase):
             call(self.world, circuit)
         self.assertEqual(self.reload(), (0, 'reload: done\n'))
         self.assertEqual([*self.up()], [1, 2, 3, 4, 5, 7])
-        self.write(self.text.replace('prefill = 160', 'prefill = 320', 4))
+        self.world.configure(self.text.replace('prefill = 160', 'prefill = 320', 4))
         words = '4 calls (circuits 1, 2, 3, 4)'
         self.assertEqual(self.reload(), (1, 'reload: refused, the trunk goes on as it was: it would end '
                                          f'{words}; e1gw-trunk reload --force does\n'))
         self.assertEqual([*self.up()], [1, 2, 3, 4, 5, 7])
         self.assertEqual(self.reload('--force'), (0, f'reload: it ends {words}\nreload: done\n'))
         self.assertEqual([*self.up()], [5, 7])
-        self.write(self.text.replace('prefill = 160', 'prefill = 320'))
+        self.world.configure(self.text.replace('prefill = 160', 'prefill = 320'))
         self.assertEqual(self.world.ask('reload').splitlines(),
                          ['reload: it ends 2 calls (circuits 5, 7)', 'reload: done'])
         self.assertEqual([*self.up()], [])
         self.assertIn('reload: it ends 2 calls (circuits 5, 7)', self.world.quit()[1])
 
+    def test_ports_that_are_gone(self) -> None:
+        """Their calls stay up without speech: a line says so, and they count as ended."""
+        for circuit in (6, 7, 8, 9, 10):
+            call(self.world, circuit)
+        tables = self.text.split('[[circuit]]')
+        mute = [re.sub(r'(local|peer)_port = \d+\n', '', table) for table in tables]
+        self.world.configure('[[circuit]]'.join(tables[:6] + mute[6:]))
+        self.assertEqual(self.reload()[1], 'reload: refused, the trunk goes on as it was: it would end 5 calls '
+                         '(circuits 6, 7, 8, 9, 10); e1gw-trunk reload --force does\n')
+        self.world.configure('[[circuit]]'.join(tables[:10] + mute[10:]))
+        self.assertEqual(self.reload(), (0, 'reload: it takes the ports of 1 calls (circuits 10)\nreload: done\n'))
+        self.assertEqual([*self.up()], [6, 7, 8, 9, 10])
+
+    def test_a_port_that_is_taken(self) -> None:
+        """It is named, and the version before comes back with its calls."""
+        call(self.world, 1)
+        with socket.socket(socket.AF_INET, socket.SOCK_DGRAM) as line:
+            line.bind(('127.0.0.1', 0))
+            port = line.getsockname()[1]
+            self.world.configure(re.sub(r'local_port = \d+', f'local_port = {port}', self.text, count=1))
+            self.assertEqual(self.reload(), (1, 'reload: refused, the trunk goes on as it was: the program says: '
+                                             f'socket 1: port {port} is in use (ss -ulpn shows by whom)\n'))
+        self.assertEqual([*self.up()], [1])
+
     def test_nobody_listens(self) -> None:
         self.world.quit()
         self.assertEqual(self.reload(), (2, ''))
-
-
-if __name__ == '__main__':
-    unittest.main()

@@ -17,8 +17,7 @@ ANSWER = bytes.fromhex('52 01 00 02 43 02')
 
 
 def manual() -> str:
-    with open(f'{support.TOP}/dist/man/e1gw-session.5', encoding='utf-8') as file:
-        return file.read()
+    return support.text_of(f'{support.TOP}/dist/man/e1gw-session.5')
 
 
 class SessionNameTests(unittest.TestCase):
@@ -72,7 +71,7 @@ class RecordReaderTests(unittest.TestCase):
 
     def test_faults_are_the_manuals(self) -> None:
         rows = [
-            (Fault.BAD_KIND, '58 00 00 00'), (Fault.BAD_KIND, '52 01 00 02 43 00'), (Fault.BAD_KIND, '58 1F 00 05'),
+            (Fault.BAD_KIND, '58 00 00 00'), (Fault.BAD_KIND, '58 1F 00 05'),
             (Fault.BAD_CIRCUIT, '54 01 00 00'), (Fault.BAD_CIRCUIT, '43 00 00 01 01'),
             (Fault.BAD_CIRCUIT, '43 1F 00 02'), (Fault.BAD_CIRCUIT, '44 00 00 00'), (Fault.BAD_COMMAND, '43 01 00 02'),
             (Fault.BAD_COMMAND, '43 01 00 01 07'), (Fault.BAD_COMMAND, '43 01 00 01 00'),
@@ -84,7 +83,7 @@ class RecordReaderTests(unittest.TestCase):
             with self.subTest(octets):
                 read = []
                 with self.assertRaises(BadSession) as bad:
-                    for record in session.records_in(SEIZE + bytes.fromhex(octets), session.KINDS_READ):
+                    for record in session.records_in(SEIZE + bytes.fromhex(octets)):
                         read.append(record)
                 self.assertEqual((bad.exception.fault, bad.exception.place, len(read)), (fault, 5, 1))
 
@@ -124,7 +123,3 @@ class RtpPacketTests(unittest.TestCase):
                 with self.assertRaises(BadPacket) as bad:
                     session.packet_of(octets)
                 self.assertEqual(bad.exception.refusal, refusal)
-
-
-if __name__ == '__main__':
-    unittest.main()

@@ -1,12 +1,14 @@
-"""The SIP front end of examples/sip: calls between an agent, which this test is, and the exchange of a trunk."""
+"""The SIP front end of examples/sip: calls between an agent, this test or sipp, and the exchange of a trunk."""
 from __future__ import annotations
 
 import math
 import os
 import re
+import shutil
 import socket
 import subprocess
 import sys
+import unittest
 from contextlib import ExitStack
 from unittest import mock
 
@@ -35,16 +37,19 @@ class Heard:
         return True
 
 
-class SipFrontEndTests(support.FolderCase):
+class FrontEndCase(support.FolderCase):
+    """A front end of this many circuits, and an agent."""
+
+    law, circuits = 'A', 2
+
     def setUp(self) -> None:
         super().setUp()
         held = ExitStack()
         self.addCleanup(held.close)
-        *ports, sip = free_ports(5)
-        rows = ''.join(f'[[circuit]]\nnumber = {n}\nptime = 10\nprefill = 160\n'
-                       f'local_port = {local}\npeer_port = {peer}\n'
-                       for n, local, peer in zip((1, 2), ports[:2], ports[2:]))
-        self.world = held.enter_context(world.World('law = "A"\n' + rows))
+        sip, *ports = free_ports(1 + 2 * self.circuits)
+        text = support.config_text({n: {'ptime': 10, 'prefill': 160, 'local_port': local, 'peer_port': peer}
+                                    for n, local, peer in zip(range(1, 31), ports[::2], ports[1::2])}, self.law)
+        self.world = held.enter_context(world.World(text))
         aligned(self.world)
         self.front_end = subprocess.Popen([sys.executable, '-B', FRONT_END, self.world.path('ctl'), self.world.config,
                                            '--sip', f'127.0.0.1:{sip}'], stdout=subprocess.PIPE)
@@ -62,6 +67,8 @@ class SipFrontEndTests(support.FolderCase):
         assert self.front_end.stdout
         self.front_end.stdout.close()
 
+
+class SipFrontEndTests(FrontEndCase):
     def sends(self, method: str, call: str, payload: int = 8) -> None:
         body = OFFER.format(port=self.speech.getsockname()[1], payload=payload) if method == 'INVITE' else ''
         number = 1 if method in ('INVITE', 'CANCEL') else 2
@@ -96,6 +103,8 @@ class SipFrontEndTests(support.FolderCase):
         self.sends('BYE', 'first')
         self.hears('SIP/2.0 200 OK')
         self.world.until(lambda: self.world.state(1) == 'idle')
+        self.sends('OPTIONS', 'first')          # (no BYE comes before its answer)
+        self.assertIn('\r\nCSeq: 2 OPTIONS\r\n', self.hears('SIP/2.0 200 OK'))
 
     def test_the_exchange_clears(self) -> None:
         self.is_up('first')
@@ -114,3 +123,17 @@ class SipFrontEndTests(support.FolderCase):
         self.hears('SIP/2.0 100 Trying', 'SIP/2.0 503 Service Unavailable')
         self.sends('CANCEL', 'first')
         self.hears('SIP/2.0 200 OK', 'SIP/2.0 487 Request Terminated')
+
+
+@unittest.skipUnless(shutil.which('sipp'), 'no sipp')
+class SippTests(FrontEndCase):
+    law, circuits = 'mu', 30        # (sipp offers PCMU)
+
+    def test_thirty_calls_at_once(self) -> None:
+        host, port = self.agent.getpeername()
+        words = ['sipp', '-sn', 'uac', f'{host}:{port}', '-i', host, '-m', '30', '-l', '30', '-r', '30', '-d', '1000',
+                 '-nostdin', '-timeout', str(SECONDS)]
+        with open(self.path('sipp'), 'wb') as said, subprocess.Popen(words, cwd=self.folder, stdout=said) as sipp:
+            self.world.until(lambda: sipp.poll() is not None)
+        self.assertEqual(sipp.returncode, 0, support.text_of(self.path('sipp'))[-2000:])
+        self.world.until(lambda: {row['state'] for row in self.world.told()['circuits']} == {'idle'})

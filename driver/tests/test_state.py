@@ -1,12 +1,10 @@
-"""A session that is saved, and continued from what was saved, answers as the one that was not cut."""
+"""A session that is saved, and continued from what was saved, answers as the one that was not cut. (scripts/look has
+the octets of a state, and what is no state.)"""
 from __future__ import annotations
 
-import hashlib
 import random
 import struct
-import subprocess
-import tempfile
-import unittest
+from itertools import product
 from typing import Iterator, NamedTuple
 
 from . import support
@@ -15,8 +13,6 @@ from e1gw.session import Codec, Command
 
 CODECS = ('', 'g726-16', 'g726-24', 'g726-32', 'g726-40')
 SEIZED, ANSWERED, IDLE, ACKNOWLEDGED = 0b00, 0b01, 0b10, 0b11
-# a datagram of circuit 7
-ADMITTED = session.encode_record(session.Kind.ANSWER, 7, bytes((session.Kind.DATAGRAM, 0)))
 
 
 class PlayedCoding(NamedTuple):
@@ -37,13 +33,10 @@ def coding(law: str, circuit: int) -> PlayedCoding:
 
 def config_of(law: str, **of_seven: object) -> str:
     """Thirty circuits with all codecs, half of them incoming. Circuit 7 has these keys too."""
-    tables = []
-    for circuit in range(1, 31):
-        its = coding(law, circuit)
-        keys = {'number': circuit, 'role': f'"{"incoming" if circuit % 2 else "outgoing"}"', 'codec': f'"{its.codec}"',
-                'payload': its.payload, 'prefill': 160, **(of_seven if circuit == 7 else {})}
-        tables.append('[[circuit]]\n' + ''.join(f'{key} = {value}\n' for key, value in keys.items()))
-    return f'law = "{law}"\n' + ''.join(tables)
+    codings = {circuit: coding(law, circuit) for circuit in range(1, 31)}
+    return support.config_text({circuit: {
+        'role': 'incoming' if circuit % 2 else 'outgoing', 'codec': its.codec, 'payload': its.payload, 'prefill': 160,
+        **(of_seven if circuit == 7 else {})} for circuit, its in codings.items()}, law)
 
 
 def datagram(rng: random.Random, law: str, circuit: int, number: int) -> bytes:
@@ -111,243 +104,21 @@ def pieces_of(rng: random.Random, records: list[bytes], many: int) -> list[bytes
     return [b''.join(records[a:b]) for a, b in zip([0, *places], [*places, len(records)])]
 
 
-def of_others(answers: bytes, circuit: int) -> tuple[bytes, list[session.Record]]:
-    """The octets and the records that are not a circuit's."""
-    found = list(session.records_in(answers, session.KINDS_WRITTEN))
-    sent = b''.join(record.body for record in found if record.kind is session.Kind.TRUNK)
-    return support.without(sent, circuit), [record for record in found if record.circuit not in (0, circuit)]
-
-
-class StateCase(support.FolderCase):
-    """Sessions in pieces, each of which begins with the state that the one before saved."""
-
-    def answers(self, config: str, pieces: list[bytes]) -> bytes:
-        """What the pieces are answered."""
-        out = []
-        for number, piece in enumerate(pieces):
-            load = ['--load', self.path('state')] if number else []
-            out.append(support.run('replay', '--config', config, *load, '--save', self.path('state'), given=piece))
-        return b''.join(out)
-
-
-class CutSessionTests(StateCase):
-    """With one configuration the answers are those of the session that was not cut."""
-
-    def test_at_every_record(self) -> None:
-        for law in ('A', 'mu'):
-            rng = random.Random(law)
-            config = self.write('trunk.toml', config_of(law))
-            records = list(records_of(rng, law, 100))
-            whole = support.run('replay', '--config', config, given=b''.join(records))
-            self.assertGreater(len(whole), 20_000)
-            for place in range(law == 'mu', len(records), 2):
-                pieces = [b''.join(records[:place]), b''.join(records[place:])]
-                self.assertEqual(self.answers(config, pieces), whole, (law, place))
-
+class SavedStateTests(support.FolderCase):
     def test_in_twenty_pieces(self) -> None:
-        for law in ('A', 'mu'):
-            for seed in range(6):
-                rng = random.Random(f'{law} {seed}')
-                config = self.write('trunk.toml', config_of(law))
-                records = list(records_of(rng, law, 400))
-                whole = support.run('replay', '--config', config, given=b''.join(records))
-                self.assertEqual(self.answers(config, pieces_of(rng, records, 20)), whole, (law, seed))
-
-    def test_hostile(self) -> None:
-        for law in ('A', 'mu'):
-            for many in (2, 2, 2, 20):
-                rng = random.Random(f'{law} {many}')
-                config = self.write('trunk.toml', config_of(law))
-                records = list(hostile_records(rng, law, 400))
-                whole = support.run('replay', '--config', config, given=b''.join(records))
-                self.assertEqual(self.answers(config, pieces_of(rng, records, many)), whole, (law, many))
-
-    def test_noise(self) -> None:
-        for seed in range(10):
-            rng = random.Random(seed)
-            config = self.write('trunk.toml', config_of('A'))
-            records = [session.trunk_record(rng.randbytes(rng.randrange(1, 900))) for _ in range(40)]
-            place = rng.randrange(40)
-            whole = support.run('replay', '--config', config, given=b''.join(records))
-            self.assertEqual(self.answers(config, [b''.join(records[:place]), b''.join(records[place:])]), whole)
-
-    def test_check_lists_what_was_saved(self) -> None:
-        config = self.write('trunk.toml', config_of('A'))
-        records = list(records_of(random.Random(1), 'A', 300))
-        self.answers(config, [b''.join(records)])
-        listed = support.run('check', '--config', config, given=b''.join(records))
-        self.assertEqual(support.run('check', '--config', config, '--load', self.path('state')), listed)
-
-    def test_what_a_fault_leaves_is_saved(self) -> None:
-        config = self.write('trunk.toml', config_of('A'))
-        records = list(records_of(random.Random(2), 'A', 200))
-        whole = support.run('replay', '--config', config, given=b''.join(records))
-        given = b''.join(records[:50])
-        cut = subprocess.run([support.program(), 'replay', '--config', config, '--save', self.path('state')],
-                             input=given + b'T\0', stdout=subprocess.PIPE, stderr=subprocess.PIPE)
-        self.assertEqual(cut.returncode, 1)
-        rest = support.run('replay', '--config', config, '--load', self.path('state'), given=b''.join(records[50:]))
-        self.assertEqual(cut.stdout + rest, whole)
-
-
-class ReconfiguredStateTests(StateCase):
-    """A state that is loaded with another configuration of circuit 7."""
-
-    def in_call(self, law: str, config: str) -> tuple[list[bytes], int, bytes]:
-        """Records, a place among them at which circuit 7 is in a call, and the answers up to it. The state is saved."""
-        for seed in range(50):
-            rng = random.Random(f'{law} {seed}')
-            records = list(records_of(rng, law, 400))
-            place = rng.randrange(len(records) // 3, len(records) // 2)
-            first = support.run('replay', '--config', config, '--save', self.path('state'),
-                                given=b''.join(records[:place]))
-            if ADMITTED in first[-2000:]:
-                return records, place, first
-        raise AssertionError('no call')
-
-    def test_all_others_go_on(self) -> None:
-        changes: tuple[dict[str, object], ...] = (
-            {'prefill': 161}, {'role': '"outgoing"'}, {'ssrc': 77}, {'codec': '"g726-40"', 'payload': 99})
-        for law, keys in zip(('A', 'mu', 'mu', 'A'), changes):
-            config, other = self.write('trunk.toml', config_of(law)), self.write('other.toml', config_of(law, **keys))
-            records, place, first = self.in_call(law, config)
-            whole = support.run('replay', '--config', config, given=b''.join(records))
-            done = subprocess.run([support.program(), 'replay', '--config', other, '--load', self.path('state')],
-                                  input=b''.join(records[place:]), stdout=subprocess.PIPE, stderr=subprocess.PIPE)
-            self.assertEqual((done.returncode, done.stderr), (0, b'circuit 7 begins as new\n'), keys)
-            self.assertTrue(first + done.stdout != whole, keys)
-            self.assertEqual(of_others(first + done.stdout, 7), of_others(whole, 7), keys)
-
-    def test_the_circuit_begins_as_new(self) -> None:
-        """It is listed as in a new gateway of its configuration; all others as they were, behind any configuration."""
-        config = self.write('trunk.toml', config_of('A'))
-        other = self.write('other.toml', config_of('A', prefill=0, role='"outgoing"'))
-        self.answers(config, [b''.join(records_of(random.Random(6), 'A', 300))])
-        listed, new = [], support.run('check', '--config', other).splitlines()
-        for name in (config, other):
-            listed.append(support.run('check', '--config', name, '--load', self.path('state')).splitlines())
-        self.assertEqual(listed[1], [*listed[0][:6], new[6], *listed[0][7:]])
-        support.run('replay', '--config', other, '--load', self.path('state'), '--save', self.path('state'))
-        again = support.run('check', '--config', other, '--load', self.path('state')).splitlines()
-        self.assertEqual(again, listed[1])
-
-    def test_hosts_and_ports_renew_nothing(self) -> None:
-        config = self.write('trunk.toml', config_of('A'))
-        there = {'local_port': 24000, 'peer_host': '"127.0.0.1"', 'peer_port': 24002}
-        other = self.write('other.toml', config_of('A', **there))
-        records = list(records_of(random.Random(7), 'A', 300))
-        whole = support.run('replay', '--config', config, given=b''.join(records))
-        first = support.run('replay', '--config', config, '--save', self.path('state'), given=b''.join(records[:90]))
-        rest = support.run('replay', '--config', other, '--load', self.path('state'), given=b''.join(records[90:]))
-        self.assertEqual(first + rest, whole)
-
-
-class RefusedStateTests(support.FolderCase):
-    """States that are not loaded, and states that can't be saved."""
-
-    def setUp(self) -> None:
-        super().setUp()
-        self.config = self.write('trunk.toml', config_of('A'))
-        given = b''.join(records_of(random.Random(3), 'A', 200))
-        support.run('replay', '--config', self.config, '--save', self.path('state'), given=given)
-        with open(self.path('state'), 'rb') as file:
-            self.state = file.read()
-
-    def told(self, *words: str) -> tuple[int, str]:
-        """Status and standard error."""
-        done = subprocess.run([support.program(), 'replay', *words], input=b'', stdout=subprocess.PIPE,
-                              stderr=subprocess.PIPE)
-        self.assertEqual(done.stdout, b'')
-        return done.returncode, done.stderr.decode()
-
-    def loaded(self, octets: bytes, config: str = '') -> tuple[int, str]:
-        path = self.write('other', octets)
-        return self.told('--config', config or self.config, '--load', path)
-
-    def test_as_saved(self) -> None:
-        self.assertEqual(self.loaded(self.state), (0, ''))
-
-    def saved(self, *words: str) -> bytes:
-        """The state behind a session without records."""
-        support.run('replay', '--config', self.config, *words, '--save', self.path('saved'), given=b'')
-        with open(self.path('saved'), 'rb') as file:
-            return file.read()
-
-    def test_the_wait_of_a_seizure(self) -> None:
-        """A state has the wait of its session, and one that goes on keeps it if it is given no other."""
-        usual, longer = self.saved(), self.saved('--seizure-wait', '2000')
-        self.assertNotEqual(usual, longer)
-        self.assertEqual(self.saved('--seizure-wait', '200'), usual)
-        path = self.write('longer', longer)
-        self.assertEqual(self.saved('--load', path), longer)
-        self.assertEqual(self.saved('--load', path, '--seizure-wait', '200'), usual)
-
-    def test_layout(self) -> None:
-        self.assertEqual(self.state[:6], b'E1GS\1\0')
-        self.assertEqual(self.state[6:22], struct.pack('>BBBBHIHI', 1, 1, 97, 20, 160, 1, 0, 0))
-        self.assertEqual(self.state[6 + 9 * 16:6 + 10 * 16], struct.pack('>BBBBHIHI', 0, 0, 8, 20, 160, 10, 0, 0))
-        self.assertEqual(self.state[-32:], hashlib.sha256(self.state[:-32]).digest())
-
-    def test_values(self) -> None:
-        """With a right check sum each octet is one that the trunk or a circuit can have, or its place is named."""
-        rng, faults = random.Random(5), set()
-        for place in [486, *(rng.randrange(486, len(self.state) - 32) for _ in range(60))]:
-            octets = bytearray(self.state[:-32])
-            octets[place] ^= rng.randrange(1, 256)
-            status, told = self.loaded(bytes(octets) + hashlib.sha256(octets).digest())
-            self.assertIn(told.split(' at ')[0], ('', 'state 6 Value', 'state 7 Left'), place)
-            self.assertEqual(status, 2 if told else 0)
-            faults.add(told.split(' at ')[0])
-        self.assertIn('state 6 Value', faults)
-        body = self.state[:-32]
-        for changed, told in ((body + b'\0', 'state 7 Left at 0\n'), (body[:-1], 'state 6 Value at 30\n'),
-                              (body[:486], 'state 6 Value at 0\n')):
-            self.assertEqual(self.loaded(changed + hashlib.sha256(changed).digest()), (2, told))
-
-    def test_cut(self) -> None:
-        self.assertEqual(self.loaded(b''), (2, 'state 1 Short at 0\n'))
-        self.assertEqual(self.loaded(self.state[:517]), (2, 'state 1 Short at 0\n'))
-        self.assertEqual(self.loaded(self.state[:-1]), (2, 'state 4 Sum at 0\n'))
-
-    def test_other_octets(self) -> None:
-        self.assertEqual(self.loaded(b'X' + self.state[1:]), (2, 'state 2 NoState at 0\n'))
-        self.assertEqual(self.loaded(self.state[:4] + b'\2' + self.state[5:]), (2, 'state 3 Version at 0\n'))
-        rng = random.Random(4)
-        for _ in range(40):
-            place = rng.randrange(5, len(self.state))
-            octets = bytearray(self.state)
-            octets[place] ^= 1 << rng.randrange(8)
-            self.assertEqual(self.loaded(bytes(octets)), (2, 'state 4 Sum at 0\n'), place)
-
-    def test_another_configuration(self) -> None:
-        self.assertEqual(self.loaded(self.state, self.write('mu.toml', config_of('mu'))), (2, 'state 5 Config at 0\n'))
-        for place, value in ((6 + 6 * 16, 2), (7 + 6 * 16, 5), (8 + 6 * 16, 128), (9 + 6 * 16, 25), (10 + 6 * 16, 7)):
-            octets = bytearray(self.state[:-32])
-            octets[place] = value
-            told = self.loaded(bytes(octets) + hashlib.sha256(octets).digest())
-            self.assertEqual(told, (2, 'state 5 Config at 7\n'), place)
-
-    def test_no_file(self) -> None:
-        self.assertEqual(self.told('--config', self.config, '--load', self.path('none')),
-                         (2, 'cannot read the state\n'))
-        self.assertEqual(self.told('--config', self.config, '--load', '/dev/zero'), (2, 'cannot read the state\n'))
-
-    def test_not_saved(self) -> None:
-        self.assertEqual(self.told('--config', self.config, '--save', self.path('no/state')),
-                         (1, 'cannot save the state\n'))
-        self.assertEqual(self.told('--config', self.config, '--save', '/dev/full'), (1, 'cannot save the state\n'))
-
-    def test_an_old_state_stays_if_none_is_saved(self) -> None:
-        with tempfile.TemporaryDirectory() as room:
-            path = f'{room}/state'
-            with open(path, 'wb') as file:
-                file.write(b'old')
-            limited = f'ulimit -f 8; exec "{support.program()}" replay --config "{self.config}" --save "{path}"'
-            done = subprocess.run(['bash', '-c', f'trap "" XFSZ; {limited}'], input=b'', stderr=subprocess.PIPE)
-            self.assertEqual((done.returncode, done.stderr), (1, b'cannot save the state\n'))
-            with open(path, 'rb') as file:
-                self.assertEqual(file.read(), b'old')
-
-
-if __name__ == '__main__':
-    unittest.main()
+        """Each begins with the state that the one before saved. Hosts and ports are no part of it."""
+        there: dict[str, object] = {'local_port': 24000, 'peer_host': '127.0.0.1', 'peer_port': 24002}
+        for law, records in product(('A', 'mu'), (records_of, hostile_records)):
+            with self.subTest(law=law, records=records.__name__):
+                chance = support.chance_of(self)
+                configs = [self.write('trunk.toml', config_of(law)), self.write('other.toml', config_of(law, **there))]
+                given = list(records(chance, law, 400))
+                whole = support.run('replay', '--config', configs[0], given=b''.join(given))
+                out, load = b'', list[str]()
+                for number, piece in enumerate(pieces_of(chance, given, 20)):
+                    out += support.run('replay', '--config', configs[number % 2], *load, '--save', self.path('state'),
+                                       given=piece)
+                    load = ['--load', self.path('state')]
+                self.assertEqual(out, whole)
+                self.assertEqual(support.run('check', '--config', configs[0], *load),
+                                 support.run('check', '--config', configs[0], given=b''.join(given)))

@@ -17,13 +17,14 @@ from e1gw.tie import site as site_module
 from e1gw.tie.blocked import BlockedCircuits
 from e1gw.tie.circuit import CircuitEnd
 from e1gw.tie.coding import Coding
-from e1gw.tie.main import ANYBODY, is_loopback, parser
+from e1gw.tie.main import ANYBODY, parser
 from e1gw.tie.messages import BadMessage, Greeting, Message, SiteState, encode_message, message_of
 from e1gw.tie.pairs import agreed, pairs_of
-from e1gw.tie.site import Site, context_of, has_name
-from e1gw.tie.status import TiePages, serve_status
+from e1gw.tie.site import Site, has_name
+from e1gw.tie.status import serve_status, texts_of
 from e1gw.tie.tie import AGAIN, Tie
 from e1gw.tie.trunk import LOOK
+from e1gw.tls import context_of, is_exposed, is_loopback
 from tests.support import SECONDS
 from tests.test_tie_circuit import CALLED
 from tests.ties import ANSWER, G726, HELD, IDLE, SEIZED, TieCase
@@ -71,14 +72,20 @@ class TieMessageTests(unittest.TestCase):
 
 class TieOptionTests(unittest.TestCase):
     def test_refused(self) -> None:
-        rows: list[list[str]] = [
-            [], ['--control', 'a'], ['--control', 'a', '--listen', 'x'],
-            ['--control', 'a', '--listen', '127.0.0.1:1', '--connect', '127.0.0.1:1'],
-            ['--control', 'a', '--listen', '127.0.0.1:1', '--hold', '-1']]
+        rows: list[str] = ['', '--control a', '--control a --listen x', '--control a --listen 127.0.0.1:1 --hold -1',
+                           '--control a --listen 127.0.0.1:1 --connect 127.0.0.1:1',
+                           '--control a --listen 127.0.0.1:1 --insecure --tls a b c']
         for words in rows:
             with self.subTest(words=words), self.assertRaises(SystemExit) as end, mock.patch('sys.stderr'):
-                parser().parse_args(words)
+                parser().parse_args(words.split())
             self.assertEqual(end.exception.code, 2)
+
+    def test_loopback(self) -> None:
+        for host, here in (('127.0.0.1', True), ('127.5.5.5', True), ('[::1]', True), ('localhost', True),
+                           ('0.0.0.0', False), ('192.0.2.1', False), ('[::]', False), ('localhost.example', False)):
+            options = parser().parse_args(['--control', 'a', '--listen', f'{host}:1'])
+            where = options.listen[0]
+            self.assertEqual((is_loopback(where), is_exposed(where, options)), (here, not here), host)
 
 
 class TieAddressTests(unittest.TestCase):
@@ -99,25 +106,15 @@ class TieAddressTests(unittest.TestCase):
 
     def test_beyond_loopback(self) -> None:
         """Without TLS and beyond loopback it is refused, with a line that names the cure."""
-        for host in ('0.0.0.0', '192.0.2.1', '[::]', 'localhost.example'):
-            with self.subTest(host):
-                status, error, events = self.said('--listen', f'{host}:7301')
-                self.assertEqual((status, events, error.count('\n')), (2, [], 1))
-                self.assertIn('not a loopback address', error)
-                self.assertIn('--insecure', error)
-
-    def test_loopback(self) -> None:
-        for host in ('127.0.0.1', '127.5.5.5', '[::1]', 'localhost'):
-            self.assertTrue(is_loopback(parser().parse_args(['--control', 'a', '--listen', f'{host}:1']).listen[0]))
+        status, error, events = self.said('--listen', '0.0.0.0:7301')
+        self.assertEqual((status, events, error.count('\n')), (2, [], 1))
+        self.assertIn('not a loopback address', error)
+        self.assertIn('--insecure', error)
 
     def test_asked_for(self) -> None:
         status, error, events = self.said('--listen', f'0.0.0.0:{free_port()}', '--insecure')
         self.assertEqual((error, events[0]['event']), ('', 'start'))
         self.assertIn('neither secret nor authenticated', events[0]['connection'])
-
-    def test_not_with_tls(self) -> None:
-        with self.assertRaises(SystemExit), mock.patch('sys.stderr'):
-            parser().parse_args('--control a --listen 127.0.0.1:1 --insecure --tls a b c'.split())
 
 
 class TieCallTests(TieCase):
@@ -151,11 +148,7 @@ class TieCallTests(TieCase):
     async def test_congestion(self) -> None:
         """A refused seizure is reported to the caller by an answer and a clear-back, and not tried again."""
         await self.both()
-        self.east.acknowledges = False
-        self.west.send(1, SEIZED)
-        await self.until(lambda: self.east.states[1] is State.SEIZED)
-        self.east.move(1, State.RELEASING)
-        await self.until(self.at(1, State.CLEAREDBACK, State.IDLE))
+        await self.not_acknowledged()
         await asyncio.sleep(3 * AGAIN)
         self.assertEqual(self.east.asked.count('seize 1'), 1)
         self.assertEqual([each for each in self.west.asked if each.endswith(' 1')], ['answer 1', 'clear-back 1'])
@@ -174,11 +167,7 @@ class TieCallTests(TieCase):
     async def test_caller_waits(self) -> None:
         """Where no answer may be feigned the caller gets none."""
         await self.both(waits=True)
-        self.east.acknowledges = False
-        self.west.send(1, SEIZED)
-        await self.until(lambda: self.east.states[1] is State.SEIZED)
-        self.east.move(1, State.RELEASING)
-        await self.until(lambda: self.east.states[1] is State.IDLE)
+        await self.not_acknowledged(State.ACKED)
         await asyncio.sleep(3 * AGAIN)
         self.assertIs(self.west.states[1], State.ACKED)
         self.assertNotIn('answer 1', self.west.asked)
@@ -227,18 +216,12 @@ class TieCallTests(TieCase):
         await self.until(lambda: self.west.states[3] is State.CLEAREDBACK)
         await self.until(lambda: self.west.states[1] is State.BLOCKED)
 
-    async def test_outgoing_end_gives_up(self) -> None:
-        await self.both()
-        await self.sends(self.west, 3, SEIZED, State.ACKED)
-        await self.kill(self.tasks[:2], self.sites[0][1])
-        await self.until(lambda: self.east.states[3] not in CALLED)
-
     async def test_why_a_call_is_cleared(self) -> None:
         """One that the operator seizes without the tie; one that ends at the other end; one whose other site goes."""
         await self.both()
 
         async def reason(number: int) -> str | None:
-            """What is told of a command of this number that seizes or clears."""
+            """The event of this number of a command that seizes or clears."""
             await self.until(lambda: len(found()) == number)
             return found()[-1].get('why')
 
@@ -254,6 +237,7 @@ class TieCallTests(TieCase):
         await self.sends(self.west, 5, SEIZED, State.ACKED)
         await self.kill(self.tasks[:2], self.sites[0][1])
         self.assertEqual(await reason(5), 'the other site is gone, or a trunk is out of service')
+        self.assertNotIn(self.east.states[5], CALLED)
 
     async def test_dark(self) -> None:
         """An alarm of one trunk blocks at once at the other end, and ends calls when it lasts."""
@@ -411,18 +395,14 @@ class TieStatusTests(TieCase):
     async def busy(self) -> None:
         await self.both()
         await self.sends(self.west, 3, SEIZED, State.ACKED)
-        self.east.acknowledges = False
-        self.west.send(1, SEIZED)
-        await self.until(lambda: self.east.states[1] is State.SEIZED)
-        self.east.move(1, State.RELEASING)
-        await self.until(self.at(1, State.CLEAREDBACK, State.IDLE))
+        await self.not_acknowledged()
         self.west.obey(['block', '7'])
         tie = self.sites[0][0]
         await self.until(lambda: tie.circuits[7].kept and tie.done['clear-back', 'done'] > 0)
 
     async def test_texts(self) -> None:
         await self.busy()
-        now = await TiePages(self.sites[0][0]).fresh()
+        now = texts_of(self.sites[0][0])
         found = json.loads(now.json)
         rows = {row['circuit']: row for row in found['circuits']}
         self.assertEqual([found[key] for key in ('link', 'trunk', 'site', 'dark', 'far_dark', 'calls', 'given_up')],
@@ -443,7 +423,7 @@ class TieStatusTests(TieCase):
         await self.both()
         await self.kill(self.tasks[2:], self.sites[1][1])
         await self.until(lambda: bool(self.told('west', 'link')[-1]['state'] == 'given up'))
-        now = await TiePages(self.sites[0][0]).fresh()
+        now = texts_of(self.sites[0][0])
         self.assertIn('e1gw_tie_link{state="given up"} 1\n', now.metrics)
         self.assertNotIn('end="other"', now.metrics)
         self.assertIn('the other site: not connected\n', now.table)
@@ -474,7 +454,7 @@ class TieStatusTests(TieCase):
                                                        f'127.0.0.1:{taken.getsockname()[1]}')
         self.assertEqual((status, error), (0, ''))
         warnings = [each['about'] for each in events if each['event'] == 'warning']
-        self.assertIn('nobody can ask how it stands: ', warnings[0])
+        self.assertIn('nobody can ask for its status: ', warnings[0])
 
 
 class UntilAnswerTests(TieCase):
@@ -509,33 +489,28 @@ class UntilAnswerTests(TieCase):
         await self.answered(3)
         self.assertFalse([each for each in self.west.asked + self.east.asked if each.startswith('codec')])
 
-    async def test_other_site_has_it_not(self) -> None:
-        """A site alone changes nothing, and says why."""
+    async def keep(self, site: str, why: str, east: Coding = G726, until: str | None = 'pcma') -> None:
+        """Both ends keep what is configured, and a site says why."""
         self.run_tie(*self.tie('west', until='pcma'))
-        self.run_tie(*self.tie('east'))
-        await self.until(lambda: bool(self.told('west', 'warning')))
+        self.run_tie(*self.tie('east', until=until))
+        await self.until(lambda: bool(self.told(site, 'warning')))
         await self.until(self.at(3, State.IDLE, State.IDLE))
         await self.answered(3)
-        self.assertTrue(self.have(3, G726)())
-        self.assertIn('--until-answer', self.told('west', 'warning')[-1]['about'])
+        self.assertEqual((self.west.codecs[3], self.east.codecs[3]), (G726, east))
+        self.assertIn(why, self.told(site, 'warning')[-1]['about'])
+
+    async def test_other_site_has_it_not(self) -> None:
+        await self.keep('west', '--until-answer', until=None)
 
     async def test_another_law(self) -> None:
-        """A trunk that can't have this codec: both ends keep the configured one."""
+        """A trunk that can't have this codec."""
         self.east.law = 'mu'
-        await self.both(until='pcma')
-        await self.until(lambda: bool(self.told('west', 'warning')))
-        await self.answered(3)
-        self.assertTrue(self.have(3, G726)())
-        self.assertIn('law', self.told('east', 'warning')[0]['about'])
+        await self.keep('east', 'law')
 
     async def test_static_payload_type(self) -> None:
-        """A configured payload type that may be another codec's: both ends keep the configured codec."""
+        """A configured payload type that may be another codec's."""
         self.east.configure(3, Coding('g726-16', 8))
-        await self.both(until='pcma')
-        await self.until(lambda: bool(self.told('west', 'warning')))
-        await self.answered(3)
-        self.assertEqual((self.west.codecs[3], self.east.codecs[3]), (G726, Coding('g726-16', 8)))
-        self.assertIn('payload type of circuits 3 ', self.told('east', 'warning')[0]['about'])
+        await self.keep('east', 'payload type of circuits 3 ', Coding('g726-16', 8))
 
     async def test_g711_is_left_alone(self) -> None:
         for driver in (self.west, self.east):
@@ -670,7 +645,3 @@ class CertificateTests(TieCase):
         names: Any = {'subjectAltName': (('DNS', 'West.example'), ('IP Address', '0:0:0:0:0:0:0:1'))}
         self.assertTrue(has_name(names, 'west.example') and has_name(names, '::1'))
         self.assertFalse(has_name(names, 'east.example') or has_name(names, '127.0.0.1') or has_name(None, 'west'))
-
-
-if __name__ == '__main__':
-    unittest.main()

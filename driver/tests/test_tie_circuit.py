@@ -385,16 +385,3 @@ class TieCommandTests(unittest.TestCase):
         self.assertTrue(circuit.end().over)
         self.assertIs(circuit.wants(GOOD), Command.ANSWER)
         self.assertFalse(circuit.moved(IDLE).moved(ACKED, 'call 3').end().over)
-
-    def test_tie_started_anew(self) -> None:
-        """A tie that has forgotten which call it was given learns it from the other end, and the call goes on."""
-        circuit = incoming(ANSWERED, None).heard(called(ANSWERED)).heard(called(ANSWERED, None))
-        self.assertEqual(circuit.end().passed, 'call 2')
-        fresh = outgoing(ANSWERED, None, None).heard(circuit.end())
-        self.assertEqual(fresh.end().call, 'call 2')
-        self.assertIsNone(fresh.wants(GOOD))
-        self.assertIsNone(circuit.wants(GOOD))
-
-
-if __name__ == '__main__':
-    unittest.main()

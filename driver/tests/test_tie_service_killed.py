@@ -5,22 +5,20 @@ from __future__ import annotations
 import asyncio
 import json
 import os
-import tempfile
 import unittest
 from typing import Any, Callable
 
 from .limits import LONG
-from .stand_ins import IDLE, WatchedTrunk, row
+from .stand_ins import StandInShadow, WatchedTrunk
+from .support import FolderCase, text_of
+from .test_operator import CONFIG, ROWS
 from e1gw.lines import Line, Role, State
-from e1gw.call_names import Naming
+from e1gw.call_names import CallNames
 from e1gw.session import Kind
 from e1gw.tie.circuit import CircuitEnd
 from e1gw.tie.blocked import BlockedCircuits
 from e1gw.tie.messages import Message, SiteState
 from e1gw.tie.tie import Tie, TieOptions
-
-CONFIG = 'law = "A"\n[[circuit]]\nnumber = 1\n[[circuit]]\nnumber = 2\nrole = "incoming"\n'
-ROWS = [IDLE[0], row(2, 'idle', role='incoming')[5:], *IDLE[2:]]
 
 
 class FarSite:
@@ -109,6 +107,17 @@ class TieKilledWatcherTests(unittest.IsolatedAsyncioTestCase):
         self.assertEqual((self.far.call(2), self.commands()), (name, before))
         self.assertEqual({self.tie.circuits[n].state for n in (1, 2)}, {State.ANSWERED})
 
+    async def test_another_state(self) -> None:
+        """Program and service die at once: the next shadow has another state, and has seen no seizure."""
+        name, before = await self.up(), self.commands()
+
+        def another_shadow() -> None:
+            rows = [*self.world.shadow.rows.values()]
+            self.world.shadow.close()
+            self.world.shadow = self.world.program.shadow = StandInShadow(self.world.path('tell'), rows)
+        await self.again(another_shadow)
+        self.assertEqual((self.far.call(2), self.commands()), (name, before))
+
     async def test_another_call_meanwhile(self) -> None:
         """The exchange clears circuit 2 and seizes it again while nobody watches: that is reported as another call."""
         name = await self.up()
@@ -121,47 +130,53 @@ class TieKilledWatcherTests(unittest.IsolatedAsyncioTestCase):
         self.assertNotIn(self.far.call(2), (name, '', None))
 
 
-class NamingTests(unittest.TestCase):
+class NamingTests(FolderCase):
     """The count goes on over watchers and sessions."""
 
-    def setUp(self) -> None:
-        folder = tempfile.TemporaryDirectory()
-        self.addCleanup(folder.cleanup)
-        self.path = os.path.join(folder.name, 'calls')
+    def naming(self) -> CallNames:
+        return CallNames(self.path('calls'))
 
-    def counts(self, naming: Naming, session: str, before: int | None, told: int, seen: int = 0) -> int:
-        lines = {1: Line(1, seizures=seen)}
-        naming.begin(session, None if before is None else {1: before}, {1: told}, lines)
+    def counts(self, naming: CallNames, session: str, told: int, state: State = State.IDLE) -> int:
+        """How often a line was seized of which a follower tells this."""
+        lines = {1: Line(1, state=state)}
+        naming.begin(session, {1: told}, lines)
         return lines[1].seizures
 
     def test_sessions(self) -> None:
-        first = Naming(self.path)
-        self.assertEqual(self.counts(first, 'a', None, 5), 5)
-        self.assertEqual(self.counts(first, 'b', 7, 0, 7), 7)       # two more were told before the next shadow
-        self.assertEqual(self.counts(first, 'b', 8, 2, 9), 9)
-        second = Naming(self.path)
-        self.assertEqual((self.counts(second, 'b', None, 3), second.life), (10, first.life))
-        self.assertEqual(self.counts(second, 'c', 10, 1, 11), 11)   # that seizure was seen by its row, too
-        third = Naming(self.path)
-        self.assertEqual((self.counts(third, 'd', None, 1), third.life == first.life), (1, False))
+        """One after another, as two services are told of them. Of the seizures that nobody has told only one is known,
+        of a line that is in a call."""
+        first = self.naming()
+        self.assertEqual(self.counts(first, 'a', 5), 5)
+        first.look({1: Line(1, seizures=7, state=State.ACKED)})
+        self.assertEqual(self.counts(first, 'b', 0, State.ANSWERED), 7)
+        self.assertEqual(self.counts(first, 'b', 2), 9)
+        for session, told, state, count in (
+                ('b', 3, State.IDLE, 10), ('c', 0, State.IDLE, 10), ('d', 0, State.ACKED, 11),
+                ('e', 0, State.ANSWERED, 11), ('f', 1, State.ACKED, 12), ('f', 1, State.IDLE, 12),
+                ('g', 1, State.ACKED, 13)):
+            with self.subTest(session=session):
+                naming = self.naming()
+                self.assertEqual((self.counts(naming, session, told, state), naming.life), (count, first.life))
+
+    def test_a_note_of_an_earlier_version(self) -> None:
+        """It has what was counted before a session, and says nothing of another one."""
+        for session, count in ('a', 7), ('b', 2):
+            self.write('calls', '{"life": "x", "session": "a", "base": {"1": 5}}')
+            naming = self.naming()
+            self.assertEqual((self.counts(naming, session, 2), naming.life == 'x'), (count, session == 'a'))
 
     def test_no_counts(self) -> None:
         """A shadow that tells none: each watcher gives calls new names."""
-        names = [Naming(self.path), Naming(self.path)]
+        names = [self.naming(), self.naming()]
         for naming in names:
-            naming.begin('a', None, {}, {})
+            naming.begin('a', {}, {})
+            naming.look({})
         self.assertNotEqual(names[0].life, names[1].life)
-        self.assertFalse(os.path.exists(self.path))
+        self.assertEqual(os.listdir(self.folder), [])
 
     def test_a_note_that_is_none(self) -> None:
         for text in ('', '[]', '{"life": 1}', '{"life": "x", "session": "a", "base": {"x": 1}}'):
-            with open(self.path, 'w', encoding='utf-8') as file:
-                file.write(text)
-            naming = Naming(self.path)
-            self.assertEqual(self.counts(naming, 'a', None, 2), 2)
-            with open(self.path, encoding='utf-8') as file:
-                self.assertEqual(json.load(file)['life'], naming.life)
-
-
-if __name__ == '__main__':
-    unittest.main()
+            self.write('calls', text)
+            naming = self.naming()
+            self.assertEqual(self.counts(naming, 'a', 2), 2)
+            self.assertEqual(json.loads(text_of(self.path('calls')))['life'], naming.life)

@@ -1,27 +1,26 @@
 """e1gw-trunk in service: commands, what ends without ending calls, and how all of it ends."""
 from __future__ import annotations
 
-import contextlib
 import json
 import os
 import signal
 import socket
 import subprocess
-import sys
 import tempfile
 import time
 import unittest
 import unittest.mock
 from functools import partial
-from typing import TypeVar
+from typing import Any, TypeVar
 
 from . import support
-from .flowing import is_seized
+from .manager import Manager
 from .support import SECONDS
-from .world import IDLE, LAUNCHER, SEIZED, World, config_of
-from e1gw import session
+from .world import IDLE, SEIZED, World, config_of, trunk_command
 from e1gw.clearing import DisconnectPolicy, DisconnectWatch, OutageWatch
-from e1gw.service.service import parser, wants_of
+from e1gw.service.options import DIGITS, wants_of
+from e1gw.service.program import MOST_PATH
+from e1gw.service.service import parser
 from e1gw.testing.ports import free_ports
 from e1gw.testing.service import ask
 
@@ -38,24 +37,21 @@ def aligned(world: W) -> W:
     return world
 
 
-def records_of(octets: bytes) -> bytes:
-    """Octets of the trunk as records."""
-    return b''.join(session.trunk_record(octets[at:at + 2048]) for at in range(0, len(octets), 2048))
-
-
 def is_there(pid: int) -> bool:
     """Whether a process has not ended."""
-    try:
-        with open(f'/proc/{pid}/stat', encoding='utf-8') as stat:
-            return stat.read().rpartition(')')[2].split()[0] != 'Z'
-    except OSError:
-        return False
+    return support.state_of(pid) not in ('', 'Z')
 
 
 def catches(pid: int, number: int) -> bool:
     """Whether a process catches a signal (proc(5))."""
-    with open(f'/proc/{pid}/status', encoding='ascii', errors='replace') as file:
-        return any(int(line.split()[1], 16) >> number - 1 & 1 for line in file if line.startswith('SigCgt:'))
+    caught = support.text_of(f'/proc/{pid}/status').partition('SigCgt:')[2].split()[0]
+    return bool(int(caught, 16) >> number - 1 & 1)
+
+
+def is_seized(world: World, circuit: int) -> bool:
+    """Whether a circuit takes the command to seize it, of a trunk that is seen to flow."""
+    world.step(20)
+    return world.ask(f'seize {circuit}') == f'seize {circuit}: done'
 
 
 def call(world: World, circuit: int) -> None:
@@ -66,142 +62,88 @@ def call(world: World, circuit: int) -> None:
 
 
 class TrunkCommandTests(unittest.TestCase):
-    """Each command's each answer, by the tables of e1gw-session(5)."""
+    """What each command is answered. (scripts/look has each command in each state of a line.)"""
 
     def setUp(self) -> None:
         self.world = World(config_of(FOUR, incoming=(2,)))
         self.addCleanup(self.world.__exit__)
 
-    def answers(self, *rows: tuple[str, str]) -> None:
-        for command, answer in rows:
-            with self.subTest(command):
-                self.assertEqual(self.world.ask(command), answer)
+    def answers(self, *lines: str) -> None:
+        """Commands with what they are answered, behind a colon."""
+        for line in lines:
+            with self.subTest(line):
+                self.assertEqual(self.world.ask(line.partition(': ')[0]), line)
 
-    def test_before_alignment(self) -> None:
-        self.world.give(b'\xFF' * 512)
-        self.answers(('seize 1', 'seize 1: no alignment'), ('seize 2', 'seize 2: no alignment'),
-                     ('clear 1', 'clear 1: not in a call'), ('answer 2', 'answer 2: not seized'))
-
-    def test_an_outgoing_circuit(self) -> None:
-        aligned(self.world)
-        wrong = 'wrong role (circuit 1 is outgoing; the exchange answers, clears back and blocks it)'
-        self.answers(('answer 1', f'answer 1: {wrong}'), ('clear-back 1', f'clear-back 1: {wrong}'),
-                     ('block 1', f'block 1: {wrong}'), ('unblock 1', f'unblock 1: {wrong}'),
-                     ('clear 1', 'clear 1: not in a call'), ('seize 1', 'seize 1: done'),
-                     ('seize 1', 'seize 1: not idle'))
-        self.world.step(60)
-        self.assertEqual(self.world.state(1), 'answered')
-        self.answers(('clear 1', 'clear 1: done'), ('clear 1', 'clear 1: not in a call'))
-        self.world.step(30)
-        self.assertEqual(self.world.state(1), 'idle')
-
-    def test_an_incoming_circuit(self) -> None:
-        world = aligned(self.world)
-        wrong = 'wrong role (circuit 2 is incoming; the exchange seizes and clears it)'
-        self.answers(('seize 2', f'seize 2: {wrong}'), ('clear 2', f'clear 2: {wrong}'),
-                     ('answer 2', 'answer 2: not seized'), ('clear-back 2', 'clear-back 2: not in a call'),
-                     ('unblock 2', 'unblock 2: not blocked'), ('block 2', 'block 2: done'),
-                     ('block 2', 'block 2: not idle'), ('unblock 2', 'unblock 2: done'))
+    def test_lines(self) -> None:
+        world = self.world
+        world.give(b'\xFF' * 512)
+        self.answers('seize 1: no alignment', 'seize 2: no alignment', 'clear 1: not in a call', 'answer 2: not seized')
+        aligned(world)
+        self.answers(*(f'{command} 1: wrong role (circuit 1 is outgoing; the exchange answers, clears back and blocks '
+                       'it)' for command in ('answer', 'clear-back', 'block', 'unblock')),
+                     'clear 1: not in a call', 'seize 1: done', 'seize 1: not idle')
+        world.step(60)
+        self.assertEqual(world.state(1), 'answered')
+        self.answers('clear 1: done', 'clear 1: not in a call')
+        self.answers(*(f'{command} 2: wrong role (circuit 2 is incoming; the exchange seizes and clears it)'
+                       for command in ('seize', 'clear')),
+                     'answer 2: not seized', 'clear-back 2: not in a call', 'unblock 2: not blocked', 'block 2: done',
+                     'block 2: not idle', 'unblock 2: done')
         world.exchange.pairs[2] = SEIZED
-        world.step(15)
-        self.answers(('answer 2', 'answer 2: done'), ('clear-back 2', 'clear-back 2: done'),
-                     ('answer 2', 'answer 2: done'), ('answer 2', 'answer 2: not seized'))
+        world.step(30)
+        self.answers('answer 2: done', 'clear-back 2: done', 'answer 2: done', 'answer 2: not seized')
         world.exchange.pairs[2] = IDLE
         world.step(15)
-        self.assertEqual(world.state(2), 'idle')
+        self.assertEqual((world.state(1), world.state(2)), ('idle', 'idle'))
 
-    def test_codecs(self) -> None:
-        self.answers(('codec 1 g726-32 96', 'codec 1: done'), ('codec 1 pcma 8', 'codec 1: done'),
-                     ('codec 1 g726-16 95', 'codec 1: no payload type of the codec'),
-                     ('codec 1 pcma 0', 'codec 1: no payload type of the codec'),
-                     ('codec 1 pcmu 0', 'codec 1: the law of the trunk is A'),
-                     ('codec 1 g729 18', 'codec 1: codecs are pcma, pcmu, g726-16, g726-24, g726-32, g726-40'),
-                     ('codec 1 pcma 128', 'codec 1: payload types are 0 to 127'),
-                     ('codec 1 pcma -1', 'codec 1: payload types are 0 to 127'),
-                     ('codec 1 pcma', 'codec: wants a circuit, a codec and a payload type'))
+    def test_other_commands(self) -> None:
+        for words, answer in (
+                ('g726-32 96', 'done'), ('pcma 8', 'done'), ('g726-16 95', 'no payload type of the codec'),
+                ('pcma 0', 'no payload type of the codec'), ('pcmu 0', 'the law of the trunk is A'),
+                ('g729 18', 'codecs are pcma, pcmu, g726-16, g726-24, g726-32, g726-40'),
+                ('pcma 128', 'payload types are 0 to 127'), ('pcma -1', 'payload types are 0 to 127')):
+            with self.subTest(words):
+                self.assertEqual(self.world.ask(f'codec 1 {words}'), f'codec 1: {answer}')
         self.assertEqual(self.world.status()['circuits'][0]['codec'], 'pcma')
-
-    def test_what_is_no_command(self) -> None:
-        world = self.world
-        self.answers(('seize', 'seize: wants a circuit'), ('seize 1 2', 'seize: wants a circuit'),
-                     ('seize 0', 'seize 0: circuits are 1 to 30'), ('seize 31', 'seize 31: circuits are 1 to 30'),
-                     ('seize x', 'seize x: circuits are 1 to 30'), ('seize ٣', 'seize ٣: circuits are 1 to 30'),
-                     ('on-loss drop', 'on-loss: wants keep, or clear or block and seconds'),
-                     ('on-loss keep', 'on-loss: done'))
-        self.assertIn('no such command', world.ask('hello'))
-        self.assertIn('no such command', world.ask(b'\xff\xfe\x80'))
-        self.assertIn('seize N', world.ask('help'))
+        self.answers('seize: wants a circuit', 'seize 0: circuits are 1 to 30', 'seize 31: circuits are 1 to 30',
+                     'seize x: circuits are 1 to 30', 'seize ٣: circuits are 1 to 30')
+        rows: list[tuple[str | bytes, str]] = [
+            ('seize 1 2', 'seize: wants a circuit'), ('on-loss keep', 'on-loss: done'),
+            ('on-loss drop', 'on-loss: wants keep, or clear or block and seconds'),
+            ('codec 1 pcma', 'codec: wants a circuit, a codec and a payload type'), ('hello', 'no such command'),
+            (b'\xff\xfe\x80', 'no such command'), ('help', 'seize N')]
+        for command, words in rows:
+            self.assertIn(words, self.world.ask(command))
 
     def test_status_and_events(self) -> None:
         world = self.world
         events = world.follow()
         self.addCleanup(events.close)
         aligned(world)
-        world.ask('seize 1')
-        world.step(60)
+        call(world, 1)
+        port = int(support.text_of(world.config).split('local_port = ')[1].split()[0])
+        causes = {'Short': b'', 'Version': bytes(12), 'PayloadType': b'\x80\x09' + bytes(10),
+                  'TooMany': b'\x80\x08' + bytes(1700)}
+        for host in '127.0.0.1', '127.0.0.9':       # (nothing is received of another one than peer_host)
+            with socket.socket(socket.AF_INET, socket.SOCK_DGRAM) as line:
+                line.bind((host, 0))
+                for datagram in causes.values():
+                    line.sendto(datagram, ('127.0.0.1', port))
+        world.step(4)
         status = world.status()
         self.assertEqual([row['state'] for row in status['circuits'][:3]], ['answered', 'idle', 'idle'])
-        self.assertEqual(len(world.ask('status').splitlines()), 34)
+        counts = status['circuits'][0]['datagrams']
+        self.assertEqual({cause: counts.get(cause) for cause in causes}, dict.fromkeys(causes, 1))
+        table = world.ask('status').splitlines()
+        self.assertEqual(len(table), 34)
+        self.assertRegex(table[1], r' s of the trunk at ..:..:.. UTC, aligned; the other end: no alarm')
         world.quit()
         told = [json.loads(line) for line in events]
-        self.assertTrue(all(event['time'] > 1e9 for event in told))
+        self.assertTrue(all(event.pop('time') > 1e9 for event in told))
         states = [(event['was'], event['state']) for event in told if event.get('circuit') == 1
                   and event['event'] == 'state']
         self.assertEqual(states, [('fault', 'idle'), ('idle', 'seized'), ('seized', 'acked'), ('acked', 'answered')])
-        self.assertIn({'event': 'command', 'circuit': 1, 'command': 'seize', 'answer': 'done'},
-                      [{key: each for key, each in event.items() if key != 'time'} for event in told])
-
-
-class TrunkSessionTests(unittest.TestCase):
-    def test_a_session_replays_alike(self) -> None:
-        with World(config_of(range(1, 31), prefill=320), '--session', '@/kept') as world:
-            aligned(world)
-            for n in range(1, 31):
-                self.assertEqual(world.ask(f'seize {n}'), f'seize {n}: done')
-            world.step(80)
-            world.ask('codec 5 g726-32 97')
-            world.step(40)
-            status = world.status()
-            self.assertEqual(world.quit()[0], 0)
-            with open(world.path('kept'), 'rb') as file:
-                kept = file.read()
-            answered = support.run('replay', '--config', world.config, given=kept)
-            listed = support.run('check', '--config', world.config, given=kept).decode().splitlines()
-        given = b''.join(r.body for r in session.records_in(kept) if r.kind is session.Kind.TRUNK)
-        heard = b''.join(r.body for r in session.records_in(answered) if r.kind is session.Kind.TRUNK)
-        self.assertEqual(given, bytes(world.sent))
-        self.assertEqual(heard, bytes(world.heard))
-        for row, line in zip(status['circuits'], listed, strict=True):
-            words = line.split()
-            self.assertEqual([row['state'], row['sent'], row['recognised'], row['codec'], str(row['payload'])],
-                             [*words[2:5], *words[8:]])
-        self.assertGreater(sum(int(line.split()[6]) for line in listed), 30)
-
-    def test_causes_are_counted(self) -> None:
-        config = config_of(FOUR)
-        with World(config) as world, socket.socket(socket.AF_INET, socket.SOCK_DGRAM) as stranger:
-            aligned(world)
-            call(world, 1)
-            port = int(config.split('local_port = ')[1].split()[0])
-            rows = {'Short': b'', 'Version': bytes(12), 'PayloadType': b'\x80\x09' + bytes(10),
-                    'TooMany': b'\x80\x08' + bytes(1700)}
-            for datagram in rows.values():
-                stranger.sendto(datagram, ('127.0.0.1', port))
-            world.step(4)
-            counts = world.status()['circuits'][0]['datagrams']
-            self.assertEqual({cause: counts.get(cause) for cause in rows}, dict.fromkeys(rows, 1))
-
-    def test_datagrams_of_strangers(self) -> None:
-        """From another address than peer_host nothing is received; with --senders any all is."""
-        for options, short in (((), 0), (('--senders', 'any'), 1)):
-            config = config_of(FOUR)
-            with World(config, *options) as world, socket.socket(socket.AF_INET, socket.SOCK_DGRAM) as stranger:
-                aligned(world)
-                call(world, 1)
-                stranger.bind(('127.0.0.9', 0))
-                stranger.sendto(b'', ('127.0.0.1', int(config.split('local_port = ')[1].split()[0])))
-                world.step(4)
-                self.assertEqual(world.status()['circuits'][0]['datagrams'].get('Short', 0), short)
+        self.assertIn({'event': 'command', 'circuit': 1, 'command': 'seize', 'answer': 'done'}, told)
 
 
 class BesideCallsTests(unittest.TestCase):
@@ -217,9 +159,8 @@ class BesideCallsTests(unittest.TestCase):
         reads, writes = os.pipe()
         with World(config_of(FOUR), '--watch', stdout=writes) as world:
             os.close(writes)
-            deaf = [socket.socket(socket.AF_UNIX) for _ in range(5)]
+            deaf = [support.connected(world.path('ctl')) for _ in range(5)]
             for line in deaf:
-                line.connect(world.path('ctl'))
                 line.sendall(b'events\n' + b'status\n' * 2000)
             os.close(reads)
             self.goes_on(world)
@@ -234,23 +175,6 @@ class BesideCallsTests(unittest.TestCase):
                 self.goes_on(world)
                 self.assertEqual(world.quit()[0], 0)
 
-    def test_signals(self) -> None:
-        """They end nothing. One takes the program and the configuration of now, with all calls up."""
-        with tempfile.NamedTemporaryFile() as told, World(config_of(FOUR), stderr=told) as world:
-            aligned(world)
-            call(world, 2)
-            for number in (signal.SIGHUP, signal.SIGPIPE, signal.SIGXFSZ, signal.SIGWINCH, signal.SIGCHLD,
-                           signal.SIGUSR1):
-                world.process.send_signal(number)
-
-            def reloaded() -> bool:
-                with open(told.name, encoding='utf-8') as file:
-                    return 'e1gw-trunk: reload: program' in file.read()
-            world.until(reloaded)
-            world.connected()
-            self.assertEqual(world.state(2), 'answered')
-            self.goes_on(world)
-
     def test_the_end_at_any_moment(self) -> None:
         """Whatever has begun when the end is asked for, it ends, and nothing is left."""
         for number in range(8):
@@ -258,8 +182,8 @@ class BesideCallsTests(unittest.TestCase):
                 config = os.path.join(folder, 'trunk.toml')
                 with open(config, 'w', encoding='ascii') as file:
                     file.write('law = "A"\n')
-                words = [sys.executable, '-B', LAUNCHER, '--program', support.program(), '--config', config, '--in',
-                         '/dev/zero', '--out', '/dev/null', '--control', os.path.join(folder, 'ctl')]
+                words = trunk_command('--config', config, '--in', '/dev/zero', '--out', '/dev/null', '--control',
+                                      os.path.join(folder, 'ctl'))
                 with subprocess.Popen(words, stdin=subprocess.DEVNULL, stderr=subprocess.PIPE,
                                       env={**os.environ, 'RUNTIME_DIRECTORY': folder}) as process:
                     support.until(lambda: catches(process.pid, signal.SIGTERM))     # (else it ends Python itself)
@@ -288,8 +212,7 @@ class RefusedOptionsTests(support.FolderCase):
         self.good = self.write('good.toml', 'law = "A"\n')
 
     def run_driver(self, *words: str) -> tuple[int, str]:
-        done = subprocess.run([sys.executable, '-B', LAUNCHER, '--program', support.program(), *words],
-                              stdin=subprocess.DEVNULL, stdout=subprocess.PIPE, stderr=subprocess.PIPE, timeout=SECONDS,
+        done = subprocess.run(trunk_command(*words), stdin=subprocess.DEVNULL, capture_output=True, timeout=SECONDS,
                               check=False)
         self.assertNotIn(b'Traceback', done.stderr)
         return done.returncode, done.stderr.decode()
@@ -300,101 +223,83 @@ class RefusedOptionsTests(support.FolderCase):
         status, said = self.run_driver('--config', bad, '--in', '/dev/null', '--out', out, '--session', out)
         self.assertEqual((status, 'config 5 OutOfRange at 0' in said), (2, True))
         self.assertIn(f'{bad}:1: law is \'B\', and has to be "A" or "mu"', said)
-        with open(out, encoding='utf-8') as file:
-            self.assertEqual(file.read(), 'precious')
+        self.assertEqual(support.text_of(out), 'precious')
 
     def test_words_of_the_command_line(self) -> None:
         rows: list[list[str]] = [
             ['--tcp', '127.0.0.1:99999'], ['--tcp', '.x:1'], ['--tcp', 'host'], ['--tcp', ':1'], ['--in', '/dev/null'],
             [], ['--unix', 'a', '--tcp', 'b:1'], ['--unix', 'a', '--repeat', '9'], ['--unix', 'a', '--keep', '1h'],
             ['--unix', 'a', '--session', 's', '--keep', '1x'], ['--unix', 'a', '--on-loss', 'drop'],
-            ['--unix', 'a', '--http', '1'], ['--unix', 'a', '--gap', 'x']]
+            ['--unix', 'a', '--http', '1'], ['--unix', 'a', '--gap', 'x'],
+            # (each program has a longer one: that of the tenth could not be bound)
+            *(['--unix', 'a', option, '/'.ljust(MOST_PATH - DIGITS + 1, 'x')] for option in
+              ('--program-control', '--tell'))]
+        for option in '--program-control', '--tell':
+            wants_of(parser().parse_args(['--config', self.good, '--program', support.program(), '--unix', 'a', option,
+                                          rows[-1][-1][:-1]]))
         for words in rows:
             with self.subTest(words), self.assertRaises((ValueError, SystemExit)) as refused, \
                     unittest.mock.patch('sys.stderr'):
-                wants_of(parser().parse_args(['--config', self.good, *words]))
+                wants_of(parser().parse_args(['--config', self.good, '--program', support.program(), *words]))
             self.assertEqual(getattr(refused.exception, 'code', 2), 2)
         self.assertEqual(self.run_driver('--config', self.good, '--unix', 'a', '--keep', '1h')[0], 2)
 
-    def test_only_sockets_are_taken_away(self) -> None:
-        path = self.write('ctl', 'precious')
-        status, said = self.run_driver('--config', self.good, '--unix', 'none', '--control', path)
-        self.assertEqual((status, 'no socket' in said), (2, True))
-        with open(path, encoding='utf-8') as file:
-            self.assertEqual(file.read(), 'precious')
-
-    def test_a_socket_that_is_taken(self) -> None:
-        path = os.path.join(self.folder, 'ctl')
-        with socket.socket(socket.AF_UNIX) as listener:
-            listener.bind(path)
-            listener.listen()
-            status, said = self.run_driver('--config', self.good, '--unix', 'none', '--control', path)
-        self.assertEqual((status, 'another one listens' in said), (2, True))
-
-    def test_a_trunk_that_is_not_there(self) -> None:
-        none = os.path.join(self.folder, 'none')
-        status, said = self.run_driver('--config', self.good, '--unix', none)
-        self.assertEqual((status, f'the trunk cannot be opened: {none}: No such file or directory' in said), (1, True))
-        with socket.socket() as held:
-            held.bind(('127.0.0.1', 0))             # and does not listen
-            place = f'127.0.0.1:{held.getsockname()[1]}'
-            status, said = self.run_driver('--config', self.good, '--tcp', place)
-        self.assertEqual((status, f'the trunk cannot be opened: {place}: Connection refused' in said), (1, True))
-
     def test_a_device_that_is_not_there_yet(self) -> None:
-        """The status says so, and not that a program is missing."""
-        none, control = os.path.join(self.folder, 'none'), os.path.join(self.folder, 'ctl')
-        words = [sys.executable, '-B', LAUNCHER, '--program', support.program(), '--config', self.good, '--in', none,
-                 '--out', none, '--reopen', '--control', control]
-        with subprocess.Popen(words, stdin=subprocess.DEVNULL, stderr=subprocess.DEVNULL) as process:
-            def said() -> str | None:
-                with contextlib.suppress(FileNotFoundError, ConnectionRefusedError):
-                    told = ask(control, b'status')
-                    return told if 'not open' in told else None
-                return None
-            text = support.until(said)
-            self.assertEqual(ask(control, b'seize 1'), f'seize 1: the trunk cannot be opened: {none}: No such file or '
-                             'directory')
+        """The status says so, and not that a program is missing; and systemd learns it."""
+        none, control, manager = self.path('none'), self.path('ctl'), Manager(self.path('notify'))
+        self.addCleanup(manager.close)
+        words = trunk_command('--config', self.good, '--in', none, '--out', none, '--reopen', '--control', control)
+        with subprocess.Popen(words, stdin=subprocess.DEVNULL, stderr=subprocess.DEVNULL,
+                              env={**os.environ, 'NOTIFY_SOCKET': manager.path}) as process:
+            support.until(lambda: os.path.exists(control) and 'not open' in ask(control, b'status'))
+            first, second, *_ = ask(control, b'status').splitlines()
+            seized = ask(control, b'seize 1')
+            support.until(lambda: 'STATUS=the trunk is not open yet' in manager.told)
             process.terminate()
-        version = support.run('--version').decode().split()[1]
-        lines = text.splitlines()
-        self.assertEqual(lines[0], f'trunk good, e1gw {version}, not open')
-        self.assertRegex(lines[1], f' UTC, the trunk cannot be opened: {none}: No such file or directory; the other '
+        self.assertEqual(seized, f'seize 1: the trunk cannot be opened: {none}: No such file or directory')
+        self.assertIn('READY=1', manager.told)
+        self.assertEqual(first, f'trunk good, e1gw {support.run("--version").decode().split()[1]}, not open')
+        self.assertRegex(second, f' UTC, the trunk cannot be opened: {none}: No such file or directory; the other '
                          'end: not heard$')
 
     def test_no_error_is_a_number_alone(self) -> None:
-        """What is refused names the file or the address that it is of."""
-        none = os.path.join(self.folder, 'none')
-        with socket.create_server(('127.0.0.1', 0)) as held, socket.socket(socket.AF_UNIX) as listener:
+        """What is refused names the file or the address that it is of, and is left as it is."""
+        none, precious = self.path('none'), self.write('ctl', 'precious')
+        names = self.write('names.toml', 'law = "A"\n[[circuit]]\nnumber = 3\nlocal_port = 9\npeer_port = 9\n'
+                           'peer_host = "no.such.invalid"\n')
+        with socket.create_server(('127.0.0.1', 0)) as held, socket.socket(socket.AF_UNIX) as listener, \
+                socket.socket() as deaf, socket.socket(socket.AF_INET, socket.SOCK_DGRAM) as datagrams:
+            datagrams.bind(('127.0.0.1', 0))
+            port = datagrams.getsockname()[1]
+            used = self.write('port.toml', 'law = "A"\n[[circuit]]\nnumber = 3\npeer_port = 9\n'
+                              f'local_port = {port}\n')
             place, taken = f'127.0.0.1:{held.getsockname()[1]}', self.path('taken')
             listener.bind(taken)
             listener.listen()
-            for words, told in ((('--control', f'{none}/ctl'), f'cannot listen: --control {none}/ctl: No such file'),
-                                (('--program-control', taken), f'--program-control {taken}: somebody listens there'),
-                                (('--tell', self.good), f'--tell {self.good}: somebody listens there, or something'),
-                                (('--http', place), f'cannot listen: --http {place}: Address already in use'),
-                                (('--config', none), f'{none}: No such file or directory'),
-                                (('--program', none), f'{none}: No such file or directory')):
+            deaf.bind(('127.0.0.1', 0))             # and does not listen
+            away = f'127.0.0.1:{deaf.getsockname()[1]}'
+            opened, card = 'the trunk cannot be opened: ', ('--unix', 'card')
+            rows: list[tuple[tuple[str, ...], int, str]] = [
+                ((*card, '--control', f'{none}/ctl'), 2, f'cannot listen: --control {none}/ctl: No such file'),
+                ((*card, '--control', precious), 2, 'no socket'),
+                ((*card, '--control', taken), 2, 'another one listens'),
+                ((*card, '--program-control', taken), 2, f'--program-control {taken}: somebody listens there'),
+                ((*card, '--tell', precious), 2, f'--tell {precious}: somebody listens there, or something'),
+                ((*card, '--http', place), 2, f'cannot listen: --http {place}: Address already in use'),
+                ((*card, '--config', none), 2, f'{none}: No such file or directory'),
+                ((*card, '--program', none), 2, f'{none}: No such file or directory'),
+                # the unit tries these again
+                ((*card, '--config', names), 1, 'no.such.invalid: '),
+                (('--unix', none), 1, f'{opened}{none}: No such file or directory'),
+                (('--tcp', away), 1, f'{opened}{away}: Connection refused'),
+                (('--config', used, '--in', '/dev/zero', '--out', '/dev/null', '--reopen'), 1,
+                 f'port {port} is in use (ss -ulpn shows by whom)\n'
+                 'e1gw-trunk: ends: the program says: socket 3, behind octet 0')]
+            for words, status, told in rows:
                 with self.subTest(words=words):
-                    status, said = self.run_driver('--config', self.good, '--unix', 'card', *words)
-                    self.assertEqual((status, told in said, 'Errno' in said), (2, True, False), said)
-
-    def test_a_port_in_use(self) -> None:
-        with socket.socket(socket.AF_INET, socket.SOCK_DGRAM) as held:
-            held.bind(('127.0.0.1', 0))
-            port = held.getsockname()[1]
-            text = f'law = "A"\n[[circuit]]\nnumber = 3\nlocal_port = {port}\npeer_port = 9\n'
-            config = self.write('port.toml', text)
-            status, said = self.run_driver('--config', config, '--in', '/dev/zero', '--out', '/dev/null', '--reopen')
-        lines = [line.removeprefix('e1gw-trunk: ') for line in said.splitlines()]
-        at = lines.index(f'port {port} is in use (ss -ulpn shows by whom)')
-        self.assertEqual((status, lines[at + 1]), (1, 'ends: the program says: socket 3, behind octet 0'))
-
-    def test_a_name_server_that_is_away(self) -> None:
-        """The unit tries it again."""
-        text = 'law = "A"\n[[circuit]]\nnumber = 3\nlocal_port = 9\npeer_port = 9\npeer_host = "no.such.invalid"\n'
-        status, said = self.run_driver('--config', self.write('names.toml', text), '--unix', 'card')
-        self.assertEqual((status, 'no.such.invalid: ' in said), (1, True))
+                    ended, said = self.run_driver('--config', self.good, *words)
+                    self.assertEqual((ended, told in said, 'Errno' in said), (status, True, False), said)
+        self.assertEqual(support.text_of(precious), 'precious')
 
     def test_options_that_a_unit_lacks(self) -> None:
         none = os.path.join(self.folder, 'west.options')
@@ -417,103 +322,30 @@ class RefusedOptionsTests(support.FolderCase):
                 status, told = self.run_driver('--config', config, *words, *option)
                 self.assertEqual((status, told.count(f'({said})')), (0, 1), told)
 
-    def test_a_file_goes_through(self) -> None:
-        trunk = os.path.join(self.folder, 'trunk')
-        with open(trunk, 'wb') as file:
-            file.write(b'\xD5' * 10_000)
-        out = os.path.join(self.folder, 'out')
-        self.assertEqual(self.run_driver('--config', self.good, '--in', trunk, '--out', out)[0], 0)
-        given = session.trunk_record(b'\xD5' * 10_000)
-        answered = list(session.records_in(support.run('replay', '--config', self.good, given=given)))
-        with open(out, 'rb') as file:
-            self.assertEqual(file.read(), answered[0].body)
-
-
-class UnitTests(support.FolderCase):
-    """What systemd gets."""
-
-    def setUp(self) -> None:
-        support.program()
-        super().setUp()
-        self.line = socket.socket(socket.AF_UNIX, socket.SOCK_DGRAM)
-        self.addCleanup(self.line.close)
-        self.line.bind(self.path('notify'))
-        self.line.settimeout(SECONDS)
-
-    def told(self) -> str:
-        """What comes next that is no sign of life, and no descriptor to keep."""
-        while (told := self.line.recv(4096).decode()).startswith(('WATCHDOG=1', 'FDSTORE')):
-            pass
-        return told
-
-    def starts(self, *words: str) -> subprocess.Popen[bytes]:
-        config = self.write('trunk.toml', 'law = "A"\n')
-        around = {**os.environ, 'NOTIFY_SOCKET': self.path('notify'), 'RUNTIME_DIRECTORY': self.folder,
-                  'WATCHDOG_USEC': '1000000'}
-        process = subprocess.Popen([sys.executable, '-B', LAUNCHER, '--program', support.program(), '--config', config,
-                                    '--control', self.path('ctl'), *words], stdin=subprocess.DEVNULL,
-                                   stderr=subprocess.DEVNULL, env=around)
-        self.addCleanup(process.wait, SECONDS)
-        self.addCleanup(process.terminate)
-        return process
-
-    def test_in_service_reload_and_end(self) -> None:
-        with socket.socket(socket.AF_UNIX) as listener:
-            listener.bind(self.path('card'))
-            listener.listen(1)
-            process = self.starts('--unix', self.path('card'))
-            line = listener.accept()[0]
-            self.assertRegex(self.told(), 'READY=1\nSTATUS=program [0-9]+, shadow [0-9]+')
-            self.assertTrue(os.path.exists(self.path('ctl')))
-            process.send_signal(signal.SIGHUP)
-            self.assertTrue(self.told().startswith('RELOADING=1\nMONOTONIC_USEC='))
-            self.assertRegex(self.told(), 'READY=1\nSTATUS=program [0-9]+, shadow [0-9]+')
-            process.terminate()
-            self.assertEqual(self.told(), 'STOPPING=1')
-            line.close()
-
-    def test_a_trunk_that_is_waited_for(self) -> None:
-        self.starts('--unix', self.path('none'), '--reopen')
-        self.assertEqual(self.told(), 'READY=1\nSTATUS=the trunk is not open yet')
-
 
 class DisconnectWatchTests(unittest.TestCase):
-    """When calls are cleared, by a clock of its own."""
+    # By a clock of their own: what clients ask, when they leave, and what is cleared up to a moment.
+    ROWS: dict[str, list[tuple[Any, Any]]] = {
+        'the last one is gone': [
+            ('first', ['clear', '3']), ('second', ['block', '3']), ('third', ['keep']), ('third', 100.0), (1100.0, []),
+            ('first', 101.0), (1101.0, []), ('second', 2000.0), (2002.9, []), (2003.0, [True]), (2010.0, [True])],
+        'one comes again in time': [('first', []), (99.0, []), ('first', 100.0), ('second', []), (1104.0, []),
+                                    ('second', 104.0), (108.9, []), (109.0, [False])],
+        'calls are kept': [('client', ['clear', '0']), ('client', ['keep']), ('client', 100.0), (1000.0, [])]}
 
-    def setUp(self) -> None:
-        self.cleared: list[bool] = []
-        self.watch = DisconnectWatch(DisconnectPolicy(5.0), lambda why, blocks: self.cleared.append(blocks))
-
-    def test_when_the_last_one_is_gone(self) -> None:
-        for client, words in (('first', ['clear', '3']), ('second', ['block', '3']), ('third', ['keep'])):
-            self.assertEqual(self.watch.asked(client, words), 'on-loss: done')
-        for client, now in (('third', 100.0), ('first', 101.0)):
-            self.watch.left(client, now)
-            self.watch.look(now + 1000)
-        self.assertEqual(self.cleared, [])
-        self.watch.left('second', 2000.0)
-        self.watch.look(2002.9)
-        self.assertEqual(self.cleared, [])
-        for now in (2003.0, 2010.0):
-            self.watch.look(now)
-        self.assertEqual(self.cleared, [True])
-
-    def test_who_comes_again_in_time(self) -> None:
-        for client, now in (('first', 100.0), ('second', 104.0)):
-            self.watch.asked(client, [])
-            self.watch.look(now + 1000)
-            self.watch.left(client, now)
-        self.watch.look(108.9)
-        self.assertEqual(self.cleared, [])
-        self.watch.look(109.0)
-        self.assertEqual(self.cleared, [False])
-
-    def test_calls_are_kept(self) -> None:
-        self.watch.asked('client', ['clear', '0'])
-        self.watch.asked('client', ['keep'])
-        self.watch.left('client', 100.0)
-        self.watch.look(1000.0)
-        self.assertEqual(self.cleared, [])
+    def test_when_calls_are_cleared(self) -> None:
+        for name, steps in self.ROWS.items():
+            cleared = list[bool]()
+            watch = DisconnectWatch(DisconnectPolicy(5.0), lambda _, blocks: cleared.append(blocks))
+            for who, what in steps:
+                with self.subTest(name, step=(who, what)):
+                    if isinstance(who, float):
+                        watch.look(who)
+                        self.assertEqual(cleared, what)
+                    elif isinstance(what, float):
+                        watch.left(who, what)
+                    else:
+                        self.assertEqual(watch.asked(who, what), 'on-loss: done')
 
 
 class OutageWatchTests(unittest.TestCase):
@@ -528,7 +360,3 @@ class OutageWatchTests(unittest.TestCase):
         for now in (106.0, 120.0):
             watch.look(now, 'dark')
         self.assertEqual(cleared, ['the trunk has been dark for 3 s'])
-
-
-if __name__ == '__main__':
-    unittest.main()

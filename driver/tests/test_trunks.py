@@ -1,65 +1,23 @@
-"""Trunks of each kind, and what becomes of calls when a trunk loses octets or goes and comes again."""
+"""Trunks of each kind."""
 from __future__ import annotations
 
 import os
-import time
+import pty
+import socket
+import subprocess
 import unittest
 
-from . import devices, support
+from . import support
 from .test_trunk import FOUR, aligned
-from .world import World, config_of
-from e1gw.trunks import Stream, Trunk, host_and_port, open_files
+from .test_trunk_served import octets_in
+from .world import World, config_of, trunk_command
+from e1gw.session import trunk_record
+from e1gw.trunks import Stream, host_and_port
 
 OCTETS = bytes(range(256)) * 2
 
 
-class TrunkKindTests(support.FolderCase):
-    """Each kind gives the octets that come and sends those that go, and ends with an EOFError."""
-
-    def both_ways(self, trunk: Trunk, reads: int, writes: int) -> None:
-        """The other end writes and reads by these descriptors, which it then closes."""
-        self.assertEqual(trunk.read(100), b'')
-        os.write(writes, OCTETS)
-        read = b''
-        while len(read) < len(OCTETS):
-            read += trunk.read(100)
-        trunk.write(OCTETS)
-        back = b''
-        while len(back) < len(OCTETS):
-            back += os.read(reads, 1000)
-        self.assertEqual((read, back), (OCTETS, OCTETS))
-        for file in {reads, writes}:
-            os.close(file)
-        with self.assertRaises(EOFError):
-            while True:
-                trunk.read(100)
-                time.sleep(0.01)
-        trunk.close()
-
-    def test_fifos(self) -> None:
-        self.both_ways(*devices.fifos(self.folder))
-
-    def test_a_pseudo_terminal(self) -> None:
-        self.both_ways(*devices.pseudo_terminal())
-
-    def test_a_unix_socket(self) -> None:
-        self.both_ways(*devices.unix_socket(self.folder))
-
-    def test_a_tcp_socket(self) -> None:
-        self.both_ways(*devices.tcp_socket())
-
-    def test_a_file(self) -> None:
-        with open(self.path('in'), 'wb') as file:
-            file.write(OCTETS)
-        trunk = open_files(self.path('in'), self.path('out'))
-        self.assertEqual((trunk.read(500), trunk.read(500), trunk.paced), (OCTETS[:500], OCTETS[500:], False))
-        with self.assertRaises(EOFError):
-            trunk.read(1)
-        trunk.write(OCTETS)
-        trunk.close()
-        with open(self.path('out'), 'rb') as file:
-            self.assertEqual(file.read(), OCTETS)
-
+class StreamTests(unittest.TestCase):
     def test_what_is_not_taken_waits(self) -> None:
         reads, writes = os.pipe()
         trunk = Stream(os.open(os.devnull, os.O_RDONLY), writes, 'pipe')
@@ -86,7 +44,36 @@ class TrunkKindTests(support.FolderCase):
                 host_and_port(text)
 
 
-class TrunkKindServiceTests(unittest.TestCase):
+class TrunkKindServiceTests(support.FolderCase):
+    def test_terminals_and_tcp(self) -> None:
+        """Octets go both ways, whatever they are. (Other tests have Unix sockets, FIFOs and files.)"""
+        config, listener = self.write('trunk.toml', 'law = "A"\n'), socket.create_server(('127.0.0.1', 0))
+        self.addCleanup(listener.close)
+        ours, theirs = pty.openpty()
+        name = os.ttyname(theirs)
+        for words in ('--in', name, '--out', name), ('--tcp', f'127.0.0.1:{listener.getsockname()[1]}'):
+            with self.subTest(words), subprocess.Popen(trunk_command('--config', config, *words),
+                                                       stdin=subprocess.DEVNULL, stderr=subprocess.PIPE) as process:
+                self.addCleanup(process.kill)
+                assert process.stderr
+                file = ours if words[0] == '--in' else listener.accept()[0].detach()
+                while b'carries' not in process.stderr.readline():      # (a terminal is raw from then on)
+                    pass
+                self.assertEqual(self.sent(file), octets_in(support.run(
+                    'replay', '--config', config, given=trunk_record(OCTETS))))
+                os.close(file)
+                process.terminate()
+                process.stderr.read()
+        os.close(theirs)
+
+    def sent(self, file: int) -> bytes:
+        """What is sent for octets that come."""
+        os.write(file, OCTETS)
+        back = b''
+        while len(back) < len(OCTETS):
+            back += os.read(file, 1000)
+        return back
+
     def test_a_trunk_that_takes_nothing_holds_nobody_else(self) -> None:
         with World(config_of(FOUR)) as world:
             aligned(world)
@@ -98,7 +85,3 @@ class TrunkKindServiceTests(unittest.TestCase):
                 pass
             for _ in range(3):
                 self.assertEqual(world.ask('codec 1 pcma 8'), 'codec 1: done')
-
-
-if __name__ == '__main__':
-    unittest.main()

@@ -8,6 +8,7 @@ import json
 import os
 import re
 import socket
+import threading
 import unittest
 import urllib.error
 import urllib.request
@@ -18,6 +19,7 @@ from .support import SECONDS
 from .test_recorder import LONG
 from .test_trunk import FOUR, aligned, call
 from .world import World, config_of
+from e1gw import sockets
 from e1gw.crc4 import Crc4
 from e1gw.metrics import exposition, family
 from e1gw.service import pages as service_pages
@@ -25,7 +27,9 @@ from e1gw.testing.ports import free_port
 from e1gw.tie import status as tie_status
 from e1gw.tie.blocked import BlockedCircuits
 from e1gw.tie.tie import Tie, TieOptions
+from e1gw.writers import put_file
 
+TABLE = 'text/plain; charset=utf-8'
 SAMPLE = re.compile(r'([a-z_0-9]+)(\{(?:[a-z_]+="(?:[^"\\]|\\.)*",?)*\})? (-?[0-9.e+-]+)')
 
 
@@ -45,33 +49,19 @@ def samples(text: str) -> dict[str, float]:
 
 class PageTextTests(unittest.TestCase):
     def test_labels_are_escaped(self) -> None:
-        text = family('a', 'gauge', 'b', [({'c': 'd"e\\f\ng'}, 1)], 'h="i"')
+        text = family('a', 'b', [({'c': 'd"e\\f\ng'}, 1)], 'h="i"')
         self.assertEqual(text, '# HELP a b\n# TYPE a gauge\na{h="i",c="d\\"e\\\\f\\ng"} 1\n')
 
 
-class PictureRequestTests(unittest.TestCase):
-    def test_the_last_seconds(self) -> None:
-        """Drawn of what is kept; the calls go on meanwhile."""
-        support.program()
-        port = free_port()
-        options = ('--http', f'127.0.0.1:{port}', '--picture', '60', '--session', '@/ring', '--keep', LONG)
-        with World(config_of(FOUR), *options, '--name', 'west') as world:
-            aligned(world)
-            call(world, 1)
-
-            def get(path: str) -> tuple[str, str]:
-                with urllib.request.urlopen(f'http://127.0.0.1:{port}{path}', timeout=SECONDS) as page:
-                    return page.headers['Content-Type'], page.read().decode()
-
-            def drawn() -> tuple[str, str] | None:
-                with contextlib.suppress(OSError, http.client.HTTPException):   # (ten seconds were not enough)
-                    found = get('/')
-                    return found if '1 answered' in found[1] else None
-                return None
-            kind, page = support.until(drawn, 1.0)          # what is kept may be late
-            self.assertEqual((kind, '</html>' in page, 'west' in page), ('text/html; charset=utf-8', True, True))
-            self.assertEqual(get('/table')[0], 'text/plain; charset=utf-8')
-            call(world, 2)
+class SocketTableTests(unittest.IsolatedAsyncioTestCase):
+    async def test_who_asks_at_once(self) -> None:
+        """All get what one look at the kernel's tables finds."""
+        found = {1: {'waiting': 0, 'dropped': 2}}
+        with mock.patch.object(sockets, 'PATIENCE', SECONDS), \
+                mock.patch.object(sockets, 'sockets_of', return_value=found) as look:
+            tables = sockets.SocketTables([])
+            self.assertEqual(await asyncio.gather(*(tables.found() for _ in range(3))), [found] * 3)
+        self.assertEqual(look.call_count, 1)
 
 
 class DrawnPageTests(unittest.IsolatedAsyncioTestCase):
@@ -100,16 +90,53 @@ class DrawnPageTests(unittest.IsolatedAsyncioTestCase):
         self.assertEqual(begun[0][-3:], ('--last', '60s', 'ring'))
 
 
+class MetricsFileTests(support.FolderCase, unittest.IsolatedAsyncioTestCase):
+    async def test_the_end_while_it_is_written(self) -> None:
+        """A thread put it again behind the end, and node_exporter had it for ever."""
+        begun, goes_on = threading.Event(), threading.Event()
+
+        def put(path: str, octets: bytes) -> None:
+            begun.set()
+            goes_on.wait()
+            put_file(path, octets)
+        pages = mock.Mock(fresh=mock.AsyncMock(return_value=mock.Mock(metrics='e1gw_up 1\n')))
+        with mock.patch.object(service_pages, 'put_file', put):
+            keeps = asyncio.create_task(service_pages.keep_metrics(pages, self.path('prom'), mock.Mock()))
+            await asyncio.to_thread(begun.wait)
+            keeps.cancel()
+            await asyncio.sleep(0)
+            goes_on.set()
+            await asyncio.wait([keeps])
+            await asyncio.get_running_loop().shutdown_default_executor()
+        self.assertEqual(os.listdir(self.folder), [])
+
+
 class WebTests(unittest.TestCase):
     def setUp(self) -> None:
         self.port = free_port()
-        self.world = World(config_of(FOUR), '--http', f'127.0.0.1:{self.port}', '--name', 'west', '--metrics', '@/prom')
+        self.world = World(config_of(FOUR), '--http', f'127.0.0.1:{self.port}', '--name', 'west', '--metrics', '@/prom',
+                           '--picture', '60', '--session', '@/ring', '--keep', LONG)
         self.addCleanup(self.world.__exit__)
 
-    def get(self, path: str) -> str:
+    def get(self, path: str, kind: str = 'text/plain; version=0.0.4; charset=utf-8') -> str:
         with urllib.request.urlopen(f'http://127.0.0.1:{self.port}{path}', timeout=SECONDS) as page:
+            self.assertEqual(page.headers['Content-Type'], kind)
             text: str = page.read().decode()
             return text
+
+    def test_a_picture_of_the_last_seconds(self) -> None:
+        """Drawn of what is kept; the calls go on meanwhile."""
+        aligned(self.world)
+        call(self.world, 1)
+
+        def drawn() -> str | None:
+            with contextlib.suppress(OSError, http.client.HTTPException, AssertionError):   # (it is not drawn yet)
+                page = self.get('/', 'text/html; charset=utf-8')
+                return page if '1 answered' in page else None
+            return None
+        page = support.until(drawn, 1.0)                # what is kept may be late
+        self.assertEqual(('</html>' in page, 'west' in page), (True, True))
+        call(self.world, 2)
 
     def test_pages(self) -> None:
         world = self.world
@@ -131,19 +158,19 @@ class WebTests(unittest.TestCase):
                 ('e1gw_commands_total{trunk="west",command="seize",answer="not idle"}', 1),
                 ('e1gw_ended{trunk="west",what="json"}', 0), ('e1gw_counts_stale{trunk="west"}', 0)):
             self.assertEqual(found.get(name), value, name)
-        self.assertGreaterEqual(json.loads(self.get('/status'))['octets'], status['octets'])
+        octets = json.loads(self.get('/status', 'application/json; charset=utf-8'))['octets']
+        self.assertGreaterEqual(octets, status['octets'])
         for path in ('/none', '/metrics/x'):
             with self.assertRaises(urllib.error.HTTPError) as fault:
                 self.get(path)
             self.assertEqual(fault.exception.code, 404)
             fault.exception.close()
-        self.assertIn('answered', self.get('/'))
+        self.assertIn('answered', self.get('/table', TABLE))
 
     def test_rules_name_what_there_is(self) -> None:
         named = set[str]()
         for name in ('alerts.yml', 'dashboard.json'):
-            with open(f'{support.TOP}/dist/package/{name}', encoding='utf-8') as file:
-                named |= set(re.findall(r'\be1gw_\w+', file.read()))
+            named |= set(re.findall(r'\be1gw_\w+', support.text_of(f'{support.TOP}/dist/package/{name}')))
         pair = {'role': 'active', 'fed': False, 'feed_age': None}
         more = exposition(self.world.status() | {'crc4': Crc4().status()} | pair)
         more += tie_status.exposition(tie_status.status_of(
@@ -155,12 +182,9 @@ class WebTests(unittest.TestCase):
     def test_a_file_of_metrics(self) -> None:
         path = self.world.path('prom')
         support.until(lambda: os.path.exists(path))
-        with open(path, encoding='utf-8') as file:
-            text = file.read()
-        self.assertIn('e1gw_uptime_seconds{trunk="west"}', samples(text))
+        self.assertIn('e1gw_uptime_seconds{trunk="west"}', samples(support.text_of(path)))
         self.world.quit()
-        with self.assertRaises(FileNotFoundError):
-            open(path, encoding='utf-8').close()
+        self.assertFalse(os.path.exists(path))
 
     def test_visitors_that_are_slow_or_mad(self) -> None:
         lines = []
@@ -176,8 +200,4 @@ class WebTests(unittest.TestCase):
         self.assertIn('e1gw_trunk_up', self.get('/metrics'))
         for line in lines:
             line.close()
-        self.assertIn('answered', self.get('/table'))
-
-
-if __name__ == '__main__':
-    unittest.main()
+        self.assertIn('answered', self.get('/table', TABLE))

@@ -1,19 +1,14 @@
-"""Places that cannot be written to, and a journal that a storm does not fill."""
+"""Places that cannot be written to."""
 from __future__ import annotations
 
-import json
 import os
+import re
 import stat
-import time
-import unittest
-from unittest import mock
 
 from . import support
 from .test_trunk import FOUR, aligned, call
 from .world import World, config_of
-from e1gw import writers
-from e1gw.service.events import EventFile, lines_to
-from e1gw.service.journal import MINUTE
+from e1gw.service.events import EventFile
 
 
 class WriterOpeningTests(support.FolderCase):
@@ -23,19 +18,8 @@ class WriterOpeningTests(support.FolderCase):
         os.mkfifo(self.fifo)
         self.ended: list[str] = []
 
-    def until_ended(self) -> str:
-        support.until(lambda: self.ended)
-        return self.ended[0]
-
-    def test_a_fifo_that_nobody_reads(self) -> None:
-        with mock.patch.object(writers, 'OPENS', 0.1):
-            file = EventFile('json', lines_to(self.fifo), lambda what, why: self.ended.append(f'{what}: {why}'), 'x')
-            file.put('abc')
-            self.assertEqual(self.until_ended(), 'json: nobody reads it: x')
-            file.close()
-
     def test_a_fifo_that_somebody_reads_in_time(self) -> None:
-        file = EventFile('json', lines_to(self.fifo), lambda what, why: self.ended.append(why))
+        file = EventFile('json', self.fifo, lambda what, why: self.ended.append(why))
         file.put('abc')
         with open(self.fifo, 'rb') as reads:
             file.put('def')
@@ -43,21 +27,36 @@ class WriterOpeningTests(support.FolderCase):
             file.close()
         self.assertEqual(self.ended, [])
 
+    def test_a_place_that_cannot_be_had(self) -> None:
+        for path, why in ((f'{self.fifo}/none', 'Not a directory'), ('/dev/full', 'No space left on device')):
+            with self.subTest(path):
+                self.ended.clear()
+                file = EventFile('json', path, lambda what, why: self.ended.append(why))
+                file.put('abc')
+                support.until(lambda: self.ended)
+                self.assertEqual(self.ended, [f'{why}: {path}'])
+                file.close()
+
     def test_a_trunk_whose_files_do_not_open(self) -> None:
+        """Each is reported once, and no call ends."""
         support.program()
         none = os.path.join(self.fifo, 'none')
-        for what, path, why in (('json', self.fifo, 'nobody reads it'), ('json', none, 'Not a directory'),
-                                ('json', '/dev/full', 'No space left'), ('calls', none, 'Not a directory'),
-                                ('metrics', none, 'Not a directory')):
-            with self.subTest(what, path=path), World(config_of(FOUR), f'--{what}', path,
-                                                      within={'writers.OPENS': 0.1}) as world:
-                aligned(world)
-                call(world, 1)
-                world.until(lambda: world.told()['ended'][what] is not None)
-                self.assertEqual([name for name, why in world.status()['ended'].items() if why is not None], [what])
-                self.assertEqual(world.state(1), 'answered')
-                status, said = world.quit()
-                self.assertEqual((status, said.count(f'{what} ended, the calls go on: {why}')), (0, 1), said)
+        ended = {'json': f'nobody reads it: {self.fifo}', 'calls': 'No space left', 'metrics': 'Not a directory'}
+        with World(config_of(FOUR), '--json', self.fifo, '--calls', '/dev/full', '--metrics', none, '--session',
+                   '/dev/full', within={'writers.OPENS': 0.1}) as world:
+            aligned(world)
+            call(world, 1)
+            world.ask('clear 1')
+            world.until(lambda: all(world.told()['ended'][what] for what in ended))
+            self.assertEqual({*ended}, {name for name, why in world.status()['ended'].items() if why is not None})
+            world.kill('trunk')
+            world.connected()
+            world.until(lambda: world.state(1) == 'idle')
+            call(world, 2)
+            status, said = world.quit()
+            for what, why in [*ended.items(), ('session', 'No space left')]:
+                lines = re.findall(f'{what} ended, the calls go on: .*{why}', said)
+                self.assertEqual((status, len(lines)), (0, 1), said)
 
     def test_modes(self) -> None:
         support.program()
@@ -67,25 +66,3 @@ class WriterOpeningTests(support.FolderCase):
             world.quit()
             self.assertEqual([stat.S_IMODE(os.stat(world.path(name)).st_mode) for name in ('calls', 'told')],
                              [0o640, 0o640])
-
-
-class JournalStormTests(unittest.TestCase):
-    def test_a_storm_on_a_trunk(self) -> None:
-        support.program()
-        began = time.monotonic()
-        with World(config_of(FOUR), '--json', '@/told') as world:
-            for _ in range(15):
-                aligned(world)
-                world.give(b'\xFF' * 2048)
-            status, said = world.quit()
-            with open(world.path('told'), encoding='utf-8') as file:
-                events = [json.loads(line) for line in file]
-        lost = [event for event in events if event['event'] == 'lost' and event['what'] == 'frame']
-        self.assertEqual((status, len(lost)), (0, 15))
-        # one line for a loss, and not one for the alarm and one for the alignment
-        self.assertNotIn('alignment lost', said)
-        self.assertLessEqual(said.count('alarm: loss of '), 20 * (1 + (time.monotonic() - began) // MINUTE))
-
-
-if __name__ == '__main__':
-    unittest.main()

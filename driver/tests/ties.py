@@ -7,6 +7,7 @@ import json
 import os
 import socket
 import tempfile
+import time
 import unittest
 from contextlib import suppress
 from typing import Any, Callable
@@ -20,12 +21,36 @@ from e1gw.tie.coding import Coding
 from e1gw.tie.blocked import BlockedCircuits
 from e1gw.tie.site import Site
 from e1gw.tie.tie import Tie, TieOptions
-from tests.loop_clock import LoopClock
 from tests.test_tie_circuit import COLUMN, DONE, INCOMING, OUTGOING
 
 HOLD, RUNS = 3.0, itertools.count()         # seconds, and the numbers of runs
 IDLE, SEIZED, ANSWER, HELD = 0b10, 0b00, 0b01, 0b11         # bits a and b
 G726 = Coding('g726-16', 96)
+QUIET = 0.001               # seconds without an event, after which the clock goes on
+STEP = 0.01                 # seconds by which it goes on then, or in one turn
+
+
+class LoopClock:
+    """The clock of an event loop from now on, whose tasks talk to one another: no stall of the machine counts, and idle
+    time is short."""
+
+    def __init__(self, loop: asyncio.AbstractEventLoop) -> None:
+        selector = getattr(loop, '_selector')
+        self._select, self._now, self._seen = selector.select, loop.time(), time.monotonic()
+        selector.select = self.select
+        setattr(loop, 'time', self.monotonic)
+
+    def monotonic(self) -> float:
+        return self._now
+
+    def select(self, timeout: float | None = None) -> Any:
+        """What is ready; if that is nothing the loop has waited until it has something to do, STEP at most."""
+        wait = STEP if timeout is None else max(0.0, min(STEP, timeout))
+        found = self._select(min(QUIET, wait))
+        now, before = time.monotonic(), self._seen
+        self._seen = now
+        self._now += min(STEP, now - before) if found else wait
+        return found
 
 
 class StandInDriver:
@@ -34,6 +59,7 @@ class StandInDriver:
     def __init__(self, path: str, roles: dict[int, Role]) -> None:
         self.path, self.roles = path, roles
         self.states = dict.fromkeys(CIRCUITS, State.IDLE)
+        self.since = dict.fromkeys(CIRCUITS, 0.0)
         self.pairs = dict.fromkeys(CIRCUITS, IDLE)
         self.seizures = dict.fromkeys(CIRCUITS, 0)
         self.codecs = dict.fromkeys(CIRCUITS, G726)
@@ -95,6 +121,7 @@ class StandInDriver:
                  'alarm': {**none, 'frame': self.alarm}, 'remote_alarm': none}
         return trunk | {'circuits': [
             {'circuit': n, 'role': str(self.roles[n]), 'state': str(self.states[n]), 'seizures': self.seizures[n],
+             'for': asyncio.get_running_loop().time() - self.since[n],
              'codec': self.codecs[n].codec, 'payload': self.codecs[n].payload,
              'configured_codec': self.configured[n].codec, 'configured_payload': self.configured[n].payload}
             for n in CIRCUITS]}
@@ -113,6 +140,7 @@ class StandInDriver:
         was, self.states[n] = self.states[n], state
         self.seizures[n] += state in (State.ACKED, State.SEIZED) and was is State.IDLE
         if state is not was:
+            self.since[n] = asyncio.get_running_loop().time()
             self.tell(event='state', circuit=n, role=str(self.roles[n]), was=str(was), state=str(state))
         if self.roles[n] is Role.OUTGOING and self.acknowledges:
             self.pairs[n] = {State.SEIZED: HELD, State.RELEASING: IDLE}.get(state, self.pairs[n])
@@ -217,6 +245,14 @@ class TieCase(unittest.IsolatedAsyncioTestCase):
         """An exchange sends these bits, and both ends come into these states."""
         driver.send(n, pair)
         await self.until(self.at(n, west, east or west))
+
+    async def not_acknowledged(self, caller: State = State.CLEAREDBACK) -> None:
+        """The east's exchange does not acknowledge a seizure of circuit 1 in the west; the caller is cleared back."""
+        self.east.acknowledges = False
+        self.west.send(1, SEIZED)
+        await self.until(lambda: self.east.states[1] is State.SEIZED)
+        self.east.move(1, State.RELEASING)
+        await self.until(self.at(1, caller, State.IDLE))
 
     async def named(self, *circuits: int) -> None:
         """Until the west knows that the east has these calls: one that it does not know of is seized again."""

@@ -24,6 +24,11 @@ LAUNCHER = support.launcher('trunk')
 ANSWERS_AFTER = 20          # multiframes
 
 
+def trunk_command(*words: str) -> list[str]:
+    """The command line of an e1gw-trunk."""
+    return [sys.executable, '-B', LAUNCHER, '--program', support.program(), *words]
+
+
 def words_of(pid: int) -> list[str]:
     """The command line of a process; nothing if it has ended."""
     with contextlib.suppress(OSError), open(f'/proc/{pid}/cmdline', 'rb') as file:
@@ -46,14 +51,9 @@ def config_of(circuits: range, codec: str = 'pcma', payload: int = 8, prefill: i
               incoming: tuple[int, ...] = ()) -> str:
     """A configuration in which each circuit speaks with its neighbour: 1 with 2, 3 with 4, .."""
     ports = dict(zip(circuits, free_ports(len(circuits))))
-    text = ['law = "A"\n']
-    for n in circuits:
-        peer = ports.get(n + 1 if n % 2 else n - 1, ports[n])
-        text.append(f'[[circuit]]\nnumber = {n}\ncodec = "{codec}"\npayload = {payload}\nprefill = {prefill}\n'
-                    f'local_port = {ports[n]}\npeer_port = {peer}\n')
-        if n in incoming:
-            text.append('role = "incoming"\n')
-    return ''.join(text)
+    return support.config_text({n: {
+        'role': 'incoming' if n in incoming else 'outgoing', 'codec': codec, 'payload': payload, 'prefill': prefill,
+        'local_port': ports[n], 'peer_port': ports.get(n + 1 if n % 2 else n - 1, ports[n])} for n in circuits})
 
 
 class ServedProgram:
@@ -65,8 +65,12 @@ class ServedProgram:
         self._folder = tempfile.TemporaryDirectory()
         self.folder = self._folder.name
         self.config = self.path('trunk.toml')
+        self.configure(config)
+
+    def configure(self, text: str) -> None:
+        """Writes its configuration."""
         with open(self.config, 'w', encoding='utf-8') as file:
-            file.write(config)
+            file.write(text)
 
     def close(self) -> None:
         """Ends what the program is connected with."""
@@ -104,9 +108,7 @@ class ServedProgram:
 
     def follow(self) -> Any:
         """A stream of events."""
-        line = socket.socket(socket.AF_UNIX)
-        line.settimeout(SECONDS)
-        line.connect(self.path('ctl'))
+        line = support.connected(self.path('ctl'))
         line.sendall(b'events\n')
         stream = line.makefile('r', encoding='utf-8')
         assert stream.readline() == 'following\n' and stream.readline() == '\n'
@@ -130,9 +132,8 @@ NO_EFFECT_ANSWER = 'codec 30: no payload type of the codec'
 class World(ServedProgram):
     """An e1gw-trunk at a Unix socket, with a folder of its own. The exchange acknowledges and answers what is seized.
 
-    It gives octets when a test does, and not by a clock; so but for an option --gap no pause is one. What it is asked
-    it knows all of that was given before: each question comes behind a command that the gateway refuses, whose answer
-    comes behind all of that."""
+    It gives octets when a test does, and not by a clock. What it is asked it knows all of that was given before: each
+    question comes behind a command that the gateway refuses, whose answer comes behind all of that."""
 
     def __init__(self, config: str, *options: str, answers: bool = True, front: tuple[str, ...] = (),
                  within: Mapping[str, Any] = {}, **streams: Any) -> None:
@@ -142,15 +143,12 @@ class World(ServedProgram):
         self.ones = b'\xff' * (496 if '--clear' in options else 512)     # a carrier gives whole multiframes
         self.sent, self.heard = bytearray(), bytearray()
         self._ages: dict[int, int] = {}
-        if '--gap' not in options:
-            options += ('--gap', '10000')
         os.mkdir(self.path('run'))
-        with self._listener() as listener:
+        with support.listening(self.path('card')) as listener:
             streams = {'stdin': subprocess.DEVNULL, 'stdout': subprocess.DEVNULL, 'stderr': subprocess.PIPE} | streams
             self.process = subprocess.Popen(
-                [*front, sys.executable, '-B', LAUNCHER, '--program', support.program(), '--config', self.config,
-                 '--unix', self.path('card'), '--control', self.path('ctl'),
-                 *(word.replace('@', self.folder) for word in options)],
+                [*front, *trunk_command('--config', self.config, '--unix', self.path('card'), '--control',
+                                        self.path('ctl'), *(word.replace('@', self.folder) for word in options))],
                 env={**os.environ, 'RUNTIME_DIRECTORY': self.path('run'), **limits.around(limits.TELLS | within)},
                 **streams)
             try:
@@ -170,7 +168,7 @@ class World(ServedProgram):
                 time.sleep(0.01)
             else:
                 self.give(self.ones)
-        raise AssertionError('the watcher does not come to know the trunk')
+        raise AssertionError(f'the watcher does not come to know the trunk: {self.wait()}')
 
     def ask(self, command: str | bytes) -> str:
         self.wait_for_watcher()
@@ -192,20 +190,13 @@ class World(ServedProgram):
     def new_listener(self) -> socket.socket:
         """Another socket, for a driver that opens its trunk again."""
         os.unlink(self.path('card'))
-        return self._listener()
+        return support.listening(self.path('card'))
 
     def comes_again(self) -> None:
         """Takes whoever opens the trunk again, and waits until the watcher knows it."""
         with self.new_listener() as listener:
             self.take(listener)
         self.connected()
-
-    def _listener(self) -> socket.socket:
-        listener = socket.socket(socket.AF_UNIX)
-        listener.bind(self.path('card'))
-        listener.listen(1)
-        listener.settimeout(SECONDS)
-        return listener
 
     def take(self, listener: socket.socket) -> None:
         """Takes the driver that comes there."""
@@ -234,12 +225,7 @@ class World(ServedProgram):
     def give(self, octets: bytes) -> bytes:
         """Octets to the driver; as many that come back."""
         self.line.sendall(octets)
-        back = b''
-        while len(back) < len(octets):
-            piece = self.line.recv(len(octets) - len(back))
-            if not piece:
-                raise EOFError
-            back += piece
+        back = support.read_from(self.line, len(octets))
         self.sent += octets
         self.heard += back
         self.exchange.hear(back)

@@ -5,7 +5,7 @@ import os
 from contextlib import suppress
 from dataclasses import dataclass
 
-from ..session_files import InputError, KeptSession, kept
+from ..session_files import InputError, RecordedSession, kept
 from ..programs import program_of
 from ..session import MULTIFRAME
 from .replay import Replay
@@ -17,7 +17,7 @@ NO_CONFIG = 'no configuration: name it by --config'
 @dataclass
 class Begun:
     """A session, what its program was started with, and the place in a sent multiframe at which it begins."""
-    session: KeptSession
+    session: RecordedSession
     config: str
     program: str
     wait: int
@@ -25,17 +25,18 @@ class Begun:
     place: int = 0
 
 
-def started(session: KeptSession, config: str, program: str | None, wait: int | None, state: str = '') -> Begun:
+def started(session: RecordedSession, config: str, program: str | None, wait: int | None, state: str = '') -> Begun:
     """A session with a new gateway, or with the one of a state."""
     path, wait, place = program_of(program), wait or session.wait, session.place % MULTIFRAME if state else 0
     return Begun(session, config, path, wait, Replay(path, config, state, wait), place)
 
 
-def from_state(session: KeptSession, config: str, program: str | None, wait: int | None) -> tuple[Begun | None, str]:
+def from_state(session: RecordedSession, config: str, program: str | None,
+               wait: int | None) -> tuple[Begun | None, str]:
     """A session that begins in the middle, with the state next to it; or why that is not used: the program refuses it,
     or begins a circuit as new since it was configured otherwise."""
     if not session.state:
-        return None, f'{os.path.basename(session.files[0])} has no state beside it'
+        return None, f'{os.path.basename(session.files[0])} has no state next to it'
     begun = started(session, config, program, wait, session.state)
     why = begun.replay.said()
     if not why:
@@ -49,9 +50,8 @@ def begin(path: str, last: int | None, config: str | None, program: str | None,
           wait: int | None) -> tuple[Begun, str]:
     """A session by its path, and a note about its beginning. The last octets of a ring may be enough. If the gateway is
     not known where the session begins, it is a new one."""
-    notes: list[str] = []
-    asked, whole = config or '', kept(path) if path != '-' else KeptSession([path])
-    for session in (kept(path, last) if path != '-' else whole, whole):
+    notes, asked, session = list[str](), '', RecordedSession([path])
+    for session in (kept(path, last), kept(path)) if path != '-' else (session,):
         asked = config or session.config or ''
         if not asked:
             if path != '-':
@@ -63,4 +63,4 @@ def begin(path: str, last: int | None, config: str | None, program: str | None,
         if begun:
             return begun, '; '.join(notes)
         notes += [why] * (why not in notes)
-    return started(whole, asked, program, wait), '; '.join([*notes, MIDDLE])
+    return started(session, asked, program, wait), '; '.join([*notes, MIDDLE])

@@ -11,7 +11,7 @@ from typing import Any
 from ..session_files import InputError
 from ..packets import Datagram, datagrams
 from ..session import FRAME, OCTETS_A_SECOND, Kind, datagram_record, trunk_record
-from .facts import HEADER, MOST, Address, Facts, Wire
+from .facts import MOST, Address, Facts, Wire
 from .reading import HEAD, records_of
 
 NEAR = 101                  # datagrams sent by which the capture's times are mapped to the trunk
@@ -36,7 +36,7 @@ class CaptureClock:
 
     def sent(self, circuit: int, datagram: Datagram) -> None:
         table = self.tables[circuit]
-        stamp = HEADER(datagram.body[:12])[3] - table.get('timestamp', 0) - self.before
+        stamp = int.from_bytes(datagram.body[4:8], 'big') - table.get('timestamp', 0) - self.before
         stamp = (stamp + PACKET & 0xFFFF_FFFF) - PACKET
         self.near.append(datagram.time - (stamp + 8 * table.get('ptime', 20)) * FRAME / OCTETS_A_SECOND)
         if len(self.near) % 10 == 1 or self.begin is None:
@@ -57,7 +57,7 @@ class Ways:
 
     def note(self, each: Datagram, place: int) -> None:
         """A datagram of the capture, at its place on the trunk."""
-        sent, came = (self.facts.rows[self.circuits.get(port, 1)].wire if port in self.circuits else None
+        sent, came = (self.facts.rows[self.circuits[port]].wire if port in self.circuits else None
                       for port in (each.source, each.target))
         if sent and each.answer:
             sent.answers[each.answer] += 1
@@ -72,9 +72,9 @@ class Ways:
 
 def count(seen: Counter[Address], host: bytes, port: int) -> None:
     """Counts an address."""
-    text = str(ipaddress.ip_address(host)) if len(host) in (4, 16) else 'an unknown host'
-    if (text, port) in seen or len(seen) < MOST_ADDRESSES:
-        seen[text, port] += 1
+    address = str(ipaddress.ip_address(host)), port
+    if address in seen or len(seen) < MOST_ADDRESSES:
+        seen[address] += 1
 
 
 def is_rtp(body: bytes) -> bool:

@@ -5,8 +5,7 @@ from collections.abc import Callable
 from functools import partial
 from typing import NamedTuple, TypeVar
 
-from ..session import DatagramRefusal
-from .facts import NOT_OPEN, OPEN, SECOND, WINDOW, Answer, Cell, Facts, Row, Spans, joined
+from .facts import NOT_OPEN, OPEN, SECOND, WINDOW, Answer, Cell, Facts, Row, joined, name_of
 from .svg import LEFT, WIDE, Scale, Sheet, apart, duration, runs
 
 ROW = 30                    # of the circuits
@@ -18,7 +17,7 @@ MEANS = {'idle': 'idle', 'seized': 'seized', 'acked': 'acknowledged', 'answered'
          'clearedback': 'hung up by the called', 'releasing': 'releasing', 'blocked': 'blocked', 'fault': 'fault'}
 # The alarms of ITU-T G.704, G.706 and G.732, as in the journal.
 ALARMS = {('here', 'frame'): 'LFA', ('here', 'multiframe'): 'no multiframe',
-          ('there', 'frame'): 'RAI (bit A)', ('there', 'multiframe'): 'far multiframe (y)'}
+          ('there', 'frame'): 'RAI (bit A)', ('there', 'multiframe'): 'far multiframe (y)', ('here', 'ones'): 'AIS'}
 # The bar of each state, besides its colour: height, top and hatching, as in the key of page.html.
 SHAPES = {'idle': (3, 4, ''), 'seized': (7, 2, 'dots'), 'acked': (11, 0, ''), 'answered': (11, 0, ''),
           'clearedback': (11, 0, 'bars'), 'releasing': (7, 2, 'dots'), 'blocked': (11, 0, 'slant'),
@@ -59,16 +58,10 @@ class Odd(NamedTuple):
 ODDS = (Odd('other law', 'came', 'other'), Odd('slot: other law', 'slot', 'other'),
         Odd('AAL2 packing', 'order', 'other'), Odd('silence', 'came', 'silent'),
         Odd('slot: silence', 'slot', 'silent'), Odd('other length', '', 'uneven'))
-NAMES = {int(code): code.label for code in DatagramRefusal}
 
 
 def odds(whole: Cell) -> list[Odd]:
     return [odd for odd in ODDS if odd.is_of(whole)]
-
-
-def name_of(code: int) -> str:
-    """The name of a refusal in the manual."""
-    return NAMES.get(code, f'code {code}')
 
 
 def refusals(cell: Cell) -> str:
@@ -79,15 +72,10 @@ def refusals(cell: Cell) -> str:
 
 # ---- the trunk ----
 
-def alarms(facts: Facts) -> list[tuple[str, Spans]]:
-    """All alarms by name, AIS the last."""
-    return [*((name, facts.alarms[which]) for which, name in ALARMS.items()), ('AIS', facts.ones)]
-
-
 def trunk(facts: Facts, scale: Scale) -> str:
     """The alarms of both ends over time, and losses of octets that were noted."""
-    rows = [(name, [(first, last, 0.0) for first, last, on in spans.between(scale.start, scale.end) if on])
-            for name, spans in alarms(facts)]
+    rows = [(name, [(first, last, 0.0) for first, last, on in facts.alarms[which].between(scale.start, scale.end)
+                    if on]) for which, name in ALARMS.items()]
     if facts.slips is not None:
         rows.append(('slips', [(place, place, seconds) for place, seconds in facts.slips
                                if scale.start <= place <= scale.end]))

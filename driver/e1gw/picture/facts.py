@@ -8,7 +8,6 @@ from __future__ import annotations
 
 import bisect
 import enum
-import struct
 from collections import Counter
 from collections.abc import Iterable, Iterator, Sequence
 from dataclasses import dataclass, field
@@ -16,24 +15,29 @@ from typing import Any
 
 from ..session_files import Break
 from ..lines import SEIZURE_WAIT
-from ..repetitions import VERSION, Repetitions
+from ..repetitions import Repetitions
+from ..session import FRAME, MULTIFRAME, OCTETS_A_SECOND, DatagramRefusal
 from .sound import HeardSamples, ListeningTimes
 
-SECOND = 256_000            # octets of the trunk
-FRAME, MULTIFRAME = 32, 512
+SECOND = OCTETS_A_SECOND
 MOST = 2400                 # columns
 MOST_CALLS = 200            # of a circuit whose wrong sources are kept, the last ones
 WINDOW = 3200               # samples in the playout
 OPEN = ('acked', 'answered', 'clearedback')
 NOT_OPEN = 20
 # Refusals of a datagram of the call's stream, whose timestamp shows how early it was.
-TIMED = (0, 13, 14, 15, 16)
+TIMED = (13, 14, 15, 16)
 BITS = {'g726-16': 2, 'g726-24': 3, 'g726-32': 4, 'g726-40': 5}
 # If several states are in one column, the first of these is shown.
 RANK = ('fault', 'blocked', 'releasing', 'seized', 'clearedback', 'answered', 'acked', 'idle')
 # What is counted, by the states of a line before and after, or by the one after.
 COUNTED = {('acked', 'answered'): 'answers', ('seized', 'releasing'): 'unacknowledged', ('', 'fault'): 'faults'}
-HEADER = struct.Struct('>BBHII').unpack
+NAMES = {int(code): code.label for code in DatagramRefusal}
+
+
+def name_of(code: int) -> str:
+    """The name of a refusal in the manual."""
+    return NAMES.get(code, f'code {code}')
 
 
 class Cell:
@@ -66,13 +70,17 @@ class Cell:
         self.admitted += 1
 
     def refuse(self, code: int, low: int, high: int, count: int = 1) -> None:
-        """Datagrams that came so many samples before their turn."""
+        """Datagrams that came from LOW to HIGH samples before their turn."""
         seen = self.refused.setdefault(code, [0, low, high])
         seen[:] = seen[0] + count, min(seen[1], low), max(seen[2], high)
 
     def discarded(self) -> int:
         """How many datagrams were refused."""
         return sum(seen[0] for seen in self.refused.values())
+
+    def arrived(self) -> int:
+        """How many came, but for repetitions."""
+        return self.admitted + self.discarded()
 
     def join(self, other: Cell) -> None:
         """Adds the next column."""
@@ -161,24 +169,13 @@ class CommandMark:
     more: int = -1              # besides the first
 
 
-@dataclass
-class WrongSources:
-    """The sources that a call refused: of each how many datagrams, and the places of the first and the last one."""
-    right: int | None                   # that of the call's first datagram, if it is known
-    others: dict[int, list[int]] = field(default_factory=dict)
-
-    def see(self, ssrc: int, place: int) -> None:
-        if ssrc in self.others or len(self.others) < 8:
-            seen = self.others.setdefault(ssrc, [0, place, place])
-            seen[0], seen[2] = seen[0] + 1, place
-
-
-@dataclass
+@dataclass(eq=False)
 class CallStream:
     """The stream of a call's datagrams so far."""
-    base: int | None = None             # the sample at which timestamp 0 would be due
-    ssrc: int = 0
-    wrong: WrongSources | None = None
+    base: int | None = None             # the sample at which timestamp 0 would be due; None before the first one
+    ssrc: int = 0                       # of the first one
+    # The sources that were refused: of each how many datagrams, and the places of the first and the last one.
+    wrong: dict[int, list[int]] = field(default_factory=dict)
     sequence: int = -1
     stamp: int = 0
     missing: set[int] = field(default_factory=set)      # missing sequence numbers
@@ -187,8 +184,16 @@ class CallStream:
     stretch: list[bytes] | None = None                  # consecutive datagrams to decode
 
     def margin(self, place: int, stamp: int) -> int:
-        """How many samples before its turn a datagram comes."""
-        return ((self.base or 0) + stamp - place // FRAME + 0x8000_0000 & 0xFFFF_FFFF) - 0x8000_0000
+        """How many samples before its turn a datagram comes; 0 before the first one is admitted."""
+        if self.base is None:
+            return 0
+        return (self.base + stamp - place // FRAME + 0x8000_0000 & 0xFFFF_FFFF) - 0x8000_0000
+
+    def refuse(self, ssrc: int, place: int) -> None:
+        """A datagram of another source."""
+        if ssrc in self.wrong or len(self.wrong) < 8:
+            seen = self.wrong.setdefault(ssrc, [0, place, place])
+            seen[0], seen[2] = seen[0] + 1, place
 
 
 Address = tuple[str, int]
@@ -225,47 +230,29 @@ class Row:
     commands: dict[tuple[int, Answer], CommandMark] = field(default_factory=dict)
     stream: CallStream = field(default_factory=CallStream)
     types: dict[int, int] = field(default_factory=dict)     # of datagrams received: the place where each was last seen
-    wrong: list[WrongSources] = field(default_factory=list)     # of the calls that had any
+    wrong: list[CallStream] = field(default_factory=list)       # of the calls that refused sources
     mismatch: tuple[int, int] = (0, 0)          # words of a datagram, step of its timestamp
     begun: list[int] = field(default_factory=list)      # places where the playout restarted
     wire: Wire | None = None
-    step: int = 0                                       # of the timestamp, if it matches the words of a datagram
-    length: int = 0                                     # of such a datagram
     before: Repetitions = field(default_factory=Repetitions)
 
-    def came(self, place: int, code: int, head: bytes, length: int, mark: int) -> None:
-        """A datagram received: its first twelve octets, its length, its mark and its answer. A refused repetition
-        counts separately."""
-        if len(head) < 12:
-            self.cell.refuse(code, 0, 0)
-            return
-        first, second, sequence, stamp, ssrc = HEADER(head)
-        if first >> 6 == VERSION and self.before.is_marked(sequence, ssrc, mark) and code:
+    def came(self, place: int, code: int, datagram: bytes, sequence: int, stamp: int, ssrc: int) -> None:
+        """A datagram received, its answer, and three numbers of its header. A refused repetition counts separately."""
+        if self.before.is_one(datagram) and code:
             self.cell.counts['repetitions'] += 1
             return
         stream = self.stream
         if code:
-            self._refused(place, code, second & 127, stamp, ssrc)
+            self._refused(place, code, datagram, stamp, ssrc)
             if code not in (13, 14, 16) or stream.base is None:
                 return
         else:
             if stream.base is None:
-                self._begin(stream, place, second & 127, stamp, ssrc)
-            assert stream.base is not None          # (as in margin, without a call for each datagram)
-            self.cell.admit((stream.base + stamp - place // FRAME + 0x8000_0000 & 0xFFFF_FFFF) - 0x8000_0000)
-        if sequence - stream.sequence & 0xFFFF != 1 or stamp - stream.stamp != self.step or length != self.length:
-            self._follow(stream, sequence, stamp, length)
-        else:
-            stream.sequence, stream.stamp = sequence, stamp
-
-    def _begin(self, stream: CallStream, place: int, kind: int, stamp: int, ssrc: int) -> None:
-        """The first datagram of a call that is admitted."""
-        stream.base, stream.ssrc, stream.sequence = place // FRAME + self.prefill - stamp, ssrc, -1
-        if stream.wrong:                # (a call that was up before)
-            stream.wrong.right = ssrc
-        stream.missing.clear()
-        self.begun.append(place)
-        self.types[kind] = place
+                stream.base, stream.ssrc = place // FRAME + self.prefill - stamp, ssrc
+                self.begun.append(place)
+                self.types[datagram[1] & 127] = place
+            self.cell.admit(stream.margin(place, stamp))
+        self._follow(stream, sequence, stamp, len(datagram))
 
     def _follow(self, stream: CallStream, sequence: int, stamp: int, length: int) -> None:
         """Follows the place of a datagram in its stream."""
@@ -282,23 +269,20 @@ class Row:
         elif stream.sequence >= 0:
             words = (length - 12) * 8 // BITS.get(self.codec, 8)
             step = stamp - stream.stamp & 0xFFFF_FFFF
-            if words == step:
-                self.step, self.length = step, length
-            else:
+            if words != step:
                 self.cell.uneven += 1
                 self.mismatch = words, (step + 0x8000_0000 & 0xFFFF_FFFF) - 0x8000_0000
         stream.sequence, stream.stamp = sequence, stamp
 
-    def _refused(self, place: int, code: int, kind: int, stamp: int, ssrc: int) -> None:
-        margin = self.stream.margin(place, stamp) if code in TIMED and self.stream.base is not None else 0
+    def _refused(self, place: int, code: int, datagram: bytes, stamp: int, ssrc: int) -> None:
+        margin = self.stream.margin(place, stamp) if code in TIMED else 0
         self.cell.refuse(code, margin, margin)
-        if code == 11 and (kind in self.types or len(self.types) < 8):
+        if code == 11 and ((kind := datagram[1] & 127) in self.types or len(self.types) < 8):
             self.types[kind] = place
         elif code == 12:
             if not self.stream.wrong:
-                self.stream.wrong = WrongSources(None if self.stream.base is None else self.stream.ssrc)
-                self.wrong = [*self.wrong[1 - MOST_CALLS:], self.stream.wrong]
-            self.stream.wrong.see(ssrc, place)
+                self.wrong = [*self.wrong[1 - MOST_CALLS:], self.stream]
+            self.stream.refuse(ssrc, place)
 
     def state(self, place: int, state: str) -> None:
         """The line's state from a place."""
@@ -326,9 +310,9 @@ class Row:
         self.states.forget(start)
         self.begun = [place for place in self.begun if place >= start]
         self.types = {kind: place for kind, place in self.types.items() if place >= start}
-        for wrong in self.wrong:
-            wrong.others = {ssrc: seen for ssrc, seen in wrong.others.items() if seen[2] >= start}
-        self.wrong = [wrong for wrong in self.wrong if wrong.others or wrong is self.stream.wrong]
+        for call in self.wrong:
+            call.wrong = {ssrc: seen for ssrc, seen in call.wrong.items() if seen[2] >= start}
+        self.wrong = [call for call in self.wrong if call.wrong]
 
     def double(self, width: int) -> None:
         """Joins columns in pairs, which have this width then."""
@@ -358,7 +342,7 @@ class Facts:
         self.start = 0                      # of what is to be shown
         self.alarms = {(where, what): Spans(where == 'here', (True, False))
                        for where in ('here', 'there') for what in ('frame', 'multiframe')}
-        self.ones = Spans(False, (True, False))
+        self.alarms['here', 'ones'] = Spans(False, (True, False))
         self.slips: list[tuple[int, float]] | None = None       # place and seconds, if noted by the driver
         self.losses: dict[str, list[int]] = {'frame': [], 'multiframe': []}
         self.begin: float | None = None     # the time of place 0, in seconds since 1970, if known
@@ -403,7 +387,7 @@ class Facts:
         oldest = self.start // self.width
         for row in self.rows.values():
             row.forget(self.start, oldest)
-        for spans in (*self.alarms.values(), self.ones):
+        for spans in self.alarms.values():
             spans.forget(self.start)
         for what, places in self.losses.items():
             self.losses[what] = [place for place in places if place >= self.start]
@@ -413,7 +397,7 @@ class Facts:
         self.width *= 2
         for row in self.rows.values():
             row.double(self.width)
-        for spans in (*self.alarms.values(), self.ones):
+        for spans in self.alarms.values():
             if len(spans.items) > MOST:
                 spans.coalesce(self.width)
 

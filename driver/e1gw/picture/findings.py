@@ -8,7 +8,7 @@ from statistics import median
 
 from ..events import REMOTE
 from ..g711 import NAMES, OTHER
-from .facts import NOT_OPEN, OPEN, SECOND, Answer, Cell, Facts, Row
+from .facts import NOT_OPEN, OPEN, SECOND, Answer, Cell, Facts, Row, name_of
 from .slopes import Points, Step, points, slope, steps
 from .svg import Scale, duration
 
@@ -64,8 +64,7 @@ HINTS = {
     'fault': 'signals of the exchange that are not of Q.421, or both ends outgoing',
     'blocked': 'unblock it here, or at the exchange', 'command': 'see the state at that moment'}
 HARMLESS = frozenset(('silent came', 'silent slot', 'port', 'not open', 'repeated', 'blocked', 'command'))
-CODES = {1: 'Short', 2: 'Version', 3: 'ShortSources', 4: 'ShortExtension', 5: 'BadPadding', 13: 'Repeat',
-         15: 'TooMany'}
+CAUSES = {11: 'type', 12: 'source', 14: 'late', 16: 'full', NOT_OPEN: 'not open'}      # of refusals
 
 
 @dataclass(frozen=True)
@@ -95,16 +94,11 @@ def some(each: list[str], between: str, more: str) -> str:
 
 # ---- how early datagrams are ----
 
-def _pieces(part: Points, cuts: list[int]) -> Iterator[Points]:
-    """Points between steps."""
-    for _, piece in itertools.groupby(part, lambda point: sum(cut <= point[0] for cut in cuts)):
-        yield list(piece)
-
-
 def _clock(row: Row, parts: list[Points], found: list[Step]) -> Iterator[Anomaly]:
     """A difference of clocks: the longest slope without a step."""
     slopes = []
-    for piece in (piece for part in parts for piece in _pieces(part, [step.place for step in found])):
+    for piece in (list(piece) for part in parts for _, piece in itertools.groupby(
+            part, lambda point: sum(step.place <= point[0] for step in found))):
         if len(piece) >= 12 and piece[-1][0] - piece[0][0] > 2 * SECOND:
             rate, gone, away = slope(piece)
             if abs(gone) > max(24, 3 * away):
@@ -163,39 +157,31 @@ def _wrong_sources(row: Row, scale: Scale) -> str:
     """The sources that were refused, of each call with the one that was right."""
     calls = []
     for call in row.wrong:
-        right = 'not known' if call.right is None else f'{call.right:08x}'
+        right = 'not known' if call.base is None else f'{call.ssrc:08x}'
         others = [f'{ssrc:08x} came {times(count)} from {scale.words(first)} to {scale.words(last)}'
-                  for ssrc, (count, first, last) in call.others.items()]
+                  for ssrc, (count, first, last) in call.wrong.items()]
         calls.append(f'in the call whose first datagram had SSRC {right}, {" and ".join(others)}')
     return some(calls, '; ', '; and in {} more calls')
 
 
 def _refused(row: Row, whole: Cell, scale: Scale) -> Iterator[Anomaly]:
     """Refused datagrams, by cause."""
+    types = ', '.join(str(kind) for kind in sorted(row.types) if kind != row.payload)
+    other_law = {row.payload} | set(row.types) >= {0, 8}
     for code, (count, low, high) in sorted(whole.refused.items()):
-        part = f'{count} of {whole.admitted + whole.discarded()} packets were discarded as '
-        if code in CODES:
-            yield Anomaly(f'code {code}', row.number, part + CODES[code])
-        elif code == 11:
-            types = ', '.join(str(kind) for kind in sorted(row.types) if kind != row.payload)
-            yield Anomaly('type', row.number, f'{part}PayloadType: type {types} came, the circuit has {row.payload}',
-                          HINTS['law'] if {row.payload} | set(row.types) >= {0, 8} else '')
-        elif code == 12:
-            yield Anomaly('source', row.number, f'{part}WrongSource: {_wrong_sources(row, scale)}')
-        elif code == 14:
-            yield Anomaly('late', row.number, f'{part}Late, by up to {-low / 8:.0f} ms; the prefill is '
-                          f'{row.prefill / 8:g} ms')
-        elif code == 16:
-            yield Anomaly('full', row.number, f'{part}Full, up to {high / 8:.0f} ms before their turn; the playout '
-                          'holds 400 ms')
-        elif code == NOT_OPEN and count > 25:
-            yield Anomaly('not open', row.number, f'{part}NotOpen: the path was not open')
+        about = {11: f': type {types} came, the circuit has {row.payload}', 12: f': {_wrong_sources(row, scale)}',
+                 14: f', by up to {-low / 8:.0f} ms; the prefill is {row.prefill / 8:g} ms',
+                 16: f', up to {high / 8:.0f} ms before their turn; the playout holds 400 ms',
+                 NOT_OPEN: ': the path was not open'}.get(code, '')
+        if code != NOT_OPEN or count > 25:
+            yield Anomaly(CAUSES.get(code, f'code {code}'), row.number, f'{count} of {whole.arrived()} packets were '
+                          f'discarded as {name_of(code)}{about}', HINTS['law'] if code == 11 and other_law else '')
 
 
 def _missing(row: Row, whole: Cell) -> Iterator[Anomaly]:
     """Packets that came again, and those that did not come."""
     if again := whole.counts['repetitions']:
-        every = again + whole.admitted + whole.discarded()
+        every = again + whole.arrived()
         yield Anomaly('repeated' if again <= every // 2 else 'repeated often', row.number,
                       f'{again} of {every} packets are repetitions')
     every = whole.admitted + whole.lost
@@ -205,7 +191,7 @@ def _missing(row: Row, whole: Cell) -> Iterator[Anomaly]:
 
 def _speech(row: Row, whole: Cell, opened: int, law: str) -> Iterator[Anomaly]:
     """No datagrams, silence, speech in another law, or in another order of words."""
-    if opened > SECOND // 2 and not whole.admitted + whole.discarded() - whole.refused.get(NOT_OPEN, [0])[0]:
+    if opened > SECOND // 2 and whole.arrived() == whole.refused.get(NOT_OPEN, [0])[0]:
         sent = f': {whole.sent} datagrams were sent to {row.peer}, and none came back' if whole.sent and row.peer else (
             ', and no datagram came')
         yield Anomaly('none', row.number, f'the path was open for {duration(opened)}{sent}',
@@ -268,10 +254,11 @@ def _alarms(facts: Facts, scale: Scale) -> Iterator[Anomaly]:
     """Alarms and losses of alignment."""
     never = {'frame': 'no frame was ever found in the octets of the trunk',
              'multiframe': 'no multiframe was ever found in slot 16'}
-    for (where, what), spans in facts.alarms.items():
-        up = sum(last - first for first, last, on in spans.between(facts.start, facts.place)
-                 if on and (where == 'here' or last - first > SHORT))
-        if where == 'here' and up >= max(1, facts.place - facts.start):
+    ups = {(where, what): sum(last - first for first, last, on in spans.between(facts.start, facts.place)
+                              if on and (where == 'here' or last - first > SHORT))
+           for (where, what), spans in facts.alarms.items()}
+    for (where, what), up in ups.items():
+        if what in never and where == 'here' and up >= max(1, facts.place - facts.start):
             yield Anomaly(f'never {what}', 0, never[what])
         elif where == 'there' and up:
             yield Anomaly(f'far {what}', 0, f'{REMOTE[what]} came for {duration(up)}: the far end has no {what} '
@@ -280,7 +267,7 @@ def _alarms(facts: Facts, scale: Scale) -> Iterator[Anomaly]:
         if places:
             yield Anomaly(f'lost {what}', 0, f'{what} alignment was lost {times(len(places))}, first at '
                           f'{scale.words(places[0])}')
-    if ones := sum(last - first for first, last, on in facts.ones.between(facts.start, facts.place) if on):
+    if ones := ups['here', 'ones']:
         yield Anomaly('ones', 0, f'AIS (all ones) came for {duration(ones)}')
 
 

@@ -4,7 +4,7 @@ from __future__ import annotations
 import math
 
 from ..frames import DOUBLE, is_frame
-from ..session import FRAME, BadPacket, packet_of
+from ..session import FRAME, packet_of
 from .facts import BITS, OPEN, Facts, Row
 from .orders import STRETCH, Orders
 from .sound import LOOKED_AT, HeardSamples, heard, is_silent
@@ -23,21 +23,19 @@ class SpeechListener:
 
     def came(self, row: Row, place: int, datagram: bytes) -> None:
         """An admitted datagram: one of some in G.711, and of G.726 some that are consecutive."""
-        try:
-            payload = packet_of(datagram).payload
-        except BadPacket:
-            return
         stream = row.stream
-        if stream.stretch is None and stream.came.come(place, self.most):
-            row.cell.hear('came', HeardSamples(1, is_silent(payload)) if row.codec in BITS else
-                          heard(payload, self.facts.law))
-            stream.stretch = [] if row.codec in BITS else None
-        if stream.stretch is not None:
-            stream.stretch.append(payload)
-            if len(stream.stretch) == STRETCH:
-                if row.codec in BITS:
-                    self.orders.put(row.number, place, row.codec, stream.stretch)
-                stream.stretch = None
+        if stream.stretch is None:
+            if not stream.came.come(place, self.most):
+                return
+            payload = packet_of(datagram).payload
+            if row.codec not in BITS:
+                return row.cell.hear('came', heard(payload, self.facts.law))
+            row.cell.hear('came', HeardSamples(1, is_silent(payload)))
+            stream.stretch = []
+        stream.stretch.append(packet_of(datagram).payload)
+        if len(stream.stretch) == STRETCH:
+            self.orders.put(row.number, place, row.codec, stream.stretch)
+            stream.stretch = None
 
     def trunk(self, octets: bytes, place: int) -> None:
         """Octets of the trunk up to a place: of each open path's time slot some, if frames are found in them."""

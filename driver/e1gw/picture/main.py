@@ -4,12 +4,12 @@ from __future__ import annotations
 import argparse
 import os
 import sys
-from collections.abc import Callable, Iterator
+from collections.abc import Iterator
 from datetime import datetime, timezone
-from typing import Any, TypeVar
+from typing import Any
 
-from ..faults import number
-from ..session_files import InputError, KeptSession, octets_of, pieces
+from ..faults import checked, number
+from ..session_files import InputError, RecordedSession, octets_of, pieces
 from ..lines import read_config, with_wait
 from ..frames import raw_words_of
 from ..session import OCTETS_A_SECOND, circuits_of
@@ -21,8 +21,8 @@ from .reading import SessionReading, rows_of
 from .svg import duration
 
 STEP = 10 * OCTETS_A_SECOND  # of the trunk between two lines of how much is read
+CLEARED = '\r\x1b[K'         # a line of a terminal
 UNITS = {'ms': 0.001, 's': 1.0, 'm': 60.0, 'h': 3600.0, 'd': 86400.0}
-T = TypeVar('T')
 
 ABOUT = '''Draws a session as one page of HTML without scripts or network: the trunk's alarms in both directions, the
 thirty circuits over time with their datagrams and commands, each troubled circuit's datagrams in its jitter buffer, the
@@ -33,23 +33,13 @@ kept by e1gw-trunk. What the gateway did, `e1gw replay` answers and tells. --cap
 capture (pcap or pcapng), by the ports of the configuration.'''
 
 
-def reader(what: str, read: Callable[[str], T]) -> Callable[[str], T]:
-    """A reader for an option; a text that it cannot read is not `what`."""
-    def reads(text: str) -> T:
-        try:
-            return read(text)
-        except ValueError:
-            raise argparse.ArgumentTypeError(f'{text} is not {what}') from None
-    return reads
-
-
-def seconds(text: str) -> float:
-    """A time of 1 ms to some years. ValueError for others."""
+def span(text: str) -> int:
+    """The octets of the trunk in a time of 1 ms to some years. ValueError for others."""
     unit = text[len(text.rstrip('mshd')):]
     value = float(text.removesuffix(unit)) * UNITS.get(unit or 's', 0.0)
     if not 0.001 <= value <= 1e9:
         raise ValueError
-    return value
+    return int(value * OCTETS_A_SECOND)
 
 
 def moment(text: str) -> float:
@@ -68,12 +58,12 @@ def parser() -> argparse.ArgumentParser:
     words.add_argument('--config', metavar='FILE', help='the configuration [default: that of the kept session]')
     words.add_argument('--capture', metavar='FILE', help='a capture of the datagrams')
     words.add_argument('-o', '--output', metavar='PAGE', help='the page to write [default: standard output]')
-    words.add_argument('--last', type=reader('a time such as 60s, 5m or 250ms', seconds), metavar='TIME',
+    words.add_argument('--last', type=checked(span, 'a time such as 60s, 5m or 250ms'), metavar='TIME',
                        help='only the last part, such as 60s or 5m')
-    words.add_argument('--circuits', metavar='LIST', help='only these circuits, such as 1,2,7 or 3-9', type=reader(
-        'a list of circuits, 1 to 30, such as 1,2,7 or 3-9',
-        lambda text: sorted({n for word in text.split(',') for n in circuits_of(word)})))
-    words.add_argument('--begin', type=reader('a time such as 2026-11-23T07:30:00Z', moment), metavar='TIME',
+    words.add_argument('--circuits', metavar='LIST', help='only these circuits, such as 1,2,7 or 3-9', type=checked(
+        lambda text: sorted({n for word in text.split(',') for n in circuits_of(word)}),
+        'a list of circuits, 1 to 30, such as 1,2,7 or 3-9'))
+    words.add_argument('--begin', type=checked(moment, 'a time such as 2026-11-23T07:30:00Z'), metavar='TIME',
                        help='when the session began, in UTC')
     words.add_argument('--seizure-wait', type=number(200, 8000), metavar='MS',
                        help='as of the gateway [default: that of the kept session, or 200]')
@@ -85,9 +75,9 @@ def parser() -> argparse.ArgumentParser:
 
 
 class Progress:
-    """Says on a terminal how much of the trunk is read, each STEP octets of it."""
+    """Says on a terminal how much of the trunk is read, each STEP octets of it, in place of what was said before."""
 
-    def __init__(self, session: KeptSession) -> None:
+    def __init__(self, session: RecordedSession) -> None:
         self._files, self._file, self._told = session.files, 0, 0
 
     def octets(self) -> Iterator[bytes]:
@@ -100,23 +90,18 @@ class Progress:
         if place >= self._told + STEP and sys.stderr.isatty():
             self._told = place
             where = f', file {self._file} of {len(self._files)}' if len(self._files) > 1 else ''
-            self._say(f'e1gw-picture: {duration(place)} of the trunk read{where}')
+            words = f'e1gw-picture: {duration(place)} of the trunk read{where}'
+            print(f'{CLEARED}{words}', end='', file=sys.stderr, flush=True)
 
     def end(self) -> None:
-        if self._told:
-            self._say('')
-
-    @staticmethod
-    def _say(words: str) -> None:
-        """In place of what was said before."""
-        print(f'\r\x1b[K{words}', end='', file=sys.stderr, flush=True)
+        print(CLEARED * bool(self._told), end='', file=sys.stderr)
 
 
 def facts_of(options: argparse.Namespace, begun: Begun, octets: Iterator[bytes]) -> tuple[Facts, Iterator[bytes]]:
     """The facts known of a session before it is read, and its octets, with the datagrams of a capture if asked."""
     session, place = begun.session, begun.place
     tables: dict[str, Any] = with_wait(read_config(begun.config), begun.wait)
-    facts = Facts(rows_of(tables), span_of(options))
+    facts = Facts(rows_of(tables), options.last)
     facts.slips = session.slips and [(place + at, seconds) for at, seconds in session.slips]
     facts.breaks = [each.behind(place) for each in session.breaks]
     begin = options.begin if options.begin is not None else session.begin
@@ -139,12 +124,7 @@ def gathered(options: argparse.Namespace, begun: Begun) -> tuple[Facts, str]:
     return facts, begun.replay.end()
 
 
-def span_of(options: argparse.Namespace) -> int | None:
-    """The octets of the trunk to show, if not all."""
-    return int(options.last * OCTETS_A_SECOND) if options.last else None
-
-
-def failure_of(word: str, session: KeptSession) -> str:
+def failure_of(word: str, session: RecordedSession) -> str:
     """Why a session failed before its end, and for a trunk's octets the command that makes a session of them; nothing
     for one that ends inside a record, as one still being written."""
     if not word.startswith('fault') or 'Truncated' in word:
@@ -155,7 +135,7 @@ def failure_of(word: str, session: KeptSession) -> str:
 
 def drawn(options: argparse.Namespace) -> tuple[str, bool]:
     """The page asked for, and whether its session is complete."""
-    begun, middle = begin(options.session, span_of(options), options.config, options.program, options.seizure_wait)
+    begun, middle = begin(options.session, options.last, options.config, options.program, options.seizure_wait)
     facts, word = gathered(options, begun)
     failure = failure_of(word, begun.session)
     name = os.path.basename(os.path.normpath(options.session))

@@ -174,8 +174,8 @@ class PicturePage:
     def tables(self) -> str:
         """The alarms, the commands and the states in words."""
         facts, scale = self.facts, self.scale
-        alarms = [(name, *self._times(first, last)) for name, each in charts.alarms(facts)
-                  for first, last, on in each.between(facts.start, facts.place) if on]
+        alarms = [(name, *self._times(first, last)) for which, name in charts.ALARMS.items()
+                  for first, last, on in facts.alarms[which].between(facts.start, facts.place) if on]
         alarms += [('no octets (outage)', scale.words(place, seconds), scale.words(place), duration(seconds * SECOND))
                    for place, seconds, _ in scale.outages]
         commands = [(row.number, scale.words(each.place), each.words + f', and {each.more} more' * (each.more > 0),

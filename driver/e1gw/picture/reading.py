@@ -8,7 +8,6 @@ from typing import Any
 
 from ..session_files import InputError
 from ..lines import SEIZURE_WAIT, WAIT, law_of
-from ..repetitions import mark_of
 from ..session import CIRCUITS, MULTIFRAME, Codec, Command, Kind, refusal_of, trunk_record
 from .facts import Facts, Row
 from .listening import SpeechListener
@@ -65,11 +64,12 @@ class SessionReading:
         self.begin = self.place = place         # of the session, of all that was answered
         self.at = self.changed = place          # of the last report, and of the last reported change
         self.answers = b''                      # those that were not looked at
-        self.told: list[str] = []
+        self.told: deque[str] = deque()
         self.came: deque[bytes] = deque()       # datagrams of which nothing is reported yet
         self.sent = dict.fromkeys(facts.rows, 0)    # datagrams by circuit, since it was looked at
         self.lines: dict[str, Callable[..., None]] = {
-            'alarms': self._alarms, 'line': self._line, 'command': self._command, 'codec': self._codec}
+            'at': self._at, 'datagram': self._datagram, 'alarms': self._alarms, 'line': self._line,
+            'command': self._command, 'codec': self._codec}
         self._begin()
 
     def _begin(self) -> None:
@@ -87,13 +87,13 @@ class SessionReading:
         before: list[bytes] = []
         try:
             for records in self._some(octets):
-                self.came += [record for record in records if record[0] == DATAGRAM]
+                self.came += [record[HEAD:] for record in records if record[0] == DATAGRAM]
                 self.replay.give(b''.join(records))
                 if not self._take(before):
                     return
                 before = records
                 reached(self.place)
-            self.replay.close()
+            self.replay.give(b'')
             self._take(before)
         finally:
             self.listener.orders.look()
@@ -116,8 +116,8 @@ class SessionReading:
         octets = b''.join([record[HEAD:] for record in records if record[0] == TRUNK])[:size]
         self.place += size
         for run in ONES.finditer(octets) if ONES_OF_A_MULTIFRAME in octets else ():
-            facts.ones.put(self.place - size + run.start(), True)
-            facts.ones.put(self.place - size + run.end(), False)
+            facts.alarms['here', 'ones'].put(self.place - size + run.start(), True)
+            facts.alarms['here', 'ones'].put(self.place - size + run.end(), False)
         if size >= LEAST and not facts.alarms['here', 'frame'].value:
             self.listener.trunk(octets, self.place)
         self._hear()
@@ -156,29 +156,24 @@ class SessionReading:
     def _hear(self) -> None:
         """What is reported up to the place; the lines of records behind it wait."""
         self.told += self.replay.told()
-        rows, come = self.facts.rows, self.came.popleft
-        for n, line in enumerate(self.told):
-            if line.startswith('datagram'):         # as most are
-                record = come()
-                code, row = int(line.split(' ', 3)[2]), rows[record[1]]
-                row.came(self.at, code, record[HEAD:HEAD + 12], len(record) - HEAD, mark_of(record))
-                if not code and (row.stream.stretch is not None or self.at >= row.stream.came.due):
-                    self.listener.came(row, self.at, record[HEAD:])
-            elif not line.startswith('at'):
-                name, *words = line.split()
-                if name in self.lines:
-                    self.lines[name](*words)
-            elif (at := self.begin + int(line[3:])) <= self.place:
-                self._reach(at)
-            else:
-                del self.told[:n]
+        while self.told:
+            name, *words = self.told[0].split()
+            if name == 'at' and self.begin + int(words[0]) > self.place:
                 return
-        self.told.clear()
+            self.told.popleft()
+            if name in self.lines:
+                self.lines[name](*words)
 
-    def _reach(self, place: int) -> None:
-        self.at, self.changed = place, max(self.begin, place - 1)       # by the last octet of a record
-        if place // self.facts.width != self.facts.column:
-            self.facts.turn(place)
+    def _at(self, place: str) -> None:
+        self.at = self.begin + int(place)
+        self.changed = max(self.begin, self.at - 1)         # by the last octet of a record
+        self.facts.turn(self.at)
+
+    def _datagram(self, circuit: str, code: str, *numbers: str) -> None:
+        row, datagram = self.facts.rows[int(circuit)], self.came.popleft()
+        row.came(self.at, int(code), datagram, *map(int, numbers))
+        if code == '0':
+            self.listener.came(row, self.at, datagram)
 
     def _alarms(self, *bits: str) -> None:
         for ((where, what), spans), bit in zip(self.facts.alarms.items(), bits):
@@ -189,7 +184,7 @@ class SessionReading:
     def _line(self, circuit: str, _role: str, state: str, *rest: str) -> None:
         row, codec, payload = self.facts.rows[int(circuit)], rest[-2], int(rest[-1])
         if (codec, payload) != (row.codec, row.payload):
-            row.codec, row.payload, row.length = codec, payload, 0
+            row.codec, row.payload = codec, payload
         row.state(self.changed, state)
 
     def _command(self, circuit: str, command: str, code: str) -> None:

@@ -2,10 +2,12 @@
 from __future__ import annotations
 
 import os
+import queue
 import select
 import socket
 import subprocess
 import tempfile
+import threading
 from contextlib import suppress
 
 from ..session_files import PIECE, InputError
@@ -17,12 +19,12 @@ NOTHING = trunk_record(b'')         # changes nothing; behind it a client of --t
 
 
 class Replay:
-    """A run of the program, from a saved state if one is named. Records are written, and answers and lines read, as
-    each is ready, so neither process waits for the other."""
+    """A run of the program, from a saved state if one is named. Records are written by a thread, and answers and lines
+    read as each is ready, so neither process waits for the other."""
 
     def __init__(self, program: str, config: str, state: str = '', wait: int = SEIZURE_WAIT) -> None:
         self._errors, self._socket = tempfile.TemporaryFile(), socket.socket(socket.AF_UNIX)
-        self._waits, self._is_whole = b'', False        # octets to be written; no more follow
+        self._waits = queue.SimpleQueue[bytes]()        # octets to be written, up to the empty ones
         self._told, self._is_told = b'', False          # lines not taken yet; the last one has come
         self._tells: list[socket.socket] = []           # the socket, while it is connected
         with tempfile.TemporaryDirectory(prefix='e1gw-picture-') as folder:
@@ -30,13 +32,13 @@ class Replay:
             words = [program, 'replay', '--config', config, *(['--load', state] if state else []), *wait_words(wait),
                      '--tell', path]
             try:
-                self._process = subprocess.Popen(words, bufsize=0, stdin=subprocess.PIPE, stdout=subprocess.PIPE,
+                self._process = subprocess.Popen(words, stdin=subprocess.PIPE, stdout=subprocess.PIPE,
                                                  stderr=self._errors)
             except OSError as fault:
                 raise InputError(f'{program}: {fault.strerror}: name it by --program') from fault
             assert self._process.stdin and self._process.stdout
             self._to, self._from = self._process.stdin, self._process.stdout
-            os.set_blocking(self._to.fileno(), False)
+            threading.Thread(target=self._write, daemon=True).start()
             self._begin(path)
 
     def _begin(self, path: str) -> None:
@@ -50,34 +52,21 @@ class Replay:
             self.answers()
 
     def give(self, octets: bytes) -> None:
-        """Octets of the session."""
-        self._waits += octets
-        self._write()
-
-    def close(self) -> None:
-        """No more octets follow."""
-        self._is_whole = True
-        self._write()
+        """Octets of the session; none: no more follow."""
+        self._waits.put(octets)
 
     def _write(self) -> None:
-        try:
-            self._waits = self._waits[os.write(self._to.fileno(), self._waits):] if self._waits else b''
-        except BlockingIOError:
-            return
-        except BrokenPipeError:         # it has ended, and says why
-            self._waits = b''
-        if self._is_whole and not self._waits:
-            self._to.close()
+        with suppress(BrokenPipeError), self._to:       # (if it has ended, it says why)
+            while octets := self._waits.get():
+                self._to.write(octets)
+                self._to.flush()
 
     def answers(self) -> bytes:
         """More answers, empty at their end. The lines told before them have been read then."""
         while True:
-            writes = [self._to] if self._waits else []
-            reads, writes, _ = select.select([self._from, *self._tells], writes, [], PATIENCE)
-            if not reads and not writes:
+            reads, _, _ = select.select([self._from, *self._tells], [], [], PATIENCE)
+            if not reads:
                 raise InputError(f'e1gw replay has answered nothing for {PATIENCE} s')
-            if writes:
-                self._write()
             octets = os.read(self._from.fileno(), PIECE) if self._from in reads else None
             self._hear()
             if octets is not None:
@@ -106,7 +95,7 @@ class Replay:
 
     def end(self) -> str:
         """The program's message at the session's end, empty if it ended well."""
-        self.close()
+        self.give(b'')
         while self.answers():
             pass
         self.told()

@@ -4,7 +4,8 @@ from __future__ import annotations
 from dataclasses import dataclass
 from statistics import fmean, linear_regression, median
 
-from .facts import FRAME, SECOND, Row
+from ..session import FRAME
+from .facts import SECOND, Row
 
 AROUND = 6                  # points on each side of a step
 STEP = 120                  # samples, 15 ms, above which it is one

@@ -94,8 +94,8 @@ class ListeningTimes:
     """When to listen: each 320 ms at the start of a call, half as often after each eight samples."""
     __slots__ = ('due', 'each', 'looks')
 
-    def __init__(self, each: int = EACH) -> None:
-        self.due, self.each, self.looks = 0, each, 0
+    def __init__(self) -> None:
+        self.due, self.each, self.looks = 0, EACH, 0
 
     def come(self, place: int, most: float) -> bool:
         """Whether to listen at a place, if samples are to be at most this number of octets apart."""

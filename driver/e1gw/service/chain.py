@@ -16,11 +16,9 @@ import time
 from typing import Any, Awaitable, Callable
 
 from ..session import MULTIFRAME
-from .devices import EmulatedStream, LineOptions
-from .line_counts import LineCounts
-from .line_process import Joint, LineFiles, LineProcess, unsent, waiting
-from .program import name_of
-from .trunk import TrunkFiles, again
+from .line_process import LineCounts, LineFiles, LineProcess, unsent, waiting
+from .process import Child, end_of, held_pipe
+from .trunk import LineOptions, TrunkFiles, again, opened
 
 AGAIN = 1.0                 # seconds after which another program is asked for again
 LOOK = 0.25                 # seconds between two looks at what the processes say
@@ -28,7 +26,8 @@ ANEW = 0.2                  # seconds for the far end of `e1gw satop` to take it
 GRACE = 1.0                 # seconds for what was sent last to go out
 ONES = b'\xff' * 2 * MULTIFRAME         # with which the far end loses frame alignment
 ENDED, BROKEN = 'the trunk has ended', 'the trunk cannot be read or written'
-PROCESSES = {'satop': ['satop'], 'align': ['align'], 'check': ['crc4', '--check'], 'send': ['crc4']}
+PROCESSES = {'satop': 'satop', 'align': 'align', 'check': 'crc4 --check', 'send': 'crc4', 'pump': ''}
+TITLES = {'pump': 'the pump of slots'}
 WAITS = {'align': 'aligning', 'check': 'crc4_checking'}      # the names in the status
 
 logger = logging.getLogger(__name__)
@@ -43,14 +42,17 @@ class CarriedTrunk(TrunkFiles):
         """`files` and `note` are those of the service before this one."""
         super().__init__(line.opens, {})
         self.line, self.name, self._satop = line, '', list[str]()
+        self._inward = [name for name, on in (('align', line.align), ('check', line.crc4)) if on]   # what comes
         self.counts = LineCounts(line.crc4, lambda event: self.tell(event))
         self.files = LineFiles()
         self._processes, self._tasks = dict[str, LineProcess](), dict[str, asyncio.Task[None]]()
         self._left = list[LineProcess]()            # of a service before this one whose descriptors nobody has kept
-        self._why = ''                              # why the line has ended
-        self.origin = 0
-        with contextlib.suppress(KeyError, TypeError, ValueError):      # (then it is opened again)
+        self._why, self.origin = '', 0              # (why the line has ended)
+        try:
             self._take_up(files, note or {})
+        except (KeyError, TypeError, ValueError, OSError):      # (then it is opened again)
+            self._left, self._processes = list(self._processes.values()), {}
+            self.files.close()
 
     # ---- opening ----
 
@@ -58,16 +60,20 @@ class CarriedTrunk(TrunkFiles):
         for process in self._left:
             await process.end(0.0)
         self._left = []
-        stream = await asyncio.to_thread(self._opens)
-        self.name, self._why, self.fault = stream.name, '', ''
-        if isinstance(stream, EmulatedStream):
-            self.files, self._satop = LineFiles({'near': stream.reads, 'far': stream.far}), stream.words
+        if self.line.satop:
+            self.name, self._satop = 'satop', await asyncio.to_thread(self.line.satop)
+            self.files.pair(self.place() % size_of(self._satop), self.ones())
+            self.ones = lambda: 0
         else:
-            ends = {'line-in': stream.reads} | ({'line-out': stream.writes} if stream.writes != stream.reads else {})
-            self.files = LineFiles(ends)
+            assert self._opens
+            stream = await opened(self._opens)
+            self.name, self.files['line-in'] = stream.name, stream.reads
+            if stream.writes != stream.reads:
+                self.files['line-out'] = stream.writes
+        self._why = self.fault = ''
         try:
             self._lay()
-            for name in [*self._inward(), *(['satop'] if self._satop else [])]:
+            for name in [*self._inward, *(['satop'] if self._satop else [])]:
                 self._begin(name)
         except OSError:
             await self.finish(None)
@@ -75,50 +81,56 @@ class CarriedTrunk(TrunkFiles):
         self._does('look', self._look)
         self._tell_open()
 
-    def _inward(self) -> list[str]:
-        """The processes through which goes what comes, in their order."""
-        return [name for name, on in (('align', self.line.align), ('check', self.line.crc4)) if on]
-
     def _lay(self) -> None:
         """Joins the processes. They wait for their ends, and the program does not."""
-        for name in [*self._inward(), *(['reports'] if self.line.crc4 else [])]:
-            self.files.joints[name] = Joint()
+        for name in [*self._inward, *(['reports'] if self.line.crc4 else [])]:
+            self.files[f'joint-{name}'] = held_pipe()
         os.set_blocking(self.files.writes(), self.line.crc4)
-        if self._inward():
+        if self._inward:
             os.set_blocking(self.files.reads(), True)
         self._set_ends()
 
     def _set_ends(self) -> None:
         """The ends for a program: descriptors of their own."""
         self.close()
-        inward = self._inward()
-        reads = self.files.joints[inward[-1]].end(os.O_RDONLY | os.O_NONBLOCK) if inward else os.dup(self.files.reads())
-        self.both = reads, self._to_send()
+        last = self.files.joint(self._inward[-1]) if self._inward else self.files.reads()
+        self.both = end_of(last, os.O_RDONLY | os.O_NONBLOCK) if self._inward else os.dup(last), self._to_send()
 
     def _to_send(self) -> int:
         return os.dup(self.files.writes())
 
-    def _added(self, name: str, said: int = -1) -> LineProcess:
-        """One of the processes, which is not begun yet."""
-        reports = self.files.joints.get('reports') if name in ('check', 'send') else None
-        words = [self.line.program, *PROCESSES[name], *(self._satop if name == 'satop' else [])]
-        if reports:
-            words += ['--reports', f'/dev/fd/{reports.file}', *(['--live'] if name == 'check' else [])]
-        self._processes[name] = LineProcess(' '.join(['e1gw', *PROCESSES[name]]), words, lambda: self._ends(name),
-                                            [reports.file] if reports else [], said)
-        return self._processes[name]
+    def _process(self, name: str) -> LineProcess:
+        """One of the processes, which may not be begun yet."""
+        process = LineProcess(TITLES.get(name, f'e1gw {PROCESSES[name]}'), functools.partial(self._start, name))
+        return self._processes.setdefault(name, process)
+
+    def _start(self, name: str) -> Child:
+        """Starts one of the processes, with descriptors of its own."""
+        reports, ends = self.files.joint('reports'), self._ends(name)
+        words = [self.line.program, *PROCESSES[name].split(), *(self._satop_words() if name == 'satop' else [])]
+        words += ['--reports', f'/dev/fd/{reports}'] * (name in ('check', 'send')) + ['--live'] * (name == 'check')
+        try:
+            return Child.start(words[0], words, *ends, [reports] if reports >= 0 else [])
+        finally:
+            for end in ends:
+                os.close(end)
+
+    def _satop_words(self) -> list[str]:
+        """Its numbers go on with the octets, here and at another machine."""
+        unread = waiting(self.files['far'])     # (first: what comes meanwhile is before no number twice)
+        number = self.zero + (self.place() - unread) // size_of(self._satop)
+        return [*self._satop, '--sequence', str(number & 0xffff)]
 
     def _ends(self, name: str) -> tuple[int, int]:
         """Descriptors of their own for the standard input and output of a process."""
         if name == 'satop':
-            return os.dup(self.files.ends['far']), os.dup(self.files.ends['far'])
-        inward = self._inward()
-        before = inward[inward.index(name) - 1] if name != inward[0] else ''
-        reads = self.files.joints[before].end(os.O_RDONLY) if before else os.dup(self.files.reads())
-        return reads, self.files.joints[name].end(os.O_WRONLY)
+            return os.dup(self.files['far']), os.dup(self.files['far'])
+        before = self._inward[:self._inward.index(name)]
+        reads = end_of(self.files.joint(before[-1]), os.O_RDONLY) if before else os.dup(self.files.reads())
+        return reads, end_of(self.files.joint(name), os.O_WRONLY)
 
     def _begin(self, name: str) -> None:
-        process = self._processes.get(name) or self._added(name)
+        process = self._process(name)
         process.start()
         self._does(name, functools.partial(self._keep, name, process))
         if self.fault:
@@ -182,12 +194,11 @@ class CarriedTrunk(TrunkFiles):
     def _end_with(self, name: str, why: str) -> None:
         """A process has ended, and the line with it: the next one sees that."""
         self._end_line(why)
-        inward = self._inward()
-        if name in inward:
-            self.files.joints[name].close()
-        elif 'far' in self.files.ends:
-            shut(self.files.ends['far'])
-        elif child := self._processes[inward[0]].child:
+        if name in self._inward:
+            self.files.cut(name)
+        elif 'far' in self.files:
+            shut(self.files['far'])
+        elif child := self._processes[self._inward[0]].child:
             child.signal(signal.SIGKILL)
 
     async def _look(self) -> None:
@@ -214,11 +225,11 @@ class CarriedTrunk(TrunkFiles):
         if look := self._tasks.pop('look', None):
             look.cancel()
         self.close()
-        if near := self.files.ends.get('near'):
+        if near := self.files.get('near'):
             shut(near)
             asyncio.get_running_loop().add_reader(near, drop, near)     # (who cannot write does not look for an end)
         for name in list(self._processes):
-            await self._end_process(name, 0.0 if name in self._inward() else GRACE)
+            await self._end_process(name, 0.0 if name in self._inward else GRACE)
         if near:
             asyncio.get_running_loop().remove_reader(near)
         self.counts.line_ends(octets if self._why else None)
@@ -232,35 +243,27 @@ class CarriedTrunk(TrunkFiles):
         if process := self._processes.pop(name, None):
             await process.end(seconds)
             self.counts.hear(process)
-            process.said.close()
+            process.close()
 
     # ---- for the service that comes after this one ----
 
-    def _named(self) -> dict[str, tuple[str, int]]:
-        """All descriptors with their names, by what they are."""
-        files = self.files.every() | {f'said-{name}': its.said.file for name, its in self._processes.items()}
-        return {what: (name_of(what, file), file) for what, file in files.items()}
-
-    def named(self) -> dict[str, int]:
-        return dict(self._named().values())
-
     def note(self) -> dict[str, Any]:
-        return {'files': {what: name for what, (name, _) in self._named().items()},
+        said = {f'said-{name}': its.child.said for name, its in self._processes.items() if its.child}
+        return {'files': self.files | said, 'zero': self.zero,
                 'processes': {name: process.note() for name, process in self._processes.items()}, 'name': self.name,
                 'satop': self._satop, 'origin': self.origin, 'why': self._why, 'counts': self.counts.note()}
 
     def _take_up(self, files: dict[str, int], note: dict[str, Any]) -> None:
         """Goes on where the service before this one has left, if it has its descriptors."""
         self.name, self._satop = str(note['name']), list(note['satop'])
-        self.origin, self._why = int(note['origin']), str(note['why'])
+        self.origin, self.zero, self._why = int(note['origin']), int(note.get('zero', self.zero)), str(note['why'])
         self.counts.take_up(note['counts'])
         its = {what: files[name] for what, name in note['files'].items() if name in files}
-        self.files = LineFiles(its)
+        self.files |= {what: file for what, file in its.items() if not what.startswith('said-')}
         for name, of_process in note['processes'].items():
-            self._added(name, its.get(f'said-{name}', -1)).take_up(of_process)
+            self._process(name).take_up(of_process, its.get(f'said-{name}', -1))
         if its.keys() != note['files'].keys() or not its:
-            self._left, self._processes = list(self._processes.values()), {}
-            return self.files.close()
+            raise KeyError
         self._set_ends()
         for name, process in self._processes.items():
             self._does(name, functools.partial(self._keep, name, process))
@@ -273,13 +276,18 @@ class CarriedTrunk(TrunkFiles):
         found: dict[str, Any] = {'trunk': self.name}
         found |= self.counts.satop_status() if self._satop else {'waiting': unsent(self.files.device_out())}
         before = self.files.reads()
-        for name in self._inward():
+        for name in self._inward:
             found[WAITS[name]] = waiting(before)
-            before = self.files.joints[name].file if name in self.files.joints else -1
+            before = self.files.joint(name)
         return found
 
     def facts(self) -> dict[str, Any]:
         return super().facts() | {'carried': {'transport': self.status(), 'crc4': self.counts.crc4_status()}}
+
+
+def size_of(satop: list[str]) -> int:
+    """The octets of a packet, by the words of `e1gw satop`."""
+    return int(satop[satop.index('--size') + 1])
 
 
 def tell_failure() -> None:

@@ -112,11 +112,11 @@ class CommandServer:
             case ['help']:
                 return (__doc__ or '').partition('\n\n')[2].rstrip('\n')
             case ['reload'] | ['reload', 'force']:
-                return await self._trunk.reloads(words[1:] == ['force'])
+                return await self._trunk.trunk.reload(words[1:] == ['force'])
             case ['role' | 'promote' | 'demote' | 'move' as word]:
-                return await self._trunk.roles(word)
+                return await self._trunk.trunk.role(word)
             case ['quit']:
-                return self._trunk.ends()
+                return self._trunk.trunk.ends()
             case [name, *rest] if name in COMMANDS or name == 'codec':
                 return await self._obey_circuit(name, rest)
         return (f'{words[0][:40]}: no such command; there are {", ".join(COMMANDS)}, codec, status, events, on-loss, '
@@ -161,22 +161,24 @@ def codec_fault(words: list[str], law: str) -> str | None:
 
 
 def unix_listener(path: str, mode: int, group: str | None) -> socket.socket:
-    """A Unix socket that listens, with its mode and group from the first moment on."""
-    line = socket.socket(socket.AF_UNIX)
+    """A Unix socket that listens, with its mode and group, from the moment on at which it is there."""
+    line, new = socket.socket(socket.AF_UNIX), f'{path}~'
     if os.path.lexists(path):
         if not stat.S_ISSOCK(os.lstat(path).st_mode):
             raise CannotListen(f'{path} is there and no socket')
         if line.connect_ex(path) == 0:
             raise CannotListen(f'at {path} another one listens')
-        os.unlink(path)
+    with contextlib.suppress(FileNotFoundError):
+        os.unlink(new)
     before = os.umask(0o777 & ~mode)
     try:
-        line.bind(path)
+        line.bind(new)
     except OSError as fault:
         raise CannotListen(f'--control {path}: {fault.strerror}') from None
     finally:
         os.umask(before)
     if group:
-        os.chown(path, -1, int(group) if group.isdecimal() else grp.getgrnam(group).gr_gid)
+        os.chown(new, -1, int(group) if group.isdecimal() else grp.getgrnam(group).gr_gid)
     line.listen(MOST_CLIENTS)
+    os.replace(new, path)
     return line

@@ -2,7 +2,6 @@
 from __future__ import annotations
 
 import asyncio
-import struct
 import time
 from collections import deque
 from contextlib import suppress
@@ -10,7 +9,6 @@ from dataclasses import dataclass, field
 from typing import Callable
 
 from ..faults import words_of_fault
-from ..programs import version_of
 from ..session import HEAD, Kind, Record
 
 AGAIN = 0.1                 # seconds between two tries to connect
@@ -43,8 +41,7 @@ class ProgramConnection:
     def __init__(self, path: str, stands: Callable[[str, bool, str], None], hurry: Callable[[], None],
                  fault: Callable[[], str]) -> None:
         """`fault` says why there is no program, if that is known."""
-        self.version, self._fault = '', fault
-        self._path, self._stands, self._hurry = path, stands, hurry
+        self._path, self._stands, self._hurry, self._fault = path, stands, hurry, fault
         self._given = deque[GivenRecord]()
         self._writer: asyncio.StreamWriter | None = None
         self._lost = time.monotonic()           # when the last connection was
@@ -56,7 +53,6 @@ class ProgramConnection:
             try:
                 reader, self._writer = await asyncio.open_unix_connection(self._path)
                 self._stands('program', True, '')
-                await self._see_version(self._writer)
                 while True:
                     kind, circuit, length = HEAD.unpack(await reader.readexactly(HEAD.size))
                     self._take(kind, circuit, await reader.readexactly(length))
@@ -70,15 +66,6 @@ class ProgramConnection:
                 self._lose()
             self._stands('program', False, f'{self._path}: {why}')
             await asyncio.sleep(AGAIN)
-
-    async def _see_version(self, writer: asyncio.StreamWriter) -> None:
-        """Asks the program at the other end for its version, as a process of its own."""
-        peer = writer.get_extra_info('socket').getsockopt(1, 17, 12)        # SOL_SOCKET, SO_PEERCRED
-        executable = f'/proc/{struct.unpack("iii", peer)[0]}/exe'
-        asyncio.get_running_loop().run_in_executor(None, self._put_version, executable)
-
-    def _put_version(self, executable: str) -> None:
-        self.version = version_of(executable)
 
     def _take(self, kind: int, circuit: int, body: bytes) -> None:
         """An answer of the program."""

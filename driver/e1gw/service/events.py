@@ -7,97 +7,90 @@ import logging.handlers
 import os
 import queue
 import sys
+import threading
 import time
+from contextlib import suppress
 from typing import Any, Callable, TextIO
 
-from ..calls import FIELDS, KEPT, MOST_OCTETS
+from ..calls import KEPT, MOST_OCTETS
 from ..events import NOTICED, WARNED, words_of
 from ..lines import Event, State
 from ..writers import open_to_append
-from .journal import MOST_WAITING, NOTICE, stop_within
+from .journal import MOST_WAITING, NOTICE
 
-OPEN = logging.DEBUG        # the level of the record that has a file opened
+FLUSH = 2.0                 # seconds at the end for what is not written yet
 
 logger = logging.getLogger(__name__)
 
 
-class EventFile:
-    """A place of lines, opened and written by a thread of its own: nothing waits for it. If it fails
-    it ends, and `ended(name, why)` is called once, in any thread."""
-
-    def __init__(self, name: str, handler: logging.Handler, ended: Callable[[str, str], None], where: str = '') -> None:
-        self._name, self._ended, self._where, self._has_ended = name, ended, where, False
-        self._logger = logging.Logger(name)
-        self._sends = logging.handlers.QueueHandler(queue.Queue(MOST_WAITING))
-        for each in (handler, self._sends):
-            setattr(each, 'handleError', self._failed)
-        self._logger.addHandler(self._sends)
-        self._listener = logging.handlers.QueueListener(self._sends.queue, handler)
-        self._listener.start()
-        self._logger.log(OPEN, '')
-
-    def _failed(self, _: logging.LogRecord) -> None:
-        if not self._has_ended:
-            self._has_ended = True
-            fault = sys.exc_info()[1]
-            why = getattr(fault, 'strerror', None) or str(fault)
-            why = 'it takes too little' if isinstance(fault, queue.Full) else why
-            self._ended(self._name, f'{why}: {self._where}' if self._where else why)
-
-    def put(self, line: str) -> None:
-        if not self._has_ended:
-            self._logger.info('%s', line)
-
-    def close(self, seconds: float = 2.0) -> None:
-        """Waits so long at most until all is written."""
-        stop_within(self._listener, seconds)
-
-
 class LineFile(logging.handlers.RotatingFileHandler):
-    """A file that is appended to, and rotated if `most` octets are given. A new one has the mode 640."""
+    """A file that is appended to. With a head, which each file begins with, ten files of 10 MiB are kept. A new one has
+    the mode 640; one that somebody has moved or removed is followed by another one."""
 
-    def __init__(self, path: str, most: int = 0) -> None:
-        super().__init__(path, maxBytes=most, backupCount=KEPT, delay=True)
-
-    def _open(self) -> Any:
-        return open(open_to_append(self.baseFilename), 'a', encoding='utf-8')
-
-    def emit(self, record: logging.LogRecord) -> None:
-        if record.levelno != OPEN:
-            return super().emit(record)
-        try:
-            self.stream = self._open()
-        except OSError:
-            self.handleError(record)
-
-
-class CallFile(LineFile):
-    """The lines of calls, below a head; ten files of 10 MiB are kept."""
-
-    def __init__(self, path: str) -> None:
-        super().__init__(path, MOST_OCTETS)
+    def __init__(self, path: str, head: str = '') -> None:
+        self._head = head
+        super().__init__(path, maxBytes=MOST_OCTETS if head else 0, backupCount=KEPT)
 
     def _open(self) -> Any:
-        stream = super()._open()
-        if os.fstat(stream.fileno()).st_size == 0:
-            stream.write(','.join(FIELDS) + '\n')
+        stream = open(open_to_append(self.baseFilename), 'a', encoding='utf-8')
+        if self._head and os.fstat(stream.fileno()).st_size == 0:
+            stream.write(f'{self._head}\n')
             stream.flush()
         return stream
 
-
-class StreamLines(logging.StreamHandler[TextIO]):
-    """A stream, which is open."""
-
     def emit(self, record: logging.LogRecord) -> None:
-        if record.levelno != OPEN:
-            super().emit(record)
+        its = os.fstat(self.stream.fileno())
+        if not (os.path.exists(self.baseFilename) and os.path.samestat(os.stat(self.baseFilename), its)):
+            self.stream.close()
+            self.stream = self._open()
+        super().emit(record)
 
 
-def lines_to(file: TextIO | str) -> logging.Handler:
-    """A handler of lines for a stream, or for a file."""
-    if isinstance(file, str):
-        return LineFile(file)
-    return StreamLines(file)
+class EventFile:
+    """A file, or a stream, of lines, opened and written by a thread of its own: nothing waits for it. If it fails it
+    ends, and `ended(name, why)` is called once, in any thread."""
+
+    def __init__(self, name: str, file: TextIO | str, ended: Callable[[str, str], None], head: str = '') -> None:
+        self._name, self._file, self._ended, self._head, self._has_ended = name, file, ended, head, False
+        self._lines = queue.Queue[str | None](MOST_WAITING)
+        self._thread = threading.Thread(target=self._write, daemon=True)
+        self._thread.start()
+
+    def _write(self) -> None:
+        try:
+            handler: logging.Handler
+            if isinstance(self._file, str):
+                handler = LineFile(self._file, self._head)
+            else:
+                handler = logging.StreamHandler(self._file)
+            setattr(handler, 'handleError', self._failed)
+            while not self._has_ended and (line := self._lines.get()) is not None:
+                handler.handle(logging.makeLogRecord({'msg': line}))
+            handler.close()
+        except OSError:
+            self._failed()
+
+    def _failed(self, *_: object) -> None:
+        fault = sys.exc_info()[1]
+        self._end(getattr(fault, 'strerror', None) or str(fault))
+
+    def _end(self, why: str) -> None:
+        if not self._has_ended:
+            self._has_ended = True
+            self._ended(self._name, f'{why}: {self._file}' if isinstance(self._file, str) else why)
+
+    def put(self, line: str) -> None:
+        if not self._has_ended:
+            try:
+                self._lines.put_nowait(line)
+            except queue.Full:
+                self._end('it takes too little')
+
+    def close(self) -> None:
+        """Waits until all is written, FLUSH at most."""
+        with suppress(queue.Full):
+            self._lines.put_nowait(None)
+        self._thread.join(FLUSH)
 
 
 def json_line(event: Event) -> str:

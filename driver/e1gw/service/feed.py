@@ -1,32 +1,29 @@
-"""What a standby at another machine is fed: a head, a state, and from its place on the log of the program, in pieces.
-Nothing waits for a slow standby but the log, which grows. One that is too far behind, or takes nothing for seconds, is
-dropped; it connects again and receives another state, so it has no gap. A feed is of one program, and ends behind its
-last record."""
+"""What the standby at the other machine is fed: a head, a state, and the log of the program behind it, in pieces, to
+its last record. Nothing waits for a standby: one that lacks what the log has given back, or says nothing for seconds,
+is dropped, connects again and gets another state, so it has no gap."""
 from __future__ import annotations
 
 import asyncio
 import json
 import logging
 import os
+import ssl
 import struct
 import time
 from contextlib import suppress
-from dataclasses import dataclass, field
 from typing import Any, Callable
 
 from ..faults import words_of_fault
 from ..lines import law_of, read_config, tables_of
-from .log import Checkpoint, TrunkLog
+from .log import STATE_ROOM, TrunkLog
 from .program import TrunkProgram
 
-FORMAT, VERSION = 'e1gw_feed', 2
-PIECE = struct.Struct('>Qdi')   # before a piece: where the log ends, the time of that, and how many octets follow
-YOURS = -1                      # in place of the latter: the standby is to carry the trunk
-PLACE = struct.Struct('>Q')             # of a standby: up to where it has the log
+FORMAT, VERSION = 'e1gw_feed', 4
+PIECE = struct.Struct('>di')    # before a piece: when it was all that the log had, or 0, and how many octets follow
+END, YOURS = -1, -2             # in place of the latter: nothing follows, and also that the standby carries the trunk
+MARK = struct.Struct('>d')      # what a standby says: the time of the last piece, up to which it has all, or 0
 MOST_HEAD, MOST_PIECE = 64 << 10, 256 << 10
-MOST_BEHIND = 64 << 20      # octets of the log that a standby may lack: two minutes of thirty calls
-NEAR = 256 << 10            # the same if it has all of a moment ago
-TICK = 0.005                # seconds between two looks at the log
+TICK = 0.01                 # seconds between two pieces
 PULSE = 0.25                # seconds after which a piece without octets says that all goes on
 FRESH = 2.0                 # seconds up to which a standby that has said nothing is fed
 PATIENCE = 10.0             # seconds for the other end to take or to say anything
@@ -39,35 +36,6 @@ class FeedRefused(Exception):
     """Why a feed is not followed."""
 
 
-@dataclass(frozen=True)
-class FeedHead:
-    """What a feed begins with: the law and the circuits without hosts and ports, the process number of the
-    program, the place in its log behind which the state is, its counts up to there, and the state's length."""
-
-    law: str
-    circuits: dict[str, Any]
-    program: int
-    place: int
-    counted: dict[str, int]
-    state: int
-
-    def line(self) -> bytes:
-        return json.dumps({FORMAT: VERSION, **vars(self)}).encode() + b'\n'
-
-    @classmethod
-    def of_line(cls, line: bytes) -> FeedHead:
-        """FeedRefused if it is none of this version."""
-        with suppress(ValueError, TypeError, KeyError, AttributeError, RecursionError):
-            fields = dict(json.loads(line))
-            if (its := fields.pop(FORMAT)) != VERSION:
-                raise FeedRefused(f'a feed of version {str(its)[:20]}, and this is {VERSION}')
-            head = cls(**fields)
-            numbers = [head.program, head.place, head.state, *head.counted.values()]
-            if all(type(n) is int and n >= 0 for n in numbers) and isinstance(head.circuits, dict):
-                return head
-        raise FeedRefused('what comes there is no feed of e1gw-trunk')
-
-
 def configured(path: str) -> tuple[str, dict[str, Any]]:
     """The law of a configuration, and its circuits by their numbers, without what may differ elsewhere."""
     tables = read_config(path)
@@ -75,127 +43,106 @@ def configured(path: str) -> tuple[str, dict[str, Any]]:
                             for n, (_, table) in sorted(tables_of(tables).items())}
 
 
-@dataclass(eq=False)
-class StandbyFeed:
-    """A standby that is fed the log of a program. `place` is the octet that is sent next, `has` how many it has."""
+def beginning(program: TrunkProgram, zero: int) -> bytes:
+    """The head of a feed, and the state of the last checkpoint: the law and the circuits, the process number of the
+    program, its counts up to the state, `zero` of the trunk, and the length of the state."""
+    its = program.checkpoint
+    law, circuits = configured(program.version.config_path())
+    state = os.pread(its.state, os.fstat(its.state).st_size, 0) if its.state >= 0 else b''
+    return json.dumps({FORMAT: VERSION, 'law': law, 'circuits': circuits, 'program': program.pid,
+                       'counted': its.counted, 'zero': zero, 'state': len(state)}).encode() + b'\n' + state
 
-    writer: asyncio.StreamWriter
-    number: int
-    log: TrunkLog
-    place: int
-    has: int = 0
-    fresh: float = field(default_factory=lambda: time.monotonic() - FRESH)      # when it had all
 
-    def send(self, piece: bytes, length: int) -> None:
-        end = self.log.place() if length == MOST_PIECE else self.place + len(piece)
-        self.writer.write(PIECE.pack(end, time.monotonic(), length) + piece)
-        self.place += len(piece)
-
-    def drop(self, why: str) -> None:
-        if not self.writer.transport.is_closing():
-            logger.warning('the standby is dropped: %s', why, extra={'kind': 'standby dropped'})
-            self.writer.transport.abort()
+def head_of(line: bytes) -> dict[str, Any]:
+    """The head of a feed. FeedRefused if it is none of this version."""
+    with suppress(ValueError, TypeError, KeyError, AttributeError, RecursionError):
+        head: dict[str, Any] = json.loads(line)
+        if head[FORMAT] != VERSION:
+            raise FeedRefused(f'a feed of version {str(head[FORMAT])[:20]}, and this is {VERSION}')
+        numbers = [head['program'], head['zero'], head['state'], *head['counted'].values()]
+        if isinstance(head['law'], str) and isinstance(head['circuits'], dict) and all(
+                type(n) is int and n >= 0 for n in numbers) and head['state'] <= STATE_ROOM:
+            return head
+    raise FeedRefused('what comes there is no feed of e1gw-trunk')
 
 
 class FeedServer:
-    """Feeds who connects from one of these addresses, while there is a program that carries the trunk."""
+    """Feeds the standby, which connects from one address, while there is a program that carries the trunk; over TLS if
+    there is a context for that."""
 
-    def __init__(self, peers: frozenset[str], program: Callable[[], TrunkProgram | None]) -> None:
-        self._peers, self._program = peers, program
-        self.hands_over = False                         # at the end of the program
-        self._feeds: dict[str, StandbyFeed] = {}        # by the address of the standby
-        self._tasks = set[asyncio.Task[Any]]()
+    def __init__(self, peer: str, program: Callable[[], TrunkProgram | None], zero: Callable[[], int],
+                 context: ssl.SSLContext | None = None) -> None:
+        self._peer, self._program, self._zero, self._context = peer, program, zero, context
+        self._writer: asyncio.StreamWriter | None = None        # to the standby that is fed
+        self._said = self._fresh = 0.0          # when it has said something, and up to when it has all
+        self.hands_over = False                 # at the end of the program
 
     def age(self) -> float | None:
-        """How many seconds ago a standby had all that the log had; None if there is none."""
-        return min((time.monotonic() - feed.fresh for feed in self._feeds.values() if feed.has), default=None)
-
-    def needed(self, program: TrunkProgram) -> int:
-        """From where on the log of a program is needed. Who is too far behind is dropped."""
-        place = end = program.log.place()
-        for feed in [each for each in self._feeds.values() if each.number == program.number]:
-            if end - feed.place > MOST_BEHIND:
-                feed.drop(f'it is {end - feed.place >> 20} MiB behind')
-            else:
-                place = min(place, feed.place)
-        return place
+        """How many seconds ago the standby had all that the log had; None if there is none."""
+        return time.monotonic() - self._fresh if self._fresh else None
 
     async def finish(self, seconds: float) -> None:
-        """Waits until each standby has the rest of what it is fed, so long at most."""
-        if self._tasks:
-            await asyncio.wait(self._tasks, timeout=seconds)
-        for feed in [*self._feeds.values()]:
-            feed.drop(f'it does not take the rest within {seconds:g} s')
+        """Waits until the standby has the rest of what it is fed, so long at most."""
+        until = time.monotonic() + seconds
+        while self._writer and time.monotonic() < until:
+            await asyncio.sleep(TICK)
+        if self._writer:
+            self._writer.transport.abort()
 
     async def came(self, reader: asyncio.StreamReader, writer: asyncio.StreamWriter) -> None:
-        """Somebody has connected."""
+        """Somebody has connected: the standby, in place of itself before, or a stranger."""
         address = str(writer.get_extra_info('peername')[0])
-        if address not in self._peers:
-            logger.warning('feed: %s is not --peer, and is fed nothing', address, extra={'kind': 'stranger'})
-            writer.transport.abort()
-            return
-        task = asyncio.current_task()
-        assert task
-        self._tasks.add(task)
+        if address != self._peer:
+            logger.warning('feed: %s is not --standby, and is fed nothing', address, extra={'kind': 'stranger'})
+            return writer.transport.abort()
         try:
-            if (program := self._program()) and program.is_up:
-                logger.info('a standby at %s is fed', address)
-                await self._feed(address, program, reader, writer)
+            if self._context:       # (not by the server, where strangers would hold descriptors meanwhile)
+                await writer.start_tls(self._context, ssl_handshake_timeout=PATIENCE)
+            program = self._program()
+            if not program or not program.is_up:
+                return
+            if self._writer:
+                self._writer.transport.abort()
+            self._writer, self._said, self._fresh = writer, time.monotonic(), 0.0
+            logger.info('a standby at %s is fed', address)
+            await self._feed(program, reader, writer)
         except Exception as fault:      # pylint: disable=broad-exception-caught
-            why = words_of_fault(fault) or 'it takes nothing'
-            logger.warning('feed of %s: %s', address, why, extra={'kind': 'feed'})
+            logger.warning('feed of %s: %s', address, words_of_fault(fault), extra={'kind': 'feed'})
+            writer.transport.abort()
         finally:
-            self._tasks.discard(task)
             writer.close()
+            if self._writer is writer:
+                self._writer, self._fresh = None, 0.0
 
-    async def _feed(self, address: str, program: TrunkProgram, reader: asyncio.StreamReader,
-                    writer: asyncio.StreamWriter) -> None:
-        """Feeds a standby until the program has ended, and all that it has logged is there."""
-        checkpoint = program.checkpoint         # (nothing is given back behind it from here on: `needed`)
-        feed = StandbyFeed(writer, program.number, TrunkLog(os.dup(program.log.file)), checkpoint.place)
-        if before := self._feeds.get(address):
-            before.drop('another one has come from there')
-        self._feeds[address] = feed
-        hears = asyncio.create_task(self._hear(feed, reader))
+    async def _feed(self, program: TrunkProgram, reader: asyncio.StreamReader, writer: asyncio.StreamWriter) -> None:
+        """Until the program has ended, and the standby has all and leaves. EOFError if it leaves before."""
+        log, place, due = TrunkLog(os.dup(program.log.file)), program.checkpoint.place, 0.0
+        ends, leaves = (asyncio.ensure_future(each) for each in (program.process.over.wait(), self._hear(reader)))
         try:
-            writer.write(beginning(program, checkpoint))
-            while not program.process.over.is_set() or feed.place < feed.log.place():
-                await self._send(feed)
-            feed.send(b'', YOURS if self.hands_over else 0)
-            async with asyncio.timeout(PATIENCE):
-                while feed.has < feed.place and not hears.done():
-                    await asyncio.sleep(TICK)
+            writer.write(beginning(program, self._zero()))
+            while not leaves.done() and (now := time.monotonic()) < self._said + PATIENCE:
+                if place < program.log.freed:
+                    raise EOFError('it is too far behind')
+                has_room = writer.transport.get_write_buffer_size() < MOST_PIECE
+                piece = log.read(place, MOST_PIECE) if has_room else b''
+                if piece or now >= due:
+                    writer.write(PIECE.pack(now if has_room and len(piece) < MOST_PIECE else 0.0, len(piece)) + piece)
+                    place, due = place + len(piece), now + PULSE
+                if ends.done() and place == log.place():
+                    writer.write(PIECE.pack(time.monotonic(), YOURS if self.hands_over else END))
+                    await asyncio.wait([leaves], timeout=PATIENCE)
+                    return
+                await asyncio.wait([leaves if ends.done() else ends], timeout=TICK)
+            raise EOFError('the connection is gone' if leaves.done() else 'it takes nothing')
         finally:
-            hears.cancel()
-            if self._feeds.get(address) is feed:
-                del self._feeds[address]
-            feed.log.close()
+            ends.cancel()
+            leaves.cancel()
+            log.close()
 
-    async def _send(self, feed: StandbyFeed) -> None:
-        """Sends what the log has, or after some time an empty piece; the standby takes it within some seconds."""
-        until = time.monotonic() + PULSE
-        while not (piece := feed.log.read(feed.place, MOST_PIECE)) and time.monotonic() < until:
-            await asyncio.sleep(TICK)
-        feed.send(piece, len(piece))
-        async with asyncio.timeout(PATIENCE):
-            await feed.writer.drain()
-        if len(piece) < MOST_PIECE:
-            await asyncio.sleep(TICK)
-
-    async def _hear(self, feed: StandbyFeed, reader: asyncio.StreamReader) -> None:
-        """What a standby has, as it says. (One that says nothing is not fed, and takes nothing any more either.)"""
+    async def _hear(self, reader: asyncio.StreamReader) -> None:
+        """What the standby says, until it leaves."""
         with suppress(OSError, EOFError):
             while True:
-                feed.has = PLACE.unpack(await reader.readexactly(PLACE.size))[0]
-                if feed.has + NEAR >= feed.log.place():
-                    feed.fresh = time.monotonic()
-        feed.writer.transport.abort()
-
-
-def beginning(program: TrunkProgram, checkpoint: Checkpoint) -> bytes:
-    """The head of a feed, and the state."""
-    its = checkpoint.state
-    state = os.pread(its, os.fstat(its).st_size, 0) if its >= 0 else b''
-    head = FeedHead(*configured(program.version.config_path()), program.pid, checkpoint.place,
-                    dict(checkpoint.counted), len(state))
-    return head.line() + state
+                at, = MARK.unpack(await reader.readexactly(MARK.size))
+                self._said = time.monotonic()
+                self._fresh = max(self._fresh, min(at, self._said))

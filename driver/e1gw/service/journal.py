@@ -14,6 +14,7 @@ MOST_WAITING = 20_000               # lines that wait to be written; more are no
 NOTICE = 25                         # between INFO and WARNING
 LEVELS = {logging.ERROR: 3, logging.WARNING: 4, NOTICE: 5, logging.INFO: 6, logging.DEBUG: 7}       # of syslog
 TOP = 'e1gw.service'
+FLUSH = 2.0                         # seconds at the end for what is not written yet
 
 
 class LineLimit(logging.Filter):
@@ -29,7 +30,7 @@ class LineLimit(logging.Filter):
         if kind is None:
             return True
         began, told = self._kinds.get(kind, (-MINUTE, 0))
-        if record.created - began >= MINUTE:
+        if not 0 <= record.created - began < MINUTE:        # (the clock may have been set back)
             if told > MOST:
                 more = f'{kind}: .. and {told - MOST} more in the last minute'
                 record.msg, record.args = f'{more}\n{record.getMessage()}', None
@@ -52,13 +53,6 @@ class LineFormatter(logging.Formatter):
         return f'{front}{super().format(record)}'
 
 
-class QuietQueue(logging.handlers.QueueHandler):
-    """What waits for the thread that writes. A line for which there is no room is not kept."""
-
-    def handleError(self, record: logging.LogRecord) -> None:
-        pass
-
-
 class ServiceJournal:
     """Standard error, from the first line to the last."""
 
@@ -66,7 +60,8 @@ class ServiceJournal:
         waiting = queue.Queue[logging.LogRecord](MOST_WAITING)
         writes = logging.StreamHandler(sys.stderr)
         writes.setFormatter(LineFormatter(name))
-        sends = QuietQueue(waiting)
+        sends = logging.handlers.QueueHandler(waiting)
+        setattr(sends, 'handleError', lambda record: None)      # (a line for which there is no room is not kept)
         sends.addFilter(LineLimit())
         for name, level in ((TOP, logging.INFO), ('asyncio', logging.ERROR)):
             logger = logging.getLogger(name)
@@ -76,13 +71,8 @@ class ServiceJournal:
         self._listener = logging.handlers.QueueListener(waiting, writes)
         self._listener.start()
 
-    def close(self, seconds: float = 2.0) -> None:
-        """Waits so long at most until all is written."""
-        stop_within(self._listener, seconds)
-
-
-def stop_within(listener: logging.handlers.QueueListener, seconds: float) -> None:
-    """Has a listener write all that it has, and waits so long at most."""
-    stops = threading.Thread(target=listener.stop, daemon=True)
-    stops.start()
-    stops.join(seconds)
+    def close(self) -> None:
+        """Waits until all is written, FLUSH at most."""
+        stops = threading.Thread(target=self._listener.stop, daemon=True)
+        stops.start()
+        stops.join(FLUSH)

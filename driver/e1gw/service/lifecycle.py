@@ -10,22 +10,22 @@ import time
 import traceback
 from collections import deque
 from dataclasses import dataclass, field
-from typing import TYPE_CHECKING, Callable
+from typing import TYPE_CHECKING
 
 from ..explain import config_words, gateway_words
-from ..trunks import Stream
-from .checkpoints import Checkpoints, NoRoom, point
-from .devices import LineOptions
+from ..faults import words_of_fault
+from ..writers import put_file
+from .checkpoints import Checkpoints, point
 from .journal import NOTICE
-from .log import Checkpoint, in_memory
+from .log import Checkpoint, in_memory, octets_in
 from .program import LoggedProgram, TrunkProgram
 from .reader import LogReader
-from .recovery import Handover, Notifier
-from .trunk import TrunkFiles, either
+from .trunk import LineOptions, TrunkFiles, either
 from .version import ProgramVersion, VersionHistory
 
 if TYPE_CHECKING:
     from .pair import TrunkPair
+    from .recovery import Handover, Notifier
 
 START, GRACE = 10.0, 5.0    # seconds for a program to carry the trunk, and to end in order
 TICK = 0.25                 # seconds between two looks while nothing happens
@@ -45,16 +45,14 @@ class TrunkWants:
     program: str
     config: str
     senders: str | None
-    opens: Callable[[], Stream]
+    line: LineOptions
     folder: str
     control: str                # the socket at which the program of now takes records
     tell: str | None = None
     state: str | None = None
     words: list[str] = field(default_factory=list)
     both: list[str] = field(default_factory=list)
-    reopens: bool = False
     totals: bool = False
-    line: LineOptions | None = None     # of a trunk that is no plain device
 
 
 class DeathCount:
@@ -84,14 +82,14 @@ class TrunkKeeper:
         self.state, self.why, self.lost = Checkpoint(), 'begins', ''      # of the next program
         self.number, self.status = 0, None      # type: int, int | None
         self.was_up, self.is_whole = False, True        # (whether all that was taken up to the state was sent)
-        self.reader: LogReader | None = None
+        self.reader: LogReader      # (it is there before the first program)
         self.pair: TrunkPair | None = None      # of a trunk that two machines have
         self.ending, self.wanted = '', ''       # why no other program is to follow, or why one is
         self.ends, self.wake = asyncio.Event(), asyncio.Event()
         self._handover, self.notifier = handover, notifier
         self.silent, self._due, self._deaths = time.monotonic(), 0.0, DeathCount()
         self._finishing = set[asyncio.Task[None]]()
-        trunk.ask = self.ask
+        trunk.ask, trunk.place = self.ask, self.place
 
     # ---- from the beginning to the end ----
 
@@ -130,15 +128,13 @@ class TrunkKeeper:
 
     async def _start(self) -> TrunkProgram:
         """Starts a program from the state of now, and remembers it before anything else happens."""
-        os.makedirs(self.wants.folder, 0o700, exist_ok=True)
         await self.trunk.join(self.state.counted['octets'], self.state.state < 0, self.is_whole)
         self.number += 1
         self.program = program = TrunkProgram.started(
             self.number, self.versions.now, self.state, f'{self.wants.control}.{self.number}',
-            self.checkpoints.new_path(False), self.trunk.both,
+            self.checkpoints.new_path(), self.trunk.both,
             ['--senders', self.versions.now.senders, *self.wants.words, *self.wants.both])
-        if self.reader:
-            self.reader.began(program, self.lost == LOST)
+        self.reader.began(program, self.lost == LOST)
         self.note()
         return program
 
@@ -147,12 +143,11 @@ class TrunkKeeper:
         now, pid = time.monotonic(), program.process.pid
         shadow = self.checkpoints.follow(program).process.pid
         point(self.wants.control, program.control)
-        if self.wants.state and not self.was_up and os.path.exists(self.wants.state):
-            os.unlink(self.wants.state)
+        if self.wants.state and not self.was_up:
+            remove_stored(self.wants.state)
         after = f' goes on after {(now - self.silent) * 1000:.0f} ms' if self.was_up else ' carries the trunk'
         logger.log(logging.WARNING if self.lost else NOTICE, '%s%s; shadow %d', self.why,
                    begun_words(program, after, self.lost), shadow)
-        pass_on(program)
         self.was_up, self.lost = True, ''
         if program.version is self.versions.now:
             self.versions.is_up(now)
@@ -180,10 +175,11 @@ class TrunkKeeper:
         self.checkpoints.look(program)
         if self.checkpoints.is_due(program):
             await self.checkpoints.take(program)
-        os.makedirs(self.wants.folder, 0o700, exist_ok=True)
-        if not os.path.lexists(program.control) and now >= self._due:
+        self.checkpoints.make_folder()
+        pass_on(program)
+        if (lacks := program.lacks()) and now >= self._due:
             self._due = now + APART     # (another program has one, once a minute at most)
-            self.ask('the control socket is gone')
+            self.ask(lacks)
         self.note()
 
     async def _succeed(self, program: TrunkProgram, why: str) -> None:
@@ -191,10 +187,10 @@ class TrunkKeeper:
         silent = time.monotonic()
         if why and not await self._ask_end(program, why):
             return
-        words, is_well = program.last_words(), program.ended_well()
+        words, is_well = program.process.last_words(), program.ended_well()
         state = await self.checkpoints.recover(program, self.versions.before)
         is_over = not why and (words.startswith(('says: fault 5 ', 'says: fault 6 '))
-                               or is_well and self.trunk.has_ended(program.totals()['octets']))
+                               or is_well and self.trunk.has_ended(program.process.totals()['octets']))
         if not state:
             logger.error('the program %s: no state is known', words)
         self.begins_with(state or Checkpoint(counted=program.checkpoint.counted))
@@ -202,7 +198,7 @@ class TrunkKeeper:
         self.lost = ANEW if not state else '' if is_well else LOST
         self.is_whole = is_well
         self.silent, self.wanted, failure = silent, '', self.trunk.failure()
-        if self.ending or is_over and not self.wants.reopens:
+        if self.ending or is_over and not self.wants.line.reopens:
             is_good = bool(self.ending or is_well and not failure)
             return self.finish(self.ending or failure or trunk_words(program, words), int(not is_good))
         if is_over:
@@ -219,10 +215,7 @@ class TrunkKeeper:
 
     async def _ask_end(self, program: TrunkProgram, why: str) -> bool:
         """Has a program end behind what it has read. Not asked if there is no room for its state: it goes on then."""
-        try:
-            if not (self.ending or why == DEMOTED):
-                self.checkpoints.see_room()
-        except NoRoom:
+        if not (self.ending or why == DEMOTED or self.checkpoints.has_room()):
             logger.error('%s: no room for a state, the program goes on', why)
             self.wanted = ''
             if why == 'reload':
@@ -232,34 +225,39 @@ class TrunkKeeper:
         await program.process.end_within(GRACE)
         return True
 
-    async def _died(self) -> None:
-        """A program has died: what the next one begins with, and when."""
+    async def _died(self, by_state: bool = True) -> None:
+        """A program has died: what the next one begins with, and when. `by_state` is whether its state may be why."""
         if self.versions.has_died():
             return self._go_back(self.why)
         pause = self._deaths.died(time.monotonic())
-        if pause is not None:
+        if pause is None:
+            return
+        if by_state:
             logger.error('%s, %d times in a short time: the trunk begins without a state, in %g s', self.why, DEATHS,
                          pause)
             self.begins_with(None)
-            await either(pause, self.ends)
+        else:
+            logger.error('%s: it is tried again in %g s', self.why, pause)
+        await either(pause, self.ends)
 
     async def _never_up(self, program: TrunkProgram) -> None:
         """A program does not come up: it has ended, or hangs."""
         hangs = not program.process.over.is_set()
         await program.process.kill()
-        words, self.is_whole = f'does not begin within {START:g} s' if hangs else program.last_words(), False
+        words, self.is_whole = f'does not begin within {START:g} s' if hangs else program.process.last_words(), False
         if self.ending or not (self.was_up or self.state.state >= 0):
-            explain(words, self.wants.config)
+            if why := cause_of(words, self.wants.config):
+                logger.error('%s', why)
             return self.finish(self.ending or f'the program {words}', 0 if self.ending else 1)
         self._retire(program)
         if self.versions.before:
-            self._go_back(words)
+            self._go_back(f'the program {words}')
         elif words.startswith('says: state ') or not self.was_up:
             logger.error('the program %s: the trunk begins without a state', words)
             self.begins_with(None)
         else:
             self.why = f'the program {words}'
-            await self._died()
+            await self._died(not words.startswith('says: '))
 
     def begins_with(self, state: Checkpoint | None) -> None:
         """The next program begins with this state, or with none."""
@@ -294,8 +292,13 @@ class TrunkKeeper:
 
     def _go_back(self, words: str) -> None:
         """To the version before."""
-        self.versions.go_back(refused(words, self.wants.config)).close()
+        self.versions.go_back(refused(words, self.versions.now.config_path())).close()      # (no name is looked up)
+        self.why = 'the version before comes back'
         self.notifier.tell('READY=1')
+
+    def place(self) -> int:
+        """The octet of the trunk behind all that was taken."""
+        return self.program.octets() if self.program else self.state.counted['octets']
 
     def ask(self, why: str) -> None:
         """Another program is to follow, for this reason."""
@@ -308,26 +311,20 @@ class TrunkKeeper:
         self.ends.set()
         self.wake.set()
 
-    def files(self) -> dict[str, int]:
-        """The descriptors that the next service has to have."""
-        its = [each.files() for each in (self.reader, self.program) if each]
-        return {name: file for files in (self.trunk.named(), *its) for name, file in files.items()}
-
     def note(self) -> None:
-        """Notes what the next service has to know if this one ends. What lies behind the checkpoint that is noted is
-        given back."""
+        """Notes what the next service has to know and to have if this one ends. What lies behind the checkpoint that is
+        noted is given back."""
         program = self.program
         note = {'number': self.number, 'up': self.was_up, 'program': program and program.note(),
-                'trunk': self.trunk.note(), 'read': self.reader and self.reader.note(),
-                'active': self.pair is None or self.pair.is_active}
-        if self._handover.put(note, self.files()) and program:
-            others = [each.needed(program) for each in (self.reader, self.pair and self.pair.feed) if each]
-            program.log.free(min(program.checkpoint.place, *others))
+                'trunk': self.trunk.note(), 'read': self.reader.note(),
+                'active': self.pair is None or self.pair.is_active, 'since': self.trunk.since}
+        if self._handover.put(note) and program:
+            program.log.free(min(program.checkpoint.place, self.reader.needed.get(program.number, 0)))
 
 
 def followed(keeper: TrunkKeeper) -> LoggedProgram | None:
     """The program whose state a follower has: that of this machine, or of the other one, for which this stands by."""
-    return keeper.program or (keeper.pair.followed() if keeper.pair else None)
+    return keeper.program or (keeper.pair.standby.fed if keeper.pair else None)
 
 
 def begun_words(program: TrunkProgram, after: str, lost: str) -> str:
@@ -339,17 +336,18 @@ def begun_words(program: TrunkProgram, after: str, lost: str) -> str:
 
 def refused(words: str, config: str) -> str:
     """Tells why a reload is refused, and returns that."""
-    why = config_words(config) if words.startswith('config ') else None
+    why = cause_of(words, config)
     words = f'{words}: {why}' if why else words
     logger.error('reload: refused, the trunk goes on as it was: %s', words)
     return words
 
 
-def explain(words: str, config: str) -> None:
-    """Tells what the last words of a program mean that did not begin."""
-    for line in words.removeprefix('says: ').split('; '):
-        if told := gateway_words(line, config):
-            logger.error('%s', told)
+def cause_of(words: str, config: str) -> str | None:
+    """Why a program has said these words of a configuration, if that is known."""
+    if words.startswith('config '):
+        return config_words(config)
+    lines = words.rpartition('says: ')[2].split('; ')
+    return next((why for line in lines if (why := gateway_words(line, config))), None)
 
 
 def pass_on(program: TrunkProgram) -> None:
@@ -370,26 +368,31 @@ def trunk_words(program: TrunkProgram, words: str) -> str:
 
 async def close_behind(program: TrunkProgram) -> None:
     """Gives back all that a program has, once its follower has told the rest of the log."""
-    if program.follower and (found := await program.follower.finish()):
-        found.close()
-    program.close()
+    try:
+        if program.follower and (found := await program.follower.finish()):
+            found.close()
+    finally:
+        program.close()
 
 
 def is_stored(state: int, path: str | None) -> bool:
     """Puts a state into the place of a file, whole and up to the disk, if there is one and a path is asked for."""
-    if not path or state < 0:
-        return True
-    octets = os.pread(state, os.fstat(state).st_size, 0)
     try:
-        with open(os.open(f'{path}.new', os.O_WRONLY | os.O_CREAT | os.O_TRUNC, 0o640), 'wb') as file:
-            file.write(octets)
-            file.flush()
-            os.fsync(file.fileno())
-        os.replace(f'{path}.new', path)
+        if path and state >= 0:
+            put_file(path, octets_in(state), 0o640, is_synced=True)
         return True
     except OSError as fault:
-        logger.error('the state is not saved: %s', fault)
+        logger.error('the state is not saved: %s', words_of_fault(fault))
         return False
+
+
+def remove_stored(path: str) -> None:
+    """The state that was stored there is no longer that of the trunk."""
+    try:
+        if os.path.exists(path):
+            os.unlink(path)
+    except OSError as fault:
+        logger.error('the state that was loaded is not removed: %s', words_of_fault(fault))
 
 
 def loaded(path: str | None) -> Checkpoint:

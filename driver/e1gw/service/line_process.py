@@ -1,21 +1,25 @@
-"""A process between the line and the program, and the pipes that join it to the next one."""
+"""A process between the line and the program, the descriptors that join it to the next one, and what it counts."""
 from __future__ import annotations
 
 import asyncio
 import fcntl
+import json
 import logging
 import os
-import select
 import signal
-import stat
+import socket
 import sys
 import termios
 import time
 from contextlib import suppress
-from typing import Callable, Mapping, Sequence
+from typing import Any, Callable, Sequence
 
+from ..crc4 import COUNTS, Crc4, counts_in
+from ..lines import Event
+from ..satop import CONDITIONS, SatopCondition, counts_of as satop_counts
+from ..session import OCTETS_A_SECOND
 from .log import TrunkLog
-from .process import UNKNOWN, Child, start
+from .process import UNKNOWN, Child
 
 SOON = 0.001                # seconds between two looks
 QUICK, PAUSE, MOST_PAUSE = 5.0, 0.25, 30.0      # seconds: who dies within QUICK of its start is begun again later
@@ -23,95 +27,59 @@ QUICK, PAUSE, MOST_PAUSE = 5.0, 0.25, 30.0      # seconds: who dies within QUICK
 logger = logging.getLogger(__name__)
 
 
-class Joint:
-    """A pipe between two processes. It is held open, so neither of them sees that the other one has died."""
-
-    def __init__(self, file: int = -1, room: int = 0) -> None:
-        """`file` is one that was kept."""
-        if file < 0:
-            ends = os.pipe()
-            try:
-                file = os.open(f'/proc/self/fd/{ends[0]}', os.O_RDWR | os.O_CLOEXEC)
-            finally:
-                for end in ends:
-                    os.close(end)
-            if room:
-                fcntl.fcntl(file, fcntl.F_SETPIPE_SZ, room)
-        self.file = file
-
-    def end(self, flags: int) -> int:
-        """A descriptor of its own for an end of it."""
-        return os.open(f'/proc/self/fd/{self.file}', flags | os.O_CLOEXEC)
-
-    def read(self, most: int) -> bytes:
-        """What nobody has read of it yet, at most this number of octets."""
-        return os.read(self.file, most) if waiting(self.file) else b''
-
-    def close(self) -> None:
-        if self.file >= 0:
-            os.close(self.file)
-            self.file = -1
-
-
-class LineFiles:
-    """The descriptors of a line: `line-in` and `line-out` of a device, `near` and `far`, a socket pair between the
-    program and a process; and the joints, by who writes to them."""
-
-    def __init__(self, files: Mapping[str, int] = {}) -> None:
-        """`files` are those that were kept, by what they are."""
-        self.ends = {what: file for what, file in files.items() if what in ('near', 'far', 'line-in', 'line-out')}
-        its = {what.removeprefix('joint-'): file for what, file in files.items() if what.startswith('joint-')}
-        self.joints = {name: Joint(file) for name, file in its.items()}
+class LineFiles(dict[str, int]):
+    """The descriptors of a line by their names: `line-in` and `line-out` of a device, or `near` and `far`, a socket
+    pair between the program and a process; and a pipe `joint-NAME` behind each process, held open at both ends, so no
+    process sees that another one has died."""
 
     def reads(self) -> int:
-        return self.ends.get('near', self.ends.get('line-in', -1))
+        return self.get('near', self.get('line-in', -1))
 
     def writes(self) -> int:
-        return self.ends.get('near', self.device_out())
+        return self.get('near', self.device_out())
 
     def device_out(self) -> int:
-        return self.ends.get('line-out', self.ends.get('line-in', -1))
+        return self.get('line-out', self.get('line-in', -1))
 
-    def to_send(self) -> int:
-        """The program's end of what `e1gw crc4` reads. A file has time, and loses nothing."""
-        is_file = stat.S_ISREG(os.fstat(self.reads()).st_mode)
-        return self.joints['send'].end(os.O_WRONLY | (0 if is_file else os.O_NONBLOCK))
+    def joint(self, name: str) -> int:
+        return self.get(f'joint-{name}', -1)
 
-    def every(self) -> dict[str, int]:
-        """All of them, by what they are."""
-        return self.ends | {f'joint-{name}': joint.file for name, joint in self.joints.items() if joint.file >= 0}
+    def pair(self, sent: int = 0, came: int = 0) -> None:
+        """Makes a socket pair, also in place of one with octets that nobody counts any more. This number of ones was
+        sent into it, and came."""
+        for name, line in zip(('near', 'far'), socket.socketpair()):
+            if name in self:
+                os.close(self[name])
+            self[name] = line.detach()
+        os.set_blocking(self['near'], False)
+        os.write(self['near'], b'\xff' * sent)
+        os.write(self['far'], b'\xff' * came)
+
+    def cut(self, name: str) -> None:
+        """Has the process behind this one see the end of what comes."""
+        if (file := self.pop(f'joint-{name}', -1)) >= 0:
+            os.close(file)
 
     def close(self) -> None:
-        for joint in self.joints.values():
-            joint.close()
-        for file in self.ends.values():
-            os.close(file)
-        self.ends, self.joints = {}, {}
+        while self:
+            os.close(self.popitem()[1])
 
 
 class LineProcess:
-    """A process of these words, which is begun again if it dies. What it says is kept in memory, so it waits for nobody
-    who reads that. `ends` are its standard input and output."""
+    """A process that is begun again if it dies. `starts` starts it, or OSError."""
 
-    def __init__(self, name: str, words: list[str], ends: Callable[[], tuple[int, int]],
-                 passed: Sequence[int] = (), said: int = -1) -> None:
-        self.name, self._words, self._ends, self._passed = name, words, ends, passed
-        self.said, self.place = TrunkLog(said if said >= 0 else None), 0    # and up to where that was taken
+    def __init__(self, name: str, starts: Callable[[], Child]) -> None:
+        self.name, self._starts = name, starts
         self.child: Child | None = None
         self.last = ''                  # what it said last that has no counts
+        self._place = 0                 # up to where what it says was taken
         self._began, self._pause = 0.0, 0.0
 
-    def start(self) -> Child:
+    def start(self) -> None:
         """OSError if it can't be started."""
-        ends = self._ends()
-        try:
-            program, *words = self._words
-            self.child = start(program, program, words, (*ends, self.said.file), self._passed)
-            self._began = time.monotonic()
-        finally:
-            for end in ends:
-                os.close(end)
-        return self.child
+        child = self._starts()
+        self.close()
+        self.child, self._place, self._began = child, 0, time.monotonic()
 
     def is_there(self) -> bool:
         return self.child is not None and not self.child.over.is_set()
@@ -123,8 +91,7 @@ class LineProcess:
             self._pause = min(MOST_PAUSE, 2 * wait + PAUSE)
             await asyncio.sleep(wait)
             try:
-                self.start()
-                return
+                return self.start()
             except OSError as fault:
                 self._began = time.monotonic()
                 logger.error('%s cannot be started: %s', self.name, fault.strerror)
@@ -140,44 +107,32 @@ class LineProcess:
         return f'{self.name} {how}' + (f': {self.last}' if self.last and self.ended_itself() else '')
 
     def lines(self) -> list[str]:
-        """The lines that it has said since this was last asked."""
-        octets = self.said.read(self.place, self.said.place() - self.place)
+        """The lines that it has said since this was last asked. Their memory is given back."""
+        if not self.child or self.child.said < 0:
+            return []
+        said = TrunkLog(self.child.said)
+        octets = said.read(self._place, said.place() - self._place)
         whole = octets[:octets.rfind(b'\n') + 1]
-        self.place += len(whole)
-        with suppress(OSError):
-            self.said.free(self.place)
+        self._place += len(whole)
+        if whole:
+            with suppress(OSError):
+                said.free(self._place)
         return whole.decode(errors='replace').splitlines()
 
-    def take_up(self, note: Sequence[int]) -> None:
-        """Goes on with the process of a service before this one."""
+    def take_up(self, note: Sequence[int], said: int) -> None:
+        """Goes on with the process of a service before this one, and what it says."""
         if note:
-            pid, started, self.place = note
-            self.child, self._began = Child(pid, started), time.monotonic()
+            pid, started, self._place = note
+            self.child, self._began = Child(pid, started, said), time.monotonic()
 
     def note(self) -> Sequence[int]:
         """What the next service has to know of it; nothing if it is not there."""
-        return [self.child.pid, self.child.started, self.place] if self.child else []
+        return [self.child.pid, self.child.started, self._place] if self.child else []
 
     def kill_if_stopped(self) -> None:
         if self.child and self.child.is_stopped():
             logger.warning('%s was stopped by a signal, and is killed', self.name)
             self.child.signal(signal.SIGKILL)
-
-    async def passes_on(self, given: int, writes: int, seconds: float) -> bool:
-        """Waits until it has passed on all that is in this pipe, so long at most; whether it has. (It sees no end of
-        the pipe, which systemd holds, too: it waits for more.)"""
-        until = time.monotonic() + seconds
-        while self.is_there() and time.monotonic() < until:
-            if not waiting(given) and is_writable(writes) and self.child and self.child.rests():
-                return True
-            await asyncio.sleep(SOON)
-        return False
-
-    def wrote(self) -> int:
-        """The octets that it has written, if proc(5) tells; -1 if not."""
-        with suppress(OSError, ValueError), open(f'/proc/{self.child.pid if self.child else 0}/io', 'rb') as file:
-            return next((int(line.split()[1]) for line in file if line.startswith(b'wchar:')), -1)
-        return -1
 
     async def end(self, seconds: float) -> None:
         """Waits for its end, so long at most, and kills it."""
@@ -185,18 +140,103 @@ class LineProcess:
             if not seconds or not await self.child.ends_within(seconds):
                 await self.child.kill()
 
+    def close(self) -> None:
+        """Gives back what it has said."""
+        if self.child:
+            self.child.close()
+
+
+class LineCounts:
+    """The counts of `e1gw satop` and `e1gw crc4 --check`, and what becomes of slot 16. `tell` is called with each
+    change."""
+
+    def __init__(self, crc4: bool, tell: Callable[[Event], None]) -> None:
+        self._crc4 = Crc4() if crc4 else None
+        self._satop: dict[str, int] = {}
+        self._conditions = [(name, SatopCondition(count), words) for name, count, words in CONDITIONS]
+        self._tell = tell
+        self._seconds, self._end = 0, dict[str, int]()  # how often a check has told its counts, and those at its end
+        self._began: int | None = None                  # the octet of the trunk with which it has begun, if known
+        self._is_open = False
+        self.slots: dict[str, Any] = {}
+        self.has_ended = False                          # whether a device that keeps slot 0 has
+
+    def hear(self, *processes: LineProcess) -> None:
+        """Takes what processes have said."""
+        for process in processes:
+            for line in process.lines():
+                self._hear_line(process, line)
+
+    def _hear_line(self, process: LineProcess, line: str) -> None:
+        if counts := satop_counts(line):
+            self._take_satop(counts)
+        elif self._crc4 and (counts := counts_in(line)):
+            if line.startswith('live '):
+                self._seconds += 1
+                self._take_crc4(counts, self._seconds * OCTETS_A_SECOND)
+            else:
+                self._end |= counts
+        elif line.startswith('{'):
+            with suppress(ValueError):      # (it was killed while it said so)
+                self._take_slots(json.loads(line))
+        else:
+            process.last = line
+
+    def _take_satop(self, counts: dict[str, int]) -> None:
+        self._satop = counts
+        for _, condition, words in self._conditions:
+            if condition.changes(counts):
+                self._tell({'event': 'satop', 'what': words, 'on': condition.on})
+
+    def _take_crc4(self, counts: dict[str, int], octets: int) -> None:
+        if self._crc4 and len(counts) == len(COUNTS):
+            for event in self._crc4.take(counts, octets):
+                self._tell(event)
+
+    def _take_slots(self, told: dict[str, Any]) -> None:
+        if 'event' in told:
+            self._tell(told)
+        self.slots = told.get('slots', self.slots)
+        self.has_ended |= told.get('ended', False)
+
+    def line_begins(self, octets: int) -> None:
+        """A program begins behind this number of octets of the trunk: the first one, or another one, on this line."""
+        self._began, self._is_open = (self._began if self._is_open else octets), True
+
+    def check_ends(self, octets: int | None = None) -> None:
+        """A check has ended, and another one may follow. It has read this number of octets, if that is known."""
+        if self._crc4:
+            self._take_crc4(self._end, self._seconds * OCTETS_A_SECOND if octets is None else octets)
+            self._crc4.ended()
+        self._seconds, self._end, self._began = 0, {}, None
+
+    def line_ends(self, octets: int | None) -> None:
+        """The line has ended, behind this number of octets of the trunk, if all of them were read."""
+        self.check_ends(None if octets is None or self._began is None else octets - self._began)
+        self.has_ended = self._is_open = False
+
+    def satop_status(self) -> dict[str, int]:
+        return self._satop | {name: int(each.on) for name, each, _ in self._conditions}
+
+    def crc4_status(self) -> dict[str, Any] | None:
+        return self._crc4.status() if self._crc4 else None
+
+    def note(self) -> list[Any]:
+        """What the next service has to know."""
+        crc4 = self._crc4.note() if self._crc4 else None
+        return [self._seconds, self._began, self._is_open, self.slots, self.has_ended, crc4]
+
+    def take_up(self, note: list[Any]) -> None:
+        self._seconds, self._began, self._is_open, self.slots, self.has_ended, its = note
+        if self._crc4 and its:
+            self._crc4.take_up(its)
+
 
 def waiting(file: int, request: int = termios.FIONREAD) -> int:
     """The octets that wait in a pipe, a socket or a device to be read; 0 if that is not known."""
     with suppress(OSError, ValueError):
         return int.from_bytes(fcntl.ioctl(file, request, bytes(4)), sys.byteorder)
     return 0
-
-
-def is_writable(file: int) -> bool:
-    poll = select.poll()
-    poll.register(file, select.POLLOUT)
-    return bool(poll.poll(0))
 
 
 def unsent(file: int) -> int:

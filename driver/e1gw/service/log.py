@@ -4,13 +4,19 @@ from __future__ import annotations
 
 import ctypes
 import os
+import zlib
 from collections import Counter
+from contextlib import suppress
 from dataclasses import dataclass, field
 
-from ..session import HEAD
+from ..session import HEAD, Kind
+from ..writers import write_all
 
 PAGE = 4096
+PIECE = 256 << 10           # octets that are read at once
+TRUNK = int(Kind.TRUNK)     # (a plain number: each record is looked at)
 STATE_ROOM = 256 << 10      # octets: a state has some 220,000 at most
+ROOM = 'room'               # the file that takes it
 KEEP_SIZE, PUNCH_HOLE = 1, 2            # of fallocate(2)
 _fallocate = ctypes.CDLL(None, use_errno=True).fallocate
 _fallocate.argtypes = [ctypes.c_int, ctypes.c_int, ctypes.c_int64, ctypes.c_int64]
@@ -30,16 +36,6 @@ class TrunkLog:
     def read(self, place: int, most: int) -> bytes:
         return os.pread(self.file, most, place)
 
-    def boundary(self, place: int, most: int) -> int:
-        """The end of the last whole record that begins at this boundary or behind it, within this number of octets."""
-        octets, at = self.read(place, most), 0
-        while at + HEAD.size <= len(octets):
-            end = at + HEAD.size + HEAD.unpack_from(octets, at)[2]
-            if end > len(octets):
-                break
-            at = end
-        return place + at
-
     def free(self, place: int) -> None:
         """Gives back the memory of all pages before this place."""
         end = place // PAGE * PAGE
@@ -48,12 +44,9 @@ class TrunkLog:
                 raise OSError(ctypes.get_errno(), 'the log cannot be freed')
             self.freed = end
 
-    def held(self) -> int:
-        """The octets of memory that it takes."""
-        return os.fstat(self.file).st_blocks * 512
-
     def close(self) -> None:
         os.close(self.file)
+        self.file = -1          # (who still reads it reads no other file that has the number next)
 
 
 @dataclass(frozen=True)
@@ -72,6 +65,10 @@ class Checkpoint:
     def files(self) -> list[int]:
         return [self.state] if self.state >= 0 else []
 
+    def name(self) -> str:
+        """What no other state has; nothing for a gateway that is new."""
+        return f'{zlib.crc32(octets_in(self.state)):08x}' if self.state >= 0 else ''
+
     def at_begin(self) -> Checkpoint:
         """The same for the log of the next program, with a descriptor of its own."""
         return Checkpoint(os.dup(self.state) if self.state >= 0 else -1, 0, self.counted)
@@ -81,16 +78,34 @@ class Checkpoint:
             os.close(self.state)
 
 
+def whole_records(octets: bytes) -> tuple[int, int]:
+    """The whole records: how many octets they are, and how many octets of the trunk are in them."""
+    at, trunk, unpack, last = 0, 0, HEAD.unpack_from, len(octets) - HEAD.size
+    while at <= last:
+        kind, _, length = unpack(octets, at)
+        end: int = at + HEAD.size + length
+        if end > len(octets):
+            break
+        if kind == TRUNK:
+            trunk += length
+        at = end
+    return at, trunk
+
+
 def in_memory(octets: bytes) -> int:
     """A file in memory that has these octets."""
     file = os.memfd_create('e1gw')
     try:
-        while octets:
-            octets = octets[os.write(file, octets):]
+        write_all(file, octets)
         return file
     except OSError:
         os.close(file)
         raise
+
+
+def octets_in(file: int) -> bytes:
+    """All that a file in memory has; nothing if there is none."""
+    return os.pread(file, os.fstat(file).st_size, 0) if file >= 0 else b''
 
 
 def take_file(path: str) -> int:
@@ -101,9 +116,9 @@ def take_file(path: str) -> int:
     return file
 
 
-def has_room(folder: str) -> bool:
-    """Whether a state can be saved in this folder now."""
-    path = os.path.join(folder, 'room')
+def take_room(folder: str) -> bool:
+    """Takes the room of a state in this folder, if there is as much, until it is given back."""
+    path = os.path.join(folder, ROOM)
     try:
         file = os.open(path, os.O_WRONLY | os.O_CREAT | os.O_CLOEXEC, 0o600)
     except OSError:
@@ -112,7 +127,13 @@ def has_room(folder: str) -> bool:
         os.posix_fallocate(file, 0, STATE_ROOM)
         return True
     except OSError:
+        os.unlink(path)
         return False
     finally:
         os.close(file)
-        os.unlink(path)
+
+
+def give_room(path: str) -> None:
+    """Gives back the room of a state that is to be saved at this path now."""
+    with suppress(OSError):
+        os.unlink(os.path.join(os.path.dirname(path), ROOM))

@@ -9,13 +9,14 @@ import json
 import os
 import sys
 import time
-from typing import Any, Callable
+from typing import Any, Awaitable, Callable
 
-from ..ring import put_file
+from ..faults import words_of_fault
 from ..lines import Line
 from ..metrics import exposition, table
 from ..priority import put_behind
 from ..sockets import SocketTables, with_sockets
+from ..writers import put_file
 
 EVERY = 0.25                        # seconds between two statuses
 SECONDS, MOST_VISITORS = 10.0, 64   # for one request, and who may ask at once
@@ -34,24 +35,21 @@ HEAD = ('HTTP/1.0 {status}\r\nContent-Type: {kind}; charset=utf-8\r\nContent-Len
 class StatusTexts:
     """A status of plain values, and the texts of it, each made once."""
 
-    def __init__(self, status: dict[str, Any], sockets: SocketTables) -> None:
-        self.status, self._sockets = status, sockets
-
-    @functools.cached_property
-    def _whole(self) -> dict[str, Any]:
-        return with_sockets(self.status, self._sockets.found())
+    def __init__(self, status: dict[str, Any], table_of: Callable[[dict[str, Any]], str],
+                 metrics_of: Callable[[dict[str, Any]], str]) -> None:
+        self.status, self._table_of, self._metrics_of = status, table_of, metrics_of
 
     @functools.cached_property
     def json(self) -> str:
-        return json.dumps(self._whole)
+        return json.dumps(self.status)
 
     @functools.cached_property
     def table(self) -> str:
-        return table(self.status)
+        return self._table_of(self.status)
 
     @functools.cached_property
     def metrics(self) -> str:
-        return exposition(self._whole, str(self.status['name']))
+        return self._metrics_of(self.status)
 
 
 class TrunkPages:
@@ -74,18 +72,20 @@ class TrunkPages:
         if wait > 0 and self._has_changed:
             await asyncio.sleep(wait)
         if self._last is None or time.monotonic() >= self._due:
+            sockets = await self._sockets.found()
             self._take()
-            self._last = StatusTexts(self._status(), self._sockets)
             self._has_changed, self._due = False, time.monotonic() + EVERY
+            self._last = StatusTexts(with_sockets(self._status(), sockets), table,
+                                     lambda status: exposition(status, str(status['name'])))
         return self._last
 
 
 class WebServer:
-    """Who asks for pages: one request a connection; the oldest goes for one too many. `picture` are the words of the
-    command that draws the last seconds, if that is wanted."""
+    """Who asks for pages: one request a connection; the oldest goes for one too many. `fresh` has the texts of now,
+    `picture` are the words of the command that draws the last seconds, if that is wanted."""
 
-    def __init__(self, pages: TrunkPages, picture: list[str] | None = None) -> None:
-        self._pages, self._picture = pages, DrawnPage(picture) if picture else None
+    def __init__(self, fresh: Callable[[], Awaitable[StatusTexts]], picture: list[str] | None = None) -> None:
+        self._fresh, self._picture = fresh, DrawnPage(picture) if picture else None
         self._visitors: dict[asyncio.Task[None], None] = {}
 
     async def came(self, reader: asyncio.StreamReader, writer: asyncio.StreamWriter) -> None:
@@ -94,18 +94,21 @@ class WebServer:
         if len(self._visitors) >= MOST_VISITORS:
             next(iter(self._visitors)).cancel()
         self._visitors[task] = None
-        with contextlib.suppress(OSError, TimeoutError, ValueError, asyncio.CancelledError,
-                                 asyncio.IncompleteReadError, asyncio.LimitOverrunError):
+        try:
             async with asyncio.timeout(SECONDS):
-                request = await reader.readuntil(b'\r\n\r\n')
-                writer.write(await self._answer(*request.split(b' ', 2)[:2]))
+                method, target = (await reader.readuntil(b'\r\n\r\n')).split(b' ', 2)[:2]
+                writer.write(await self._answer(method, target))
                 await writer.drain()
-        self._visitors.pop(task, None)
-        writer.close()
+        except (OSError, TimeoutError, ValueError, asyncio.CancelledError, asyncio.IncompleteReadError,
+                asyncio.LimitOverrunError):
+            pass                # (it goes, or has sent no request)
+        finally:
+            self._visitors.pop(task, None)
+            writer.close()
 
     async def _answer(self, method: bytes, target: bytes) -> bytes:
         path, status = target.partition(b'?')[0].decode(errors='replace'), '200 OK'
-        now = await self._pages.fresh()
+        now = await self._fresh()
         kind, body = 'text/plain', b''
         if method not in (b'GET', b'HEAD'):
             status, body = '405 Method Not Allowed', b'there are GET and HEAD\n'
@@ -160,13 +163,18 @@ class DrawnPage:
 
 async def keep_metrics(pages: TrunkPages, path: str, ended: Callable[[str, str], None]) -> None:
     """Keeps a file of metrics for node_exporter up, until it is cancelled or fails."""
+    puts: asyncio.Future[None] | None = None
     try:
         while True:
-            await asyncio.to_thread(put_file, path, (await pages.fresh()).metrics.encode())
+            octets = (await pages.fresh()).metrics.encode()
+            puts = asyncio.ensure_future(asyncio.to_thread(put_file, path, octets))
+            await asyncio.shield(puts)
             await asyncio.sleep(METRICS_EVERY)
     except OSError as fault:
-        ended('metrics', fault.strerror or str(fault))
+        ended('metrics', words_of_fault(fault, path))
     finally:
+        if puts:                # (a thread that is not waited for would put the file again)
+            await asyncio.wait([puts])
         for each in (path, f'{path}.new'):
             with contextlib.suppress(OSError):
                 os.unlink(each)

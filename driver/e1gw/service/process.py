@@ -2,16 +2,21 @@
 from __future__ import annotations
 
 import asyncio
+import fcntl
 import os
 import select
 import signal
 import subprocess
 import time
+from collections import Counter
 from contextlib import suppress
 from typing import Iterable, Sequence
 
+from .log import octets_in
+
 LOOK = 0.1                  # seconds between two looks whether a signal has stopped it
 UNKNOWN = 255               # the status of a process that ended while nobody waited for it
+TOTALS, PLACE = ('records', 'octets', 'datagrams', 'dropped', 'port_faults', 'discarded_multiframes'), 'place'
 
 
 def fields_of(pid: int) -> list[str]:
@@ -28,11 +33,12 @@ def start_of(pid: int) -> int:
 
 
 class Child:
-    """A process, known by its number and when it was started. `over` is set once it has ended."""
+    """A process, known by its number and when it was started. `over` is set once it has ended. What it says is held in
+    memory, so it waits for nobody who reads that."""
 
-    def __init__(self, pid: int, started: int = 0) -> None:
-        """`started` is 0 for one that was started here a moment ago."""
-        self.pid, self.started = pid, started or start_of(pid)
+    def __init__(self, pid: int, started: int = 0, said: int = -1) -> None:
+        """`started` is 0 for one that was started here a moment ago; `said` has what it says, if that is held here."""
+        self.pid, self.started, self.said = pid, started or start_of(pid), said
         self.status: int | None = None      # negative for a signal
         self.over = asyncio.Event()
         self._file = -1
@@ -40,10 +46,50 @@ class Child:
             self._file = os.pidfd_open(pid)
             signal.pidfd_send_signal(self._file, 0)
         # (0: proc(5) hides the processes of another name space)
-        if self._file >= 0 and start_of(pid) in (self.started, 0):
+        is_it = self._file >= 0 and start_of(pid) in (self.started, 0)
+        if is_it:
             asyncio.get_running_loop().add_reader(self._file, self._end)
-        if self._file < 0 or start_of(pid) not in (self.started, 0) or select.select([self._file], [], [], 0)[0]:
+        if not is_it or select.select([self._file], [], [], 0)[0]:
             self._end()
+
+    @classmethod
+    def start(cls, executable: str, words: Sequence[str], reads: int, writes: int, passed: Iterable[int] = ()) -> Child:
+        """Starts a process of a session of its own; `words` begin with its name. It has the `passed` descriptors by
+        their numbers."""
+        said = os.memfd_create('e1gw-words')
+        try:
+            process = subprocess.Popen(words, executable=executable, stdin=reads, stdout=writes, stderr=said,
+                                       pass_fds=tuple(passed), start_new_session=True)
+        except OSError:
+            os.close(said)
+            raise
+        process.returncode = 0      # (it is waited for by its descriptor, and not by subprocess)
+        return cls(process.pid, said=said)
+
+    def text(self) -> str:
+        """All that it has said."""
+        return octets_in(self.said).decode(errors='replace')
+
+    def totals(self) -> Counter[str]:
+        """The totals that it has said at its end; with those of a follower, the octet of the log up to which it is."""
+        pairs = [line.split() for line in self.text().splitlines()]
+        return Counter({pair[0]: int(pair[1]) for pair in pairs if len(pair) == 2 and pair[0] in (*TOTALS, PLACE)})
+
+    def lines(self) -> list[str]:
+        """What it has said besides its totals."""
+        lines = [line for line in self.text().splitlines() if line.strip()]
+        return [line for line in lines if line.split()[0] not in (*TOTALS, PLACE)]
+
+    def last_words(self) -> str:
+        """How it ended: what it has said of that, or its status."""
+        lines = [line for line in self.lines() if not line.endswith(' begins as new')]
+        return f'says: {"; ".join(lines)}' if lines and (self.status or 0) > 0 else self.words()
+
+    def close(self) -> None:
+        """Gives back what it has said."""
+        if self.said >= 0:
+            os.close(self.said)
+            self.said = -1
 
     def _end(self) -> None:
         try:
@@ -102,36 +148,30 @@ class Child:
         if self.status == UNKNOWN:
             return 'ended while no keeper was there'
         if self.status is not None and self.status < 0:
-            return f'ended by signal {-self.status} ({signal.Signals(-self.status).name})'
+            return f'ended by signal {signal_words(-self.status)}'
         return f'ended with status {self.status}'
 
 
-def start(program: str, executable: str, words: Sequence[str], files: tuple[int, int, int],
-          passed: Iterable[int] = ()) -> Child:
-    """Starts a process of a session of its own. It has the `passed` descriptors by their numbers."""
-    process = subprocess.Popen([program, *words], executable=executable, stdin=files[0], stdout=files[1],
-                               stderr=files[2], pass_fds=tuple(passed), start_new_session=True)
-    process.returncode = 0      # (it is waited for by its descriptor, and not by subprocess)
-    return Child(process.pid)
+def signal_words(number: int) -> str:
+    """The number of a signal, and its name if it has one. (Those for real time have none.)"""
+    with suppress(ValueError):
+        return f'{number} ({signal.Signals(number).name})'
+    return str(number)
 
 
-async def output_of(program: str, executable: str, words: Sequence[str], passed: Iterable[int],
-                    seconds: float) -> tuple[int | None, str, str]:
-    """Runs a process to its end: its status, None if it takes too long, and what it says on standard error and on
-    standard output."""
-    said, listed = os.memfd_create('e1gw-words'), os.memfd_create('e1gw-list')
-    nowhere = os.open(os.devnull, os.O_RDWR)
+def held_pipe(room: int = 0) -> int:
+    """A pipe, as one descriptor that is read and written: who has an end of it sees no end while this one is open."""
+    ends = os.pipe()
     try:
-        process = start(program, executable, words, (nowhere, listed, said), passed)
-        if not await process.ends_within(seconds):
-            await process.kill()
-            return None, '', ''
-        return process.status, text_of(said).strip(), text_of(listed)
+        file = os.open(f'/dev/fd/{ends[0]}', os.O_RDWR | os.O_CLOEXEC)
     finally:
-        for file in (nowhere, said, listed):
-            os.close(file)
+        for end in ends:
+            os.close(end)
+    if room:
+        fcntl.fcntl(file, fcntl.F_SETPIPE_SZ, room)
+    return file
 
 
-def text_of(file: int) -> str:
-    """All that a file in memory has."""
-    return os.pread(file, os.fstat(file).st_size, 0).decode(errors='replace')
+def end_of(pipe: int, flags: int) -> int:
+    """A descriptor of its own for an end of such a pipe."""
+    return os.open(f'/dev/fd/{pipe}', flags | os.O_CLOEXEC)

@@ -5,7 +5,6 @@ from __future__ import annotations
 import asyncio
 import logging
 import time
-from collections import deque
 from contextlib import suppress
 from typing import Any, Awaitable, Callable, Mapping
 
@@ -16,7 +15,6 @@ from .program import TrunkProgram
 from .recordings import MOST_BEHIND, ReadLog, RecordingWants, TrunkRecording, has_room
 from .trunk import again
 
-MEASURED = frozenset(('gap', 'ahead', 'rate'))
 AGAIN = 60.0                # seconds between two looks whether a ring that has ended can be written again
 SOON = 0.5                  # the same if it can, and there is no checkpoint yet
 MOST_LOST = 0.008           # seconds of the trunk that a program had in hand
@@ -34,9 +32,10 @@ class LogReader:
         self.found: Callable[[ClockFinding], None] = lambda finding: None
         self._wants, self._note, self._checkpoint = wants, note, checkpoint
         self._recording: TrunkRecording | None = None
-        self._logs, self._retired = deque[ReadLog](), deque[ReadLog]()  # the latter are read, and not yet copied
-        self._number, self._flowed = 0, -1      # of the last program, and the place of the trunk that the clock knows
-        self._needed: dict[int, int] = {}       # by program, from where on its log is needed by what is noted
+        self._logs = list[ReadLog]()            # which are to be read, or copied
+        self._program: TrunkProgram | None = None       # that of the last one
+        self.place, self._held = -1, 0.0        # that of the trunk up to now; since when a checkpoint is taken
+        self.needed: dict[int, int] = {}       # by program, from where on its log is needed by what is noted
         self._retry = asyncio.Event()           # a ring that has ended is tried now
 
     # ---- what there is to read ----
@@ -47,12 +46,10 @@ class LogReader:
         if not wants:
             return
         left = left if left and left['kept'] == [wants.session, wants.keep] else {}
-        standing = left.get('standing', {})
-        self._recording = TrunkRecording(wants, self._note, standing, left.get('ended', False))
+        self._recording = TrunkRecording(wants, self._note, left.get('own', ()), left.get('ended', False))
         for each in left.get('logs', []):
-            if each['number'] >= standing.get('number', 0):
-                with suppress(KeyError):        # (its descriptors are gone)
-                    self._put(ReadLog.of_note(each, files))
+            with suppress(KeyError):            # (its descriptors are gone)
+                self._put(ReadLog.of_note(each, files))
 
     def _put(self, log: ReadLog) -> None:
         self._logs.append(log)
@@ -61,47 +58,37 @@ class LogReader:
 
     def began(self, program: TrunkProgram, lost: bool) -> None:
         """A program has a log from now on; the one before it had lost what it had in hand."""
-        if program.number == self._number:
-            return
-        self._number = program.number
+        self._program = program
         if any(log.number == program.number for log in self._logs):
             return                              # (it was noted)
-        log = ReadLog.of(program, program.checkpoint if program.is_adopted else program.begun, MOST_LOST * lost)
-        if not (self._wants and self._wants.keep):
-            log.close('config', 'state')
-        if program.is_adopted:                  # of its recording nothing was noted
-            self._logs.append(log)
-            if self._recording and self._wants and self._wants.keep:
-                self._recording.has_ended = True
-                self._retry.set()
-        else:
-            self._put(log)
+        begun = program.checkpoint if program.is_adopted else program.begun
+        self.place = min(self.place, begun.counted['octets'])       # (less, if another machine has carried the trunk)
+        log = ReadLog.of(program, begun, time.monotonic(), MOST_LOST * lost)
+        if not program.is_adopted:
+            return self._put(log)
+        self._logs.append(log)
+        if self._recording and self._recording.ring:    # (of which nothing was noted)
+            self._recording.has_ended = True
+            self._retry.set()
 
     # ---- for the service that comes after this one ----
 
     def note(self) -> dict[str, Any] | None:
-        """What it has to know, as plain values."""
-        copied = [log.note() for log in self._copied()]
-        self._needed = {log.number: log.found[0] for log in self._logs}
-        self._needed |= {note['number']: note['kept'][0] for note in copied}
-        if not (self._recording and self._wants):
+        """What it has to know, and to have."""
+        copied = [log.note() for log in self._logs if self._copies(log)]
+        places = [(note['number'], note['kept'][0]) for note in copied]
+        self.needed = {}
+        for number, place in [*places, *((log.number, log.found[0]) for log in self._logs)]:
+            self.needed[number] = min(place, self.needed.get(number, place))
+        if not (recording := self._recording):
             return None
-        return {'kept': [self._wants.session, self._wants.keep], 'ended': self._recording.has_ended,
-                'logs': copied, 'standing': self._recording.standing}
+        return {'kept': [recording.wants.session, recording.wants.keep], 'ended': recording.has_ended,
+                'own': recording.ring.own if recording.ring else (), 'logs': copied}
 
-    def _copied(self) -> list[ReadLog]:
-        """The logs that are not all copied yet, and will be."""
-        if not self._recording or self._recording.has_ended:
-            return []
-        return [log for log in (*self._retired, *self._logs) if log.is_copied and not log.is_kept]
-
-    def files(self) -> dict[str, int]:
-        """The descriptors that it has to have."""
-        return {name: file for log in self._copied() for name, file in log.named().items()}
-
-    def needed(self, program: TrunkProgram) -> int:
-        """From where on the log of a program is needed, by what was noted last."""
-        return self._needed.get(program.number, 0)
+    def _copies(self, log: ReadLog) -> bool:
+        """Whether a log is not all copied yet, and will be."""
+        recording = self._recording
+        return recording is not None and not recording.has_ended and log.is_copied and not log.is_kept
 
     # ---- reading ----
 
@@ -109,12 +96,10 @@ class LogReader:
         """Until it is cancelled. Whatever fails is begun again."""
         beside = asyncio.create_task(self._begin_again())
         try:
-            await again(self._look_on, self._tell_failure)
+            await again(self._look_on, lambda: logger.exception('the reading of the log goes on',
+                                                                extra={'kind': 'fault'}))
         finally:
             beside.cancel()
-
-    def _tell_failure(self) -> None:
-        logger.exception('the reading of the log goes on', extra={'kind': 'fault'})
 
     async def _look_on(self) -> None:
         while True:
@@ -123,44 +108,62 @@ class LogReader:
 
     async def look(self) -> None:
         """Reads what there is."""
-        while self._logs:
-            log, is_last = self._logs[0], len(self._logs) == 1
+        for log in [log for log in self._logs if not log.has_ended]:
+            is_last = log is self._logs[-1]
             while not log.look():
                 await asyncio.sleep(0)
             self._measure(log, time.monotonic())
-            if is_last:
-                break
-            log.has_ended = True                # (another program has begun with the state behind it)
-            self._retired.append(self._logs.popleft())
+            if not is_last:                     # (another program has begun with the state behind it)
+                log.end(log.found)
+            elif log is self._logs[-1]:
+                self._see_checkpoint(log)
         self._let_go()
 
     def _measure(self, log: ReadLog, now: float) -> None:
         """All that is logged by now is read."""
         place = log.found[1]
-        if self._flowed < 0:
-            self._flowed = place
-        if place > self._flowed:
-            self.clock.took(place - self._flowed, now)
-            self._flowed = place
+        if place > self.place >= 0:
+            self.clock.took(place - self.place, now)
+        self.place = max(place, self.place)
         for finding in self.clock.look(now):
             if finding.what == 'gap' and log.is_copied:
                 log.slips.append((place, round(finding.value, 3)))
-            if finding.what in MEASURED:
-                self.found(finding)
+            self.found(finding)
+
+    def _see_checkpoint(self, log: ReadLog) -> None:
+        """What is read may be copied, unless a checkpoint is taken: there the next file begins if this one is long."""
+        program, recording, now = self._program, self._recording, time.monotonic()
+        if program and program.is_done:         # (its checkpoint may be closed: no file begins there)
+            program = None
+        if program and program.is_saving:
+            self._held = self._held or now
+            return
+        if program and recording and self._copies(log) and recording.wants.is_long(
+                program.checkpoint.counted['octets'] - log.begun[1]):
+            self._cut(program, self._held or now)
+        else:
+            log.upto = log.found
+        self._held = 0.0
+
+    def _cut(self, program: TrunkProgram, since: float) -> None:
+        """The log of a program is copied to another file from its last checkpoint on, which was taken then."""
+        at = program.checkpoint
+        self._logs[-1].end((at.place, at.counted['octets']))
+        self._put(ReadLog.of(program, at, since))
 
     def _let_go(self) -> None:
         """Closes what nobody needs, and ends a recording that is too late."""
         recording = self._recording
-        if recording and sum(log.found[0] - log.kept[0] for log in self._copied()) > MOST_BEHIND:
+        if recording and sum(log.found[0] - log.kept[0] for log in self._logs if self._copies(log)) > MOST_BEHIND:
             recording.end('it takes too little')
-        for log in [*self._retired]:
-            if not recording or recording.is_over() or log.is_kept or not log.is_copied:
+        is_over = not recording or recording.is_over()
+        for log in [*self._logs]:
+            is_free = is_over or not log.is_copied
+            if is_free or log.has_file:
+                log.close('config', 'state')
+            if log.has_ended and (is_free or log.is_kept):
                 log.close()
-                self._retired.remove(log)
-        standing = recording.standing if recording else {}
-        for log in self._logs:
-            if standing.get('number') == log.number and log.kept[0] > standing['begun'][0]:
-                log.close('state')              # (the ring has it)
+                self._logs.remove(log)
 
     async def _begin_again(self) -> None:
         """A ring that has ended is tried once a minute. If it can be written it goes on from a checkpoint of now."""
@@ -173,7 +176,7 @@ class LogReader:
             wait = AGAIN
             try:
                 if self._recording and self._recording.has_ended and await self._can_begin(self._recording):
-                    wait = AGAIN if await self._begin(self._wants) else SOON
+                    wait = AGAIN if await self._begin(self._recording) else SOON
             except Exception as fault:      # pylint: disable=broad-exception-caught
                 logger.warning('the recording does not begin again: %s', words_of_fault(fault))
 
@@ -182,21 +185,23 @@ class LogReader:
         await asyncio.to_thread(ended.close)
         return ended.is_over() and await asyncio.to_thread(has_room, ended.wants.session)
 
-    async def _begin(self, wants: RecordingWants) -> bool:
+    async def _begin(self, ended: TrunkRecording) -> bool:
         """Begins another recording, if there is a checkpoint."""
-        program = await self._checkpoint()
-        for log in [log for log in self._logs if program and log.number == program.number]:
-            assert program
-            log.begin(program, program.checkpoint)
-            self._recording = TrunkRecording(wants, self._note)
-            self._recording.put(log)
-            logger.log(NOTICE, 'the recording begins again: program %d', program.process.pid)
-        return program is not None
+        now = time.monotonic()
+        if not (program := await self._checkpoint()):
+            return False
+        for log in self._logs:
+            log.is_copied = False
+        self._recording = TrunkRecording(ended.wants, self._note, ended.ring.own if ended.ring else ())
+        self._cut(program, now)
+        logger.log(NOTICE, 'the recording begins again: program %d', program.process.pid)
+        return True
 
     async def finish(self) -> None:
         """The trunk has ended: all is read and copied."""
         await self.look()
         for log in self._logs:
-            log.has_ended = True
+            if not log.has_ended:
+                log.end(log.found)
         if self._recording:
             await asyncio.to_thread(self._recording.close)

@@ -1,53 +1,37 @@
 """What is kept of the trunk: a file, or a ring of files, copied from the logs of the programs, one behind another.
 
 A thread copies, so no slow disk is waited for. A log stays in memory until it is copied; if the recording is more than
-MOST_BEHIND octets late, or cannot be written, it ends with a line, and no call does. A file has the octets of its log,
-so a service that follows this one goes on behind what the file has."""
+MOST_BEHIND octets late, or cannot be written, it ends with a line, and no call does. A service that follows this one
+cuts the last file back to where this one has noted it, and goes on from there."""
 from __future__ import annotations
 
 import asyncio
-import functools
+import hashlib
 import logging
 import os
 import stat
 import threading
+import time
 from collections import deque
 from contextlib import suppress
 from dataclasses import dataclass, field
-from typing import Any, Callable, Mapping
+from typing import Any, Callable, Iterable, Mapping, Sequence
 
-from ..archive import FinishedPieces
-from ..ring import Ring
+from ..lines import WAIT
 from ..priority import put_behind
-from ..session import HEAD, Kind
+from ..ring import FILES, RECORDS, Ring
+from ..session import OCTETS_A_SECOND
 from ..writers import open_to_append, write_all
-from .log import Checkpoint
-from .program import TrunkProgram, name_of
+from .log import PIECE, Checkpoint, octets_in, whole_records
+from .program import TrunkProgram
 
-PIECE = 256 << 10           # octets of a log that are read at once
 MOST_BEHIND = 64 << 20      # octets of logs that may wait to be copied: two minutes of thirty calls
 EVERY = 0.1                 # seconds between two looks of the thread
 FLUSH = 5.0                 # seconds at the end for what is not copied yet
 NICE = 10                   # of the thread
 LEAST, TRIED = 32 << 20, 1 << 20    # octets that have to be free for a ring, and that are written to try it
-TRUNK = int(Kind.TRUNK)     # (a plain number: each record is looked at)
 
 logger = logging.getLogger(__name__)
-
-
-def whole_records(octets: bytes, upto: int) -> tuple[int, int]:
-    """The whole records that begin before `upto`: how many octets they are, and how many octets of the trunk are in
-    them."""
-    at, trunk, unpack, last = 0, 0, HEAD.unpack_from, len(octets) - HEAD.size
-    while at < upto and at <= last:
-        kind, _, length = unpack(octets, at)
-        end: int = at + HEAD.size + length
-        if end > len(octets):
-            break
-        if kind == TRUNK:
-            trunk += length
-        at = end
-    return at, trunk
 
 
 @dataclass(frozen=True)
@@ -61,39 +45,39 @@ class RecordingWants:
     config: str
     wait: int                   # of a seizure, in milliseconds
 
+    def is_long(self, octets: int) -> bool:
+        """Whether a file is one of a ring, and has the octets of the trunk behind which the next one begins."""
+        return self.keep is not None and octets >= self.keep * OCTETS_A_SECOND // FILES
+
 
 @dataclass(eq=False)
 class ReadLog:
-    """The log of a program, with descriptors of its own: it is read when its program is gone, too. A pair of places is
-    one of the log, behind a whole record, and the place of the trunk there."""
+    """The log of a program from a state on, up to where another file begins; with descriptors of its own, so it is read
+    when its program is gone, too. A pair of places is one of the log, behind a whole record, and that of the trunk."""
 
     number: int                 # of the program
-    program: str
-    files: dict[str, int]       # the log; for a ring also the configuration, and the state with which it begins
-    found: tuple[int, int]      # up to where it is looked at
-    kept: tuple[int, int]       # up to where it is copied
+    files: dict[str, int]       # the log; the configuration and the state, while they are wanted
+    begun: tuple[int, int]
+    since: float                # the time at that place, by the monotonic clock
     lost: float = 0.0           # seconds of the trunk that are known to be lost before it
+    path: str = ''              # of the file to which it is copied, once that has one; of a ring without its ending
+    has_ended: bool = False     # nothing follows behind `upto`
     is_copied: bool = False     # it is to be copied, or was
-    has_ended: bool = False     # nothing follows behind `found`
+    has_file: bool = False      # its file has all but the octets
     is_kept: bool = False       # all is copied
     slips: deque[tuple[int, float]] = field(default_factory=deque)      # that are to be noted: place, seconds
 
-    @classmethod
-    def of(cls, program: TrunkProgram, begun: Checkpoint, lost: float = 0.0) -> ReadLog:
-        """That of a program, from a state on."""
-        place = begun.place, begun.counted['octets']
-        found = cls(program.number, program.version.program, {'log': os.dup(program.log.file)}, place, place)
-        found.begin(program, begun, lost)
-        return found
+    def __post_init__(self) -> None:
+        self.found = self.upto = self.begun     # up to where it is looked at, and may be copied
+        self.kept = *self.begun, 0              # up to where it is copied, and the octets of its file then
+        self.slips.extend([(self.begun[1], self.lost)] * bool(self.lost))
 
-    def begin(self, program: TrunkProgram, begun: Checkpoint, lost: float = 0.0) -> None:
-        """It is read from a state on."""
-        self.close('config', 'state')
-        self.lost = lost
-        self.slips.clear()
-        its = {'config': program.version.config, 'state': begun.state}
-        self.files |= {what: os.dup(file) for what, file in its.items() if file >= 0}
-        self.found = self.kept = begun.place, begun.counted['octets']
+    @classmethod
+    def of(cls, program: TrunkProgram, begun: Checkpoint, since: float, lost: float = 0.0) -> ReadLog:
+        """That of a program, from a state on."""
+        its = {'log': program.log.file, 'config': program.version.config, 'state': begun.state}
+        files = {what: os.dup(file) for what, file in its.items() if file >= 0}
+        return cls(program.number, files, (begun.place, begun.counted['octets']), since, lost)
 
     def read(self, place: int, most: int = PIECE) -> bytes:
         return os.pread(self.files['log'], most, place)
@@ -101,9 +85,14 @@ class ReadLog:
     def look(self) -> bool:
         """Looks at more of it; whether that was all that there is."""
         octets = self.read(self.found[0])
-        length, trunk = whole_records(octets, len(octets))
+        length, trunk = whole_records(octets)
         self.found = self.found[0] + length, self.found[1] + trunk
         return len(octets) < PIECE
+
+    def end(self, place: tuple[int, int]) -> None:
+        """It ends there."""
+        self.found = self.upto = place
+        self.has_ended = True
 
     def close(self, *names: str) -> None:
         """Gives back what it holds, or of that what has these names."""
@@ -111,135 +100,36 @@ class ReadLog:
             if name in self.files:
                 os.close(self.files.pop(name))
 
-    def named(self) -> dict[str, int]:
-        """Its descriptors by the names under which they are kept for the next service."""
-        return {name_of(what, file): file for what, file in self.files.items()}
-
     def note(self) -> dict[str, Any]:
-        """What the next service has to know, as plain values."""
-        return {'number': self.number, 'program': self.program, 'lost': self.lost, 'kept': self.kept,
-                'files': {what: name_of(what, file) for what, file in self.files.items()}}
+        """What the next service has to know, and to have."""
+        return {'number': self.number, 'begun': self.begun, 'since': self.since, 'lost': self.lost, 'path': self.path,
+                'kept': self.kept, 'end': self.upto if self.has_ended else None, 'files': self.files.copy()}
 
     @classmethod
     def of_note(cls, note: Mapping[str, Any], files: Mapping[str, int]) -> ReadLog:
-        """KeyError if a descriptor is missing."""
-        its = {what: files[name] for what, name in note['files'].items()}
-        place = int(note['kept'][0]), int(note['kept'][1])
-        return cls(int(note['number']), str(note['program']), {what: os.dup(file) for what, file in its.items()},
-                   place, place, float(note['lost']))
-
-
-class RecordedFile:
-    """One file for all logs. `begun` are the places with which it begins; that of the log is less than 0 if it had
-    something before the log. `announce` is called before it is begun."""
-
-    def __init__(self, wants: RecordingWants) -> None:
-        self.wants, self._file, self.begun = wants, -1, (0, 0)
-        self.announce: Callable[[], None] = lambda: None
-
-    def start(self, log: ReadLog) -> None:
-        """Another log is copied from now on."""
-        if self._file < 0:
-            self._file = open_to_append(self.wants.session)
-        self.begun = log.kept[0] - self.size(), log.kept[1]
-        self.announce()
-
-    def go_on(self, log: ReadLog, standing: Mapping[str, Any]) -> None:
-        """The log is copied as by the service before this one, which has noted this."""
-        self._file = open_to_append(self.wants.session)
-        self.begun = standing['begun'][0], standing['begun'][1]
-
-    def standing(self) -> dict[str, Any]:
-        """What the next service has to know."""
-        return {}
-
-    def size(self) -> int:
-        """The octets of the file; 0 of what is no file."""
-        about = os.fstat(self._file)
-        return about.st_size if stat.S_ISREG(about.st_mode) else 0
-
-    def complete(self, octets: bytes) -> None:
-        """The rest of a record that the file has in part."""
-        write_all(self._file, octets)
-
-    def write(self, octets: bytes, place: tuple[int, int], slips: deque[tuple[int, float]]) -> None:
-        """Whole records, from these places on; slips that are to be noted."""
-        slips.clear()
-        write_all(self._file, octets)
-
-    def close(self) -> None:
-        """Nothing more is written."""
-        if self._file >= 0:
-            os.close(self._file)
-
-
-class RecordedRing(RecordedFile):
-    """A ring of files. Each log begins another one, with the state of its program."""
-
-    def __init__(self, wants: RecordingWants) -> None:
-        super().__init__(wants)
-        self._place = 0, 0
-        self._ring: Ring | None = None
-
-    def start(self, log: ReadLog) -> None:
-        self.close()
-        wants, file, state = self.wants, log.files.get('state', -1), b''
-        if file >= 0:
-            state = os.pread(file, os.fstat(file).st_size, 0)
-        behind = FinishedPieces(log.program, wait=wants.wait, failed=functools.partial(tell_end, 'states'))
-        assert wants.keep
-        self._ring = Ring(wants.session, wants.name, f'/dev/fd/{log.files["config"]}', wants.keep, behind, wants.wait,
-                          state, wants.config, announce=self._announce)
-        self._ring.open()
-        log.slips.extendleft([(log.kept[1], log.lost)] * bool(log.lost))
-
-    def go_on(self, log: ReadLog, standing: Mapping[str, Any]) -> None:
-        self.start(log)
-        log.slips.clear()
-        self.begun = standing['begun'][0], standing['begun'][1]
-        if self._ring:
-            self._ring.go_on(self.begun[1], *(standing[what] for what in ('front', 'began', 'due', 'own')))
-
-    def _announce(self) -> None:
-        self.begun = self._place
-        self.announce()
-
-    def standing(self) -> dict[str, Any]:
-        return self._ring.standing() if self._ring else {}
-
-    def size(self) -> int:
-        return self._ring.size() if self._ring else 0
-
-    def complete(self, octets: bytes) -> None:
-        if self._ring:
-            self._ring.complete(octets)
-
-    def write(self, octets: bytes, place: tuple[int, int], slips: deque[tuple[int, float]]) -> None:
-        assert self._ring
-        while slips:
-            self._ring.slips.append(slips.popleft())
-        self._place = place
-        self._ring.places.append(place[1])
-        self._ring.write(octets)
-
-    def close(self) -> None:
-        if self._ring:
-            self._ring.close()
+        """KeyError if the descriptor of the log is missing."""
+        its = {what: files[name] for what, name in note['files'].items() if what == 'log' or name in files}
+        (place, trunk), path, kept = note['begun'], str(note['path']), note['kept']
+        found = cls(int(note['number']), {what: os.dup(file) for what, file in its.items()}, (place, trunk),
+                    float(note['since']), 0.0 if path else float(note['lost']), path)
+        found.kept = kept[0], kept[1], kept[2]
+        found.found = found.upto = kept[0], kept[1]
+        if note['end']:
+            found.end((note['end'][0], note['end'][1]))
+        return found
 
 
 class TrunkRecording:
-    """Copies logs, in their order. `stands` is called once the next service has to know something else. `noted` is how
-    the service before this one has left it."""
+    """Copies logs, in their order. `note` has all of this noted for the next service; `own` are the files that the one
+    before it has written."""
 
-    def __init__(self, wants: RecordingWants, stands: Callable[[], None], noted: Mapping[str, Any] | None = None,
+    def __init__(self, wants: RecordingWants, note: Callable[[], None], own: Iterable[Sequence[Any]] = (),
                  has_ended: bool = False) -> None:
-        self.logs = deque[ReadLog]()
-        self.standing: Mapping[str, Any] = noted or {}
-        self.has_ended = has_ended
-        self.wants, self._stands, self._loop = wants, stands, asyncio.get_running_loop()
-        self._place = RecordedRing(wants) if wants.keep else RecordedFile(wants)
-        self._place.announce = self._announce
+        self.wants, self.has_ended = wants, has_ended
+        self.ring = Ring(wants.session, wants.name, wants.keep, own) if wants.keep else None
+        self._logs, self._note, self._loop = deque[ReadLog](), note, asyncio.get_running_loop()
         self._log: ReadLog | None = None
+        self._file = -1
         self._closes = threading.Event()
         self._thread = threading.Thread(target=self._run, name='recording', daemon=True)
         self._thread.start()
@@ -247,7 +137,7 @@ class TrunkRecording:
     def put(self, log: ReadLog) -> None:
         """Another log is to be copied, behind those that were put before."""
         log.is_copied = True
-        self.logs.append(log)
+        self._logs.append(log)
 
     def close(self) -> None:
         """Waits until all is copied, FLUSH at most."""
@@ -262,7 +152,7 @@ class TrunkRecording:
         """It goes on no more, and the calls do."""
         if not self.has_ended:
             self.has_ended = True
-            tell_end('session', f'{why}: {self.wants.session}')
+            logger.warning('%s ended, the calls go on: %s', 'session', f'{why}: {self.wants.session}')
 
     # ---- in the thread ----
 
@@ -275,75 +165,80 @@ class TrunkRecording:
                 self._copy_all()
         except Exception as fault:      # pylint: disable=broad-exception-caught
             self.end(getattr(fault, 'strerror', None) or f'{type(fault).__name__}: {fault}')
-        with suppress(OSError):
-            self._place.close()
+        if self._file >= 0:
+            os.close(self._file)
+        if self.ring:
+            self.ring.close()
 
     def _copy_all(self) -> None:
-        while self.logs and not self.has_ended:
-            log = self.logs[0]
+        while self._logs and not self.has_ended:
+            log = self._logs[0]
             has_ended = log.has_ended           # (before it is read how long it is)
             if log is not self._log:
+                self._log = log
                 self._begin(log)
-            self._copy(log, *log.found)
+            self._copy(log)
             if not has_ended:
                 return
-            self.logs.popleft().is_kept = True
+            self._logs.popleft().is_kept = True
 
     def _begin(self, log: ReadLog) -> None:
-        """Another log."""
-        is_same = not self._log and self.standing.get('number') == log.number
-        self._log = log
-        if is_same:
-            self._place.go_on(log, self.standing)
-            self._see_rest(log)
-        else:
-            self._place.start(log)
-
-    def _see_rest(self, log: ReadLog) -> None:
-        """What the file has of the log behind what was noted."""
-        size, log.kept = self._place.size(), max(log.kept, self._place.begun)
-        if not size:
-            return
-        end = self._place.begun[0] + size
-        if end < log.kept[0]:               # (somebody has cut the file)
-            self._place.begun = log.kept[0] - size, log.kept[1]
-            return self._announce()
-        while log.kept[0] < end:
-            length, trunk = whole_records(log.read(log.kept[0]), end - log.kept[0])
-            if not length:
-                break
-            log.kept = log.kept[0] + length, log.kept[1] + trunk
-        self._place.complete(log.read(end, log.kept[0] - end))
-
-    def _copy(self, log: ReadLog, place: int, trunk: int) -> None:
-        """The log up to this place of it, and of the trunk."""
-        while log.kept[0] < place and not self.has_ended:
-            octets = log.read(log.kept[0], min(PIECE, place - log.kept[0]))
-            if len(octets) < place - log.kept[0]:
-                length, its = whole_records(octets, len(octets))
-            else:
-                length, its = len(octets), trunk - log.kept[1]
-            self._place.write(octets[:length], log.kept, log.slips)
-            log.kept = log.kept[0] + length, log.kept[1] + its
+        """Another log, or the rest of one of the service before this one: its file may have more than was noted."""
+        if self.ring and self._file >= 0:
+            os.close(self._file)
+            self._file = -1
+        if not log.path:
+            log.path = self.ring.next(log.begun[1]) if self.ring else self.wants.session
+            log.kept = *log.begun, size_of(self._file if self._file >= 0 else log.path)
+            self._announce()
+        path = log.path
+        if self.ring:
+            self.ring.begin(path, about_of(log, self.wants), octets_in(log.files.get('state', -1)))
+            path += RECORDS
+        if self._file < 0:
+            if size_of(path) > log.kept[2]:
+                os.truncate(path, log.kept[2])
+            self._file = open_to_append(path)
+        log.has_file = True
 
     def _announce(self) -> None:
-        """A file is to be begun, or another log in it: waits until that is noted. So the next service knows of each
-        file that is there."""
+        """Waits until all is noted. So the next service knows of each file that is there."""
         noted = threading.Event()
 
         def note() -> None:
             try:
-                self._stands()
+                self._note()
             finally:
                 noted.set()
-        assert self._log
-        self.standing = {'number': self._log.number, 'begun': self._place.begun, **self._place.standing()}
         self._loop.call_soon_threadsafe(note)
         noted.wait(FLUSH)
 
+    def _copy(self, log: ReadLog) -> None:
+        upto = log.upto[0]
+        while log.kept[0] < upto and not self.has_ended:
+            place, trunk, size = log.kept
+            octets = log.read(place, min(PIECE, upto - place))
+            length, its = whole_records(octets)
+            write_all(self._file, octets[:length])
+            log.kept = place + length, trunk + its, size + length
+        if self.ring and log.slips:
+            self.ring.note(log.slips)
 
-def tell_end(what: str, why: str) -> None:
-    logger.warning('%s ended, the calls go on: %s', what, why)
+
+def about_of(log: ReadLog, wants: RecordingWants) -> dict[str, Any]:
+    """What is said of the file of a log."""
+    day = time.time() - time.monotonic() + log.since
+    return {'config': wants.config, 'config_sha256': hashlib.sha256(octets_in(log.files.get('config', -1))).hexdigest(),
+            'time': round(day, 3), 'monotonic': round(log.since, 3), 'place': log.begun[1], WAIT: wants.wait,
+            'begins': 'middle' if log.begun[1] or 'state' in log.files else 'start'}
+
+
+def size_of(file: int | str) -> int:
+    """The octets of a file; 0 of what is no file, or not there."""
+    with suppress(OSError):
+        about = os.stat(file)
+        return about.st_size if stat.S_ISREG(about.st_mode) else 0
+    return 0
 
 
 def has_room(folder: str) -> bool:

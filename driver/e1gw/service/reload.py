@@ -5,13 +5,15 @@ import asyncio
 import logging
 import os
 import time
+from typing import Iterable
 
 from .. import ctl
 from ..faults import Parser, words_of_fault
 from .lifecycle import TrunkKeeper, followed, refused
 from .log import Checkpoint
+from .program import TrunkProgram
 from .recovery import Handover, Notifier
-from .version import VersionRefused, version_of_now
+from .version import NotYet, VersionRefused, version_of_now
 
 MOST_ENDED = 3              # calls that a reload may end without force
 PATIENCE = 30.0             # seconds for the one program to end and the other one to carry the trunk
@@ -32,7 +34,7 @@ class ReloadRequests:
         """Tries the program and the configuration of now, and has a program of them follow if they will do. If that
         ends more calls than a few it wants force. Returns lines, the last of which says whether it was done."""
         if self._is_busy:
-            logger.warning('reload: one is tried already')
+            logger.warning('reload: one is tried already', extra={'kind': 'reload'})
             return 'reload: one is tried already'
         self._is_busy = True
         self._notifier.tell('RELOADING=1', f'MONOTONIC_USEC={time.monotonic_ns() // 1000}')
@@ -54,16 +56,17 @@ class ReloadRequests:
         checkpoint = Checkpoint()
         if (program := followed(keeper)) and program.follower:
             await keeper.checkpoints.take(program)
+            if program.is_done:
+                raise NotYet('another program follows')
             its = program.checkpoint.state
             checkpoint = Checkpoint(os.dup(its)) if its >= 0 else checkpoint
         version = None
         try:
             version = await version_of_now(wants.program, wants.config, wants.senders, checkpoint)
-            new, calls = (await version.check(checkpoint)).new, (await keeper.versions.now.check(checkpoint)).calls
-            ended = sorted(new & calls)
-            words = f'{len(ended)} calls (circuits {", ".join(map(str, ended))})'
-            if len(ended) > MOST_ENDED and not force:
-                raise VersionRefused(f'it would end {words}; e1gw-trunk reload --force does')
+            (new, _), (_, calls) = await version.check(checkpoint), await keeper.versions.now.check(checkpoint)
+            mute = calls & keeper.versions.now.ports() - version.ports() - new
+            if len(new & calls | mute) > MOST_ENDED and not force:
+                raise VersionRefused(f'it would end {calls_in(new & calls | mute)}; e1gw-trunk reload --force does')
         except BaseException:
             if version:
                 version.close()
@@ -71,10 +74,15 @@ class ReloadRequests:
         finally:
             if checkpoint.state >= 0:
                 os.close(checkpoint.state)
-        if ended:
-            logger.warning('reload: it ends %s', words)
+        told = ''
+        if ended := new & calls:
+            logger.warning('reload: it ends %s', calls_in(ended))
+            told = f'reload: it ends {calls_in(ended)}\n'
+        if mute:
+            logger.warning('reload: it takes the ports of %s', calls_in(mute))
+            told += f'reload: it takes the ports of {calls_in(mute)}\n'
         keeper.renew(version)
-        return f'reload: it ends {words}\n' if ended else ''
+        return told
 
     async def _outcome(self) -> str:
         """Waits for a program of the new version. Returns why there is none. (A trunk that is not open yet begins with
@@ -95,13 +103,24 @@ class ReloadRequests:
 
     async def replace(self) -> None:
         """Another service in place of this one. The program goes on meanwhile."""
+        program = self._keeper.program
+        if program and self._stays(program) and program.follower:
+            await program.follower.process.kill()
+        if not (program and self._stays(program)):
+            return logger.warning('not replaced: no program carries the trunk, or another one is to follow')
+        self._keeper.note()
+        self._handover.become_next()
+
+    def _stays(self, program: TrunkProgram) -> bool:
+        """Whether it carries the trunk, and no other one is to follow."""
         keeper = self._keeper
-        if not (keeper.program and keeper.program.is_up) or keeper.wanted or keeper.ending or self._is_busy:
-            return
-        if keeper.program.follower:
-            await keeper.program.follower.process.kill()
-        keeper.note()
-        self._handover.become_next(keeper.files())
+        return program is keeper.program and program.is_up and not (keeper.wanted or keeper.ending or self._is_busy)
+
+
+def calls_in(circuits: Iterable[int]) -> str:
+    """How many calls these are, and of which circuits."""
+    numbers = sorted(circuits)
+    return f'{len(numbers)} calls (circuits {", ".join(map(str, numbers))})'
 
 
 def ask_reload(name: str, words: list[str]) -> int:

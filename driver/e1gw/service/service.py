@@ -17,37 +17,29 @@ import logging
 import os
 import shutil
 import signal
+import stat
 import sys
-import zlib
 from typing import Any, NoReturn
 
 from ..explain import config_words
-from ..faults import Parser, number, options_words, words_of_fault
-from ..ring import seconds_of
-from ..lines import wait_words
-from ..options import add_calls, add_control, add_options, fields_of
-from ..programs import add_program, add_session, program_of, version_of
+from ..faults import Parser, options_words, words_of_fault
 from ..writers import hold_descriptors
 from .commands import CannotListen
-from .devices import add_line, line_of, line_words, opening_of
 from .journal import ServiceJournal
-from .lifecycle import GRACE, TrunkKeeper, TrunkWants, followed
-from .log import Checkpoint
-from .pair import add_pair, feeding_of, pair_of
-from .program import MOST_PATH, LoggedProgram, TrunkProgram
+from .lifecycle import GRACE, TrunkKeeper, TrunkWants
+from .options import add_options, is_watched, opens_of, recording_of, wants_of, watched_of
+from .pair import open_pair
+from .program import TrunkProgram
 from .reader import LogReader
-from .recordings import RecordingWants
-from .recovery import Handover, Notifier, given_files, note_of
+from .recovery import (CAUGHT, CannotBegin, Handover, Notifier, first_keeper, given_files, next_keeper, note_of,
+                       open_first)
 from .reload import ReloadRequests, ask_reload
-from .takeover import CannotBegin, first_keeper, next_keeper, open_first
+from .status import OperatedTrunk
 from .version import NotYet, VersionRefused
-from .watch import TrunkWatch, WatchWants
+from .watch import TrunkWatch
 
 NAME = 'e1gw-trunk'
-WATCHED = 'control', 'http', 'metrics', 'json', 'calls', 'watch'      # what an operator may want of a trunk
-MEMORY = '/dev/shm'         # where the folder of a trunk is by default
 SIGN = 0.25                 # seconds between two signs of life
-DIGITS = 11                 # octets that the number of a program adds to a socket's path
 
 logger = logging.getLogger(__name__)
 
@@ -56,76 +48,7 @@ def parser() -> argparse.ArgumentParser:
     """The options."""
     words = Parser(NAME, description=__doc__, formatter_class=argparse.RawDescriptionHelpFormatter)
     add_options(words)
-    add_program(words)
-    add_line(words)
-    told = words.add_argument_group('control and reports')
-    add_control(told)
-    told.add_argument('--picture', type=number(10, 3600, float), metavar='SECONDS',
-                      help='/ is a picture of the last seconds, 10 to 3600, of what --keep has; wants both')
-    kept = words.add_argument_group('sessions and calls')
-    add_session(kept)
-    kept.add_argument('--gap', type=number(20, 10_000), default=100, metavar='MS',
-                      help='lost octets of MS milliseconds restart the playout of open calls [default: 100]')
-    add_calls(kept)
-    add_pair(words.add_argument_group('two machines'))
-    words.add_argument('--folder', metavar='DIR', help='where its sockets are, in memory [default: '
-                       f'RUNTIME_DIRECTORY, or {MEMORY}]')
-    words.add_argument('--program-control', metavar='SOCKET', help='where the program takes records, e1gw(1)')
-    words.add_argument('--tell', metavar='SOCKET', help='where clients get the state of the trunk, e1gw-tell(5)')
     return words
-
-
-def name_of(asked: argparse.Namespace) -> str:
-    return str(asked.name or os.path.splitext(os.path.basename(asked.config))[0])
-
-
-def opens_of(asked: argparse.Namespace) -> list[str | None]:
-    """Which trunk it is: the same for a service that is started again."""
-    paths = asked.input, asked.out, asked.unix, asked.program_control
-    return [*(path and os.path.abspath(path) for path in paths), asked.tcp, *line_words(asked)]
-
-
-def folder_of(asked: argparse.Namespace) -> str:
-    """The folder of this trunk, the same for each start."""
-    within = asked.folder or os.environ.get('RUNTIME_DIRECTORY', '').partition(':')[0] or MEMORY
-    return os.path.join(within, f'{name_of(asked)}-{os.getuid()}-{zlib.crc32(repr(opens_of(asked)).encode()):08x}')
-
-
-def recording_of(asked: argparse.Namespace) -> RecordingWants | None:
-    """What is kept of the trunk. ValueError if that cannot be."""
-    keep = seconds_of(asked.keep) if asked.keep else None
-    if asked.keep and not asked.session:
-        raise ValueError('--keep wants --session')
-    if asked.picture and not (asked.http and asked.keep):
-        raise ValueError('--picture wants --http, and --session with --keep')
-    return RecordingWants(os.path.abspath(asked.session), keep, name_of(asked), os.path.abspath(asked.config),
-                          asked.seizure_wait) if asked.session else None
-
-
-def picture_words(asked: argparse.Namespace, program: str) -> list[str]:
-    """The command that draws the last seconds; nothing if that is not asked."""
-    return ['--last', f'{asked.picture}s', '--title', name_of(asked), '--refresh', '10', '--program', program,
-            os.path.abspath(asked.session)] if asked.picture else []
-
-
-def wants_of(asked: argparse.Namespace) -> TrunkWants:
-    """What is wanted, of a command line. ValueError if it is not one trunk, or a path is too long."""
-    opens = opening_of(asked)
-    recording_of(asked)
-    feeding_of(asked)
-    folder = folder_of(asked)
-    control = asked.program_control or os.path.join(folder, 'program')
-    for path in filter(None, (control, asked.tell)):
-        if len(os.fsencode(path)) + DIGITS > MOST_PATH:
-            raise ValueError(f'{path}: a path of a socket has {MOST_PATH - DIGITS} octets at most')
-    program = shutil.which(program_of(asked.program)) or program_of(asked.program)
-    both = wait_words(asked.seizure_wait)
-    tell = asked.tell or (os.path.join(folder, 'tell') if any(fields_of(asked)[name] for name in WATCHED) else None)
-    program = os.path.abspath(program)
-    state = None if asked.standby else asked.state      # (the other machine may have gone on from it)
-    return TrunkWants(program, asked.config, asked.senders, opens, folder, control, tell, state,
-                      ['--repeat', str(asked.repeat)] * (asked.repeat > 0), both, asked.reopen, asked.totals,
-                      line_of(asked, program))
 
 
 async def sign_of_life(notifier: Notifier) -> None:
@@ -138,31 +61,11 @@ async def sign_of_life(notifier: Notifier) -> None:
 async def opened_watch(asked: argparse.Namespace, keeper: TrunkKeeper, requests: ReloadRequests,
                        goes_on: bool) -> TrunkWatch | None:
     """Watches the trunk, if an operator wants something of it. One that cannot listen ends no trunk that `goes_on`."""
-    fields, wants = fields_of(asked), keeper.wants
-    if not wants.tell or not any(fields[name] for name in WATCHED):
+    if not is_watched(asked):
         return None
-
-    def ends() -> str:
-        asyncio.get_running_loop().call_later(0.01, keeper.end, 'quit')
-        return 'quit: done'
-
-    def hurry() -> None:
-        if program := followed(keeper):
-            program.hurry()
-
-    def config_path() -> str:
-        return keeper.versions.now.config_path()
-    version = await asyncio.to_thread(version_of, wants.program)
-    fields |= {'config': config_path, 'tell': wants.tell, 'program': wants.control,
-               'picture': picture_words(asked, wants.program)}
-    watch = TrunkWatch(WatchWants(**fields), ends, hurry, lambda: keeper.trunk.facts() | {
-        'version': version, 'pair': keeper.pair.facts() if keeper.pair else {}})
-    if keeper.pair:
-        watch.roles = keeper.pair.asked
-    watch.reloads, keeper.trunk.tell = requests.reload, watch.tell
-    watch.status.session = lambda path: session_of(followed(keeper), path)
-    if keeper.reader:
-        keeper.reader.found, watch.flow = watch.flowed, keeper.reader.clock.status
+    watch = TrunkWatch(watched_of(asked, keeper.wants.program), OperatedTrunk(keeper, requests))
+    keeper.trunk.tell = watch.tell
+    keeper.reader.found = watch.flowed
     try:
         await watch.open()
     except (OSError, CannotListen, KeyError) as fault:
@@ -171,20 +74,6 @@ async def opened_watch(asked: argparse.Namespace, keeper: TrunkKeeper, requests:
             raise CannotBegin(words, 2) from None
         logger.error('%s', words)
     return watch
-
-
-def state_name(checkpoint: Checkpoint) -> str:
-    """What no other state has; nothing for a gateway that is new."""
-    its = checkpoint.state
-    return f'{zlib.crc32(os.pread(its, os.fstat(its).st_size, 0)):08x}' if its >= 0 else ''
-
-
-def session_of(program: LoggedProgram | None, path: str) -> str:
-    """The state with which the follower that tells at this path has begun; nothing if it is another one."""
-    if not program or not program.follower or program.follower.tell != path:
-        return ''
-    started = program.process.started if isinstance(program, TrunkProgram) else 0
-    return state_name(program.checkpoint) or f'{program.pid}.{started}'
 
 
 def reader_of(asked: argparse.Namespace, keeper: TrunkKeeper) -> LogReader:
@@ -215,12 +104,21 @@ def catch_signals(keeper: TrunkKeeper, requests: ReloadRequests) -> None:
     loop.add_signal_handler(signal.SIGUSR1, lambda: None)
     for each in (signal.SIGTERM, signal.SIGINT):
         loop.add_signal_handler(each, keeper.end, f'signal {each}')
+    signal.pthread_sigmask(signal.SIG_UNBLOCK, CAUGHT)
+
+
+def make_own(folder: str) -> None:
+    """Makes a folder that no other user can write to. CannotBegin if such a one has made it before."""
+    os.makedirs(folder, 0o700, exist_ok=True)
+    about = os.lstat(folder)
+    if not stat.S_ISDIR(about.st_mode) or about.st_uid != os.getuid() or about.st_mode & 0o022:
+        raise CannotBegin(f'{folder}: other users can write there; --folder gives another place', 2)
 
 
 async def serve(asked: argparse.Namespace, wants: TrunkWants) -> int:
     """Until the end; returns the status."""
     files, notifier = given_files(), Notifier()
-    os.makedirs(wants.folder, 0o700, exist_ok=True)
+    make_own(wants.folder)
     note = note_of(files, wants.folder, opens_of(asked))
     handover = Handover(wants.folder, opens_of(asked), notifier, files if note else {})
     if note:
@@ -230,7 +128,7 @@ async def serve(asked: argparse.Namespace, wants: TrunkWants) -> int:
             os.close(file)
             notifier.tell('FDSTOREREMOVE=1', f'FDNAME={name}')
         keeper = await first_keeper(wants, handover, notifier)
-    keeper.pair = pair_of(asked, keeper, note)
+    keeper.pair = await open_pair(asked, keeper, note)
     requests = ReloadRequests(keeper, handover, notifier)
     catch_signals(keeper, requests)
     keeper.reader = reader_of(asked, keeper)
@@ -240,13 +138,11 @@ async def serve(asked: argparse.Namespace, wants: TrunkWants) -> int:
     beside = [asyncio.create_task(sign_of_life(notifier)), asyncio.create_task(keeper.reader.run())]
     if watch := await opened_watch(asked, keeper, requests, note is not None):
         beside.append(asyncio.create_task(watch.run()))
-    if keeper.pair:
-        await keeper.pair.open(note is not None)
     if not keeper.pair or keeper.pair.is_active:
         await open_first(keeper)
     status = await keeper.serve()
     if watch and keeper.state.state >= 0:
-        watch.status.saved(state_name(keeper.state))
+        watch.status.saved(keeper.state.name())
     for task in beside:
         task.cancel()
     await asyncio.wait(beside, timeout=GRACE)
@@ -258,7 +154,7 @@ async def serve(asked: argparse.Namespace, wants: TrunkWants) -> int:
     return status
 
 
-def status_of(words: list[str], journal: ServiceJournal) -> int:
+def status_of(words: list[str], loop: asyncio.AbstractEventLoop) -> int:
     """Serves by a command line; what is wrong is said in one line."""
     if words[:1] == ['reload']:
         return ask_reload(NAME, words[1:])
@@ -269,8 +165,7 @@ def status_of(words: list[str], journal: ServiceJournal) -> int:
         logger.error('%s; see %s --help%s', fault, NAME, options_words())
         return 2
     try:
-        # (not asyncio.run: that would wait for threads which wait for a device)
-        return asyncio.new_event_loop().run_until_complete(serve(asked, wants))
+        return loop.run_until_complete(serve(asked, wants))
     except VersionRefused as fault:
         logger.error('%s', fault)
         if fault.is_config and (why := config_words(asked.config)):
@@ -286,8 +181,10 @@ def status_of(words: list[str], journal: ServiceJournal) -> int:
 
 def main(words: list[str] | None = None) -> NoReturn:
     hold_descriptors()
-    journal = ServiceJournal(NAME)
-    status = status_of(sys.argv[1:] if words is None else words, journal)
+    # (Not asyncio.run: that would wait for threads which wait for a device. It is held to the end: a thread that finds
+    # it as garbage could not close it.)
+    journal, loop = ServiceJournal(NAME), asyncio.new_event_loop()
+    status = status_of(sys.argv[1:] if words is None else words, loop)
     journal.close()
     os._exit(status)
 

@@ -13,7 +13,7 @@ import sys
 import time
 from typing import Any, NoReturn
 
-from ..clear import Clear, Place
+from ..clear import Clear
 from ..faults import words_of_fault
 from ..session import FRAME, MULTIFRAME
 from ..trunks import Stream
@@ -32,11 +32,11 @@ def say(what: dict[str, Any]) -> None:
 class SlotPump:
     """Moves octets both ways, until the program's end is closed."""
 
-    def __init__(self, device: Clear, place: Place, program: Stream, places: int, octets: int) -> None:
-        self._device, self._place, self._program, self._places = device, place, program, places
+    def __init__(self, device: Stream, slots: Clear, program: Stream, places: int, octets: int) -> None:
+        self._device, self._slots, self._program, self._places = device, slots, program, places
+        self._slots.tell = say
         self._answered, self._last, self._held, self._said = octets, b'', b'', dict[str, Any]()
         self._is_over = False               # whether the device has ended
-        device.tell = say
 
     def run(self) -> None:
         """OSError if the device fails."""
@@ -55,8 +55,7 @@ class SlotPump:
             time.sleep(REST)
 
     def _tell(self) -> None:
-        status = self._device.status() | {'found': self._place.found, 'waiting': None}
-        if status != self._said:
+        if (status := self._slots.status()) != self._said:
             self._said = status
             say({'slots': status})
 
@@ -65,11 +64,11 @@ class SlotPump:
         device, program, poll = self._device, self._program, select.poll()
         poll.register(self._places, select.POLLIN)
         events = (0 if device.waiting() else select.POLLIN) | (select.POLLOUT if program.waiting() else 0)
-        poll.register(program.fileno(), events)
+        poll.register(program.reads, events)
         if device.waiting():
-            poll.register(device.writer(), select.POLLOUT)
+            poll.register(device.writes, select.POLLOUT)
         elif not (self._is_over or program.waiting()) and device.paced:
-            poll.register(device.fileno(), select.POLLIN)
+            poll.register(device.reads, select.POLLIN)
         poll.poll(None if device.paced or self._is_over else 0)
 
     def _read(self) -> None:
@@ -77,7 +76,7 @@ class SlotPump:
         if self._is_over or self._program.waiting() or self._device.waiting():
             return
         try:
-            self._program.write(self._device.read(MOST))
+            self._program.write(self._slots.read(MOST))
         except EOFError:
             self._is_over = True
             say(ENDED)
@@ -87,7 +86,7 @@ class SlotPump:
         while not self._device.waiting() and (octets := self._program.read(MOST_ANSWERS)):
             self._answered += len(octets)
             self._last = (self._last + octets)[-MULTIFRAME:]
-            self._device.write(octets)
+            self._slots.write(octets)
 
     def _settle(self) -> None:
         """A program is gone that has read octets which it has not answered: the multiframe before is sent for them.
@@ -98,17 +97,16 @@ class SlotPump:
             lost = int(line) - self._answered
             if lost > 0:
                 again = self._last.rjust(MULTIFRAME, ONES)
-                self._device.write((again * (lost // MULTIFRAME + 1))[:lost])
+                self._slots.write((again * (lost // MULTIFRAME + 1))[:lost])
                 self._answered += lost
 
 
 def main() -> NoReturn:
     law, found, given, program, places, octets = sys.argv[1:]
     try:
-        place = Place(law, int(given) % (2 * FRAME), found == 'True')
-        pump = SlotPump(Clear(Stream(0, 1, ''), place), place, Stream(int(program), int(program), ''), int(places),
-                        int(octets))
-        pump.run()
+        device = Stream(0, 1, '')
+        slots = Clear(device, law, int(given) % (2 * FRAME), found == 'True')
+        SlotPump(device, slots, Stream(int(program), int(program), ''), int(places), int(octets)).run()
         sys.exit(0)
     except OSError as fault:
         os.write(2, f'{words_of_fault(fault)}\n'.encode())

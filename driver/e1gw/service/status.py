@@ -2,55 +2,120 @@
 from __future__ import annotations
 
 import asyncio
+import errno
 import os
 import socket
-import struct
 import time
 from contextlib import suppress
 from typing import Any, Callable
 
+from ..calls import CallLog
 from ..counts import DatagramCounts
 from ..faults import words_of_fault
 from ..lines import Event, read_config, tables_of
-from ..call_names import Naming, note_of
+from ..call_names import CallNames, note_of
 from ..session import CIRCUITS
-from ..reports import BadTelling, Told
+from ..reports import BadTelling, TrunkState
+from .lifecycle import TrunkKeeper, followed
+from .program import TrunkProgram
+from .reload import ReloadRequests
 
 AGAIN = 0.1                 # seconds between two tries to connect, and two looks
 REST, SHORT_REST = 0.05, 0.01       # between two reads of reports; the latter if somebody follows events
 FIRST = 2.0                 # seconds before it is reported that somebody was never there
-PULSE = 1.0                 # seconds without a new place of the trunk after which one is asked for
-QUIET = 1.0                 # seconds after which it is missed
+QUIET = 1.0                 # seconds after which octets of the trunk are missed
+
+
+class OperatedTrunk:
+    """The trunk of a keeper, as an operator may see and change it: its follower tells at `tell`, its program takes
+    records at `program`."""
+
+    def __init__(self, keeper: TrunkKeeper, requests: ReloadRequests) -> None:
+        self._keeper, self._requests = keeper, requests
+        self.tell, self.program = keeper.wants.tell or '', keeper.wants.control
+
+    def config_path(self) -> str:
+        """Of the configuration of now."""
+        return self._keeper.versions.now.config_path()
+
+    def facts(self) -> dict[str, Any]:
+        """Since when it is open, why it is not, its version and its pair, as plain values."""
+        keeper, pair = self._keeper, self._keeper.pair
+        version = keeper.program.version if keeper.program else keeper.versions.now
+        return keeper.trunk.facts() | {'version': version.name, 'pair': pair.facts() if pair else {}}
+
+    def flow(self) -> dict[str, Any]:
+        """Gaps and the rate of its octets."""
+        return self._keeper.reader.clock.status()
+
+    def hurry(self) -> None:
+        """Has the follower read all that the program has logged."""
+        if program := followed(self._keeper):
+            program.hurry()
+
+    def place(self) -> int:
+        """Octets of the trunk up to now, of the other machine's for a standby."""
+        keeper = self._keeper
+        fed = None if keeper.program or not keeper.pair else keeper.pair.standby.fed
+        return fed.octets() if fed else keeper.reader.place
+
+    def follower(self) -> tuple[str, str, int | None]:
+        """Where the follower of now tells, the state with which it has begun, and the place of that on the trunk.
+        FileNotFoundError if there is none."""
+        program = followed(self._keeper)
+        if not (program and program.follower and program.follower.tell == self._keeper.checkpoints.tells):
+            raise FileNotFoundError(errno.ENOENT, os.strerror(errno.ENOENT))
+        begun, started = program.follower.begun, program.process.started if isinstance(program, TrunkProgram) else 0
+        return program.follower.tell, begun.name() or f'{program.pid}.{started}', begun.counted['octets']
+
+    def ends(self) -> str:
+        asyncio.get_running_loop().call_later(0.01, self._keeper.end, 'quit')
+        return 'quit: done'
+
+    async def reload(self, force: bool) -> str:
+        return await self._requests.reload(force)
+
+    async def role(self, word: str) -> str:
+        pair = self._keeper.pair
+        return await pair.asked(word) if pair else f'{word}: there is no other machine (--feed, --standby)'
+
+
+async def readable(line: socket.socket) -> None:
+    """Waits until something can be read of a socket, or its end."""
+    loop, comes = asyncio.get_running_loop(), asyncio.Event()
+    loop.add_reader(line, comes.set)
+    try:
+        await comes.wait()
+    finally:
+        loop.remove_reader(line)
 
 
 class TrunkStatus:
-    """A trunk as its follower tells it. `tell` is called with each change; `came` when another follower begins to tell,
-    `began` when all is known again, `read` when something was told, `lost` when nobody tells any more."""
+    """A trunk as its follower tells it. `tell` is called with each change, and `put` given the line of each call."""
 
-    def __init__(self, config: Callable[[], str], path: str, tell: Callable[[Event], None],
-                 counts: DatagramCounts) -> None:
-        self._config, self._path, self.tell = config, path, tell
-        tables = read_config(config())
-        self.lines = Told(tables, tell, counts, began=self._told_all)
-        self.came: Callable[[], None] = lambda: None
-        self.began: Callable[[], None] = lambda: None
-        self.read: Callable[[], None] = lambda: None
-        self.lost: Callable[[], None] = lambda: None
-        self.fault: Callable[[], str] = str             # why the trunk is not open, if that is known
+    def __init__(self, trunk: OperatedTrunk, name: str, tell: Callable[[Event], None], counts: DatagramCounts,
+                 put: Callable[[str], None]) -> None:
+        self._trunk, self.tell = trunk, tell
+        tables = read_config(trunk.config_path())
+        self.lines = TrunkState(tables, self._tells, counts, began=self._told_all)
+        self.calls = CallLog(name, self.lines.lines, counts, put)
         self.is_followed: Callable[[], bool] = lambda: False
-        self.session: Callable[[str], str] = lambda _: ''      # the state with which the follower at a path has begun
         self.start = time.monotonic()
-        self.naming = Naming(note_of(path))
-        self.changed: frozenset[int] = frozenset()      # circuits that were configured otherwise before
+        self.naming = CallNames(note_of(trunk.tell))
         self._tables = tables_of(tables)
         self._connected: dict[str, bool] = {}
         self._since = dict.fromkeys(('shadow', 'program'), time.time())
         self._read = asyncio.Event()                    # reports are to be read at once
         self._line: socket.socket | None = None
-        self._session, self._before = '', None          # type: str, dict[int, int] | None
-        self._moved, self._stood, self._stalls = time.monotonic(), 0.0, 0
-        self._pulse: asyncio.Task[int] | None = None
+        self._session = self._why = ''          # (why the last connection has ended)
+        self._place, self._moved, self._stood, self._stalls = 0, time.monotonic(), 0.0, 0
         self.lines.lost()
+
+    def _tells(self, event: Event) -> None:
+        """The follower has told a change of the lines or the alarms."""
+        self.tell(event)
+        if event['event'] == 'state' and self.lines.live:
+            self.naming.look(self.lines.lines)
 
     # ---- connections ----
 
@@ -59,7 +124,7 @@ class TrunkStatus:
         if not on and what not in self._connected and time.monotonic() < self.start + FIRST:
             return
         if self._connected.get(what) is not on:
-            why = self.fault() or why
+            why = self._trunk.facts().get('fault') or why
             self._connected[what], self._since[what] = on, time.time()
             self.tell({'event': 'connected', 'to': what} if on else {'event': 'disconnected', 'from': what, 'why': why})
 
@@ -77,42 +142,48 @@ class TrunkStatus:
     async def follow(self) -> None:
         """Knows the state of the trunk, by each follower that comes."""
         while True:
-            why = 'it has closed the connection'
+            self._why = 'it has closed the connection'
             self._line = line = socket.socket(socket.AF_UNIX)
             try:
                 line.setblocking(False)
-                line.connect(self._path)
-                self._came(line)
-                while octets := await asyncio.get_running_loop().sock_recv(line, 65536):
-                    self._take(octets)
+                path, self._session, place = self._trunk.follower()
+                line.connect(path)
+                self._came(place)
+                await readable(line)
+                while self._takes(line, 1 << 16):
                     await self._rest()
-            except BadTelling as fault:
-                why = str(fault)
+                    await readable(line)
             except OSError as fault:
-                why = words_of_fault(fault)
+                self._why = words_of_fault(fault)
             finally:
                 line.close()
                 self._line = None
             self.lines.lost()
-            self.lost()
-            self.stands('shadow', False, f'{self._path}: {why}')
+            self.calls.left()
+            self.stands('shadow', False, f'{self._trunk.tell}: {self._why}')
             await asyncio.sleep(AGAIN)
 
-    def _take(self, octets: bytes) -> None:
-        place = self.lines.place
-        self.lines.take(octets)
-        if self.lines.place != place:       # (commands are reported also if no octets come)
-            self._moved = time.monotonic()
-        self.read()
+    def _takes(self, line: socket.socket, most: int) -> bool:
+        """Takes what was told; whether more may follow. (Octets that are read are taken at once, so others that come
+        behind them are not taken before.)"""
+        try:
+            octets = line.recv(most)
+            self.lines.take(octets)
+            self.calls.look()
+            return bool(octets)
+        except BlockingIOError:
+            return True
+        except BadTelling as fault:
+            self._why = str(fault)
+            with suppress(OSError):
+                line.shutdown(socket.SHUT_RDWR)
+            return False
 
     def take_now(self) -> None:
         """Takes what has been told up to now."""
         with suppress(OSError):
-            if self._line and (octets := self._line.recv(1 << 20, socket.MSG_DONTWAIT)):
-                try:
-                    self._take(octets)
-                except BadTelling:
-                    self._line.shutdown(socket.SHUT_RDWR)
+            if self._line:
+                self._takes(self._line, 1 << 20)
 
     async def _rest(self) -> None:
         """So that many small writes are one read."""
@@ -121,24 +192,17 @@ class TrunkStatus:
                 await self._read.wait()
         self._read.clear()
 
-    def _came(self, line: socket.socket) -> None:
-        peer = struct.unpack('iii', line.getsockopt(socket.SOL_SOCKET, socket.SO_PEERCRED, 12))[0]
-        with suppress(OSError):
-            path = os.path.realpath(self._path)
-            self._session = self.session(path) or f'{peer}.{os.stat(path).st_mtime_ns}'
+    def _came(self, place: int | None) -> None:
         with suppress(OSError, ValueError, KeyError, TypeError):
-            before, self._tables = self._tables, tables_of(read_config(self._config()))
-            self.changed = frozenset(n for n in CIRCUITS if before.get(n) != self._tables.get(n))
-        lines = self.lines.lines
-        self._before = {n: its.seizures for n, its in lines.items()} if self.lines.known else None
+            before, self._tables = self._tables, tables_of(read_config(self._trunk.config_path()))
+            self.calls.changed = frozenset(n for n in CIRCUITS if before.get(n) != self._tables.get(n))
         self._moved = time.monotonic()
-        self.came()
-        self.lines.begin(self._session)
+        self.lines.begin(place)
 
     def _told_all(self) -> None:
-        self.naming.begin(self._session, self._before, self.lines.seizures, self.lines.lines)
+        self.naming.begin(self._session, self.lines.seizures, self.lines.lines)
         self.stands('shadow', True)
-        self.began()
+        self.calls.begun(self.naming.life)
 
     def saved(self, session: str) -> None:
         """The trunk has ended with this state: the next one that begins with it goes on counting."""
@@ -151,38 +215,15 @@ class TrunkStatus:
         """Whether octets of the trunk come."""
         while True:
             await asyncio.sleep(AGAIN)
-            if not self._line:
-                continue
-            comes = self.lines.live and time.monotonic() < self._moved + PULSE or await self._place_comes()
-            if comes is None:
-                continue
-            if comes and self._stood:
-                self.tell({'event': 'flows', 'seconds': round(time.monotonic() - self._stood, 3)})
-                self._stood = 0.0
-            elif not comes and not self._stood and self._line:
+            place, now = self._trunk.place(), time.monotonic()
+            if place != self._place:
+                if self._stood:
+                    self.tell({'event': 'flows', 'seconds': round(now - self._stood, 3)})
+                self._place, self._moved, self._stood = place, now, 0.0
+            elif self._line and not self._stood and now - self._moved >= QUIET:
                 self.stands('shadow', True)
-                self._stood = time.monotonic() - QUIET
-                self._stalls += 1
+                self._stood, self._stalls = self._moved, self._stalls + 1
                 self.tell({'event': 'stalled', 'seconds': QUIET})
-
-    async def _place_comes(self) -> bool | None:
-        """Waits for a new place of the trunk: who connects to the follower is told it at the next octets. None if the
-        follower has gone meanwhile."""
-        until = time.monotonic() + QUIET
-        while not self.lines.live and time.monotonic() < until:
-            await asyncio.sleep(AGAIN)
-        if not self.lines.live:
-            return False
-        self._pulse = self._pulse or asyncio.create_task(place_at(self._path))
-        await asyncio.wait([self._pulse], timeout=max(AGAIN, until - time.monotonic()))
-        if not self._pulse.done():
-            return False                # (it waits on: one connection, however long nothing comes)
-        pulse, self._pulse = self._pulse, None
-        if pulse.exception():
-            return None
-        self.lines.reach(pulse.result())
-        self._moved = time.monotonic()
-        return True
 
     def outage(self) -> str | None:
         """Why no seizure can reach the other end, or None."""
@@ -191,20 +232,9 @@ class TrunkStatus:
     def values(self) -> dict[str, Any]:
         """All that is known, as plain values."""
         values: dict[str, Any] = self.lines.status() | {
-            'life': self.naming.life or None, 'trunk_up': self.has('program'),
+            'octets': max(self._trunk.place(), self.lines.place), 'life': self.naming.life or None,
+            'trunk_up': self.has('program'),
             'clock': {'stalled': bool(self._stood), 'stalls': self._stalls}}
         for what, since in self._since.items():
             values |= {what: self.has(what), f'{what}_since': round(since, 3)}
         return values
-
-
-async def place_at(path: str) -> int:
-    """The place of the trunk that a follower tells who connects now."""
-    reader, writer = await asyncio.open_unix_connection(path)
-    try:
-        while line := await reader.readline():
-            if line.startswith(b'at '):
-                return int(line[3:])
-        raise ValueError
-    finally:
-        writer.close()

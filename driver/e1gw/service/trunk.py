@@ -1,4 +1,4 @@
-"""The descriptors of the trunk: opened, opened again, and whether the other end is there."""
+"""A trunk: what it is, its descriptors, opened and opened again, and whether the other end is there."""
 from __future__ import annotations
 
 import asyncio
@@ -7,6 +7,7 @@ import os
 import select
 import stat
 import time
+from dataclasses import dataclass
 from typing import Any, Awaitable, Callable
 
 from ..faults import words_of_fault
@@ -15,49 +16,80 @@ from ..trunks import Stream
 from .events import tell_journal
 
 REOPEN, MOST_REOPEN = 0.25, 30.0        # seconds before a trunk is opened again
+QUICK = 1.0                 # seconds: one that ends within them is opened again later
 AGAIN = 0.1                 # seconds before what has failed is begun again
-NAMES = 'trunk-in', 'trunk-out'         # of the descriptors that are kept
 
 logger = logging.getLogger(__name__)
+
+
+@dataclass(frozen=True)
+class LineOptions:
+    """What a trunk is. `opens` opens a device or a socket; else `satop` looks both ends of an emulated circuit up, and
+    gives the words of `e1gw satop`. `law` reads that of the configuration for a device that keeps slot 0 (--clear)."""
+
+    opens: Callable[[], Stream] | None = None
+    satop: Callable[[], list[str]] | None = None
+    align: bool = False
+    crc4: bool = False
+    law: Callable[[], str] | None = None
+    reopens: bool = False
+    program: str = ''           # for the processes between the line and the gateway
+
+    def is_plain(self) -> bool:
+        """Whether its octets come from a device as they are."""
+        return not (self.satop or self.align or self.crc4 or self.law)
 
 
 class TrunkFiles:
     """The trunk's descriptors, if it is open."""
 
-    def __init__(self, opens: Callable[[], Stream], files: dict[str, int]) -> None:
+    def __init__(self, opens: Callable[[], Stream] | None, files: dict[str, int]) -> None:
         """`files` are descriptors that were kept. Of two that are one the first was kept."""
         self._opens = opens
         self.tell: Callable[[Event], None] = tell_journal
         self.ask: Callable[[str], None] = lambda why: None      # asks for another program
+        self.place: Callable[[], int] = lambda: 0       # the octet of the trunk behind all that was taken
+        self.zero = int.from_bytes(os.urandom(2))       # (SAToP) the number of the packet with the first octet of all
+        self.ones: Callable[[], int] = lambda: 0        # octets of ones that are given to the next program
         self.since, self.fault = time.time(), ''         # when it was opened, and why it is not
-        reads = files.get(NAMES[0], -1)
-        self.both = reads, files.get(NAMES[1], reads)
+        self._opened, self._wait = 0.0, 0.0     # (by a clock that nobody sets)
+        reads = files.get('trunk-in', -1)
+        self.both = reads, files.get('trunk-out', reads)
 
     def is_open(self) -> bool:
         return self.both[0] >= 0
 
-    def named(self) -> dict[str, int]:
-        """The descriptors that are to be kept."""
-        reads, writes = self.both
-        return {name: file for name, file in zip(NAMES, (reads, writes if writes != reads else -1)) if file >= 0}
-
     async def open(self) -> None:
         """OSError if it can't be opened."""
-        opened = await asyncio.to_thread(self._opens)
-        self.both = opened.reads, opened.writes
+        assert self._opens
+        stream = await opened(self._opens)
+        self.both = stream.reads, stream.writes
         self.since, self.fault = time.time(), ''
 
+    async def open_until(self, ending: asyncio.Event) -> None:
+        """Opens it, or leaves that if the end is asked for: the other end of a FIFO may never come."""
+        opens, ends = asyncio.ensure_future(self.open()), asyncio.ensure_future(ending.wait())
+        await asyncio.wait([opens, ends], return_when=asyncio.FIRST_COMPLETED)
+        ends.cancel()
+        if opens.done():
+            opens.result()
+            self._opened = time.monotonic()
+        opens.cancel()
+
     async def reopen(self, ending: asyncio.Event) -> None:
-        """Opens it, however long that takes, or until the end is asked for."""
-        wait = REOPEN
+        """Opens it, however long that takes, or until the end is asked for. The next try is later if one has failed, or
+        what was opened has ended at once."""
+        if time.monotonic() >= self._opened + QUICK:
+            self._wait = 0.0
+        await either(self._wait, ending)
         while not self.is_open() and not ending.is_set():
+            self._wait = min(MOST_REOPEN, max(REOPEN, 2 * self._wait))
             try:
-                await self.open()
+                await self.open_until(ending)
             except OSError as fault:
                 self.fault = f'the trunk cannot be opened: {words_of_fault(fault)}'
                 logger.warning('%s; it is tried again', self.fault)
-                await either(wait, ending)
-                wait = min(MOST_REOPEN, 2 * wait)
+                await either(self._wait, ending)
 
     async def join(self, octets: int, is_new: bool, is_well: bool) -> None:
         """Called before a program begins, behind this number of octets of the trunk: with a new gateway, or with the
@@ -76,9 +108,10 @@ class TrunkFiles:
         """Why it has ended, if that was a failure which no program has seen."""
         return ''
 
-    def note(self) -> dict[str, Any] | None:
-        """What the next service has to know of it besides its descriptors."""
-        return None
+    def note(self) -> dict[str, Any]:
+        """What the next service has to know of it, and to have."""
+        reads, writes = self.both
+        return {'files': {'trunk-in': reads, 'trunk-out': writes if writes != reads else -1}}
 
     def facts(self) -> dict[str, Any]:
         """Since when it is open, and why it is not, as plain values."""
@@ -95,6 +128,21 @@ class TrunkFiles:
         poll = select.poll()
         poll.register(reads, select.POLLIN | select.POLLRDHUP)
         return any(events & (select.POLLHUP | select.POLLRDHUP | select.POLLERR) for _, events in poll.poll(0))
+
+
+async def opened(opens: Callable[[], Stream]) -> Stream:
+    """What a thread opens, however long that takes. It is closed if nobody waits for it any more."""
+    opening = asyncio.ensure_future(asyncio.to_thread(opens))
+    try:
+        return await asyncio.shield(opening)
+    except asyncio.CancelledError:
+        opening.add_done_callback(close_opened)
+        raise
+
+
+def close_opened(opening: asyncio.Future[Stream]) -> None:
+    if not (opening.cancelled() or opening.exception()):
+        opening.result().close()
 
 
 async def either(seconds: float, *events: asyncio.Event) -> None:

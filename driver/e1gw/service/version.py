@@ -9,13 +9,15 @@ import re
 import socket
 import stat
 import tomllib
+from contextlib import suppress
 from dataclasses import dataclass, replace
 from math import inf
-from typing import Any
+from typing import Any, Iterable, Sequence
 
-from ..lines import IN_CALL, tables_of
-from .log import Checkpoint, in_memory
-from .process import output_of
+from ..lines import IN_CALL, read_config, tables_of
+from ..programs import version_of
+from .log import Checkpoint, in_memory, octets_in
+from .process import Child
 
 MOST_OCTETS = 65_536        # of a configuration
 CHECK = 10.0                # seconds for the program to check it
@@ -32,14 +34,6 @@ class VersionRefused(Exception):
         self.is_config = is_config
 
 
-@dataclass(frozen=True)
-class CheckedVersion:
-    """What a version makes of a state: the circuits that begin as new, and those that are in a call."""
-
-    new: frozenset[int]
-    calls: frozenset[int]
-
-
 class NotYet(VersionRefused):
     """Why a version will not do now, and may do later: a name server is away."""
 
@@ -47,42 +41,60 @@ class NotYet(VersionRefused):
 @dataclass(frozen=True)
 class ProgramVersion:
     """A version. `file` is a descriptor of the program, `config` one of the configuration in memory, in which names
-    are addresses."""
+    are addresses; `name` is what the program says."""
 
     program: str
     file: int
     config: int
     senders: str
-
-    def executable(self) -> str:
-        """What is executed: the file by its path, as long as it is the same one."""
-        try:
-            if os.path.samestat(os.stat(self.program), os.fstat(self.file)):
-                return self.program
-        except OSError:
-            pass
-        return f'/proc/self/fd/{self.file}'
+    name: str = ''
 
     def config_path(self) -> str:
         return f'/dev/fd/{self.config}'
 
-    def files(self) -> list[int]:
-        """What a process of it has to be passed."""
-        return [self.file, self.config]
+    def ports(self) -> frozenset[int]:
+        """The circuits that have one."""
+        tables = tables_of(read_config(self.config_path()))
+        return frozenset(n for n, (_, table) in tables.items() if 'local_port' in table)
 
-    async def check(self, checkpoint: Checkpoint) -> CheckedVersion:
-        """Has the program check the configuration, and whether it goes on from a state."""
-        words = ['check', '--config', self.config_path(), *checkpoint.words()]
-        status, said, listed = await output_of(self.program, self.executable(), words,
-                                               [*self.files(), *checkpoint.files()], CHECK)
+    def start(self, words: Sequence[str], reads: int, writes: int, passed: Iterable[int] = ()) -> Child:
+        """Starts a process of it: a subcommand, which reads its configuration, with further words."""
+        executable = f'/proc/self/fd/{self.file}'
+        with suppress(OSError):         # (by its path, as long as it is the same file)
+            if os.path.samestat(os.stat(self.program), os.fstat(self.file)):
+                executable = self.program
+        return Child.start(executable, [self.program, words[0], '--config', self.config_path(), *words[1:]], reads,
+                           writes, [self.file, self.config, *passed])
+
+    async def run(self, words: Sequence[str], begun: Checkpoint, given: bytes = b'') -> tuple[int | None, str, bytes]:
+        """Runs a process of it to its end, from a state on: its status, None if that takes too long, what it says, and
+        what it writes."""
+        reads, writes = in_memory(given), os.memfd_create('e1gw-written')
+        os.lseek(reads, 0, os.SEEK_SET)
+        try:
+            process = self.start([*words, *begun.words()], reads, writes, begun.files())
+            if not (in_time := await process.ends_within(CHECK)):
+                await process.kill()
+            said = process.text()
+            process.close()
+            return process.status if in_time else None, said, octets_in(writes)
+        finally:
+            for file in (reads, writes):
+                os.close(file)
+
+    async def check(self, checkpoint: Checkpoint) -> tuple[frozenset[int], frozenset[int]]:
+        """Has the program check the configuration, and whether it goes on from a state: the circuits that begin as new
+        then, and those that are in a call."""
+        status, said, listed = await self.run(['check'], checkpoint)
         if status is None:
             raise VersionRefused(f'the program does not check the configuration within {CHECK:g} s')
+        lines = said.strip().splitlines()
         if status:
-            lines = [line for line in said.splitlines() if not NEW.fullmatch(line)]
-            raise VersionRefused('; '.join(lines) or f'status {status}', True)
-        rows = [line.split() for line in listed.splitlines()]
-        return CheckedVersion(frozenset(int(found[1]) for line in said.splitlines() if (found := NEW.fullmatch(line))),
-                              frozenset(int(row[0]) for row in rows if row[2:] and row[2] in IN_CALL))
+            raise VersionRefused('; '.join(line for line in lines if not NEW.fullmatch(line)) or f'status {status}',
+                                 True)
+        rows = [line.split() for line in listed.decode(errors='replace').splitlines()]
+        return (frozenset(int(found[1]) for line in lines if (found := NEW.fullmatch(line))),
+                frozenset(int(row[0]) for row in rows if row[2:] and row[2] in IN_CALL))
 
     def close(self) -> None:
         os.close(self.file)
@@ -96,7 +108,8 @@ async def version_of_now(program: str, config: str, senders: str | None, checkpo
     held = [file]
     try:
         held.append(in_memory(octets))
-        version = ProgramVersion(program, held[0], held[1], senders or 'any')
+        name = await asyncio.to_thread(version_of, program)
+        version = ProgramVersion(program, held[0], held[1], senders or 'any', name)
         await version.check(checkpoint)         # (before any Python reads it)
         tables = tomllib.loads(octets.decode())
         addresses = await look_up(tables)

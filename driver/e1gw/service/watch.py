@@ -14,8 +14,8 @@ from collections import Counter
 from dataclasses import dataclass, field
 from typing import Any, Awaitable, Callable
 
-from ..calls import CallLog
-from ..clearing import DisconnectPolicy, DisconnectWatch, OutageWatch
+from ..calls import FIELDS
+from ..clearing import DisconnectWatch, OutageWatch, on_loss_of
 from ..clock import ClockFinding
 from ..counts import DatagramCounts
 from ..events import words_of
@@ -23,11 +23,11 @@ from ..faults import named, words_of_refusal
 from ..lines import OPEN, Event, Role, State
 from ..restarts import Restarts
 from ..session import Codec, Command, codec_record, command_record
-from .commands import MOST_LINE, CommandServer, unix_listener
+from .commands import MOST_LINE, CannotListen, CommandServer, unix_listener
 from .connection import NoAnswer, ProgramConnection
-from .events import CallFile, EventFile, json_line, lines_to, tell_journal
+from .events import EventFile, json_line, tell_journal
 from .pages import TrunkPages, WebServer, keep_metrics
-from .status import TrunkStatus
+from .status import OperatedTrunk, TrunkStatus
 from .trunk import again
 
 TICK = 0.1                  # seconds between two looks
@@ -38,12 +38,10 @@ logger = logging.getLogger(__name__)
 
 @dataclass(kw_only=True)
 class WatchWants:
-    """What an operator wants to have of a trunk."""
+    """What an operator wants to have of a trunk: options of e1gw-trunk(1). `picture` are the words of the command that
+    draws the last seconds."""
 
-    config: Callable[[], str]   # the path of the configuration of now
     name: str
-    tell: str                   # the socket at which the follower of now tells
-    program: str                # that at which the program of now takes records
     control: str | None = None
     control_mode: int = 0o660
     control_group: str | None = None
@@ -53,61 +51,39 @@ class WatchWants:
     calls: str | None = None
     watch: bool = False
     dark: float | None = None
-    on_loss: DisconnectPolicy = DisconnectPolicy()
+    on_loss: list[str] = field(default_factory=lambda: ['keep'])
     picture: list[str] = field(default_factory=list)
 
 
-async def cannot_reload(_: bool) -> str:
-    return 'reload: there is nobody to do it'
-
-
-async def no_pair(word: str) -> str:
-    return f'{word}: there is no other machine (--feed, --standby)'
-
-
 class TrunkWatch:
-    """One trunk that is watched. `ends` is called when a client asks for its end; `hurry` so that the follower has all
-    that the program has; `facts` says when the trunk was opened, and why it is not open."""
+    """One trunk that is watched."""
 
-    def __init__(self, wants: WatchWants, ends: Callable[[], str], hurry: Callable[[], None] = lambda: None,
-                 facts: Callable[[], dict[str, Any]] = dict) -> None:
-        self.wants, self.ends, self._facts = wants, ends, facts
-        self.flow: Callable[[], dict[str, Any]] = dict      # gaps and the rate of the trunk, if they are measured
-        self.reloads: Callable[[bool], Awaitable[str]] = cannot_reload
-        self.roles: Callable[[str], Awaitable[str]] = no_pair
-        self._loop = asyncio.get_running_loop()
+    def __init__(self, wants: WatchWants, trunk: OperatedTrunk) -> None:
+        self.wants, self.trunk, self._loop = wants, trunk, asyncio.get_running_loop()
         self.ended: dict[str, str | None] = dict.fromkeys(BESIDE)
         self._restarts = Restarts(self.restart, self.tell)
         self._counts = DatagramCounts(self._restarts.counted)
-        self.status = TrunkStatus(wants.config, wants.tell, self.tell, self._counts)
+        self.status = TrunkStatus(trunk, wants.name, self.tell, self._counts, self._put_call)
         self._lines = self.status.lines
-        self._hurry = hurry
-        self._program = ProgramConnection(wants.program, self.status.stands, self._hurry_all, self._fault)
-        self.status.fault = self._fault
+        self._program = ProgramConnection(trunk.program, self.status.stands, self._hurry,
+                                          lambda: trunk.facts().get('fault', ''))
         self._lines.commanded = self._program.told
         self.pages = TrunkPages(self._values, self.status.take_now, list(self._lines.lines.values()))
         self._server = CommandServer(self)
         self.status.is_followed = lambda: bool(self._server.followers())
-        self.disconnects = DisconnectWatch(wants.on_loss, self.clear_all)
+        self.disconnects = DisconnectWatch(on_loss_of(wants.on_loss), self.clear_all)
         self._outages = OutageWatch(wants.dark, self.clear_all)
         self._done, self._resyncs, self._began = Counter[tuple[str, str]](), 0, time.time()
-        self._json = EventFile('json', lines_to(sys.stdout if wants.json == '-' else wants.json), self._note,
-                               wants.json) if wants.json else None
-        self._out = EventFile('standard output', lines_to(sys.stdout), lambda *_: None) if wants.watch else None
-        self._calls_out = EventFile('calls', CallFile(wants.calls), self._note, wants.calls) if wants.calls else None
-        self._calls = CallLog(wants.name, self._lines.lines, self._counts, self._put_call) if wants.calls else None
-        self.status.came, self.status.began, self.status.lost = self._came, self._told_all, self._told_no_more
-        if self._calls:
-            self.status.read = self._calls.look
+        self._json = EventFile('json', sys.stdout if wants.json == '-' else wants.json, self._note) \
+            if wants.json else None
+        self._out = EventFile('standard output', sys.stdout, lambda *_: None) if wants.watch else None
+        self._calls = EventFile('calls', wants.calls, self._note, ','.join(FIELDS)) if wants.calls else None
         self._tasks = set[asyncio.Future[Any]]()
+        self._listens: asyncio.Server | None = None     # at the control socket
 
-    def _hurry_all(self) -> None:
-        self._hurry()
+    def _hurry(self) -> None:
+        self.trunk.hurry()
         self.status.hurry()
-
-    def _fault(self) -> str:
-        """Why the trunk is not open, if that is known."""
-        return str(self._facts().get('fault') or '')
 
     # ---- what is done with calls ----
 
@@ -160,30 +136,17 @@ class TrunkWatch:
         self._tasks.add(task)
         task.add_done_callback(self._tasks.discard)
 
-    def _came(self) -> None:
-        if self._calls:
-            self._calls.changed = self.status.changed
-
-    def _told_all(self) -> None:
-        if self._calls:
-            self._calls.life = self.status.naming.life
-            self._calls.begun()
-
-    def _told_no_more(self) -> None:
-        if self._calls:
-            self._calls.left()
-
-    def _put_call(self, line: bytes) -> None:
-        if self._calls_out and self._facts().get('pair', {}).get('role') != 'standby':
-            self._calls_out.put(line.decode().rstrip('\n'))
+    def _put_call(self, line: str) -> None:
+        if self._calls and self.trunk.facts().get('pair', {}).get('role') != 'standby':
+            self._calls.put(line)
 
     # ---- reports ----
 
     def tell(self, event: Event) -> None:
         """Tells a change to the journal and to all who follow."""
         tell_journal(event)
-        if self._calls and event['event'] == 'state':
-            self._calls.took(event)
+        if event['event'] == 'state':
+            self.status.calls.took(event)
         self.pages.changed()
         text = json_line(event)
         for peer in self._server.followers():
@@ -213,15 +176,15 @@ class TrunkWatch:
 
     def _values(self) -> dict[str, Any]:
         """All that is known, as plain values."""
-        now, facts, fault = time.time(), self._facts(), self._fault() or None
+        now, facts = time.time(), self.trunk.facts()
+        fault = facts.get('fault') or None
         status = self.status.values() | {
-            'name': self.wants.name, 'version': self._program.version or facts.get('version', ''),
-            'time': round(now, 3), 'fault': fault,
+            'name': self.wants.name, 'version': facts.get('version', ''), 'time': round(now, 3), 'fault': fault,
             'uptime': 0.0 if fault else round(now - facts.get('since', self._began), 3),
             'stale': self._counts.stale(), 'ended': dict(self.ended), 'renewed': self._resyncs,
             'commands': [{'command': name, 'answer': answer, 'count': n}
                          for (name, answer), n in sorted(self._done.items())]}
-        status['clock'] = self.flow() | status['clock']
+        status['clock'] = self.trunk.flow() | status['clock']
         status |= facts.get('carried', {}) | facts.get('pair', {})
         for row in status['circuits']:
             row.update(self._counts.status(row['circuit']))
@@ -233,15 +196,20 @@ class TrunkWatch:
         """Opens what others connect to. OSError or CannotListen if it can't be."""
         wants = self.wants
         if wants.control:
-            listener = unix_listener(wants.control, wants.control_mode, wants.control_group)
-            await asyncio.start_unix_server(self._server.came, sock=listener, limit=MOST_LINE)
+            await self._listen(wants.control)
         if wants.http:
             family = socket.AF_INET6 if ':' in wants.http[0] else socket.AF_INET
             try:
                 line = socket.create_server(wants.http, family=family)
             except OSError as fault:
                 raise named(fault, f'--http {wants.http[0]}:{wants.http[1]}') from None
-            await asyncio.start_server(WebServer(self.pages, wants.picture).came, sock=line, limit=8192)
+            await asyncio.start_server(WebServer(self.pages.fresh, wants.picture).came, sock=line, limit=8192)
+
+    async def _listen(self, path: str) -> None:
+        listener = unix_listener(path, self.wants.control_mode, self.wants.control_group)
+        if self._listens:
+            self._listens.close()
+        self._listens = await asyncio.start_unix_server(self._server.came, sock=listener, limit=MOST_LINE)
 
     async def run(self) -> None:
         """Watches, until it is cancelled. Whatever fails is begun again."""
@@ -250,28 +218,27 @@ class TrunkWatch:
         if self.wants.metrics:
             works.append(functools.partial(keep_metrics, self.pages, self.wants.metrics, self._note))
         try:
-            await asyncio.gather(*(again(work, self._tell_failure) for work in works))
+            await asyncio.gather(*(again(work, lambda: logger.exception(
+                'the watch of the trunk goes on', extra={'kind': 'fault'})) for work in works))
         finally:
             self._close()
 
-    def _tell_failure(self) -> None:
-        logger.exception('the watch of the trunk goes on', extra={'kind': 'fault'})
-
     async def _look(self) -> None:
-        """A few times a second: what is to become of calls."""
+        """A few times a second: what is to become of calls, and whether somebody has removed the control socket."""
         while True:
             now = time.monotonic()
+            if self.wants.control and not os.path.lexists(self.wants.control):
+                with contextlib.suppress(OSError, CannotListen, KeyError):
+                    await self._listen(self.wants.control)
             self._restarts.look(now, self._lines.place, self._lines.open_circuits(), not self._counts.stale())
             self.disconnects.look(now)
             self._outages.look(now, self.status.outage())
-            if self._calls:
-                self._calls.look()
+            self.status.calls.look()
             await asyncio.sleep(TICK)
 
     def _close(self) -> None:
-        if self._calls:
-            self._calls.finish()
-        for each in (self._json, self._calls_out, self._out):
+        self.status.calls.finish()
+        for each in (self._json, self._calls, self._out):
             if each:
                 each.close()
         if self.wants.control:

@@ -8,7 +8,6 @@ own port, numbered from `sequence`.
 import contextlib
 import os
 import socket
-import struct
 import subprocess
 import threading
 from collections.abc import Callable, Iterator
@@ -16,6 +15,7 @@ from functools import partial
 from typing import Any
 
 from ..exchange import ACKNOWLEDGED, Exchange, ServeProcess
+from ..session import BadPacket, Packet, packet_of
 from . import limited
 from .ports import free_ports
 
@@ -147,7 +147,7 @@ def has_ipv6() -> bool:
 
 def speech(octet: int, length: int = PACKET, at: int = 0) -> bytes:
     """A datagram of speech of one call, whose first octet has this place in it."""
-    return struct.pack('>BBHII', 0x80, PCMA, 1 + at // PACKET, 1000 + at, 7) + bytes([octet]) * length
+    return Packet(PCMA, 1 + at // PACKET, 1000 + at, 7, bytes([octet]) * length).encode()
 
 
 def packets(peer: socket.socket) -> Iterator[tuple[bytes, Any]]:
@@ -162,14 +162,11 @@ def wrong_packets(call: UdpCalls, circuit: int) -> tuple[list[str], int]:
     """What is wrong with what the peer of a circuit got, and how many they were."""
     got = list(packets(call.peers[circuit]))
     wrong = []
-    for number, (packet, sender) in enumerate(got):
-        head = struct.unpack('>BBHII', packet[:12])
-        if sender[:2] != (call.host, call.locals[circuit]):
-            wrong.append(f'peer of circuit {circuit}: a packet from {sender[:2]}')
-        elif (head[0], head[1], head[2], head[4]) != (0x80, PCMA, number, circuit):
-            wrong.append(f'peer of circuit {circuit}: packet {number} is {packet[:12].hex(" ")}')
-        elif packet[12:] != bytes([spoken(circuit)]) * PACKET:
-            wrong.append(f'peer of circuit {circuit}: other speech in packet {number}')
+    for number, (datagram, sender) in enumerate(got):
+        packet = packet_of(datagram)
+        wanted = Packet(PCMA, number, packet.timestamp, circuit, bytes([spoken(circuit)]) * PACKET)
+        if (sender[:2], packet) != ((call.host, call.locals[circuit]), wanted):
+            wrong.append(f'peer of circuit {circuit}: from {sender[:2]} packet {number} is {packet}')
     if len(got) < (160 + MOST) // PACKET:
         wrong.append(f'peer of circuit {circuit}: {len(got)} packets')
     return wrong[:1], len(got)
@@ -195,35 +192,27 @@ def calls_apart(program: str, room: str, host: str) -> Wrongs:
         yield from call.end(sent)
 
 
-def only_at_its_host(program: str, room: str) -> Wrongs:
-    """A gateway at 127.0.0.2: a datagram to the same port of 127.0.0.1 does not come."""
-    with UdpCalls(program, room, (1,), '127.0.0.2', peer_host='127.0.0.1') as call:
-        yield from call.up()
-        with bound('127.0.0.1') as sender:
-            sender.sendto(speech(0x61), ('127.0.0.1', call.locals[1]))
-            sender.sendto(speech(0x62, at=PACKET), ('127.0.0.2', call.locals[1]))
-        call.multiframes(30)
-        if call.played(1) != b'\x62' * PACKET:
-            yield f'played {call.played(1).hex(" ")}'
-        yield from call.end(len(list(packets(call.peers[1]))))
-
-
 # An address of this machine that is not the first one of a name, but one at which an open interface would receive.
 OTHER = {'127.0.0.1': '127.0.0.2', '::1': '127.0.0.1'}
+Sends = list[tuple[str, str, int, bool]]
 
 
-def only_at_its_name(program: str, room: str) -> Wrongs:
-    """A gateway at localhost, and its peer there: datagrams come and go at that address, and not at another one."""
-    host = str(socket.getaddrinfo('localhost', None, type=socket.SOCK_DGRAM)[0][4][0])
-    with UdpCalls(program, room, (1,), host, names=('localhost', 'localhost')) as call:
+def who_is_played(program: str, room: str, host: str, sends: Sends, *options: str, **places: Any) -> Wrongs:
+    """A call to whose port datagrams are sent: of each the address that it comes from, or `peer` for the peer's own
+    port, that which it goes to, how often it is sent, and whether it is played. None of the others is counted."""
+    with UdpCalls(program, room, (1,), host, *options, **places) as call:
         yield from call.up()
-        for octet, place in ((0x61, OTHER[host]), (0x62, host)):
-            call.socket(place).sendto(speech(octet), (place, call.locals[1]))
-        call.multiframes(30)
-        if call.played(1) != b'\x62' * PACKET:
-            yield f'played {call.played(1).hex(" ")}'
+        wanted = b''
+        for turn, (origin, target, count, is_played) in enumerate(sends):
+            sender = call.peers[1] if origin == 'peer' else call.socket(origin)
+            for _ in range(count):
+                sender.sendto(speech(0x61 + turn, at=turn * PACKET), (target, call.locals[1]))
+            wanted += bytes([0x61 + turn]) * PACKET * is_played
+        call.multiframes(40)
+        if call.played(1) != wanted:
+            yield f'played {sorted(set(call.played(1)))}, {len(call.played(1))} octets'
         sent = len(list(packets(call.peers[1])))
-        if sent < 480 // PACKET:
+        if sent < 640 // PACKET:
             yield f'the peer got {sent} packets'
         yield from call.end(sent)
 
@@ -244,42 +233,6 @@ def sends_fail(program: str, room: str) -> Wrongs:
         yield from call.end(0, faults=sent)
 
 
-# Who is let in by each choice of --senders: the peer, its address at another port, another address.
-LET_IN = {None: 'pho', 'any': 'pho', 'host': 'ph', 'peer': 'p'}
-
-
-def let_in(program: str, room: str, senders: str | None, host: str, other: str | None) -> Wrongs:
-    """A call to whose port the peer, another port of its address and, where there is one, another address send."""
-    options = () if senders is None else ('--senders', senders)
-    with UdpCalls(program, room, (1,), host, *options) as call:
-        yield from call.up()
-        froms = {'p': call.peers[1], 'h': call.socket(host), 'o': call.socket(other) if other else None}
-        wanted = b''
-        for place, (who, sender) in enumerate(froms.items()):
-            if sender:
-                octet = 0x61 + place
-                sender.sendto(speech(octet, at=place * PACKET), (host, call.locals[1]))
-                wanted += bytes([octet]) * PACKET * (who in LET_IN[senders])
-        call.multiframes(40)
-        if call.played(1) != wanted:
-            yield f'played {sorted(set(call.played(1)))}, {len(call.played(1))} octets'
-        yield from call.end(len(list(packets(call.peers[1]))))
-
-
-def strangers_first(program: str, room: str, senders: str) -> Wrongs:
-    """Forty datagrams of a stranger wait before the peer's: it is played, and none of theirs is counted."""
-    with UdpCalls(program, room, (1,), '127.0.0.1', '--senders', senders) as call:
-        yield from call.up()
-        stranger = call.socket('127.0.0.9')
-        for _ in range(40):
-            stranger.sendto(speech(0x61), ('127.0.0.1', call.locals[1]))
-        call.peers[1].sendto(speech(0x62), ('127.0.0.1', call.locals[1]))
-        call.multiframes(30)
-        if call.played(1) != b'\x62' * PACKET:
-            yield f'played {sorted(set(call.played(1)))}, {len(call.played(1))} octets'
-        yield from call.end(len(list(packets(call.peers[1]))))
-
-
 def absent_peer(program: str, room: str, senders: str) -> Wrongs:
     """A peer that is not there is no fault of a socket; once it is there, its datagrams are played."""
     with UdpCalls(program, room, (1,), '127.0.0.1', '--senders', senders) as call:
@@ -292,7 +245,7 @@ def absent_peer(program: str, room: str, senders: str) -> Wrongs:
         call.multiframes(30)
         if call.played(1) != b'\x62' * PACKET:
             yield f'played {sorted(set(call.played(1)))}, {len(call.played(1))} octets'
-        numbers = [struct.unpack('>H', packet[2:4])[0] for packet, _ in packets(peer)]
+        numbers = [packet_of(packet).sequence for packet, _ in packets(peer)]
         if not numbers or numbers != list(range(numbers[0], numbers[0] + len(numbers))):
             yield f'the peer got packets {numbers}'
         yield from call.end(numbers[-1] + 1 if numbers else 0)
@@ -385,7 +338,7 @@ def to_its_end(look: Callable[..., Wrongs], values: list[Any], program: str, roo
     """What is wrong with a look, also where the program ended before it."""
     try:
         yield from look(program, room, *values)
-    except (OSError, SystemExit, subprocess.TimeoutExpired) as ended:
+    except (BadPacket, OSError, SystemExit, subprocess.TimeoutExpired) as ended:
         yield f'ended before it: {ended}'
 
 
@@ -397,20 +350,28 @@ def datagram_looks() -> Iterator[tuple[str, Callable[[str, str], Wrongs]]]:
 
 def rows() -> Iterator[tuple[Any, ...]]:
     """The looks: a name, its function, and what that is given besides the program and the folder."""
-    families: list[tuple[str, str, str | None]] = [('IPv4', '127.0.0.1', '127.0.0.9')]
+    families: list[tuple[str, str, list[str]]] = [('IPv4', '127.0.0.1', ['127.0.0.9'])]
     if has_ipv6():
-        families.append(('IPv6', '::1', None))
+        families.append(('IPv6', '::1', []))
     else:
         print('not looked at: IPv6, for which this machine has no address')
-    for name, host, other in families:
+    for name, host, others in families:
         yield f'five calls over {name}', calls_apart, host
-        for senders in LET_IN:
-            yield f'senders over {name}: {senders or "none named"}', let_in, senders, host, other
-    yield 'a datagram at another address', only_at_its_host
-    yield 'a datagram at another address than that of the name', only_at_its_name
+        # the peer, its address at another port, another address
+        for senders, let_in in ((None, 3), ('any', 3), ('host', 2), ('peer', 1)):
+            yield (f'senders over {name}: {senders or "none named"}', who_is_played, host,
+                   [(origin, host, 1, n < let_in) for n, origin in enumerate(['peer', host, *others])],
+                   *(('--senders', senders) if senders else ()))
+    yield ('a datagram at another address', partial(who_is_played, peer_host='127.0.0.1'), '127.0.0.2',
+           [('127.0.0.1', '127.0.0.1', 1, False), ('127.0.0.1', '127.0.0.2', 1, True)])
+    host = str(socket.getaddrinfo('localhost', None, type=socket.SOCK_DGRAM)[0][4][0])
+    yield ('a datagram at another address than that of the name',
+           partial(who_is_played, names=('localhost', 'localhost')), host,
+           [(OTHER[host], OTHER[host], 1, False), (host, host, 1, True)])
     yield 'sends that the system refuses', sends_fail
     for senders in ('host', 'peer'):
-        yield f'strangers before the peer: {senders}', strangers_first, senders
+        yield (f'strangers before the peer: {senders}', who_is_played, '127.0.0.1',
+               [('127.0.0.9', '127.0.0.1', 40, False), ('peer', '127.0.0.1', 1, True)], '--senders', senders)
     for senders in ('any', 'peer'):
         yield f'a peer that is not there: {senders}', absent_peer, senders
     for shut in SHUT:

@@ -30,12 +30,12 @@ def path_in(room: str, name: str = 'recording') -> str:
     return path
 
 
-def live(call: UdpCalls, seed: int = 7) -> Wrongs:
+def live(call: UdpCalls) -> Wrongs:
     """A live session: datagrams good and hostile, commands that are done and refused, another codec. Yields what is
     wrong, and leaves in `call.packets` what each peer got."""
     call.packets = {c: [] for c in call.circuits}
     yield from call.up()
-    dice = random.Random(seed)
+    dice = random.Random(7)
     with bound(call.host) as sender:
         for turn in range(ROUNDS):
             for c in call.circuits:
@@ -81,23 +81,6 @@ def answered(call: UdpCalls) -> tuple[bytes, list[Answer]]:
             [(each.circuit, each.body) for each in told if each.kind is Kind.ANSWER])
 
 
-def compare(call: UdpCalls, program: str, room: str, recording: str, whole: bool = True) -> Wrongs:
-    """Replays a recording of a live session. Yields what differs; of one that is not whole the first part is
-    compared."""
-    trunk, sent, answers, said = replay(program, room, recording)
-    live_trunk, live_answers = answered(call)
-    got = {c: call.packets[c] for c in call.circuits if call.packets[c]}
-    if not whole:
-        live_trunk, live_answers = live_trunk[:len(trunk)], live_answers[:len(answers)]
-        got = {c: got[c][:len(sent[c])] for c in sent}
-    if (trunk, answers) != (live_trunk, live_answers):
-        yield f'replay: {len(trunk)} octets and {len(answers)} answers that are not those of the session'
-    if sent != got:
-        yield f'replay: packets {({c: len(p) for c, p in sent.items()})}, not those of the session'
-    if said != '' and (whole or said != 'fault 4 Truncated\n'):
-        yield f'replay: {said!r}'
-
-
 def replayed(program: str, room: str) -> Wrongs:
     """A session with five circuits, hostile datagrams among the others: its replay gives the same."""
     recording = path_in(room)
@@ -105,14 +88,18 @@ def replayed(program: str, room: str) -> Wrongs:
         yield from live(call)
         call.serve.input.close()
         call.serve.process.wait()
-        yield from compare(call, program, room, recording)
+        trunk, sent, answers, said = replay(program, room, recording)
+        if (trunk, answers) != answered(call):
+            yield f'replay: {len(trunk)} octets and {len(answers)} answers that are not those of the session'
+        if sent != {c: its for c, its in call.packets.items() if its}:
+            yield f'replay: packets {({c: len(p) for c, p in sent.items()})}, not those of the session'
+        if said:
+            yield f'replay: {said!r}'
 
 
-def ends_alone(program: str, room: str, recording: str, read: Callable[[], None] | None = None) -> Wrongs:
+def ends_alone(program: str, room: str, recording: str) -> Wrongs:
     """A recording that ends before its session: nothing of the session changes, and a line says it."""
     with UdpCalls(program, room, (1,), '127.0.0.1', '--record', recording) as call:
-        if read:
-            read()
         yield from call.up()
         call.peers[1].sendto(speech(0x61), ('127.0.0.1', call.locals[1]))
         call.multiframes(60)

@@ -6,6 +6,7 @@ function of the program and a folder, and yields what is wrong.
 """
 import hashlib
 import os
+import struct
 import subprocess
 from collections.abc import Callable, Iterator
 from functools import partial
@@ -126,6 +127,17 @@ def refused(given: bytes, config: dict[str, Any], place: int | str, octet: int |
         yield f'{ended}'
 
 
+def no_state(change: Callable[[bytes], bytes], told: str, program: str, room: str) -> Wrongs:
+    """A file that is made of a new gateway's state, and is none."""
+    path = os.path.join(room, 'changed.state')
+    octets = change(saved(program, room, b''))
+    with open(path, 'wb') as file:
+        file.write(octets)
+    ended = replay(program, room, b'', '--load', path)
+    if ended != (b'', f'state {told}\n', 2):
+        yield f'{ended}'
+
+
 def wait_goes_on(program: str, room: str) -> Wrongs:
     """A seizure is cut after 500 of its 1,000 signals; it is given up at the thousandth, behind octet 48."""
     path = os.path.join(room, 'runs.state')
@@ -209,6 +221,8 @@ def state_rows() -> Iterator[tuple[Any, ...]]:
              (2, 0, 0, 3, 232, 3, 10, 3), waits)):
         yield name, given, str(LINE), bytes(octets), options, {}
     yield 'a codec at reset', G726_32, str(CODEC), bytes((3, 96)) + AT_RESET * 2 + bytes(1), (), {}
+    first, others = (struct.pack('>BBBBHIHI', 0, 0, 8, 20, 0, ssrc, 0, 0) for ssrc in (9, 2))
+    yield 'its beginning', b'', 0, b'E1GS\1\0' + first + others, (), {}
     # the clock, its numbers, the line, the codec, the words to be sent; the stream of SSRC 9 and its words to be played
     call = bytes((0, 0, 1, 0x67, *bytes(9), 1, *bytes(4), 2, 0, 0, 0, 100, 0, 10, 0, 0, 8, 37)) + b'\xD4' * 37
     yield 'a call', CALL, '0', call + bytes((1, 0, 0, 0, 9, 0, 0, 0, 37, 1, 0xD5, 1, 0xD4, 0)), (), incoming
@@ -233,6 +247,28 @@ def changed_rows() -> Iterator[tuple[Any, ...]]:
         yield name, G726_32, {}, str(at), octet, '1'
 
 
+def file_rows() -> Iterator[tuple[str, Callable[[bytes], bytes], str]]:
+    """Files that are no state, made of one: a name, the change, and with which words they are refused."""
+    def put(place: int, octet: int) -> Callable[[bytes], bytes]:
+        return lambda state: state[:place] + bytes([octet]) + state[place + 1:]
+
+    def summed(change: Callable[[bytes], bytes]) -> Callable[[bytes], bytes]:
+        def whole(state: bytes) -> bytes:
+            changed = change(state[:-SUM])
+            return changed + hashlib.sha256(changed).digest()
+        return whole
+    yield '517 octets', lambda state: state[:517], '1 Short at 0'
+    yield 'other letters', put(0, 0x58), '2 NoState at 0'
+    yield 'another version', put(4, 2), '3 Version at 0'
+    yield 'without its last octet', lambda state: state[:-1], '4 Sum at 0'
+    yield 'an octet that is another', put(600, 0x58), '4 Sum at 0'
+    yield 'another law', summed(put(5, 1)), '5 Config at 0'
+    for place, octet in enumerate((2, 5, 128, 25, 7)):
+        yield f'octet {place} of a configuration', summed(put(6 + 6 * 16 + place, octet)), '5 Config at 7'
+    yield 'the trunk missing', summed(lambda state: state[:GATEWAY]), '6 Value at 0'
+    yield 'an octet more', summed(lambda state: state + b'\0'), '7 Left at 0'
+
+
 def run_looks() -> Iterator[tuple[str, Callable[[str, str], Wrongs]]]:
     """The looks: a name, and what yields what is wrong, given the program and a folder to work in."""
     for name, *row in state_rows():
@@ -240,6 +276,8 @@ def run_looks() -> Iterator[tuple[str, Callable[[str, str], Wrongs]]]:
     yield 'state: a new gateway', whole
     for name, *row in changed_rows():
         yield f'changed state: {name}', partial(refused, *row)
+    for name, change, told in file_rows():
+        yield f'no state: {name}', partial(no_state, change, told)
     yield 'state: a wait goes on', wait_goes_on
     yield 'state: a wait is kept', wait_is_kept
     for law in ('a', 'mu'):

@@ -19,14 +19,19 @@ def ask(path: str, command: bytes) -> str:
     with socket.socket(socket.AF_UNIX) as line:
         line.connect(path)                              # waits for a place; with a time limit it would be refused
         line.settimeout(SECONDS)
-        with contextlib.suppress(BrokenPipeError):      # (there is no answer then)
-            line.sendall(command + b'\n')
-        answer = b''
-        while not answer.endswith(b'\n\n'):
-            piece = line.recv(65536)
-            if not piece:
-                raise EOFError(answer)
-            answer += piece
+        return answer_of(line, command)
+
+
+def answer_of(line: socket.socket, command: bytes) -> str:
+    """The same over a connection that goes on."""
+    with contextlib.suppress(BrokenPipeError):          # (there is no answer then)
+        line.sendall(command + b'\n')
+    answer = b''
+    while not answer.endswith(b'\n\n'):
+        piece = line.recv(65536)
+        if not piece:
+            raise EOFError(answer)
+        answer += piece
     return answer.decode().rstrip('\n')
 
 

@@ -6,8 +6,8 @@ import json
 from contextlib import suppress
 from typing import Iterable
 
-from ..ring import put_file
 from ..session import CIRCUITS
+from ..writers import put_file
 
 
 class BlockedCircuits:

@@ -93,17 +93,12 @@ class CodecChanges:
             self._trunk.begin(self._change(n, circuit, wanted))
 
     async def _change(self, n: int, circuit: CircuitCoding, coding: Coding) -> None:
-        try:
-            answer = (await self._trunk.ask(f'codec {n} {coding.codec} {coding.payload}')).rpartition(': ')[2]
-        except (OSError, EOFError):
+        answer = await self._trunk.answer(f'codec {n} {coding.codec} {coding.payload}')
+        circuit.is_changing = False
+        if answer is None:
             return
-        finally:
-            circuit.is_changing = False
         self._tell('codec', circuit=n, codec=coding.codec, payload=coding.payload, answer=answer)
-        if answer == 'done':
-            circuit.present, circuit.refused = coding, None
-        else:
-            circuit.refused = coding
+        circuit.present, circuit.refused = (coding, None) if answer == 'done' else (circuit.present, coding)
         self._look(n)
 
     async def leave(self, idle: Iterable[int]) -> None:

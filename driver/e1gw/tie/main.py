@@ -3,24 +3,23 @@ from __future__ import annotations
 
 import argparse
 import asyncio
-import ipaddress
 import os
 import secrets
 import signal
-import ssl
 import sys
 from contextlib import suppress
 from typing import Any
 
-from ..faults import Parser, named, number, words_of_fault
+from ..faults import Parser, checked, number, words_of_fault
 from ..service.commands import CannotListen
-from ..service.events import EventFile, json_line, lines_to
+from ..service.events import EventFile, json_line
+from ..tls import add_tls, context_of, is_exposed
 from ..trunks import host_and_port
 from ..writers import hold_descriptors
 from .blocked import BlockedCircuits
 from .coding import SIGNALLING
 from .pairs import Pairs, pairs_of
-from .site import Site, context_of
+from .site import Site
 from .status import serve_status
 from .tie import Tie, TieOptions
 
@@ -33,14 +32,8 @@ LEAVES = 1.0                # seconds at most to restore codecs
 MOST_MAP = 100_000          # characters at most of the map's file
 
 
-def place(text: str) -> tuple[str, int]:
-    try:
-        return host_and_port(text)
-    except ValueError as fault:
-        raise argparse.ArgumentTypeError(str(fault)) from None
-
-
 def parser() -> argparse.ArgumentParser:
+    place = checked(host_and_port)
     made = Parser('e1gw-tie', description=ABOUT, epilog=MORE)
     made.add_argument('--control', required=True, metavar='SOCKET', help='the control socket of the local driver')
     ways = made.add_mutually_exclusive_group(required=True)
@@ -48,11 +41,7 @@ def parser() -> argparse.ArgumentParser:
     ways.add_argument('--connect', type=place, metavar='HOST:PORT', help='the address at which the other site listens')
     made.add_argument('--map', metavar='FILE', help='a file of joined circuits, `HERE THERE` a line '
                       '[default: equal numbers]')
-    security = made.add_mutually_exclusive_group()
-    security.add_argument('--tls', nargs=3, metavar=('CERT', 'KEY', 'CA'), help='TLS: the certificate of this site, '
-                          'its key, and the authority of both sites')
-    security.add_argument('--insecure', action='store_true', help='listens without --tls at an address that other '
-                          'machines reach, as in a tunnel')
+    add_tls(made.add_mutually_exclusive_group(), 'site')
     made.add_argument('--peer', metavar='NAME', help='with --tls, the host or address in the certificate of the other '
                       'site [default: the host of --connect; with --listen any that CA has signed]')
     made.add_argument('--hold', type=number(0, 3600, float), default=2.0, metavar='SECONDS', help='how long calls '
@@ -68,19 +57,6 @@ def parser() -> argparse.ArgumentParser:
     return made
 
 
-def is_loopback(host: str) -> bool:
-    """Whether a host is this machine, by its text: a loopback address, or localhost."""
-    try:
-        return host == 'localhost' or ipaddress.ip_address(host).is_loopback
-    except ValueError:
-        return False
-
-
-def is_open(options: argparse.Namespace) -> bool:
-    """Whether other machines could connect without authentication and this was not asked for."""
-    return options.listen and not options.tls and not options.insecure and not is_loopback(options.listen[0])
-
-
 def read_map(path: str) -> Pairs:
     with open(path, encoding='utf-8', errors='replace') as file:
         try:
@@ -90,15 +66,7 @@ def read_map(path: str) -> Pairs:
 
 
 def site_of(options: argparse.Namespace, tie: Tie) -> Site:
-    context: ssl.SSLContext | None = None
-    for path in options.tls or ():
-        with open(path, 'rb'):          # TLS would not say which of the three cannot be read
-            pass
-    if options.tls:
-        try:
-            context = context_of(options.tls, options.listen is not None)
-        except OSError as fault:
-            raise named(fault, f'--tls {" ".join(options.tls)}') from None
+    context = context_of(options.tls or (), options.listen is not None)
     return Site(options.listen or options.connect, options.listen is not None, context, options.peer, tie)
 
 
@@ -107,7 +75,7 @@ async def work(tie: Tie, site: Site, path: str | None, http: tuple[str, int] | N
     try:
         await serve_status(tie, path, http)
     except (OSError, CannotListen) as fault:
-        tie.tell('warning', about=f'nobody can ask how it stands: {words_of_fault(fault)}')
+        tie.tell('warning', about=f'nobody can ask for its status: {words_of_fault(fault)}')
     loop, ends, status = asyncio.get_running_loop(), asyncio.Event(), 0
     for each in (signal.SIGINT, signal.SIGTERM, signal.SIGHUP):
         loop.add_signal_handler(each, ends.set)
@@ -135,10 +103,10 @@ def main() -> None:
     options = parser().parse_args()
     if options.peer and not options.tls:
         parser().error('--peer needs --tls')
-    if is_open(options):
+    if options.listen and is_exposed(options.listen[0], options):
         return refuse(f'{options.listen[0]} is not a loopback address, and without --tls whoever connects can seize '
                       'and clear circuits: give --tls, or --insecure within a tunnel')
-    lines = EventFile('standard output', lines_to(sys.stdout), lambda *_: None)
+    lines = EventFile('standard output', sys.stdout, lambda *_: None)
 
     def tell(event: str, **fields: Any) -> None:
         lines.put(json_line({'event': event, **fields}))

@@ -6,9 +6,9 @@ import ipaddress
 import os
 import ssl
 from collections import Counter
-from collections.abc import Sequence
 from typing import TYPE_CHECKING, Any
 
+from ..faults import words_of_fault
 from .messages import MOST, BadMessage, Greeting, Message, encode_message, message_of
 
 if TYPE_CHECKING:
@@ -25,18 +25,6 @@ MINUTE, MOST_REASONS = 60.0, 10     # seconds in which a reason for no connectio
 
 class SiteRefused(Exception):
     """A refused connection; the words say why."""
-
-
-def context_of(files: Sequence[str], listens: bool) -> ssl.SSLContext:
-    """TLS 1.3 in which both ends show a certificate, by the files of this end's one, of its key and of the authority
-    of both. OSError for a bad file."""
-    certificate, key, authority = files
-    context = ssl.SSLContext(ssl.PROTOCOL_TLS_SERVER if listens else ssl.PROTOCOL_TLS_CLIENT)
-    context.minimum_version = ssl.TLSVersion.TLSv1_3
-    context.verify_mode = ssl.CERT_REQUIRED
-    context.load_cert_chain(certificate, key)
-    context.load_verify_locations(authority)
-    return context
 
 
 def has_name(certificate: dict[str, Any] | None, name: str) -> bool:
@@ -132,7 +120,8 @@ class Site:
         except EOFError:
             pass
         except Exception as fault:      # pylint: disable=broad-exception-caught
-            why = str(fault) or ('no keepalive' if self._writer is writer else 'it sends nothing')
+            late = 'no keepalive' if self._writer is writer else 'it sends nothing'
+            why = words_of_fault(fault) if str(fault) else late
         finally:
             if self._writer is writer:
                 self._gone(why or 'closed')

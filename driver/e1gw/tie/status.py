@@ -2,7 +2,6 @@
 from __future__ import annotations
 
 import asyncio
-import json
 import time
 from collections import Counter
 from contextlib import suppress
@@ -11,8 +10,7 @@ from typing import Any
 from ..lines import IN_CALL
 from ..metrics import Family, family
 from ..service.commands import unix_listener
-from ..service.pages import StatusTexts, TrunkPages, WebServer
-from ..sockets import SocketTables
+from ..service.pages import StatusTexts, WebServer
 from .circuit import LinkState
 from .tie import Tie
 
@@ -28,7 +26,7 @@ def status_of(tie: Tie) -> dict[str, Any]:
     circuits, has_site = {n: its for n, its in tie.circuits.items() if n in tie.there}, tie.far is not None
     return {
         'time': round(time.time(), 3), 'uptime': round(time.monotonic() - tie.start, 3), 'control': tie.options.control,
-        'link': tie.link.state.value, 'trunk': tie.trunk.is_up, 'site': has_site, 'dark': tie.out_of_service,
+        'link': tie.link.value, 'trunk': tie.trunk.is_up, 'site': has_site, 'dark': tie.out_of_service,
         'far_dark': tie.far_out_of_service, 'calls': sum(each.state in IN_CALL for each in circuits.values()),
         'given_up': tie.given_up,
         'commands': [{'command': command, 'answer': answer, 'count': count}
@@ -56,50 +54,37 @@ def exposition(status: dict[str, Any]) -> str:
     """The metrics of a tie."""
     ends = {'this': status['dark']} | ({'other': status['far_dark']} if status['site'] else {})
     families: list[Family] = [
-        ('e1gw_tie_link', 'gauge', 'The connection between the two trunks: 1 for the state that it is in.',
-         [({'state': each.value}, int(each.value == status['link'])) for each in LinkState]),
-        ('e1gw_tie_connected', 'gauge', '1 where there is a connection.',
-         [({'to': other}, int(status[other])) for other in ('trunk', 'site')]),
-        ('e1gw_tie_out_of_service', 'gauge', '1 while a trunk carries no calls.',
-         [({'end': end}, int(dark)) for end, dark in ends.items()]),
-        ('e1gw_tie_circuits', 'gauge', 'Joined circuits by the state of the line here.',
+        ('e1gw_tie_link', 'The connection between the two trunks: 1 for the state that it is in.',
+         [({'state': each.value}, each.value == status['link']) for each in LinkState]),
+        ('e1gw_tie_connected', '1 where there is a connection.',
+         [({'to': other}, status[other]) for other in ('trunk', 'site')]),
+        ('e1gw_tie_out_of_service', '1 while a trunk carries no calls.',
+         [({'end': end}, dark) for end, dark in ends.items()]),
+        ('e1gw_tie_circuits', 'Joined circuits by the state of the line here.',
          [({'state': state}, n) for state, n in Counter(row['state'] for row in status['circuits']).items()]),
-        ('e1gw_tie_calls', 'gauge', 'Calls on joined circuits.', [({}, status['calls'])]),
-        ('e1gw_tie_calls_given_up_total', 'counter', 'Calls that could not be set up, or that were lost.',
-         [({}, status['given_up'])]),
-        ('e1gw_tie_commands_total', 'counter', 'Commands by answer.',
+        ('e1gw_tie_calls', 'Calls on joined circuits.', status['calls']),
+        ('e1gw_tie_calls_given_up_total', 'Calls that could not be set up, or that were lost.', status['given_up']),
+        ('e1gw_tie_commands_total', 'Commands by answer.',
          [({'command': row['command'], 'answer': row['answer']}, row['count']) for row in status['commands']]),
-        ('e1gw_tie_uptime_seconds', 'gauge', 'Seconds since the tie was started.', [({}, status['uptime'])])]
+        ('e1gw_tie_uptime_seconds', 'Seconds since the tie was started.', status['uptime'])]
     return ''.join(family(*each) for each in families)
 
 
-class TieTexts(StatusTexts):
-    """The texts of a status of a tie."""
-
-    def __init__(self, status: dict[str, Any]) -> None:
-        super().__init__(status, SocketTables([]))
-        self.json, self.table, self.metrics = json.dumps(status), table(status), exposition(status)
-
-
-class TiePages(TrunkPages):
-    """The texts of the status of a tie."""
-
-    def __init__(self, tie: Tie) -> None:
-        super().__init__(lambda: status_of(tie), lambda: None, [])
-
-    async def fresh(self) -> TieTexts:
-        return TieTexts(self._status())
+def texts_of(tie: Tie) -> StatusTexts:
+    """The texts of the status of now."""
+    return StatusTexts(status_of(tie), table, exposition)
 
 
 async def serve_status(tie: Tie, path: str | None, http: tuple[str, int] | None) -> None:
-    """Answers who asks how a tie stands, at a Unix socket and over HTTP. OSError or CannotListen where it cannot."""
-    pages = TiePages(tie)
+    """Gives the status of a tie, at a Unix socket and over HTTP. OSError or CannotListen where it cannot."""
+    async def fresh() -> StatusTexts:
+        return texts_of(tie)
 
     async def came(reader: asyncio.StreamReader, writer: asyncio.StreamWriter) -> None:
         with suppress(OSError, ValueError):
             async with asyncio.timeout(SECONDS):
                 while line := await reader.readline():
-                    now = await pages.fresh()
+                    now = texts_of(tie)
                     texts = {'status': now.table, 'status json': now.json, 'metrics': now.metrics}
                     words = ' '.join(line.decode(errors='replace').split())
                     answer = texts.get(words, 'there are status, status json and metrics').rstrip('\n')
@@ -109,4 +94,4 @@ async def serve_status(tie: Tie, path: str | None, http: tuple[str, int] | None)
     if path:
         await asyncio.start_unix_server(came, sock=unix_listener(path, MODE, None), limit=MOST_LINE)
     if http:
-        await asyncio.start_server(WebServer(pages).came, *http, limit=MOST_LINE)
+        await asyncio.start_server(WebServer(fresh).came, *http, limit=MOST_LINE)

@@ -5,7 +5,7 @@ import asyncio
 import time
 from collections import Counter
 from dataclasses import dataclass, replace
-from typing import Any, Callable
+from typing import Any
 
 from ..lines import IN_CALL, Event, Role, State
 from ..session import Command
@@ -39,31 +39,6 @@ def is_out_of_service(status: dict[str, Any]) -> bool:
             or any(status['alarm'].values()) or any(status['remote_alarm'].values()))
 
 
-class LinkWatch:
-    """The state of the connection between the two trunks, which is given up after some seconds without it."""
-
-    def __init__(self, hold: float, changed: Callable[[], None]) -> None:
-        self.state, self._seconds, self._changed = LinkState.LOST, hold, changed
-        self._giving_up: asyncio.TimerHandle | None = None
-
-    def hold(self) -> None:
-        """Calls are kept for some seconds without the other end."""
-        self._giving_up = asyncio.get_running_loop().call_later(self._seconds, self._set, LinkState.GIVEN_UP)
-
-    def look(self, good: bool) -> None:
-        """Takes whether both trunks carry calls and know of each other."""
-        if good is not (self.state is LinkState.GOOD):
-            if self._giving_up:
-                self._giving_up.cancel()
-            if not good:
-                self.hold()
-            self._set(LinkState.GOOD if good else LinkState.LOST)
-
-    def _set(self, state: LinkState) -> None:
-        self.state = state
-        self._changed()
-
-
 class Tie:
     """Joins the circuits of the trunk here with those of the other site."""
 
@@ -73,20 +48,20 @@ class Tie:
         self.site: Site | None = None
         self.circuits: dict[int, TieCircuit] = {}
         self.there = agreed(options.pairs, None)        # by a circuit here, the one there
-        self.link = LinkWatch(options.hold, self._link_changed)
+        self.link = LinkState.LOST                      # the connection between the two trunks
+        self._giving_up: asyncio.TimerHandle | None = None
         self.out_of_service = self.far_out_of_service = True
         self.trunk = TrunkLink(options.control, options.hold, self)
-        self.codecs = CodecChanges(options.until_answer, self.trunk, tell, self._look_at_codec)
+        self.codecs = CodecChanges(options.until_answer, self.trunk, tell, self._look)
         self.done = Counter[tuple[str, str]]()          # how often which command got which answer
         self.given_up = 0                               # calls that could not be set up, or that were lost
         self._life, self._seizures = '', dict[int, int]()       # of the trunk, and how often each line was seized in it
-        self._timers: dict[int, asyncio.TimerHandle] = {}       # until a release is stuck
         self.far: dict[int, CircuitEnd] | None = None           # the other site's states, by its numbers; None: unknown
         self._busy: dict[int, Command] = {}
 
     async def follow(self) -> None:
         """Follows the trunk here for ever."""
-        self.link.hold()
+        self._hold()
         await self.trunk.follow()
 
     # ---- the trunk here ----
@@ -103,17 +78,15 @@ class Tie:
             known = self.circuits.get(n)
             call = call_name(self._life, self._seizures[n]) if role is Role.INCOMING else known.call if known else None
             self.circuits[n] = begun(known, TieCircuit(role, state, call), n in self.blocked.circuits)
-            self._moved(n)
         states = Counter(str(circuit.state) for circuit in self.circuits.values())
         self.tell('trunk', states=dict(sorted(states.items())))
         self.codecs.begin(status)
         self._join()
         self.stands(status)
         self._send_all()
-        self._look_at_all()
 
     def stands(self, status: dict[str, Any]) -> None:
-        """Takes the status of the trunk, and makes up for missed events."""
+        """Takes the status of the trunk, makes up for missed events, and finds releases that are not followed."""
         self._set_out_of_service(is_out_of_service(status))
         for row in status['circuits']:
             n = row['circuit']
@@ -122,8 +95,11 @@ class Tie:
                 circuit, state, self._seizures[n] = self.circuits[n], State(row['state']), row['seizures']
                 call = call_name(self._life, self._seizures[n]) if circuit.role is Role.INCOMING else circuit.call
                 if state is not circuit.state or call != circuit.call:
-                    self._put(n, circuit.moved(state, None if call == circuit.call else call))
-            self._look_at_codec(n)
+                    circuit = circuit.moved(state, None if call == circuit.call else call)
+                if state is State.RELEASING and row['for'] >= STUCK and not circuit.stuck:
+                    circuit = replace(circuit, stuck=True)
+                    self.tell('stuck', circuit=n)
+                self._put(n, circuit)
 
     def told(self, event: Event) -> None:
         """Takes an event of the trunk."""
@@ -148,17 +124,6 @@ class Tie:
             circuit = replace(circuit, kept=self._busy.get(n) is not Command.BLOCK)
         self._put(n, circuit)
 
-    def _moved(self, n: int) -> None:
-        """The state of a circuit has changed: a release that the exchange does not follow is found."""
-        if timer := self._timers.pop(n, None):
-            timer.cancel()
-        if self.circuits[n].state is State.RELEASING:
-            self._timers[n] = asyncio.get_running_loop().call_later(STUCK, self._stuck, n)
-
-    def _stuck(self, n: int) -> None:
-        self.tell('stuck', circuit=n)
-        self._put(n, replace(self.circuits[n], stuck=True))
-
     def _keep(self, n: int) -> None:
         """Keeps that the operator has blocked a circuit."""
         if self.circuits[n].state is State.BLOCKED:
@@ -171,8 +136,6 @@ class Tie:
             self.blocked.put(n for n, each in self.circuits.items() if each.kept)
         if before.end() != circuit.end():
             self._send(n)
-        if before.state is not circuit.state:
-            self._moved(n)
         self._look(n)
 
     # ---- commands ----
@@ -180,14 +143,16 @@ class Tie:
     def _link_of(self, n: int) -> LinkState:
         """The connection to a circuit's other end. One that cannot be joined has none."""
         far = self.circuits[n].far
-        if self.link.state is LinkState.GOOD and (far is None or far.role is self.circuits[n].role):
+        if self.link is LinkState.GOOD and (far is None or far.role is self.circuits[n].role):
             return LinkState.GIVEN_UP
-        return self.link.state
+        return self.link
 
     def _look(self, n: int) -> None:
-        """Gives a circuit the command that it needs."""
-        self._look_at_codec(n)
-        if not self.trunk.is_up or n in self._busy or n not in self.there:
+        """Gives a circuit the codec and the command that it needs."""
+        if n not in self.there:
+            return
+        self.codecs.give(n, self.circuits[n].state)
+        if not self.trunk.is_up or n in self._busy:
             return
         link = self._link_of(n)
         marked_over = self.circuits[n].marked_over(link)
@@ -208,9 +173,8 @@ class Tie:
     async def _do(self, n: int, command: Command, why: dict[str, str]) -> None:
         loop = asyncio.get_running_loop()
         far, began = self.circuits[n].far, loop.time()
-        try:
-            answer = (await self.trunk.ask(f'{command.word} {n}')).rpartition(': ')[2]
-        except (OSError, EOFError):
+        answer = await self.trunk.answer(f'{command.word} {n}')
+        if answer is None:
             del self._busy[n]
             return
         self.done[command.word, answer] += 1
@@ -224,11 +188,6 @@ class Tie:
             await asyncio.sleep(ANSWER_LASTS if answer == 'done' else AGAIN)
         del self._busy[n]
         self._look(n)
-
-    def _look_at_codec(self, n: int) -> None:
-        """Gives a circuit the codec that it needs."""
-        if n in self.there:
-            self.codecs.give(n, self.circuits[n].state)
 
     async def leave(self) -> None:
         """Restores the configured codec of circuits without a call, before the end."""
@@ -246,13 +205,24 @@ class Tie:
                 self.site.send(SiteState(on, {}))
             self._look_at_link()
 
-    def _look_at_link(self) -> None:
-        """Follows the state of the connection to the other end."""
-        self.link.look(self.trunk.is_up and self.far is not None and not self.out_of_service
-                       and not self.far_out_of_service)
+    def _hold(self) -> None:
+        """Calls are kept for some seconds without the other end."""
+        self._giving_up = asyncio.get_running_loop().call_later(self.options.hold, self._set_link, LinkState.GIVEN_UP)
 
-    def _link_changed(self) -> None:
-        self.tell('link', state=self.link.state.value, site=self.far is not None, dark=self.out_of_service,
+    def _look_at_link(self) -> None:
+        """Follows whether both trunks carry calls and know of each other."""
+        good = (self.trunk.is_up and self.far is not None and not self.out_of_service
+                and not self.far_out_of_service)
+        if good is not (self.link is LinkState.GOOD):
+            if self._giving_up:
+                self._giving_up.cancel()
+            if not good:
+                self._hold()
+            self._set_link(LinkState.GOOD if good else LinkState.LOST)
+
+    def _set_link(self, state: LinkState) -> None:
+        self.link = state
+        self.tell('link', state=state.value, site=self.far is not None, dark=self.out_of_service,
                   far_dark=self.far_out_of_service)
         self._look_at_all()
 

@@ -76,7 +76,7 @@ class TrunkLink:
 
     async def _read(self, reader: asyncio.StreamReader) -> None:
         """Reads until the trunk closes the connection, which is EOFError or OSError."""
-        lines: list[str] = []
+        last = ''
         try:
             while octets := await reader.readline():
                 line = octets.decode(errors='replace').rstrip('\n')
@@ -84,11 +84,11 @@ class TrunkLink:
                     if self.is_up:
                         self._tie.told(event)
                 elif line:
-                    lines.append(line)
+                    last = line                         # (what is asked here has an answer of one)
                 elif self._asked:
                     if not (answer := self._asked.popleft()).done():
-                        answer.set_result('\n'.join(lines))
-                    lines = []
+                        answer.set_result(last)
+                    last = ''
                     await asyncio.sleep(0)              # who has asked goes on before an event behind the answer
             raise EOFError('the trunk has closed the connection')
         except ValueError:
@@ -112,6 +112,13 @@ class TrunkLink:
             if self._writer:
                 self._writer.close()
             raise EOFError('the trunk does not answer') from None
+
+    async def answer(self, command: str) -> str | None:
+        """What answers a command, without its first words; None without an answer in time."""
+        try:
+            return (await self.ask(command)).rpartition(': ')[2]
+        except (OSError, EOFError):
+            return None
 
 
 def event_of(line: str) -> Event | None:

@@ -7,6 +7,7 @@ seized it acknowledges after 20 ms and answers after a second; what it hears on 
 lines: seize N and clear N, for circuits on which the exchange calls. It prints each line signal that it sees, by its
 bits a and b, and ends when the other end does; with --again it then waits for the next one, all circuits idle.
 """
+import argparse
 import os
 import select
 import signal
@@ -39,7 +40,7 @@ class Called:
                 exchange.pairs[circuit] = IDLE
 
 
-class TypedCommands:
+class TypedLines:
     """Lines that are typed, however many of them one read gives. (A reader of lines would keep those behind the first
     one, and `select` would not tell of them.)"""
 
@@ -47,19 +48,18 @@ class TypedCommands:
         self._rest = b''
         self._more = True       # can come
 
-    def obey(self, exchange: Exchange) -> None:
-        """Reads what there is and obeys its lines."""
+    def taken(self) -> list[str]:
+        """Reads what there is; its lines."""
         if not self._more or not select.select([sys.stdin], [], [], 0)[0]:
-            return
+            return []
         try:
             octets = os.read(sys.stdin.fileno(), 4096)
         except OSError:     # in the background of a terminal
             self._more = False
-            return
+            return []
         self._more = octets != b''
         *lines, self._rest = (self._rest + (octets or b'\n')).split(b'\n')
-        for line in lines:
-            obey(line.decode(errors='replace'), exchange)
+        return [line.decode(errors='replace') for line in lines]
 
 
 def obey(line: str, exchange: Exchange) -> None:
@@ -81,11 +81,9 @@ def receive(line: socket.socket, exchange: Exchange) -> bool:
             return False
         heard += piece
     before = dict(exchange.signals)
-    spoken = {circuit: len(octets) for circuit, octets in exchange.heard.items()}
+    exchange.heard.clear()
     exchange.hear(heard)
-    for circuit, octets in exchange.heard.items():
-        exchange.speech[circuit] = bytearray(octets[spoken.get(circuit, 0):])
-        del octets[:]
+    exchange.speech.update(exchange.heard)
     for circuit, pair in exchange.signals.items():
         if before and before[circuit] != pair:
             print(f'{circuit}: {pair:02b}', flush=True)
@@ -106,7 +104,7 @@ def awaited(path: str) -> socket.socket:
     return line
 
 
-def carry(line: socket.socket, typed: TypedCommands) -> None:
+def carry(line: socket.socket, typed: TypedLines) -> None:
     """Sends and receives the trunk until the other end goes."""
     exchange, called, due = Exchange(), Called(), time.monotonic()
     try:
@@ -115,7 +113,8 @@ def carry(line: socket.socket, typed: TypedCommands) -> None:
             if not receive(line, exchange):
                 return
             called.step(exchange)
-            typed.obey(exchange)
+            for each in typed.taken():
+                obey(each, exchange)
             due += STEP
             time.sleep(max(0, due - time.monotonic()))
     except (BrokenPipeError, ConnectionResetError):
@@ -123,19 +122,15 @@ def carry(line: socket.socket, typed: TypedCommands) -> None:
 
 
 def main() -> None:
-    words = sys.argv[1:]
-    if words in (['-h'], ['--help']):
-        print(__doc__)
-        return
-    again = words[:1] == ['--again']
-    if len(words) != 1 + again or words[-1].startswith('-'):
-        print(__doc__, file=sys.stderr)
-        sys.exit(2)
+    words = argparse.ArgumentParser(description=__doc__, usage=argparse.SUPPRESS,
+                                    formatter_class=argparse.RawDescriptionHelpFormatter)
+    words.add_argument('--again', action='store_true')
+    words.add_argument('path', metavar='PATH')
+    asked = words.parse_args()
     signal.signal(signal.SIGTTIN, signal.SIG_IGN)
-    typed = TypedCommands()
-    while True:
-        with awaited(words[-1]) as line:
+    typed, is_due = TypedLines(), True
+    while is_due:
+        with awaited(asked.path) as line:
             carry(line, typed)
-        if not again:
-            return
+        is_due = asked.again
 

@@ -25,7 +25,7 @@ import sys
 from typing import BinaryIO, Iterable, Iterator
 
 from ..faults import words_of_fault
-from ..packets import BadCapture, packets, udp_of
+from ..packets import BadCapture, packets
 from ..repetitions import Repetitions
 from ..session import (CIRCUITS, FRAME, SAMPLES_A_SECOND, BadPacket, BadSession, Kind, datagram_record, packet_of,
                        records)
@@ -37,7 +37,6 @@ MOST = 65507  # the most octets that a UDP packet over IPv4 carries
 PLAIN_IP = 101  # LINKTYPE_RAW
 UDP = 17
 LAST = 2**32 * SAMPLES_A_SECOND - 1  # the last sample whose second a capture can tell
-NO_UDP = 0, 0, b'', 'no UDP'
 
 
 # ---- a session to a capture ----
@@ -127,15 +126,13 @@ def write_records(source: BinaryIO, asked: int | None, sink: BinaryIO) -> None:
     circuits = {port: circuit for circuit, port in PORTS.items()}
     again = PcapRepetitions()
     every = passed = 0
-    for link, _, octets in packets(source):
-        every += 1
-        _, port, body, *_, answer = octets and udp_of(link, octets) or NO_UDP
-        circuit = None if answer else asked or circuits.get(port)
-        if not circuit:
+    for every, each in enumerate(packets(source), 1):
+        circuit = asked or circuits.get(each.target) if each and not each.answer else None
+        if each and circuit:
+            again.is_one(circuit, each.body)
+            sink.write(datagram_record(circuit, each.body))
+        else:
             passed += 1
-            continue
-        again.is_one(circuit, body)
-        sink.write(datagram_record(circuit, body))
     again.tell()
     if passed:
         print(f'{NAME}: skipped {passed} of {every} packets', file=sys.stderr)

@@ -83,21 +83,6 @@ def print_records(source: Readable, place: int) -> None:
         place += len(record.body) if record.kind is Kind.TRUNK else 0
 
 
-# ---- octets of a trunk to records ----
-
-def make_records(source: BinaryIO, size: int, reverse: bool, sink: BinaryIO) -> None:
-    """Writes T records of this number of octets; the last one may be shorter."""
-    while octets := source.read(size):
-        sink.write(trunk_record(octets.translate(REVERSED) if reverse else octets))
-
-
-def write_octets(source: Readable, sink: BinaryIO) -> None:
-    """Writes the octets of T records."""
-    for record in records(source):
-        if record.kind is Kind.TRUNK:
-            sink.write(record.body)
-
-
 def write_records(source: Readable, begin: int, end: int | None, sink: BinaryIO) -> None:
     """Writes the records behind a number of octets of the trunk: at least the first one, and below the second."""
     place = 0
@@ -145,9 +130,9 @@ def write_wave(octets: bytes, law: str, sink: BinaryIO) -> None:
     sink.write(struct.pack('<4sI', b'RIFF', len(body)) + body)
 
 
-def raw_pieces(source: BinaryIO, reverse: bool) -> Iterator[bytes]:
-    """Octets of a trunk, some at a time."""
-    while octets := source.read(PIECE):
+def raw_pieces(source: BinaryIO, reverse: bool, size: int = PIECE) -> Iterator[bytes]:
+    """Octets of a trunk, this number at a time; the last ones may be fewer."""
+    while octets := source.read(size):
         yield octets.translate(REVERSED) if reverse else octets
 
 
@@ -203,7 +188,7 @@ def asked_for() -> argparse.Namespace:
 
 def work(asked: argparse.Namespace) -> None:
     """Does what was asked for."""
-    if asked.file and asked.file.endswith('.zst') and not asked.from_raw:
+    if asked.file and not asked.from_raw:
         return read_session(asked, Source(octets_of(asked.file)))
     with open(asked.file, 'rb') if asked.file else sys.stdin.buffer as source:
         if not asked.from_raw:
@@ -211,7 +196,7 @@ def work(asked: argparse.Namespace) -> None:
         elif asked.circuit:
             hear(raw_pieces(source, asked.reverse), asked.circuit, asked.law, sys.stdout.buffer)
         else:
-            make_records(source, asked.size, asked.reverse, sys.stdout.buffer)
+            sys.stdout.buffer.writelines(map(trunk_record, raw_pieces(source, asked.reverse, asked.size)))
 
 
 def read_session(asked: argparse.Namespace, source: Readable) -> None:
@@ -219,7 +204,7 @@ def read_session(asked: argparse.Namespace, source: Readable) -> None:
     if asked.circuit:
         hear(kept_pieces(source), asked.circuit, asked.law, sys.stdout.buffer)
     elif asked.to_raw:
-        write_octets(source, sys.stdout.buffer)
+        sys.stdout.buffer.writelines(kept_pieces(source))
     elif asked.until is not None or asked.begin is not None:
         write_records(source, asked.begin or 0, asked.until, sys.stdout.buffer)
     else:

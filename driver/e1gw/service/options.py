@@ -1,0 +1,203 @@
+"""The options of e1gw-trunk, and what they ask for."""
+from __future__ import annotations
+
+import argparse
+import os
+import shutil
+import zlib
+from dataclasses import replace
+from typing import Callable
+
+from .. import satop
+from ..clearing import on_loss_of
+from ..faults import checked, named, number
+from ..lines import SEIZURE_WAIT, law_of, read_config, wait_words
+from ..programs import SENDERS, program_of
+from ..ring import seconds_of
+from ..trunks import Stream, host_and_port, open_files, open_tcp, open_unix
+from .lifecycle import TrunkWants
+from .pair import add_pair, feeding_of
+from .program import MOST_PATH
+from .recordings import RecordingWants
+from .trunk import LineOptions
+from .watch import WatchWants
+
+WATCHED = 'control', 'http', 'metrics', 'json', 'calls', 'watch'      # what an operator may want of a trunk
+MEMORY = '/dev/shm'         # where the folder of a trunk is by default
+DIGITS = 11                 # octets that the number of a program adds to a socket's path
+
+
+def add_options(words: argparse.ArgumentParser) -> None:
+    """All of them."""
+    words.add_argument('--config', metavar='FILE', required=True, help='the configuration, e1gw.toml(5)')
+    words.add_argument('--name', help='the name of the trunk in metrics and files [default: that of FILE]')
+    add_program(words)
+    add_trunk(words.add_argument_group('the trunk'))
+    satop.add_arguments(words)
+    add_reports(words.add_argument_group('control and reports'))
+    add_kept(words.add_argument_group('sessions and calls'))
+    add_pair(words.add_argument_group('two machines'))
+    words.add_argument('--folder', metavar='DIR', help='where its sockets are, in memory [default: '
+                       f'RUNTIME_DIRECTORY, or {MEMORY}]')
+    words.add_argument('--program-control', metavar='SOCKET', help='where the program takes records, e1gw(1)')
+    words.add_argument('--tell', metavar='SOCKET', help='where clients get the state of the trunk, e1gw-tell(5)')
+
+
+def add_program(words: argparse.ArgumentParser) -> None:
+    """Those of the program that carries the trunk."""
+    words.add_argument('--program', metavar='E1GW', help='the program [default: that of this repository, or e1gw]')
+    words.add_argument('--senders', choices=tuple(SENDERS), help='whose datagrams are received, e1gw(1) '
+                       '[default: host if each peer_host is an address, else any]')
+    words.add_argument('--repeat', type=number(0, 8), default=0, metavar='N',
+                       help='sends each datagram again behind the N-th after it, 0 to 8 [default: 0, never]')
+    words.add_argument('--seizure-wait', type=number(200, 8000), default=SEIZURE_WAIT, metavar='MS',
+                       help='a seizure that is not acknowledged is released after MS milliseconds, 200 to 8000 '
+                       '[default: 200]')
+    words.add_argument('--totals', action='store_true', help='tells at the end what the programs have counted')
+    words.add_argument('--state', metavar='FILE', help='the state is saved there at the end, and loaded at the start '
+                       'if it is there')
+
+
+def add_trunk(words: argparse._ArgumentGroup) -> None:
+    """Those that say which trunk is opened."""
+    words.add_argument('--in', dest='input', metavar='FILE', help='a device, file or FIFO to read the trunk from')
+    words.add_argument('--out', metavar='FILE', help='one to write the trunk to, opened after --in; may be the same')
+    words.add_argument('--unix', metavar='PATH', help='a Unix stream socket to connect to, in place of the two')
+    words.add_argument('--tcp', metavar='HOST:PORT', help='a TCP socket to connect to, in place of the two')
+    words.add_argument('--reopen', action='store_true', help='opens a trunk that ends or fails again, within 30 s')
+    words.add_argument('--satop', metavar='LOCAL,PEER', help='SAToP (RFC 4553) over UDP, each as HOST:PORT')
+    words.add_argument('--clear', action='store_true', help='the device gives time slots 1 to 31 alone')
+    words.add_argument('--align', action='store_true',
+                       help='octets of the trunk may begin at any bit; e1gw align runs between it and the gateway')
+    words.add_argument('--crc4', action='store_true',
+                       help='CRC-4: e1gw crc4 sends it and e1gw crc4 --check counts it, between trunk and gateway')
+
+
+def add_reports(words: argparse._ArgumentGroup) -> None:
+    """Those of control and of reports."""
+    words.add_argument('--control', metavar='PATH', help='a Unix socket for commands, e1gw-ctl(1)')
+    words.add_argument('--control-mode', type=lambda text: int(text, 8), default=0o660, metavar='MODE',
+                       help='its mode, in octal [default: 660]')
+    words.add_argument('--control-group', metavar='GROUP', help='its group')
+    words.add_argument('--on-loss', nargs='+', default=['keep'], metavar='WORD',
+                       help='keep, clear SECONDS, or block SECONDS: what is done with the calls when the last '
+                       'control client that asked for it is gone [default: keep]')
+    words.add_argument('--http', type=checked(host_and_port), metavar='HOST:PORT',
+                       help='serves /metrics (Prometheus), /status (JSON), /table and / (the table, or the picture)')
+    words.add_argument('--metrics', metavar='FILE', help='a file of metrics for node_exporter, every 5 s')
+    words.add_argument('--json', metavar='FILE', help='a line of JSON for each change; - is standard output')
+    words.add_argument('--watch', action='store_true', help='tells each change on standard output')
+    words.add_argument('--picture', type=number(10, 3600, float), metavar='SECONDS',
+                       help='/ is a picture of the last seconds, 10 to 3600, of what --keep has; wants both')
+
+
+def add_kept(words: argparse._ArgumentGroup) -> None:
+    """Those of what is kept of the trunk, and of calls."""
+    words.add_argument('--session', metavar='FILE', help='keeps all that the program takes, for e1gw replay and check')
+    words.add_argument('--keep', type=checked(seconds_of), metavar='TIME',
+                       help='--session is a folder for the last 30m, 1h, 2d, in files of a twelfth of that')
+    words.add_argument('--gap', type=number(20, 10_000), default=100, metavar='MS',
+                       help='lost octets of MS milliseconds restart the playout of open calls [default: 100]')
+    words.add_argument('--calls', metavar='FILE', help='a line of CSV for each call; ten files of 10 MiB are kept')
+    words.add_argument('--dark', type=number(0, 86_400, float), metavar='SECONDS',
+                       help='clears the calls of a trunk that has been in alarm for so long [default: never]')
+
+
+# ---- what they ask for ----
+
+def name_of(asked: argparse.Namespace) -> str:
+    """ValueError if no file or page could have it."""
+    name = str(asked.name or os.path.splitext(os.path.basename(asked.config))[0])
+    if '/' in name or not name.isprintable():
+        raise ValueError(f'--name {name!r} is no name: it has a / or what cannot be printed')
+    return name
+
+
+def is_watched(asked: argparse.Namespace) -> bool:
+    """Whether an operator wants something of the trunk."""
+    return any(getattr(asked, name) for name in WATCHED)
+
+
+def opens_of(asked: argparse.Namespace) -> list[str | None]:
+    """Which trunk it is: the same for a service that is started again."""
+    paths = [each and os.path.abspath(each) for each in (asked.input, asked.out, asked.unix, asked.program_control)]
+    return [*paths, asked.tcp, asked.satop, *(name for name in ('align', 'crc4', 'clear') if getattr(asked, name))]
+
+
+def folder_of(asked: argparse.Namespace) -> str:
+    """The folder of this trunk, the same for each start."""
+    within = asked.folder or os.environ.get('RUNTIME_DIRECTORY', '').partition(':')[0] or MEMORY
+    return os.path.join(within, f'{name_of(asked)}-{os.getuid()}-{zlib.crc32(repr(opens_of(asked)).encode()):08x}')
+
+
+def recording_of(asked: argparse.Namespace) -> RecordingWants | None:
+    """What is kept of the trunk. ValueError if that cannot be."""
+    if asked.keep and not asked.session:
+        raise ValueError('--keep wants --session')
+    if asked.picture and not (asked.http and asked.keep):
+        raise ValueError('--picture wants --http, and --session with --keep')
+    return RecordingWants(os.path.abspath(asked.session), asked.keep, name_of(asked), os.path.abspath(asked.config),
+                          asked.seizure_wait) if asked.session else None
+
+
+def watched_of(asked: argparse.Namespace, program: str) -> WatchWants:
+    """What an operator wants to have of it, drawn by this program."""
+    picture = ['--last', f'{asked.picture}s', '--title', name_of(asked), '--refresh', '10', '--program', program,
+               os.path.abspath(asked.session)] if asked.picture else []
+    return WatchWants(name=name_of(asked), picture=picture, **{
+        each: getattr(asked, each) for each in (*WATCHED, 'control_mode', 'control_group', 'dark', 'on_loss')})
+
+
+def line_of(asked: argparse.Namespace) -> LineOptions:
+    """What a trunk is. ValueError if not just one is asked for, or it can't be with the other options."""
+    kinds = asked.input and asked.out, asked.unix, asked.tcp, asked.satop
+    if bool(asked.input) != bool(asked.out) or sum(map(bool, kinds)) != 1:
+        raise ValueError('a trunk is --in and --out, or --unix, or --tcp, or --satop')
+    if asked.align and (asked.satop or asked.clear):
+        raise ValueError('--align is for all 32 slots of a device or a socket; --satop aligns in any case')
+    if asked.crc4 and asked.clear:
+        raise ValueError('--crc4 is for all 32 slots; the device of --clear sends slot 0 itself, and CRC-4 in it')
+    if asked.clear and asked.satop:
+        raise ValueError('--clear is for a device that keeps slot 0; --satop has all 32 slots')
+    law = (lambda: law_of(read_config(asked.config))) if asked.clear else None
+    return LineOptions(None if asked.satop else opening_of(asked), satop_of(asked) if asked.satop else None,
+                       asked.align, asked.crc4, law, asked.reopen)
+
+
+def opening_of(asked: argparse.Namespace) -> Callable[[], Stream]:
+    """What opens the device or the socket. ValueError if that is none."""
+    if asked.tcp:
+        place = host_and_port(asked.tcp)
+        return lambda: open_tcp(*place)
+    return (lambda: open_unix(asked.unix)) if asked.unix else (lambda: open_files(asked.input, asked.out))
+
+
+def satop_of(asked: argparse.Namespace) -> Callable[[], list[str]]:
+    """What looks both ends of an emulated circuit up. ValueError if they are none."""
+    ends, words = satop.ends_of(asked.satop), satop.words_of(asked)
+
+    def looks_up() -> list[str]:
+        try:
+            return [*satop.addresses_of(*ends), *words]
+        except OSError as fault:
+            raise named(fault, asked.satop) from None
+    return looks_up
+
+
+def wants_of(asked: argparse.Namespace) -> TrunkWants:
+    """What is wanted. ValueError if it is not one trunk, or a path is too long."""
+    line, folder = line_of(asked), folder_of(asked)
+    for read in (recording_of, feeding_of):
+        read(asked)
+    on_loss_of(asked.on_loss)
+    control = asked.program_control or os.path.join(folder, 'program')
+    for path in filter(None, (control, asked.tell)):
+        if len(os.fsencode(path)) + DIGITS > MOST_PATH:
+            raise ValueError(f'{path}: a path of a socket has {MOST_PATH - DIGITS} octets at most')
+    program = program_of(asked.program)
+    program = os.path.abspath(shutil.which(program) or program)
+    tell = asked.tell or (os.path.join(folder, 'tell') if is_watched(asked) else None)
+    state = None if asked.standby else asked.state      # (the other machine may have gone on from it)
+    return TrunkWants(program, asked.config, asked.senders, replace(line, program=program), folder, control, tell,
+                      state, ['--repeat', str(asked.repeat)] * (asked.repeat > 0), wait_words(asked.seizure_wait),
+                      asked.totals)

@@ -1,0 +1,199 @@
+"""Trunks whose octets begin at any bit, and trunks with CRC-4: what the exchange hears, whatever dies or comes again.
+
+All goes in lock step; the exchange's CRC-4 is that of test_crc4."""
+from __future__ import annotations
+
+import contextlib
+import os
+import signal
+import subprocess
+from itertools import product
+from typing import Any
+
+from . import support
+from .support import SECONDS
+from .test_crc4 import HALF, MULTIFRAME, Crc4Sender, checked, e_bits, frame_alignment, multiframe_in
+from .test_trunk import FOUR, aligned, call, is_there
+from .test_trunk_served import octets_in
+from .world import World, children, config_of, trunk_command
+from e1gw.session import trunk_record
+
+SECOND = 500                                # multiframes
+
+
+def late(octets: bytes, before: int = 0xFF) -> bytes:
+    """Octets three bits late, behind this octet."""
+    return (int.from_bytes(bytes([before & 7]) + octets, 'big') >> 3).to_bytes(len(octets), 'big')
+
+
+class FilteredWorld(World):
+    """A driver with four circuits, whose exchange is late with --align and sends CRC-4 with --crc4."""
+
+    def __init__(self, *options: str, is_late: bool = False, has_crc4: bool = True, **more: Any) -> None:
+        self.is_late, self.has_crc4 = is_late or '--align' in options, has_crc4 and '--crc4' in options
+        self.sender, self.last = Crc4Sender(), 0xFF
+        super().__init__(config_of(FOUR), *options, **more)
+
+    def give(self, octets: bytes) -> bytes:
+        if self.has_crc4 and len(octets) == MULTIFRAME:
+            octets = self.sender.multiframe(octets)
+        self.last, before = octets[-1], self.last
+        return super().give(late(octets, before) if self.is_late else octets)
+
+
+class FilterServiceTests(support.FolderCase):
+    def world(self, *options: str, **more: Any) -> FilteredWorld:
+        world = FilteredWorld(*options, **more)
+        self.addCleanup(world.__exit__)
+        return world
+
+    def is_right(self, heard: bytes | bytearray, errored: int = 0) -> int:
+        """The exchange finds CRC multiframes in the 8 ms behind frame alignment, with this number of errored
+        submultiframes. Returns where it has found them."""
+        at = multiframe_in(bytes(heard), frame_alignment(bytes(heard)))
+        assert at is not None, 'no CRC multiframe in 8 ms'
+        found = checked(heard, at)
+        self.assertEqual(found.count(False), errored)
+        self.assertGreater(len(found), 100)
+        return at
+
+    def goes_on(self, world: FilteredWorld) -> None:
+        """A call is up, and all that the exchange hears from now on is right."""
+        begun = len(world.heard)
+        world.step(60)
+        if world.has_crc4:
+            self.is_right(world.heard[begun:])
+        self.assertEqual(world.state(1), 'answered')
+
+    def test_one_in_a_thousand(self) -> None:
+        """One submultiframe in a thousand is damaged in each direction. Each end counts those that it received, and by
+        the E bits of the other end those that it sent."""
+        world = self.world('--crc4', '--reopen')
+        first = len(world.sent) // HALF
+        world.sender.errored_at = {first + n for n in range(500, 4000, 1000)}
+        world.sender.far_at = {first + n for n in range(301, 4000, 1000)}
+        world.step(2000)
+        heard, submultiframes = bytearray(world.heard), len(world.sent) // HALF
+        at = self.is_right(heard)
+        self.assertEqual(e_bits(heard, at), 4)
+        for n in range(301, 3500, 1000):
+            heard[at + n * HALF + 77] ^= 4
+        self.is_right(heard, 4)
+        counts = self.ended(world)
+        self.assertEqual((counts['errored'], counts['far_end_errored']), (4, 4))
+        self.assertEqual((counts['multiframes_found'], counts['multiframes_lost'], counts['given_up']), (1, 0, 0))
+        # All but 8 ms and what is missing of two multiframes.
+        self.assertTrue(4000 - 16 < counts['submultiframes'] < submultiframes, counts)
+        self.assertEqual(counts['checked'], submultiframes * HALF)
+        world.connected()
+        status, said = world.quit()
+        self.assertEqual(status, 0)
+        for line in ('CRC multiframe alignment found', 'CRC-4 errors: 1 of ',
+                     'CRC-4 errors reported by the other end (E bits): 1 of '):
+            self.assertEqual(said.count(line), 1, said)
+
+    def ended(self, world: FilteredWorld) -> dict[str, int]:
+        """The counts up to the end of a trunk; another one is opened then."""
+        with world.new_listener() as listener:
+            world.line.close()
+            world.take(listener)
+
+        def found() -> dict[str, int] | None:
+            counts: dict[str, int] = world.known()['crc4'] or {}
+            return counts if counts.get('checked') == len(world.sent) else None
+        return support.until(found)
+
+    def test_an_exchange_without_it(self) -> None:
+        """Without CRC-4; and late, where no alignment is asked for."""
+        world = self.world('--crc4', has_crc4=False)
+        world.step(SECOND)
+        world.until(lambda: world.told()['crc4']['aligned'] is not None)
+        self.assertIn('CRC-4: no multiframe alignment, lost 0; errored 0 of 0 submultiframes', world.ask('status'))
+        self.assertEqual(world.quit()[1].count('no CRC multiframe alignment'), 1)
+        world = self.world(is_late=True)
+        world.step(100)
+        self.assertEqual(world.ask('seize 1'), 'seize 1: no alignment')
+
+    def test_both(self) -> None:
+        world = aligned(self.world('--align', '--crc4'))
+        call(world, 1)
+        world.step(SECOND)
+        world.until(lambda: world.told()['crc4']['aligned'] is not None)
+        status = world.status()
+        self.assertTrue(status['crc4']['aligned'])
+        self.assertEqual((status['crc4']['errored'], status['crc4']['multiframes_found']), (0, 1))
+        self.assertEqual({status['transport'][name] for name in ('aligning', 'crc4_checking', 'crc4_sending')}, {0})
+        self.is_right(world.heard)
+
+    def test_who_dies_inside_a_multiframe(self) -> None:
+        """The exchange keeps the alignment of frames and multiframes, whichever process dies."""
+        program, sender, check = ('trunk',), ('crc4', '--reports'), ('crc4', '--check')
+        world = aligned(self.world('--crc4', within={'service.lifecycle.WITHIN': 0.0}))
+        call(world, 1)
+        for words, count in (*product(((program,), (sender,), (sender, program)), (0, 77, 500)), ((check,), 0)):
+            with self.subTest(words=words, count=count):
+                octets = world.sender.multiframe(world.exchange.multiframe())
+                world.line.sendall(octets[:count])
+                back = support.read_from(world.line, count)
+                processes = [pid for each in words for pid in children(world.process.pid, *each)]
+                for pid in processes:
+                    with contextlib.suppress(ProcessLookupError):       # (a program ends behind its e1gw crc4)
+                        os.kill(pid, signal.SIGKILL)
+                support.until(lambda: not any(map(is_there, processes)))
+                world.line.sendall(octets[count:])
+                world.exchange.hear(back + support.read_from(world.line, MULTIFRAME - count))
+                self.goes_on(world)
+
+    def test_it_comes_again(self) -> None:
+        """The trunk, inside a frame, and perhaps what is on its line ends meanwhile."""
+        rows: tuple[tuple[str, tuple[str, ...]], ...] = (
+            ('--align', ('align',)), ('--crc4', ('crc4', '--reports')), ('--crc4', ()))
+        for option, words in rows:
+            with self.subTest(words), FilteredWorld(option, '--reopen') as world:
+                aligned(world)
+                call(world, 1)
+                world.line.sendall(b'\xD5' * 77)
+                support.all_read(world.line)
+                with world.new_listener() as listener:
+                    if words:
+                        os.kill(support.until(lambda: children(world.process.pid, *words))[0], signal.SIGKILL)
+                        with contextlib.suppress(EOFError, ConnectionError):
+                            world.step()
+                    world.line.close()
+                    world.take(listener)
+                world.exchange, world.last = support.Exchange(), 0xFF
+                world.exchange.pairs[1] = 1
+                world.step(60)
+                world.connected()
+                world.until(lambda: bool(world.status()['trunk_up']))
+                self.goes_on(world)
+
+    def test_a_state_that_ends_inside_a_frame(self) -> None:
+        """The next start sends CRC-4 in the frames of the gateway with that state."""
+        words = '--crc4', '--state', self.path('state')
+        with FilteredWorld(*words) as world:
+            world.line.sendall(b'\xD5' * 77)
+            support.read_from(world.line, 77)
+            self.assertEqual(world.quit()[0], 0)
+        with FilteredWorld(*words) as world:
+            world.exchange = support.Exchange()
+            world.step(100)
+            self.is_right(world.heard[MULTIFRAME:])
+
+    def test_a_file_from_end_to_end(self) -> None:
+        """What is written is what the programs write one behind the other, up to the last octet."""
+        exchange, toml, reads, writes = support.Exchange(), self.write('trunk.toml', config_of(FOUR)), *map(
+            self.path, ('in', 'out'))
+        octets = b''.join(exchange.multiframe() for _ in range(100)) + bytes(33)
+        rows: list[list[str]] = [[], ['--align'], ['--crc4'], ['--align', '--crc4']]
+        for words in rows:
+            with self.subTest(words):
+                given = late(octets) if '--align' in words else octets
+                self.write('in', given)
+                subprocess.run(trunk_command('--config', toml, '--in', reads, '--out', writes, *words), check=True,
+                               stdin=subprocess.DEVNULL, stderr=subprocess.DEVNULL, timeout=SECONDS)
+                if '--align' in words:
+                    given = support.run('align', given=given)
+                sent = octets_in(support.run('replay', '--config', toml, given=trunk_record(given)))
+                sent = support.run('crc4', given=sent) if '--crc4' in words else sent
+                self.assertEqual(support.octets_of(writes), sent)

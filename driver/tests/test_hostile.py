@@ -1,0 +1,240 @@
+"""An operator, a network and a machine that are evil or unlucky. Each of these has ended calls, or let none come up."""
+from __future__ import annotations
+
+import asyncio
+import contextlib
+import io
+import os
+import re
+import signal
+import socket
+import subprocess
+import sys
+import threading
+import unittest
+from concurrent.futures import ThreadPoolExecutor
+from unittest import mock
+
+from . import limits, support
+from .support import SECONDS
+from .test_program_killed import KeeperCase
+from .test_service_killed import RestartedKeeperCase
+from .world import LAUNCHER
+from e1gw import ctl
+from e1gw.service import trunk
+from e1gw.service.events import EventFile
+from e1gw.service.options import wants_of
+from e1gw.service.pages import MOST_VISITORS, StatusTexts, WebServer
+from e1gw.service.recovery import CannotBegin
+from e1gw.service.service import make_own, parser
+from e1gw.testing.service import ask
+from e1gw.tie.site import STRANGERS
+from e1gw.trunks import Stream
+
+OWN = 20                    # descriptors of a tie itself
+
+
+class RequestTests(unittest.IsolatedAsyncioTestCase):
+    async def test_requests_that_are_none(self) -> None:
+        """One without a target kept its descriptor for ever (by Python 3.11.2). When all were used up no program could
+        follow a dead one."""
+        async def fresh() -> StatusTexts:
+            return StatusTexts({}, lambda status: '', lambda status: '')
+        faults: list[object] = []
+        asyncio.get_running_loop().set_exception_handler(lambda loop, about: faults.append(about))
+        listener = await asyncio.start_server(WebServer(fresh).came, '127.0.0.1', 0, limit=8192)
+        for request in b'\r\n\r\n', b'GET\r\n\r\n', b'\xff\r\n\r\n', b'GET ' + b'/' * 20_000 + b'\r\n\r\n':
+            reader, writer = await asyncio.open_connection(*listener.sockets[0].getsockname())
+            writer.write(request)
+            with contextlib.suppress(ConnectionResetError):
+                self.assertEqual(await reader.read(), b'')
+            writer.close()
+        listener.close()
+        self.assertEqual(faults, [])
+
+
+class StartFaultTests(KeeperCase):
+    """A program cannot begin, and the state is not why."""
+
+    def test_a_port_that_is_taken_for_a_time(self) -> None:
+        """After the fifth try the calls were given up."""
+        flag = self.path('taken')
+        self.other_program(f'trunk) [ -e {flag} ] && {{ echo socket 3 >&2; exit 1; }}; exec {support.program()} "$@"')
+        self.starts()
+        self.calls()
+        self.write('taken', '')
+        os.kill(self.program, signal.SIGKILL)
+        for _ in range(2):
+            self.awaits('the program says: socket 3: it is tried again in ')
+        os.unlink(flag)
+        self.goes_on_behind()
+        self.step(20)
+        self.as_uncut()
+        self.ends()
+
+
+class FolderTests(KeeperCase):
+    def test_a_folder_that_cannot_be_made_again(self) -> None:
+        """As /run/e1gw/NAME, whose parent is root's. Nothing was given back of the log, and no program could follow."""
+        self.starts('--control', self.path('its-control'), '--tell', self.path('tell'),
+                    **self.within(checkpoints_LOG_ROOM=65_536))
+        self.calls()
+        os.rename(self.memory, away := f'{self.memory}.away')
+        self.write(self.memory, '')
+        self.awaits('the folder of the sockets is gone, and cannot be made again: ')
+        self.dies()
+        self.step(200)
+        self.dies()
+        self.step(20)
+        self.assertEqual(self.told().count('cannot be made again'), 1)
+        self.assertNotIn('the keeper goes on', self.told())
+        self.as_uncut()
+        os.unlink(self.memory)
+        os.rename(away, self.memory)
+        self.ends()
+
+    def test_a_folder_of_others(self) -> None:
+        """It has a name that others know, in /dev/shm: who makes it before could read and change what is noted."""
+        folder = self.path('folder')
+        make_own(folder)
+        make_own(folder)
+        os.chmod(folder, 0o777)
+        os.symlink(folder, self.path('link'))
+        for path in folder, self.path('link'):
+            with self.assertRaisesRegex(CannotBegin, 'other users can write there'):
+                make_own(path)
+
+
+class StoredStateTests(RestartedKeeperCase):
+    def test_it_cannot_be_removed(self) -> None:
+        """The unit did not come up then."""
+        self.begins('--state', self.path('state'), '--reopen')
+        self.leaves_nothing()
+        self.device.line.close()
+        os.rename(self.device.path, self.path('away'))
+        self.again()
+        self.awaits('the trunk cannot be opened')
+        os.unlink(self.path('state'))
+        os.mkdir(self.path('state'))
+        os.rename(self.path('away'), self.device.path)
+        self.device.accept()
+        self.first = len(self.heard)
+        self.goes_on()
+        self.assertIn('the state that was loaded is not removed: ', self.told())
+        self.settles()
+        self.assertIn('READY=1', self.manager.told)
+        self.step(20)
+        self.as_uncut()
+        self.keeper.terminate()
+        self.keeper.wait(SECONDS)
+
+
+class LineFileTests(support.FolderCase):
+    def test_a_file_that_is_moved_away(self) -> None:
+        """Lines went on into it, or into one that nobody could read any more."""
+        ended: list[str] = []
+        file = EventFile('calls', self.path('calls'), lambda name, why: ended.append(why), 'head')
+        for number in range(3):
+            file.put(f'line {number}')
+            support.until(lambda: os.path.exists(self.path('calls'))
+                          and support.text_of(self.path('calls')).endswith(f'line {number}\n'))
+            if number == 0:
+                os.rename(self.path('calls'), self.path('moved'))
+            elif number == 1:
+                os.unlink(self.path('calls'))
+        file.close()
+        moved, calls = (support.text_of(self.path(name)) for name in ('moved', 'calls'))
+        self.assertEqual((moved, calls, ended), ('head\nline 0\n', 'head\nline 2\n', []))
+
+
+class OpeningTests(unittest.IsolatedAsyncioTestCase):
+    async def test_one_that_ends_at_once(self) -> None:
+        """A device that fails each read, or a proxy whose other end is away, is tried later and later."""
+        waits: list[float] = []
+
+        async def either(seconds: float, *events: asyncio.Event) -> None:
+            waits.append(seconds)
+
+        def opens() -> Stream:
+            file = os.open(os.devnull, os.O_RDWR)
+            return Stream(file, file, os.devnull)
+        files = trunk.TrunkFiles(opens, {})
+        with mock.patch.object(trunk, 'either', either), mock.patch.object(trunk, 'QUICK', limits.LONG):
+            for _ in range(5):
+                await files.reopen(asyncio.Event())
+                files.close()
+        self.assertEqual(waits, [0.0, 0.25, 0.5, 1.0, 2.0])
+
+
+    async def test_one_that_is_opened_too_late(self) -> None:
+        """The other machine was to carry the trunk, or the end was asked for, while a thread waited for the other end.
+        What it opened then was held by nobody, and the device by this machine."""
+        ours, its = socket.socketpair()
+        self.addCleanup(ours.close)
+        ours.setblocking(False)
+        goes_on, ending, file = threading.Event(), asyncio.Event(), its.detach()
+
+        def opens() -> Stream:
+            goes_on.wait()
+            return Stream(file, file, 'line')
+        opening = asyncio.create_task(trunk.TrunkFiles(opens, {}).open_until(ending))
+        await asyncio.sleep(0)
+        ending.set()
+        await opening
+        goes_on.set()
+        loop = asyncio.get_running_loop()
+        await loop.shutdown_default_executor()
+        await loop.run_in_executor(ThreadPoolExecutor(1), lambda: None)     # (behind what that one has told)
+        self.assertEqual(ours.recv(1), b'')
+
+
+class EndTests(support.FolderCase):
+    def test_a_trunk_that_waits_for_its_other_end(self) -> None:
+        """It did not end when that was asked for."""
+        for name in 'in', 'out':
+            os.mkfifo(self.path(name))
+        words = ['--config', self.write('trunk.toml', 'law = "A"\n'), '--in', self.path('in'), '--out',
+                 self.path('out'), '--control', self.path('ctl')]
+        for more in (), ('--reopen',):
+            with subprocess.Popen([sys.executable, '-B', LAUNCHER, '--program', support.program(), *words, *more],
+                                  stdin=subprocess.DEVNULL, stderr=subprocess.DEVNULL) as process:
+                support.until(lambda: os.path.exists(self.path('ctl')))
+                said = ask(self.path('ctl'), b'status')
+                process.terminate()
+                self.assertIn('not heard', said)
+                self.assertEqual(process.wait(SECONDS), 0)
+
+
+class UnitLimitTests(unittest.TestCase):
+    def value(self, unit: str, key: str) -> int:
+        """A number in a unit."""
+        found = re.findall(rf'^{key}=(\d+)$', support.text_of(f'{support.TOP}/dist/system/{unit}@.service'), re.M)
+        return int(found[0]) if found else -1
+
+    def test_descriptors_for_all_who_may_connect(self) -> None:
+        """Visitors of its pages could use up those of a tie, which then found neither its trunk nor the other site."""
+        self.assertGreater(self.value('e1gw-tie', 'LimitNOFILE'), MOST_VISITORS + 2 * STRANGERS + OWN)
+
+    def test_units_never_give_up(self) -> None:
+        """A name server, or an address, that was away for three minutes at the start left a trunk down for good."""
+        for unit in 'e1gw-trunk', 'e1gw-tie':
+            self.assertEqual(self.value(unit, 'StartLimitIntervalSec'), 0, unit)
+
+
+class NameTests(unittest.TestCase):
+    def test_names_of_trunks(self) -> None:
+        """With these no page could be read, or no session kept."""
+        for name in 'a/b', 'a\nb', os.fsdecode(b'\xff'):
+            with self.subTest(name), self.assertRaisesRegex(ValueError, 'is no name'):
+                wants_of(parser().parse_args(['--config', 'c', '--unix', 'u', '--name', name]))
+
+    def test_words_of_commands(self) -> None:
+        """A script whose variable is empty got a list of trunks, and status 0."""
+        rows = (['', 'quit'], ['p', ''], ['p', ' '], ['p', 'seize 1\nquit'], ['p', os.fsdecode(b'\xff')])
+        for words in rows:
+            said = io.StringIO()
+            with self.subTest(words), mock.patch.object(sys, 'argv', ['e1gw-ctl', *words]), \
+                    contextlib.redirect_stderr(said), self.assertRaises(SystemExit) as ended:
+                ctl.main()
+            self.assertEqual((ended.exception.code, 'Traceback' in said.getvalue()), (2, False))
+            self.assertIn('a word is empty, or cannot be printed', said.getvalue())
