@@ -33,7 +33,7 @@ enum phase { SEARCHING, CANDIDATE, ALIGNED };
 
 struct aligner {
     enum phase phase;
-    int age;                /* octets since the first signal; counted modulo two frames once alignment stands */
+    int age;                /* octets since the first signal; counted modulo two frames once aligned */
     int wrong[2];           /* wrong signals, and wrong second octets, in a row */
 };
 
@@ -82,7 +82,7 @@ static int frame_place(struct aligner *a, uint8_t octet)
 
 struct multiframe {
     bool is_aligned;
-    int frame;              /* of the next octet of slot 16, once alignment stands */
+    int frame;              /* of the next octet of slot 16, once aligned */
     bool was_wrong;         /* the last octet of a frame 0 */
     bool after_nonzero;     /* in the search: there is an octet before, and it is not 0 */
 };
@@ -289,7 +289,7 @@ static void coders_begin(struct circuit *c)
     c->decoder = g726_init(c->decoder, 8000 * bits, G726_ENCODING_ALAW, G726_PACKING_NONE);
 }
 
-/* Speech begins anew where a call begins or ends. */
+/* Speech is reset if a call begins or ends. */
 static void circuit_follow(struct circuit *c, bool was_open)
 {
     if (is_open(&c->line) == was_open)
@@ -376,7 +376,7 @@ static void flush(void)
     waits = 0;
 }
 
-/* Room for so many octets more, at most WRITE_ROOM. */
+/* Room for this many octets more, at most WRITE_ROOM. */
 static uint8_t *room(size_t len)
 {
     if (WRITE_ROOM - waits < len)

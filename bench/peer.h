@@ -35,7 +35,7 @@ int peer_law(const char *name);
 /* The bits of a code word of the codec of this name, "g726-16" to "g726-40", or 0. */
 int peer_bits(const char *name);
 
-/* The octet that stands for silence. */
+/* The octet of silence. */
 uint8_t peer_idle(enum law law);
 
 /* An encoder or a decoder at reset. Answers 0, or -1 where SpanDSP makes none. */

@@ -11,18 +11,16 @@ import paths    # noqa: F401 (makes e1gw known)
 from e1gw.exchange import ACKNOWLEDGED, ANSWERED, IDLE, SEIZED, Exchange
 
 STEP = 0.002                # seconds of a multiframe
-ACKNOWLEDGES = 10           # multiframes after which a seizure is acknowledged
+ACKNOWLEDGES, ANSWERS = 10, 100     # multiframes after which a seizure is acknowledged, and answered behind that
 RECOGNISED = 10             # equal pairs in a row
 CIRCUITS = range(1, 31)
-DARK = b'\xff' * 512
 
 
 class Player:
     """One exchange. On the circuits `calls` it calls; on all others it is called, acknowledges and answers."""
 
-    def __init__(self, path: str, calls: set[int], answers: int = 100) -> None:
-        self.exchange, self.calls, self.answers = Exchange('A'), calls, answers
-        self.acknowledges = self.light = True
+    def __init__(self, path: str, calls: set[int]) -> None:
+        self.exchange, self.calls = Exchange('A'), calls
         self.line: socket.socket | None = None
         self.ages: dict[int, int] = {}              # multiframes since a seizure, of circuits on which it is called
         self.log: list[tuple[float, int, int]] = []     # what it sees: when, on which circuit, which pair
@@ -45,7 +43,7 @@ class Player:
     def send(self) -> bool:
         """Sends a multiframe; returns whether the driver took it."""
         try:
-            octets = self.exchange.multiframe() if self.light else DARK
+            octets = self.exchange.multiframe()
             return self.line is not None and self.line.send(octets) == len(octets)
         except (BlockingIOError, BrokenPipeError, ConnectionResetError):
             return False
@@ -82,8 +80,6 @@ class Player:
 
     def act(self) -> None:
         """Acknowledges and answers what is seized, and is idle where it is cleared."""
-        if not self.acknowledges:
-            return
         pairs = self.exchange.pairs
         for circuit, pair in self.exchange.signals.items():
             if circuit in self.calls:
@@ -92,7 +88,7 @@ class Player:
                 age = self.ages[circuit] = self.ages.get(circuit, 0) + 1
                 if age == ACKNOWLEDGES:
                     pairs[circuit] = ACKNOWLEDGED
-                elif age == ACKNOWLEDGES + self.answers:
+                elif age == ACKNOWLEDGES + ANSWERS:
                     pairs[circuit] = ANSWERED
             elif pair != SEIZED and circuit in self.ages:
                 del self.ages[circuit]

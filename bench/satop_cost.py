@@ -7,25 +7,66 @@ order, aligned and played; read and sent. The status is 2 if nothing could be me
 from __future__ import annotations
 
 import os
-import random
 import re
+import select
 import socket
+import struct
 import subprocess
 import sys
 import tempfile
+import time
+from typing import Iterator
 
 import paths    # noqa: F401 (makes e1gw known)
+from e1gw.exchange import Exchange
 from e1gw.testing.ports import free_ports
-from satop_far import PATIENCE, SIZE, Multiplexer, Network, wait_for
 
 JITTER = 4                  # packets, the program's default
 BITS = 3
+SIZE = 256
+PATIENCE = 20.0             # seconds in which what is due has to come
+
+
+class FarEnd:
+    """Sends the line of an exchange in packets, and gives it the octets of those that come."""
+
+    def __init__(self, local: tuple[str, int], peer: tuple[str, int]) -> None:
+        self.exchange, self.sequence, self._before = Exchange(), 65500, 0xFF
+        self.sent = self.heard = 0
+        self.socket = socket.socket(socket.AF_INET, socket.SOCK_DGRAM)
+        self.socket.bind(local)
+        self.socket.connect(peer)
+        self.socket.setblocking(False)
+
+    def packets(self) -> Iterator[bytes]:
+        """The next two packets, a multiframe."""
+        octets = self.exchange.multiframe()
+        line = int.from_bytes(bytes([self._before]) + octets, 'big') >> BITS
+        self._before = octets[-1]
+        shifted = line.to_bytes(len(octets) + 1, 'big')[1:]
+        for at in range(0, len(shifted), SIZE):
+            yield struct.pack('>BBH', 0, 0, self.sequence) + shifted[at:at + SIZE]
+            self.sequence = (self.sequence + 1) % 65536
+
+    def send(self, packet: bytes) -> None:
+        self.sent += 1
+        self.socket.send(packet)
+
+    def hear(self) -> None:
+        """Hears what has come. An exchange that loses its frames ends the bench."""
+        try:
+            while True:
+                packet = self.socket.recv(4096)
+                self.heard += 1
+                self.exchange.hear(packet[4:])
+        except BlockingIOError:
+            pass
 
 
 class Ends:
     """The far end, and the trunk, which gives back what is played."""
 
-    def __init__(self, far: Multiplexer, line: socket.socket) -> None:
+    def __init__(self, far: FarEnd, line: socket.socket) -> None:
         self.far, self.line, self.played = far, line, 0
         line.setblocking(False)
 
@@ -42,8 +83,11 @@ class Ends:
 
     def wait(self) -> None:
         """Waits for all that is due: what is played of the packets, and a packet for each that was played."""
-        wait_for('octets and packets', [self.line.fileno(), self.far.socket.fileno()], self.carry,
-                 lambda: self.played >= SIZE * (self.far.sent - JITTER) and self.far.heard > self.played // SIZE)
+        end, files = time.monotonic() + PATIENCE, [self.line, self.far.socket]
+        while self.played < SIZE * (self.far.sent - JITTER) or self.far.heard <= self.played // SIZE:
+            if not select.select(files, [], [], max(0.0, end - time.monotonic()))[0]:
+                raise SystemExit(f'after {PATIENCE:g} s octets or packets are missing')
+            self.carry()
 
     def run(self, packets: int) -> int:
         """Sends this many packets; returns how many octets came and went."""
@@ -51,9 +95,9 @@ class Ends:
         self.wait()
         while self.far.sent < packets:
             for packet in self.far.packets():
-                self.far.send_packet(packet)
+                self.far.send(packet)
                 self.wait()
-        if not self.far.exchange.aligned or self.far.gaps or self.far.losses:
+        if not self.far.exchange.aligned:
             raise SystemExit('what came back has no frames')
         return self.played
 
@@ -61,7 +105,7 @@ class Ends:
 def run(program: str, packets: int, out: str = '/dev/null') -> tuple[int, int]:
     """The instructions of a run over this many packets, and the octets that came and went."""
     near, there = free_ports(2)
-    far = Multiplexer(('127.0.0.1', there), ('127.0.0.1', near), Network(random.Random(7)), BITS)
+    far = FarEnd(('127.0.0.1', there), ('127.0.0.1', near))
     ours, its = socket.socketpair()
     with tempfile.TemporaryDirectory() as folder, ours, far.socket:
         log = os.path.join(folder, 'log')

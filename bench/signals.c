@@ -48,7 +48,7 @@ struct maker {
 /* Fills a list, or a part of one. */
 typedef void making(struct maker *maker, uint8_t *list, size_t len);
 
-/* Segments of some length, each by one of the first so many ways to make a list. */
+/* Segments of some length, each by one of the first `count` ways to make a list. */
 static void segments(struct maker *maker, making *const ways[], uint32_t count, uint8_t *list, size_t len)
 {
     for (size_t at = 0; at < len;) {

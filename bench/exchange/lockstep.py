@@ -12,12 +12,11 @@ import random
 import select
 import socket
 import subprocess
-import sys
 from collections import Counter
 from dataclasses import dataclass
 from typing import Callable, Iterable, Iterator
 
-from paths import TOP
+import paths    # noqa: F401 (makes e1gw known)
 from e1gw.session import (HEAD, MULTIFRAME, Codec, Command, Kind, codec_record, command_record,
                           datagram_record, trunk_record)
 from e1gw.testing.openr2 import OpenR2
@@ -312,16 +311,6 @@ def world_of(folder: str, exchange: str, gateway: str, plan: Plan) -> Iterator[W
         yield world
     finally:
         world.end()
-
-
-def program_of(asked: str | None) -> str:
-    """The program that is named, or the one that scripts/build builds."""
-    if asked:
-        return os.path.realpath(asked)
-    done = subprocess.run([os.path.join(TOP, 'scripts', 'build')], stdout=subprocess.PIPE, check=False, text=True)
-    if done.returncode:
-        sys.exit(2)
-    return done.stdout.strip()
 
 
 class Table:

@@ -1,4 +1,4 @@
-/* The exchange in lock step. Standard input has records (a kind, 0, a length of two octets, so many octets):
+/* The exchange in lock step. Standard input has records (a kind, 0, a length of two octets, that many octets):
  *   T  whole multiframes that the exchange receives; as many that it sends are the answer
  *   L  a command as text: call N ANI DNIS, answer N, hangup N, block N, unblock N, bits N HEX, media N .., result N
  * Standard output has a T record for each T record, and before it an E record with each event: milliseconds of the

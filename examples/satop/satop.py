@@ -1,7 +1,7 @@
 """What examples/satop/run runs. Argument: the program.
 
 Each gateway is an e1gw-trunk. That of the west gives the clock of the emulated circuit, that of the east
-answers packet for packet. What stands for a phone on each side sends a rising and a falling tone as RTP in real time,
+answers packet for packet. A simulated phone on each side sends a rising and a falling tone as RTP in real time,
 and hears what comes.
 """
 from __future__ import annotations
@@ -27,7 +27,7 @@ PACKETS = 8000 * SECONDS // PACKET
 GOOD = 0.9                          # of the packets; a busy machine is late with some
 PATIENCE = 10
 ENDS = {'west': '127.0.0.1:21211,127.0.0.1:21212', 'east': '127.0.0.1:21212,127.0.0.1:21211'}
-# A trunk that stands still for a moment, on a busy machine, sends nothing; the buffer of the one that gives the clock
+# A trunk that stalls for a moment, on a busy machine, sends nothing; the buffer of the one that gives the clock
 # has to bear that.
 OPTIONS = {'west': ['--crc4', '--satop-clock', 'own', '--satop-jitter', '64'], 'east': ['--crc4']}
 PHONES = {'west': (21203, 21201), 'east': (21207, 21205)}

@@ -1,4 +1,4 @@
-"""Two gateways and the exchanges at the ends of their trunks; `run` beside this file makes the speech and starts it.
+"""Two gateways and the exchanges at the ends of their trunks; `run` in this folder makes the speech and starts it.
 
 Arguments: the program, the folder of west.toml and east.toml, the folder where recordings are kept, and a file of
 A-law octets for each of the two. Kept are west.rec and east.rec, what each gateway took (its --record), and west.raw
