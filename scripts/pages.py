@@ -64,7 +64,7 @@ def described(lines: list[str]) -> dict[str, list[str]]:
             item = re.match(r'\.It Fl (?:\w , )?-([\w-]+)', line)
             name = item and item.group(1)
             if name:
-                found[name] = []
+                found.setdefault(name, [])
         elif name:
             found[name].append(line)
     return found
@@ -99,7 +99,7 @@ def compare_options(lines: list[str]) -> None:
 def compare_values(option: str, lines: list[str]) -> None:
     """The values of an option of a stream or a circuit are those that the program takes, and its default is the
     program's."""
-    runs = [SATOP] if option in helped('satop') else STREAMS
+    runs = [words for words in (*STREAMS, SATOP) if option in helped(words[0])] or STREAMS
     text = ' '.join(line.removeprefix('.Cm ') for line in lines)
     default = re.search(r'The default is (\S+?) ?\.', text)
     bounds = re.search(r'(\d+) to (\d+)\.', text)

@@ -13,7 +13,7 @@ import tempfile
 import threading
 import time
 from dataclasses import dataclass, field
-from typing import Iterator
+from typing import Any, Iterator
 
 import tree
 from tree import read
@@ -29,16 +29,30 @@ TRUNK = 'e1gw-trunk --config trunk1.toml --unix card --control {} --session /var
         '> trunk.log 2>&1 & sleep 2\n'
 SESSION = 'e1gw-config --first-local 5002 > trunk1.toml; examples/first_call/make > trunk1.rec\n' \
           'tools/records --to-raw trunk1.rec > trunk.raw; e1gw replay --config trunk1.toml < trunk1.rec > sent.rec\n'
+# A /dev of the page's own, and a card in it.
+CARD = '''mkdir dev; mount --rbind /dev dev; mount -t tmpfs -o mode=755 pages /dev; ln -s /proc/self/fd /dev
+for each in null zero full random urandom tty; do touch /dev/$each; mount --bind dev/$each /dev/$each; done
+mkdir -m 1777 /dev/pts /dev/shm; mount -t devpts -o ptmxmode=666 pages /dev/pts; ln -s pts/ptmx /dev
+e1gw-exchange line > lines & python3 -B "$TOP/scripts/card.py" {} line & sleep 1
+'''
+RECEIVED = 'import json, sys; its = json.load(sys.stdin)["circuits"][2]["datagrams"]; ' \
+           'sys.exit(sum(its.values()) - its["sent"] < int(sys.argv[1]))'
 STRANGE = 'import socket; line = socket.socket(2, 2)\nfor n in range(8): line.sendto(bytes([128, 9] + 170 * [0]), ' \
           '("127.0.0.1", 24006))'
 BEFORE = {
     'docs/START.md': 'head -c 16000 /dev/urandom > speech.al\n' + SESSION,
-    'docs/OPERATING.md': EXCHANGE + TRUNK.format('control', 'west') + 'e1gw-ctl control seize 3; sleep 2\n'
+    'docs/OPERATING.md': CARD.format('/dev/e1') + 'head -c 59 /dev/e1 > /dev/null\n' + EXCHANGE +
+                         TRUNK.format('control', 'west') + 'e1gw-ctl control seize 3; sleep 2\n'
                          f"python3 -c '{STRANGE}'; sleep 1; e1gw-ctl control clear 3; sleep 1\n"
                          'cp trunk1.toml west.toml; cp /var/lib/e1gw/west/*.e1gw kept\n'
                          'name=west-20261125T101500Z; zstd -q kept -o $name.e1gw.zst\n'
                          'e1gw replay --config west.toml --save $name.state < kept > half\n',
-    'docs/SATOP.md': 'e1gw-config --host 192.0.2.10 --peer 198.51.100.20 > trunk1.toml\n',
+    'docs/SATOP.md': 'e1gw-config --host 192.0.2.10 --peer 198.51.100.20 > trunk1.toml\n' +
+                     CARD.format('--clear /dev/dahdi/1'),
+    'docs/SIP.md': EXCHANGE + TRUNK.format('control', 'west') + 'espeak-ng -w speech.wav "One of thirty."\n'
+                   "sed -n '/^v=0/,/^```/{/^```/!p}' docs/SIP.md > circuit3.sdp\n"
+                   f'received() {{ sleep 1; e1gw-ctl control status json | python3 -c \'{RECEIVED}\' "$1"; }}\n'
+                   'e1gw-ctl control seize 3; sleep 2\n',
     'dist/man/e1gw.1': SESSION + 'tools/records --from-raw trunk.raw > in.rec\n',
     'dist/man/e1gw-ctl.1': EXCHANGE + TRUNK.format('trunk1', 'trunk1'),
     'dist/man/e1gw-picture.1': EXCHANGE + TRUNK.format('control', 'trunk1') + SESSION +
@@ -49,6 +63,16 @@ BEFORE = {
                            '-subj /CN=$site.example -keyout $site.key -out $site.pem\ndone; cp west.pem ca.pem\n',
     'dist/man/e1gw-trunk.1': 'e1gw-config --write trunk1; e1gw-exchange --again card > seen & sleep 1\n',
 }
+# Lines that come before another line of a page, by its first words: what is so there, as the page says.
+BETWEEN = {
+    ('docs/SATOP.md', 'e1gw-trunk --config trunk1.toml --clear'): 'e1gw-ctl trunk1.control quit; sleep 1\n',
+    ('docs/SIP.md', 'ffmpeg -re -i speech.wav -ar 8000 -ac 1 -c:a g726le'):
+        'received 50; e1gw-ctl control codec 3 g726-32 96\n',
+    ('docs/SIP.md', 'ffmpeg -protocol'): 'received 90\n',
+    ('docs/SIP.md', 'gst-launch-1.0 filesrc'): '[ "$(stat -c %s heard.wav)" -gt 70000 ]; rm heard.wav\n'
+                                               'e1gw-ctl control codec 3 pcma 8\n',
+    ('docs/SIP.md', 'gst-launch-1.0 -e'): 'received 130; e1gw-ctl control codec 3 g726-32 96\n',
+}
 # Commands that wait in a terminal of their own until the end of their page, by page and first words, and what is typed
 # there once all of them wait.
 WAITING = {
@@ -57,28 +81,34 @@ WAITING = {
     ('docs/TIE.md', 'e1gw-trunk'): '',
     ('docs/TIE.md', 'e1gw-tie'): '',
     ('docs/SATOP.md', 'e1gw-trunk'): '',
+    ('docs/SIP.md', 'gst-launch-1.0 -e'): '',
     ('dist/man/e1gw-trunk.1', 'e1gw-trunk'): '',
     ('dist/man/e1gw-ctl.1', 'e1gw-ctl trunk1 events'): '',
     ('dist/man/e1gw-records.1', 'e1gw-exchange'): '',
     ('dist/man/e1gw-tie.1', 'e1gw-tie'): '',
 }
+# What must be so at the end of a page.
+AFTER = {
+    'docs/OPERATING.md': "! command -v nft || sed -n '/^table inet/,/^}/p' docs/OPERATING.md | nft -c -f -\n",
+    'docs/SIP.md': 'for turn in $(seq 60); do [ "$(stat -c %s heard.wav)" -lt 9000 ] || break; sleep 1; done\n'
+                   '[ "$(stat -c %s heard.wav)" -ge 9000 ]\n',
+}
 # Blocks that are not run, by page and first words, and why. Their options are known to the commands' --help.
-SYSTEMD = 'root and systemd: scripts/units and scripts/package --try use the units'
-CARD = 'a card'
-MACHINES = 'two machines and root: driver/tests/test_two_machines.py has a takeover'
+SYSTEMD = 'root and systemd: scripts/units pastes them'
+CLUSTER = 'root, systemd and Pacemaker: bench/two-machines pastes them'
 NOT_RUN = {
     ('README.md', 'scripts/gate'): 'it runs this test',
     ('docs/START.md', "e1gw-config --folder /etc/e1gw --write west --device '--in"): SYSTEMD,
     ('docs/START.md', "e1gw-config --folder /etc/e1gw --write box"): SYSTEMD,
     ('docs/START.md', 'cp /etc/e1gw/example.toml'): SYSTEMD,
-    ('docs/OPERATING.md', 'head -c 4096 /dev/e1'): CARD,
-    ('docs/SATOP.md', 'e1gw-trunk --config trunk1.toml --clear'): CARD,
-    ('docs/SIP.md', ''): 'ffmpeg and GStreamer: bench/interwork makes these calls',
     ('docs/TIE.md', 'TIE='): SYSTEMD,
-    ('docs/TWO-MACHINES.md', ''): MACHINES,
+    ('docs/TWO-MACHINES.md', 'own='): SYSTEMD,
+    ('docs/TWO-MACHINES.md', 'ip addr'): SYSTEMD,
+    ('docs/TWO-MACHINES.md', 'crm'): CLUSTER,
 }
 # What a block needs of others, by a word of it; without that it is not run.
-TOOLS = {tool: tool for tool in ('espeak-ng', 'sox', 'tshark', 'xxd', 'zstd', 'openssl')} | {
+TOOLS = {tool: tool for tool in ('espeak-ng', 'sox', 'tshark', 'xxd', 'zstd', 'openssl', 'ffmpeg',
+                                        'gst-launch-1.0')} | {
     'two_gateways/run': 'espeak-ng', 'exchange/card': '/usr/include/openr2.h'}
 # Words of a block that its output has: of a comparison, and the state of a circuit as a comment has it.
 SAID = re.compile(r'&& echo (same)\b|e1gw-ctl \S+ status\b.*# (idle|seized|acked|answered|releasing|blocked|fault)\b')
@@ -101,7 +131,7 @@ class Block:
         text = BEFORE.get(self.page, '') + self.text
         lacking = next((f'no {tool}' for word, tool in TOOLS.items() if re.search(rf'(?<!\w){word}\b', text)
                         and not shutil.which(tool) and not os.path.exists(tool)), None)
-        return next((NOT_RUN[row] for row in NOT_RUN if matches(row, self.page, self.text)), lacking)
+        return row_of(NOT_RUN, self.page, self.text) or lacking
 
     def lines(self) -> list[str]:
         """The lines, those that go on behind a backslash as one."""
@@ -193,21 +223,21 @@ trap 'echo "@failed $?: $BASH_COMMAND"' ERR
 '''
 
 
-def waiting(page: str, line: str) -> str | None:
-    """What is typed at a command that waits, or nothing if it does not wait."""
-    return next((typed for row, typed in WAITING.items() if matches(row, page, line)), None)
+def row_of(table: dict[tuple[str, str], str], page: str, text: str) -> str | None:
+    """What a table has about this text of a page."""
+    return next((found for row, found in table.items() if matches(row, page, text)), None)
 
 
 def script_of(page: str) -> str:
     """What a shell is given for a page."""
-    blocks = [block for block in blocks_of(page) if not block.why_not()]
     parts = [SHELL.replace('HOSTS', ' '.join(HOSTS)), BEFORE.get(page, '')]
-    for block in blocks:
+    for block in run_blocks(page):
         parts.append(f'echo @block {block.line}\n')
         for line in block.lines():
-            typed = waiting(page, line)
+            typed = row_of(WAITING, page, line)
+            parts.append(row_of(BETWEEN, page, line) or '')
             parts.append(line if typed is None else f'{{ {line}}} < <(typed "{typed}") & sleep 1\n')
-    return ''.join([*parts, 'touch go; sleep 3; echo; echo @end\n'])
+    return ''.join([*parts, f'touch go; sleep 3\n{AFTER.get(page, "")}echo; echo @end\n'])
 
 
 def put_commands(folder: str, program: str) -> None:
@@ -221,6 +251,17 @@ def put_commands(folder: str, program: str) -> None:
         os.symlink(os.path.join(tree.TOP, 'driver', 'launch'), os.path.join(folder, 'bin', f'e1gw-{name}'))
 
 
+def output_of(words: list[str], **around: Any) -> str:
+    """What a command prints within MOST_SECONDS."""
+    try:
+        done: subprocess.CompletedProcess[bytes] = subprocess.run(
+            words, stdin=subprocess.DEVNULL, stdout=subprocess.PIPE, stderr=subprocess.STDOUT, timeout=MOST_SECONDS,
+            check=False, **around)
+    except subprocess.TimeoutExpired as late:
+        return (late.stdout or b'').decode(errors='replace') + f'\n@failed: not within {MOST_SECONDS} s\n'
+    return done.stdout.decode(errors='replace')
+
+
 def pasted(script: str, program: str) -> str:
     """What a shell prints that is given this."""
     with tempfile.TemporaryDirectory(prefix='page') as folder:
@@ -228,14 +269,10 @@ def pasted(script: str, program: str) -> str:
         words = ['unshare', *([] if os.geteuid() == 0 else ['--map-root-user']), '--net', '--mount', '--pid', '--fork',
                  '--kill-child', '--mount-proc', 'bash', '-c', script]
         around = dict(os.environ, TOP=tree.TOP, E1GW=program, PATH=f'{folder}/bin:{os.environ["PATH"]}')
-        try:
-            done = subprocess.run(words, cwd=folder, env=around, stdin=subprocess.DEVNULL, stdout=subprocess.PIPE,
-                                  stderr=subprocess.STDOUT, timeout=MOST_SECONDS, check=False)
-        except subprocess.TimeoutExpired as late:
-            return (late.stdout or b'').decode(errors='replace') + f'\n@failed: not within {MOST_SECONDS} s\n'
+        said = output_of(words, cwd=folder, env=around)
         logs = (os.path.join(folder, name) for name in os.listdir(folder) if name.endswith('.log'))
         kept = [file.read() for file in map(functools.partial(open, encoding='utf-8', errors='replace'), logs)]
-        return done.stdout.decode(errors='replace') + ''.join(kept)
+        return said + ''.join(kept)
 
 
 def lacking(program: str) -> str:
@@ -268,24 +305,26 @@ class Stalls(threading.Thread):
 def judged(page: str, program: str) -> list[str]:
     """What the commands of a page do otherwise than the page says, unless the machine stalled while they needed it."""
     with Stalls() as stalls:
-        wrong = [*wrong_output(page, program)]
+        wrong = [*differences(page, run_blocks(page), pasted(script_of(page), program))]
     if wrong and page in REAL_TIME and stalls.longest > STALL:
         print(f'docs: {page}: not judged, the machine stalled for {stalls.longest:.1f} s: {wrong[0]}')
         return []
     return wrong
 
 
-def wrong_output(page: str, program: str) -> Iterator[str]:
-    """What the commands of a page do otherwise than the page says."""
-    said = pasted(script_of(page), program)
+def run_blocks(page: str) -> list[Block]:
+    """The blocks of a page that are run."""
+    return [block for block in blocks_of(page) if not block.why_not()]
+
+
+def differences(page: str, blocks: list[Block], said: str) -> Iterator[str]:
+    """What the commands of a page's blocks have done otherwise than the page says."""
     if '\n@end\n' not in said:
         yield f'{page}: not pasted to its end: {said[-300:]!r}'
     for trace in re.findall(r'Traceback.*\n(?:.*\n)*?(\w+: .*)', said):
         yield f'{page}: {trace}'
     yield from (f'{page}: before its first command: {line}' for line in failures(said.partition('@block')[0]))
-    for block in blocks_of(page):
-        if block.why_not():
-            continue
+    for block in blocks:
         own = said.partition(f'@block {block.line}\n')[2].partition('@block ')[0]
         yield from (f'{block.place()}: {line}' for line in failures(own))
         if not re.search('(?:.*\n)*'.join(f'(?m:^ *{each})' for each in block.shown), own):
@@ -353,7 +392,9 @@ def wrong_options(place: str, text: str, program: str) -> Iterator[str]:
 def wrong_unrun(page: str, program: str) -> Iterator[str]:
     """Syntax and options of the blocks of a page that are not run, and of commands in its lines."""
     for block in blocks_of(page):
-        if block.why_not():
+        if why := block.why_not():
+            if not row_of(NOT_RUN, page, block.text):
+                print(f'docs: {block.place()}: not run: {why}')
             said = subprocess.run(['bash', '-n'], input=block.text, stderr=subprocess.PIPE, text=True, check=False)
             yield from (f'{block.place()}: {line}' for line in said.stderr.splitlines())
             yield from wrong_options(block.place(), block.text, program)
@@ -366,7 +407,7 @@ def wrong_unrun(page: str, program: str) -> Iterator[str]:
 
 def stale_rows() -> Iterator[str]:
     """Rows of the tables that are about no command."""
-    for page, words in [*WAITING, *NOT_RUN, *((page, '') for page in BEFORE)]:
+    for page, words in [*WAITING, *BETWEEN, *NOT_RUN, *((page, '') for page in BEFORE)]:
         texts = [line for block in blocks_of(page) for line in (block.text, *block.lines())]
         if not any(text.startswith(words) for text in texts):
             yield f'scripts/pasted.py: {page} has no command {words!r}'

@@ -14,7 +14,8 @@ import time
 OCTETS = 256_000            # a second
 MOST = 10.0
 EXCHANGE = re.compile(r'(?:e1gw-exchange|/exchange/card|examples/exchange)\0(?:--again\0)?([^\0]+)')
-CONTROL, DEVICE = (re.compile(rf'e1gw-trunk\0.*?--{option}\0([^\0]+)', re.S) for option in ('control', 'unix'))
+CONTROL = re.compile(r'e1gw-trunk\0.*?--control\0([^\0]+)', re.S)
+DEVICE = re.compile(r'(?:e1gw-trunk\0.*?--unix|card\.py\0(?:--clear\0)?[^\0]+)\0([^\0]+)', re.S)
 
 
 def processes() -> list[tuple[str, str]]:

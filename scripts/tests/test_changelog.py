@@ -5,7 +5,8 @@ import subprocess
 import sys
 import unittest
 
-TOP = os.path.dirname(os.path.dirname(os.path.dirname(os.path.abspath(__file__))))
+from . import TOP
+
 
 
 class Changelog(unittest.TestCase):
@@ -20,7 +21,3 @@ class Changelog(unittest.TestCase):
         with open(os.path.join(TOP, 'CHANGELOG.md'), encoding='utf-8') as file:
             points = len(re.findall(r'(?m)^\* ', file.read()))
         self.assertEqual(said.count('\n  * '), points)
-
-
-if __name__ == '__main__':
-    unittest.main()

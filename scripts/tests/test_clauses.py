@@ -2,10 +2,10 @@
 import os
 import subprocess
 import sys
-import tempfile
-import unittest
 
-CLAUSES = os.path.join(os.path.dirname(os.path.dirname(os.path.abspath(__file__))), 'clauses')
+from . import FolderCase, SCRIPTS
+
+CLAUSES = os.path.join(SCRIPTS, 'clauses')
 FILES = {
     'low/src/lib.rt': '''ghost use Rattle.low.specs.Sums.{total, least};
 
@@ -41,25 +41,17 @@ pub trait Adds {
 '''}
 
 
-class ClausesTests(unittest.TestCase):
+class ClausesTests(FolderCase):
     def setUp(self) -> None:
-        folder = tempfile.TemporaryDirectory()
-        self.addCleanup(folder.cleanup)
-        self.top = folder.name
+        super().setUp()
         for path, text in FILES.items():
-            self.write(path, text)
+            self.write(f'crates/{path}', text)
         self.git('init', '-q')
         self.git('add', '.')
         self.git('-c', 'user.name=x', '-c', 'user.email=x@x', 'commit', '-qm', 'x')
 
     def git(self, *words: str) -> None:
         subprocess.run(['git', '-C', self.top, *words], check=True)
-
-    def write(self, path: str, text: str) -> None:
-        path = os.path.join(self.top, 'crates', path)
-        os.makedirs(os.path.dirname(path), exist_ok=True)
-        with open(path, 'w', encoding='utf-8') as file:
-            file.write(text)
 
     def said(self, *words: str) -> list[str]:
         ran = subprocess.run([sys.executable, '-B', CLAUSES, '--top', self.top, *words], capture_output=True, text=True,
@@ -75,15 +67,12 @@ class ClausesTests(unittest.TestCase):
     def test_differences(self) -> None:
         """A clause and a definition below it; no private function, comment or blank."""
         specs = FILES['low/specs/Sums.antt']
-        self.write('low/specs/Sums.antt', specs.replace('n m = m', 'n m =\n  m -- as it is').replace('= 0', '= 1'))
+        self.write('crates/low/specs/Sums.antt',
+                   specs.replace('n m = m', 'n m =\n  m -- as it is').replace('= 0', '= 1'))
         self.assertEqual(self.said('--since', 'HEAD'), [])
-        self.write('low/specs/Sums.antt', specs.replace('n m = m', 'n m = 0'))
-        self.write('high/src/lib.rt', FILES['high/src/lib.rt'].replace('total self', '0'))
+        self.write('crates/low/specs/Sums.antt', specs.replace('n m = m', 'n m = 0'))
+        self.write('crates/high/src/lib.rt', FILES['high/src/lib.rt'].replace('total self', '0'))
         self.assertEqual(self.said('--since', 'HEAD'), [
             'high::Adds::add', '  - ensures { result ≡ total self }', '  + ensures { result ≡ 0 }',
             'low.specs.Sums.added', '  - abbrev pub added : List ℕ → ℕ → ℕ added n m = m',
             '  + abbrev pub added : List ℕ → ℕ → ℕ added n m = 0'])
-
-
-if __name__ == '__main__':
-    unittest.main()

@@ -1,16 +1,9 @@
 """What scripts/docs says of a small tree of its own."""
-import importlib.machinery
-import importlib.util
-import os
-import tempfile
-import unittest
 from unittest import mock
 
 import pasted
 import tree
-
-SCRIPTS = os.path.dirname(os.path.dirname(os.path.abspath(__file__)))
-LOADER = importlib.machinery.SourceFileLoader('docs', os.path.join(SCRIPTS, 'docs'))
+from . import FolderCase, loaded
 
 CALLS = """/// Holds of all counters.
 pub fn law()
@@ -83,80 +76,70 @@ PROVED = """# What is proved
 """
 
 
-class Tree(unittest.TestCase):
+class Tree(FolderCase):
     def setUp(self) -> None:
-        spec = importlib.util.spec_from_loader('docs', LOADER)
-        assert spec
-        self.docs = importlib.util.module_from_spec(spec)
-        LOADER.exec_module(self.docs)
-        folder = tempfile.TemporaryDirectory()
-        self.addCleanup(folder.cleanup)
+        super().setUp()
+        self.docs = loaded('docs')
         setattr(self.docs, 'OUTSIDE', 0)
-        patched = mock.patch.object(tree, 'TOP', folder.name)
+        patched = mock.patch.object(tree, 'TOP', self.top)
         patched.start()
         self.addCleanup(patched.stop)
-        self.put('crates.txt', 'small:\n')
-        self.put('crates/small/src/lib.rt', LIB)
-        self.put('crates/small/src/tests.rt', TESTS)
-        self.put('crates/small/must-fail/double_is_three.edit', '')
-        self.put('docs/PROVED.md', PROVED)
-        self.put('driver/e1gw/calls.py', '"""A line for each call: as CSV.\n\nMore of it."""\n')
-
-    def put(self, path: str, text: str) -> None:
-        whole = os.path.join(tree.TOP, path)
-        os.makedirs(os.path.dirname(whole), exist_ok=True)
-        with open(whole, 'w', encoding='utf-8') as file:
-            file.write(text)
+        self.write('crates.txt', 'small:\n')
+        self.write('crates/small/src/lib.rt', LIB)
+        self.write('crates/small/src/tests.rt', TESTS)
+        self.write('crates/small/must-fail/double_is_three.edit', '')
+        self.write('docs/PROVED.md', PROVED)
+        self.write('driver/e1gw/calls.py', '"""A line for each call: as CSV.\n\nMore of it."""\n')
 
     def test_all_as_it_should_be(self) -> None:
         self.assertEqual([*self.docs.wrong_examples(), *self.docs.wrong_names(), *self.docs.wrong_heads()], [])
 
     def test_examples_that_stand_in_no_test(self) -> None:
-        self.put('crates/small/src/tests.rt', TESTS.replace('4', '5').replace(' 1 ', '1  '))
+        self.write('crates/small/src/tests.rt', TESTS.replace('4', '5').replace(' 1 ', '1  '))
         self.assertEqual([line.split(': ')[0] for line in self.docs.wrong_examples()],
                          ['crates/small/src/lib.rt:5', 'crates/small/src/lib.rt:12'])
         setattr(self.docs, 'OUTSIDE', 2)
         self.assertEqual(list(self.docs.wrong_examples()), [])
 
     def test_crate_without_a_section_wrong_bodies_or_a_head(self) -> None:
-        self.put('crates.txt', 'small:\nbare: small arrayvec\nsmall_tests: small\n')
-        self.put('crates/bare/src/lib.rt', '//! No end\n\npub fn f() {}\n')
-        self.put('crates/small/must-fail/three.edit', '')
+        self.write('crates.txt', 'small:\nbare: small arrayvec\nsmall_tests: small\n')
+        self.write('crates/bare/src/lib.rt', '//! No end\n\npub fn f() {}\n')
+        self.write('crates/small/must-fail/three.edit', '')
         self.assertEqual([*self.docs.wrong_names(), *self.docs.wrong_heads()], [
             'crates/small: the wrong body three: its name is no sentence of words',
             'docs/PROVED.md: no section of bare', 'crates/bare: no wrong body',
             'crates/bare/src/lib.rt: does not begin with a sentence'])
 
     def test_module_without_a_head(self) -> None:
-        self.put('driver/e1gw/tie/__init__.py', '')
+        self.write('driver/e1gw/tie/__init__.py', '')
         self.assertEqual(tree.modules(), {'calls': 'A line for each call: as CSV.', 'tie/': ''})
         self.assertEqual(list(self.docs.wrong_heads()), ['driver/e1gw/tie/: does not begin with a sentence'])
 
     def test_what_a_crate_has(self) -> None:
-        self.put('crates.txt', 'small:\nsmall_tests: small\n')
-        self.put('crates/small_tests/src/small_tests.rt', TESTS.replace('two_and_two', 'elsewhere'))
+        self.write('crates.txt', 'small:\nsmall_tests: small\n')
+        self.write('crates/small_tests/src/small_tests.rt', TESTS.replace('two_and_two', 'elsewhere'))
         self.assertEqual(tree.summary('crates/small/src/lib.rt'), 'A small crate.')
         self.assertEqual(tree.tests(), {'small': ['two_and_two', 'elsewhere'], 'small_tests': []})
         self.assertEqual(tree.wrong_bodies_of('small'), ['double_is_three'])
 
     def test_calls(self) -> None:
-        self.put('crates/small/src/counter.rt', CALLS)
+        self.write('crates/small/src/counter.rt', CALLS)
         self.assertEqual(list(tree.calls('crates/small/src/counter.rt')),
                          [('law', 'Holds of all counters.', ['result']),
                           ('Counter::more', 'Counts one more, at most 255; none at 0.', ['result', 'stands']),
                           ('Told::told', '', ['bound'])])
 
     def test_links_out_of_the_package(self) -> None:
-        self.put('scripts/package', 'for file in OPERATING TIE; do\n')
-        self.put('docs/OPERATING.md', '[a](TIE.md#b) [c](https://d) [e](pictures/f.svg)')
-        self.put('docs/TIE.md', '[a](../README.md) [b](OPERATING.md)')
+        self.write('scripts/package', 'for file in OPERATING TIE; do\n')
+        self.write('docs/OPERATING.md', '[a](TIE.md#b) [c](https://d) [e](pictures/f.svg)')
+        self.write('docs/TIE.md', '[a](../README.md) [b](OPERATING.md)')
         self.assertEqual(list(self.docs.wrong_links()),
                          ['docs/TIE.md: links to ../README.md, which the package lacks'])
 
     def test_blocks_with_what_they_print(self) -> None:
-        self.put('docs/A.md', '```sh\ncat a \\\n  b\nls\n```\n\n```\n1 .. 3\n```\n\n'
+        self.write('docs/A.md', '```sh\ncat a \\\n  b\nls\n```\n\n```\n1 .. 3\n```\n\n'
                               '```text\n$ who 1\nup 4.2 s (2)\n```\n')
-        self.put('dist/man/a.1', '.Sh EXAMPLES\n.Bd -literal\na \\e\n  b\n.Ed\n.Dl c\n.Sh SEE ALSO\n.Dl d\n')
+        self.write('dist/man/a.1', '.Sh EXAMPLES\n.Bd -literal\na \\e\n  b\n.Ed\n.Dl c\n.Sh SEE ALSO\n.Dl d\n')
         first, second = pasted.blocks_of('docs/A.md')
         self.assertEqual((first.line, first.lines(), first.shown), (1, ['cat a \\\n  b\n', 'ls\n'], [r'1\ .*\ 3']))
         self.assertEqual(second.text, 'who 1\n')
@@ -164,13 +147,8 @@ class Tree(unittest.TestCase):
         self.assertEqual([block.text for block in pasted.blocks_of('dist/man/a.1')], ['a \\\n  b\n', 'c\n'])
 
     def test_options_that_a_command_does_not_have(self) -> None:
-        self.put('tools/greet', '#!/bin/sh\necho "--loud  $1"\n')
-        os.chmod(os.path.join(tree.TOP, 'tools/greet'), 0o755)
+        self.write('tools/greet', '#!/bin/sh\necho "--loud  $1"\n', 0o755)
         for text, wrong in (('a=b tools/greet --loud | cat --x', []),
                             ('cat\ntools/greet \\\n --aloud=1 # --x', ['--aloud']),
                             ('true; e1gw-greet --low', ['--low'])):
             self.assertEqual([line.split()[-1] for line in pasted.wrong_options('A', text, 'e1gw')], wrong)
-
-
-if __name__ == '__main__':
-    unittest.main()

@@ -6,7 +6,8 @@ import sys
 import tempfile
 import unittest
 
-TOP = os.path.dirname(os.path.dirname(os.path.dirname(os.path.abspath(__file__))))
+from . import TOP
+
 DSCP = os.path.join(TOP, 'dist', 'system', 'dscp')
 UNIT = r'sys.slice/system-e1gw\x2dtrunk.slice/e1gw-trunk@t1.service'
 EF = 46 << 2                # RFC 3246: 101110, before the two bits of ECN
@@ -88,7 +89,3 @@ class Marks(unittest.TestCase):
         done = self.heard('best')
         self.assertEqual(done.returncode, 1)
         self.assertIn('DSCP=best', done.stderr)
-
-
-if __name__ == '__main__':
-    unittest.main()

@@ -4,10 +4,9 @@ import resource
 import socket
 import subprocess
 import sys
-import tempfile
-import unittest
 
-TOP = os.path.dirname(os.path.dirname(os.path.dirname(os.path.abspath(__file__))))
+from . import FolderCase, TOP
+
 EXPLAIN = os.path.join(TOP, 'tools', 'explain')
 ONE = 'law = "A"\n[[circuit]]\nnumber = 1\n'
 
@@ -35,13 +34,11 @@ FAULTS = [
 ]
 
 
-class Explained(unittest.TestCase):
+class Explained(FolderCase):
     def explained(self, text: str, *words: str) -> tuple[int, list[str]]:
-        with tempfile.TemporaryDirectory() as folder:
-            path = os.path.join(folder, 'trunk.toml')
-            with open(path, 'w', encoding='utf-8') as file:
-                file.write(text)
-            ran = subprocess.run([sys.executable, '-B', EXPLAIN, *words, path], capture_output=True, text=True)
+        self.write('trunk.toml', text)
+        path = os.path.join(self.top, 'trunk.toml')
+        ran = subprocess.run([sys.executable, '-B', EXPLAIN, *words, path], capture_output=True, text=True)
         self.assertEqual(ran.stderr, '')
         return ran.returncode, ran.stdout.replace(path, 'FILE').splitlines()
 
@@ -126,7 +123,3 @@ class Sockets(Explained):
     def test_a_name_without_an_address(self) -> None:
         text = ONE + 'local_port = 24002\npeer_port = 9\npeer_host = "nobody.invalid"'
         self.assertIn('has no address', self.explained(text)[1][2])
-
-
-if __name__ == '__main__':
-    unittest.main()

@@ -2,27 +2,18 @@
 import os
 import shutil
 import subprocess
-import tempfile
-import unittest
 
-TOP = os.path.dirname(os.path.dirname(os.path.dirname(os.path.abspath(__file__))))
+from . import FolderCase, TOP
+
 WAV = b'RIFF\0\0\0\0WAVEfmt \0\1\2\3'
 
 
-class Front(unittest.TestCase):
+class Front(FolderCase):
     def setUp(self) -> None:
-        folder = tempfile.TemporaryDirectory()
-        self.addCleanup(folder.cleanup)
-        self.top = folder.name
-        os.mkdir(os.path.join(self.top, 'scripts'))
+        super().setUp()
         shutil.copy(os.path.join(TOP, 'e1gw'), self.top)
-        self.write('scripts/build', '#!/bin/sh\necho "${0%/*}/program"\n')
-        self.write('scripts/program', '#!/bin/sh\ncat\n')
-
-    def write(self, path: str, text: str) -> None:
-        with open(os.path.join(self.top, path), 'w', encoding='utf-8') as file:
-            file.write(text)
-            os.fchmod(file.fileno(), 0o755)
+        self.write('scripts/build', '#!/bin/sh\necho "${0%/*}/program"\n', 0o755)
+        self.write('scripts/program', '#!/bin/sh\ncat\n', 0o755)
 
     def ran(self, octets: bytes, redirected: str, command: str = 'encode') -> tuple[bytes, str]:
         """What comes out, and what is said, where these octets come in so."""
@@ -53,7 +44,3 @@ class Front(unittest.TestCase):
     def test_a_closed_input(self) -> None:
         done = subprocess.run(['bash', '-c', '"$0" encode <&-', os.path.join(self.top, 'e1gw')], capture_output=True)
         self.assertNotIn(b'WAV', done.stderr)
-
-
-if __name__ == '__main__':
-    unittest.main()

@@ -1,22 +1,15 @@
-#!/usr/bin/env python3
-"""Tests scripts/libraries and scripts/build on a small tree, with a command rt that proves nothing.
-
-usage: scripts/tests/test_libraries.py
-"""
+"""Tests scripts/libraries and scripts/build on a small tree, with a command rt that proves nothing."""
 import os
 import shutil
 import signal
 import subprocess
 import sys
-import tempfile
 import time
 import unittest
-from importlib.machinery import SourceFileLoader
-from importlib.util import module_from_spec, spec_from_loader
-from types import ModuleType
 from unittest import mock
 
-SCRIPTS = os.path.dirname(os.path.dirname(os.path.realpath(__file__)))
+from . import FolderCase, SCRIPTS, loaded
+
 ROWS = 'low:\nother:\nmiddle: low arrayvec\ngateway_main: clap middle other\napart: low\n'
 # It notes when it begins and ends with a library, and what of the libraries below is there.
 RT = '''#!/bin/sh
@@ -46,38 +39,18 @@ esac
 '''
 
 
-def loaded() -> ModuleType:
-    """scripts/libraries as a module, with nothing kept of it."""
-    sys.dont_write_bytecode = True
-    loader = SourceFileLoader('libraries', f'{SCRIPTS}/libraries.py')
-    spec = spec_from_loader('libraries', loader)
-    assert spec is not None
-    module = module_from_spec(spec)
-    sys.modules['libraries'] = module
-    loader.exec_module(module)
-    return module
-
-
-class Tree(unittest.TestCase):
+class Tree(FolderCase):
     def setUp(self) -> None:
-        self.top = os.path.realpath(tempfile.mkdtemp())
-        self.addCleanup(shutil.rmtree, self.top)
+        super().setUp()
         self.notes = f'{self.top}/notes'
-        os.makedirs(f'{self.top}/bin')
         os.makedirs(f'{self.top}/tree/scripts')
         for name in ('build', 'libraries', 'libraries.py', 'kit.py'):
             shutil.copy(f'{SCRIPTS}/{name}', f'{self.top}/tree/scripts/{name}')
-        self.write('bin/rt', RT)
-        os.chmod(f'{self.top}/bin/rt', 0o755)
+        self.write('bin/rt', RT, 0o755)
         self.write('tree/crates.txt', ROWS)
         self.write('tree/HANDLES', '')
         for row in ROWS.splitlines():
             self.write(f'tree/crates/{row.partition(":")[0]}/src/lib.rt', '')
-
-    def write(self, path: str, text: str) -> None:
-        os.makedirs(os.path.dirname(f'{self.top}/{path}'), exist_ok=True)
-        with open(f'{self.top}/{path}', 'w', encoding='utf-8') as file:
-            file.write(text)
 
     def begin(self, words: list[str], **given: str) -> subprocess.Popen[str]:
         paths = {'PATH': f'{self.top}/bin:{os.environ["PATH"]}', 'NOTES': self.notes, 'REFUSED': '', 'SLOW': '',
@@ -151,7 +124,7 @@ class Libraries(Tree):
         self.assertEqual(self.noted(), [])
 
     def test_lanes(self) -> None:
-        lanes_for = loaded().lanes_for
+        lanes_for = loaded('libraries.py').lanes_for
         rows = [(4, 23, 4), (4, 7, 2), (4, 3, 2), (1, 23, 1), (1, 3, 1), (16, 9, 4)]
         for processors, gigabytes, lanes in rows:
             with self.subTest(processors=processors, gigabytes=gigabytes):
@@ -161,7 +134,7 @@ class Libraries(Tree):
 class Ahead(unittest.TestCase):
     def test_longest_chain(self) -> None:
         """The next crate of the longest chain has two jobs, whatever else runs; others one, until they are the last."""
-        module = loaded()
+        module = loaded('libraries.py')
         uses: dict[str, list[str]] = {'low': [], 'middle': ['low'], 'top': ['middle'], 'other': [], 'more': ['low']}
         chain = {'low': 30, 'middle': 20, 'top': 10, 'other': 9, 'more': 8}
         rows: list[tuple[list[str], int, dict[str, int]]] = [
@@ -179,10 +152,10 @@ class Ahead(unittest.TestCase):
 
 class Signals(Tree):
     def in_middle(self, words: list[str]) -> subprocess.Popen[str]:
-        """A run that proves `middle`."""
+        """A run that proves `middle`, and has proved `other` beside it."""
         self.write('notes', '')
         process = self.begin(words, SLOW='middle')
-        while 'begin middle' not in self.noted():
+        while 'begin middle' not in self.noted() or self.built() != ['low', 'other']:
             self.assertIsNone(process.poll())
             time.sleep(0.05)
         return process
@@ -205,9 +178,8 @@ class Signals(Tree):
         self.ended(['build'], signal.SIGTERM)
 
     def test_put_back(self) -> None:
-        process = self.in_middle(['libraries'])
-        process.kill()
-        process.wait()
+        with self.in_middle(['libraries']) as process:
+            process.kill()
         self.assertNotEqual(self.side_trees(), [])
         self.assertEqual(self.run_to_end(['libraries', '--put-back'])[0], 0)
         self.assertEqual(self.side_trees(), [])

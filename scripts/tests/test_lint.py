@@ -5,7 +5,8 @@ import subprocess
 import sys
 import unittest
 
-SCRIPTS = os.path.dirname(os.path.dirname(os.path.abspath(__file__)))
+from . import SCRIPTS
+
 
 
 def ran(name: str, *words: str) -> tuple[int, str]:
@@ -22,8 +23,4 @@ class Looks(unittest.TestCase):
                 self.assertIsNotNone(found)
                 assert found
                 self.assertEqual(status, int(int(found[2]) > 0))
-                self.assertEqual(int(found[1]) + int(found[2]), {'docs': 6, 'words': 5}[name])
-
-
-if __name__ == '__main__':
-    unittest.main()
+                self.assertEqual(int(found[1]) + int(found[2]), {'docs': 7, 'words': 5}[name])

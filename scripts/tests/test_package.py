@@ -5,7 +5,8 @@ import subprocess
 import tempfile
 import unittest
 
-TOP = os.path.dirname(os.path.dirname(os.path.dirname(os.path.abspath(__file__))))
+from . import TOP
+
 RUNS = '/run/systemd/system'        # is there where systemd runs
 
 
@@ -129,7 +130,3 @@ class Units(unittest.TestCase):
     def test_units_are_read_anew(self) -> None:
         for script, word in (('postinst', 'configure'), ('postrm', 'remove')):
             self.assertIn('daemon-reload', asked(script, word))
-
-
-if __name__ == '__main__':
-    unittest.main()

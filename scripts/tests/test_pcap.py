@@ -5,7 +5,8 @@ import subprocess
 import sys
 import unittest
 
-TOP = os.path.dirname(os.path.dirname(os.path.dirname(os.path.abspath(__file__))))
+from . import TOP
+
 PCAP = os.path.join(TOP, 'tools', 'pcap')
 HEAD = bytes.fromhex('D4C3B2A1 0200 0400 00000000 00000000 FFFF0000 65000000')
 
@@ -57,7 +58,3 @@ class Captures(unittest.TestCase):
 
     def test_what_is_no_capture(self) -> None:
         self.assertEqual(ran('--back', given=b'RIFF' + bytes(40)).returncode, 1)
-
-
-if __name__ == '__main__':
-    unittest.main()

@@ -6,7 +6,8 @@ import sys
 import tempfile
 import unittest
 
-TOP = os.path.dirname(os.path.dirname(os.path.dirname(os.path.abspath(__file__))))
+from . import FolderCase, TOP
+
 RECORDS = os.path.join(TOP, 'tools', 'records')
 IDLE = 0xD5
 FAS, NFAS = 0x9B, 0xDF
@@ -51,17 +52,15 @@ class Printing(unittest.TestCase):
         self.assertIn(b'4 Truncated', ended.stderr)
 
 
-class Kept(unittest.TestCase):
+class Kept(FolderCase):
     """Files that a driver keeps."""
 
     def setUp(self) -> None:
-        folder = tempfile.TemporaryDirectory()
-        self.addCleanup(folder.cleanup)
-        self.path = os.path.join(folder.name, 'west-20261125T101500Z.e1gw')
+        super().setUp()
+        self.path = os.path.join(self.top, 'west-20261125T101500Z.e1gw')
         with open(self.path, 'wb') as file:
             file.write(bytes.fromhex('54000002D5D5 540000010B'))
-        with open(self.path.replace('.e1gw', '.json'), 'w', encoding='ascii') as file:
-            file.write('{"place": 256000, "begins": "middle"}')
+        self.write(self.path.replace('.e1gw', '.json'), '{"place": 256000, "begins": "middle"}')
 
     def test_places_are_those_of_the_trunk(self) -> None:
         lines = ['T    2 octets, from place 256000 on', 'T    1 octets, from place 256002 on']
@@ -74,7 +73,8 @@ class Kept(unittest.TestCase):
     def test_compressed(self) -> None:
         subprocess.run(['zstd', '-q', '--rm', self.path], check=True)
         self.assertIn('from place 256002 on', ran(f'{self.path}.zst').stdout.decode())
-        self.assertEqual(ran('--to-raw', f'{self.path}.zst').stdout, b'\xd5\xd5\x0b')
+        for path in f'{self.path}.zst', self.path:      # (also by the name that it had)
+            self.assertEqual(ran('--to-raw', path).stdout, b'\xd5\xd5\x0b')
 
 
 class Octets(unittest.TestCase):
@@ -150,7 +150,3 @@ class Circuits(unittest.TestCase):
         ended = ran('--circuit', '1', given=ran('--from-raw', given=b'\xD5' * 4096).stdout)
         self.assertEqual((ended.returncode, ended.stdout), (1, b''))
         self.assertIn(b'no frame', ended.stderr)
-
-
-if __name__ == '__main__':
-    unittest.main()

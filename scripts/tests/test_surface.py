@@ -3,10 +3,9 @@ import os
 import shutil
 import subprocess
 import sys
-import tempfile
-import unittest
 
-SCRIPTS = os.path.dirname(os.path.dirname(os.path.abspath(__file__)))
+from . import FolderCase, SCRIPTS
+
 
 TREE = {
     'CHANGELOG.md': '# Changes\n\n* New: `lamp --old`.\n',
@@ -85,13 +84,13 @@ def exposition(status):
     'driver/e1gw/service/watch.py': '''from unittest.mock import MagicMock
 WatchWants = MagicMock
 class TrunkWatch:
-    def __init__(self, *_, facts):
-        self._facts, self._counts, self._lines, self.count = facts, MagicMock(), MagicMock(), MagicMock()
+    def __init__(self, _, trunk):
+        self.trunk, self._counts, self._lines, self.count = trunk, MagicMock(), MagicMock(), MagicMock()
     def _values(self):
-        return {'circuits': [{'lit': 1}, {'dim': 1}], 'transport': self._facts()['carried']['transport']}
+        return {'circuits': [{'lit': 1}, {'dim': 1}], 'transport': self.trunk.facts()['carried']['transport']}
 ''',
     'driver/e1gw/sockets.py': 'def sockets_of(_):\n    pass\ndef with_sockets(status, _):\n    return status\n',
-    'driver/e1gw/satop_process.py': "CONDITIONS = (('quiet', 'ticks', 'no light'),)\n",
+    'driver/e1gw/satop.py': "CONDITIONS = (('quiet', 'ticks', 'no light'),)\n",
     'driver/e1gw/metrics.py': '''def exposition(status, trunk):
     return f'# TYPE lamps gauge\\nlamps{{trunk="{trunk}",colour="red"}} 1\\nlamps{{trunk="{trunk}",colour="blue"}} 0\\n'
 ''',
@@ -119,20 +118,13 @@ WANTED = {
 LIST = ''.join(f'{kind} {word}\n' for kind, words in WANTED.items() for word in words.split('|'))
 
 
-class Surface(unittest.TestCase):
+class Surface(FolderCase):
     def setUp(self) -> None:
-        folder = tempfile.TemporaryDirectory()
-        self.addCleanup(folder.cleanup)
-        self.top = folder.name
+        super().setUp()
         for path, text in {**TREE, 'scripts/surface.txt': LIST}.items():
             self.write(path, text)
         for name in ('surface', 'paths.py'):
             shutil.copy(os.path.join(SCRIPTS, name), os.path.join(self.top, 'scripts'))
-
-    def write(self, path: str, text: str) -> None:
-        os.makedirs(os.path.dirname(os.path.join(self.top, path)), exist_ok=True)
-        with open(os.path.join(self.top, path), 'w', encoding='utf-8') as file:
-            file.write(text)
 
     def ran(self, *words: str, scripts: str = '') -> tuple[int, str]:
         """The status and the output."""
@@ -169,7 +161,3 @@ class Surface(unittest.TestCase):
 
     def test_the_list_of_this_tree(self) -> None:
         self.assertRegex(self.ran('--check', scripts=SCRIPTS)[1], r'^\d+ passed, 0 failed\n$')
-
-
-if __name__ == '__main__':
-    unittest.main()

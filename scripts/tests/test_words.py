@@ -2,10 +2,10 @@
 import os
 import subprocess
 import sys
-import tempfile
-import unittest
 
-WORDS = os.path.join(os.path.dirname(os.path.dirname(os.path.abspath(__file__))), 'words')
+from . import FolderCase, SCRIPTS
+
+WORDS = os.path.join(SCRIPTS, 'words')
 
 LEMMAS = '''-- Lemmas.
 use Rattle.low.specs.Sums.{total}
@@ -23,20 +23,12 @@ row = refl
 '''
 
 
-def write(top: str, path: str, text: str) -> None:
-    os.makedirs(os.path.dirname(os.path.join(top, path)), exist_ok=True)
-    with open(os.path.join(top, path), 'w', encoding='utf-8') as file:
-        file.write(text)
-
-
-class Words(unittest.TestCase):
+class Words(FolderCase):
     def setUp(self) -> None:
-        folder = tempfile.TemporaryDirectory()
-        self.addCleanup(folder.cleanup)
-        self.top = folder.name
-        write(self.top, 'crates/low/src/lib.rt', '')
-        write(self.top, 'crates/low/specs/Sums.antt', 'abbrev pub total : ℕ → ℕ\ntotal n = n\n')
-        write(self.top, 'crates/low/proofs/Lemmas.antt', LEMMAS)
+        super().setUp()
+        self.write('crates/low/src/lib.rt', '')
+        self.write('crates/low/specs/Sums.antt', 'abbrev pub total : ℕ → ℕ\ntotal n = n\n')
+        self.write('crates/low/proofs/Lemmas.antt', LEMMAS)
 
     def found(self) -> list[str]:
         """The lines below the counts."""
@@ -49,38 +41,38 @@ class Words(unittest.TestCase):
         self.assertEqual(self.found(), [place, place])
 
     def test_a_lemma_that_a_function_names_is_used(self) -> None:
-        write(self.top, 'crates/low/src/lib.rt', '#[tactic(auto, using(crate::proofs::Lemmas::twice))]\n')
+        self.write('crates/low/src/lib.rt', '#[tactic(auto, using(crate::proofs::Lemmas::twice))]\n')
         self.assertEqual(len(self.found()), 1)
 
     def test_a_lemma_that_another_file_reads_is_used(self) -> None:
-        write(self.top, 'crates/high/proofs/More.antt',
+        self.write('crates/high/proofs/More.antt',
               'use Rattle.low.proofs.Lemmas.{twice}\n\n-- more\nrow : (n : ℕ) → n ≡ n\nrow n = twice n\n')
         self.assertNotIn('crates/low/proofs/Lemmas.antt:8: twice', self.found()[:-1])
 
     def test_a_lemma_that_is_passed_on_is_used_where_it_is_read(self) -> None:
         place = 'crates/low/proofs/Lemmas.antt:8: twice'
-        write(self.top, 'crates/high/proofs/Common.antt', 'unfoldable pub use Rattle.low.proofs.Lemmas.{twice}\n')
+        self.write('crates/high/proofs/Common.antt', 'unfoldable pub use Rattle.low.proofs.Lemmas.{twice}\n')
         self.assertEqual(self.found(), [place, place])
-        write(self.top, 'crates/high/proofs/More.antt',
+        self.write('crates/high/proofs/More.antt',
               'use Rattle.high.proofs.Common.{twice}\n\n-- more\nrow : (n : ℕ) → n ≡ n\nrow n = twice n\n')
         self.assertNotIn(place, self.found()[:-1])
 
     def test_a_twin(self) -> None:
-        write(self.top, 'crates/high/proofs/More.antt',
+        self.write('crates/high/proofs/More.antt',
               '-- the same of another number\nrow : (m : ℕ) → total m ≡ m\nrow m = refl\n')
         self.assertIn('crates/low/proofs/Lemmas.antt:5: once = crates/high/proofs/More.antt:2: row', self.found())
 
     def test_a_word_of_two_crates_that_a_third_reads(self) -> None:
-        write(self.top, 'crates/other/specs/Sums.antt', 'unfoldable pub total : ℕ → ℕ\ntotal n = 0\n')
+        self.write('crates/other/specs/Sums.antt', 'unfoldable pub total : ℕ → ℕ\ntotal n = 0\n')
         self.assertFalse([line for line in self.found() if line.startswith('total')])
-        write(self.top, 'crates/third/specs/Uses.antt', 'use Rattle.other.specs.Sums.{total}\n')
+        self.write('crates/third/specs/Uses.antt', 'use Rattle.other.specs.Sums.{total}\n')
         places = 'crates/low/specs/Sums.antt:1, crates/other/specs/Sums.antt:1'
         self.assertIn(f'total: {places}; read in third', self.found())
 
     def test_more_than_eight_parameters(self) -> None:
         names = ' '.join('abcdefgh')
         arrows = ' → '.join(['ℕ'] * 8)
-        write(self.top, 'crates/low/specs/Wide.antt',
+        self.write('crates/low/specs/Wide.antt',
               f'pub record Fits {{S : Type 0}} ({names[:13]} : ℕ) : Type 0 where\n  pub is : (x y z : ℕ) → a ≡ x\n\n'
               f'pub record Wide {{S : Type 0}}\n    ({names} : ℕ) : Type 0 where\n  pub is : a ≡ b\n\n'
               f'abbrev pub fits : {arrows} → Type 0\nfits a b c d e f g h = ℕ\n\n'
@@ -89,7 +81,3 @@ class Words(unittest.TestCase):
         place = 'crates/low/specs/Wide.antt'
         self.assertEqual([line for line in self.found() if line.startswith(place)],
                          [f'{place}:4: Wide has 9 parameters', f'{place}:11: wide has 9 parameters'])
-
-
-if __name__ == '__main__':
-    unittest.main()

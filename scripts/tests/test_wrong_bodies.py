@@ -1,19 +1,12 @@
-#!/usr/bin/env python3
-"""Tests scripts/wrong-bodies on a small crate, with the prover, and which function a place is in.
-
-usage: scripts/tests/test_wrong_bodies.py
-"""
+"""Tests scripts/wrong-bodies on a small crate, with the prover, and which function a place is in."""
 import os
 import shutil
 import subprocess
-import sys
-import tempfile
 import unittest
 
-SCRIPTS = os.path.dirname(os.path.dirname(os.path.realpath(__file__)))
-sys.dont_write_bytecode = True
-sys.path.insert(0, SCRIPTS)
-import rattle_source  # noqa: E402
+import rattle_source
+from . import FolderCase, SCRIPTS
+
 
 SOURCE = '''//! Sums of small numbers.
 #![tactic(auto)]
@@ -72,22 +65,18 @@ EDITS = {
 }
 
 
-class WrongBodiesTests(unittest.TestCase):
+class WrongBodiesTests(FolderCase):
     def test_each_kind(self) -> None:
-        top = tempfile.mkdtemp()
-        self.addCleanup(shutil.rmtree, top)
-        for folder in ('scripts', 'crates/small/src', 'crates/small/wrong-bodies', 'crates/small/proofs/four_more'):
-            os.makedirs(f'{top}/{folder}')
+        os.mkdir(f'{self.top}/scripts')
         for name in ('wrong-bodies', 'libraries.py', 'kit.py', 'rattle_source.py'):
-            shutil.copy(f'{SCRIPTS}/{name}', f'{top}/scripts/{name}')
+            shutil.copy(f'{SCRIPTS}/{name}', f'{self.top}/scripts/{name}')
         texts = {'crates.txt': 'small:\n', 'crates/small/src/lib.rt': SOURCE,
                  'crates/small/proofs/four_more/Answers.antt': PROOF}
         texts |= {f'crates/small/wrong-bodies/{name}.edit': f'file: src/lib.rt\n{text}\n'
                   for name, (text, _) in EDITS.items()}
         for path, text in texts.items():
-            with open(f'{top}/{path}', 'w', encoding='utf-8') as file:
-                file.write(text)
-        ran = subprocess.run([f'{top}/scripts/wrong-bodies'], stdout=subprocess.PIPE, text=True)
+            self.write(path, text)
+        ran = subprocess.run([f'{self.top}/scripts/wrong-bodies'], stdout=subprocess.PIPE, text=True)
         *lines, last = ran.stdout.splitlines()
         told = dict(line.removeprefix('small/').split(': ', 1) for line in lines)
         self.assertEqual(sorted(told), sorted(EDITS))
@@ -109,7 +98,3 @@ class FunctionTests(unittest.TestCase):
             its = rattle_source.function_at('src/saving.rt', text, text.index("'}'"), types)
             self.assertEqual(its and (its.path, text[its.body:its.body + 2]), (path, '{\n'))
             self.assertIsNone(rattle_source.function_at('src/saving.rt', text, 3, types))
-
-
-if __name__ == '__main__':
-    unittest.main()
