@@ -23,9 +23,9 @@ _e1gw_options() {
     serve)
       echo '--config --load --save --record --record-over --repeat --seizure-wait --senders --totals --help' ;;
     trunk)
-      echo '--config --load --save --control --end --record --record-over --repeat --seizure-wait --senders' \
-        '--totals --help' ;;
-    satop) echo '--size --jitter --rtp --fill --clock --help' ;;
+      echo '--config --load --save --align --control --end --record --record-over --repeat --seizure-wait' \
+        '--senders --totals --help' ;;
+    satop) echo '--size --jitter --rtp --sequence --fill --clock --help' ;;
     '') echo '--help --version' ;;
   esac
 }
