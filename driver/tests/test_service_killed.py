@@ -6,6 +6,7 @@ import json
 import os
 import signal
 import subprocess
+import time
 import unittest
 from typing import Any, Callable
 
@@ -67,13 +68,17 @@ class RestartedKeeperCase(KeeperCase):
         return found if is_its and found['program'] and found['program']['up'] else {}
 
     def known(self, holds: Callable[[list[dict[str, Any]]], object]) -> dict[str, Any]:
-        """The status at --control its-control, once the service knows the circuits and this holds of them."""
+        """The status at --control its-control, once the service knows the circuits and this holds of them. A follower
+        tells at the next octets. Fewer and fewer are given: with a checkpoint each 20,000 of them, there would always
+        be one that does not know yet."""
+        pause = 0.001
         while True:
             with contextlib.suppress(OSError, EOFError):
                 status: dict[str, Any] = json.loads(ask(self.path('its-control'), b'status json'))
                 if status['shadow'] and holds(status['circuits']):
                     return status
             self.step()
+            time.sleep(pause := min(2 * pause, 1.0))
 
     def comes_back(self) -> None:
         """The service is begun again, and goes on with the program that is there."""
