@@ -138,8 +138,8 @@ impl AheadCodec {
         codec
     }
 
-    // The octet of the next word. The kind is that of the codec: where the caller knows it, nothing asks for
-    // it again.
+    // The octet of the next word. The kind is that of the codec: if the caller knows it, nothing asks for it
+    // again.
     #[inline(always)]
     pub(crate) fn decode(&mut self, kind: CodecKind, word: u8) -> u8
         requires kind { self.old.kind ≡ kind }

@@ -19,8 +19,8 @@ use g726_lanes::Bundle;
 use std::marker::Model;
 use std::mem;
 
-// A codec with the words of the packet that is not full yet. An octet that is heard may wait, since its word
-// is looked at only once the packet is full.
+// A codec with the words of the packet that is not full yet. An octet received may wait, since its word is
+// needed only once the packet is full.
 //
 // Contracts see the codec and the words as if nothing waited.
 #[derive(Drop)]
@@ -232,8 +232,8 @@ impl Coder {
         (codec, packet)
     }
 
-    // The octet of the next word. The kind is that of the codec: where the caller knows it, nothing asks for
-    // it again.
+    // The octet of the next word. The kind is that of the codec: if the caller knows it, nothing asks for it
+    // again.
     #[inline(always)]
     pub(crate) fn decode(&mut self, kind: CodecKind, word: u8) -> u8
         requires kind { self.old.codec.kind ≡ kind }

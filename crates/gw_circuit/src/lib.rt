@@ -25,7 +25,7 @@ use thiserror::Error;
 /// A datagram that is sent.
 pub type Datagram = ArrayVec<u8, 252>;
 
-/// Why a datagram is dropped. If more than one holds, it is the first of this list.
+/// Why a datagram is dropped. If several apply, it is the first one listed.
 #[derive(Clone, Copy, Debug, PartialEq, Eq, Error)]
 pub enum Dropped {
     /// 20: the path is not open.
@@ -55,7 +55,7 @@ impl Dropped {
 /// Why a codec is refused.
 #[derive(Clone, Copy, Debug, PartialEq, Eq, Error)]
 pub enum CodecFault {
-    /// 31: the payload type is none for the codec on this trunk (RFC 3551, section 6).
+    /// 31: the codec cannot have this payload type on this trunk (RFC 3551, section 6).
     #[error("no payload type of the codec")]
     PayloadType,
 }
@@ -86,7 +86,7 @@ pub struct Status {
     pub state: State,
     /// The pair of bits that the line sends.
     pub sent: Pair,
-    /// The pair that it has recognised last.
+    /// The last pair that it recognised.
     pub recognised: Option<Pair>,
     /// The datagrams that were sent, at most 2^32 - 1 as the two counts below.
     pub sent_count: u32,

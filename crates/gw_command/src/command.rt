@@ -119,7 +119,7 @@ fn job_named(name: &str, spec: StreamSpec) -> Option<SpeechJob>
     }
 }
 
-// The payload type of speech where none is asked for: that of the law in G.711, else the first dynamic one.
+// The payload type of speech if none is asked for: that of the law in G.711, else the first dynamic one.
 fn usual_payload(law: Law, codec: CodecKind) -> u8
     ensures { result ≡ usual_payload law codec }
 {
@@ -249,7 +249,7 @@ pub fn request_of(matches: &ArgMatches<'_>) -> Option<Request>
     Some(Request::SpeechJob(job))
 }
 
-// The text of an option of the subcommand, the first where there are more.
+// The text of an option of the subcommand, the first if it is given several times.
 fn text_of<'m>(matches: &'m ArgMatches<'_>, id: &str) -> Option<&'m str>
     ensures { option_map (λ text. text.now) result ≡ text_in id.now (subcommand_rows_of matches.now) }
 {
@@ -315,7 +315,7 @@ fn seizure_ms_of(matches: &ArgMatches<'_>) -> Option<u16>
     options.get_one("seizure-wait")
 }
 
-/// The path of the recording that the matches name, the first one, where they name one.
+/// The path of the recording that the matches name, the first one, if they name one.
 pub fn recording_of<'m>(matches: &'m ArgMatches<'_>) -> Option<&'m str>
     ensures { option_map (λ path. path.now) result
         ≡ text_in (codes "record") (subcommand_rows_of matches.now) }
@@ -323,7 +323,7 @@ pub fn recording_of<'m>(matches: &'m ArgMatches<'_>) -> Option<&'m str>
     text_of(matches, "record")
 }
 
-/// The path of the socket that the matches name for clients, the first one, where they name one.
+/// The path of the socket that the matches name for clients, the first one, if they name one.
 pub fn control_of<'m>(matches: &'m ArgMatches<'_>) -> Option<&'m str>
     ensures { option_map (λ path. path.now) result
         ≡ text_in (codes "control") (subcommand_rows_of matches.now) }
@@ -406,7 +406,7 @@ pub fn asks_align(matches: &ArgMatches<'_>) -> bool
     asks(matches, "align")
 }
 
-/// Whether CRC-4 multiframes are to be checked in place of sent.
+/// Whether CRC-4 multiframes are to be checked instead of sent.
 pub fn asks_check(matches: &ArgMatches<'_>) -> bool
     ensures { HasFlag (codes "check") (subcommand_rows_of matches.now) result }
 {

@@ -7,7 +7,7 @@ use std::alloc::{AllocError, Global};
 // The version of the program.
 const VERSION: &str = "0.1.0";
 
-// What stands at the end of each help, with an example.
+// The end of each help, with an example.
 const ENCODE_HELP: &str = "\
 From standard input come octets of speech in G.711, 8000 a second, in the law of
 --law. To standard output goes a session record with an RTP datagram for each
@@ -462,7 +462,7 @@ fn repeat_option<'a>(alloc: Global) -> Arg<'a> {
         .default_value("0")
 }
 
-// After which time a seizure is released. Where it is not given a state keeps its own.
+// After which time a seizure is released. If it is not given, a state keeps its own.
 fn seizure_wait_option<'a>(alloc: Global) -> Arg<'a> {
     option(alloc, "seizure-wait", SEIZURE_WAIT_TEXT)
         .value_name("MS")

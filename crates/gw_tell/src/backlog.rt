@@ -84,7 +84,7 @@ impl Backlog {
         self.start = 0;
     }
 
-    // Puts octets behind those that wait, where there is room.
+    // Puts octets behind those that wait, if there is room.
     #[tactic(auto, unfolding(crate::specs::Backlog::waiting))]
     fn append(&mut self, octets: &[u8])
         requires { self.old.filled + length octets.now ≤ 65536 }

@@ -17,8 +17,8 @@ const ROOM_LEN: usize = 256;
 #[derive(Clone, Copy)]
 pub struct Away;
 
-/// A connection that is sent what changes. If it is known what it had at its start, it has that and behind it
-/// the octets that it took.
+/// A connection that is sent what changes. If it is known what it had at its start, it now has that, followed
+/// by the octets that it took.
 #[derive(Drop)]
 pub struct Client<S: ClientStream> {
     stream: S,
@@ -124,8 +124,8 @@ impl<S: ClientStream> Client<S> {
         }
     }
 
-    /// Sends it the lines of a text, which stand behind the line of this place, and before them that line
-    /// unless it was the last one; nothing if there is no line.
+    /// Sends it the lines of a text, which follow the line of this place, and before them that line unless it
+    /// was the last one; nothing if there are no lines.
     pub fn report(&mut self, text: &[u8], front: usize, place: u64) -> Result<(), Away>
         requires front { front ≤ length text.now }
         requires line { take front text.now ≡ at_line place }

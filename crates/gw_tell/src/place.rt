@@ -9,7 +9,7 @@ use gw_trunk::ClientStream;
 use std::alloc::Global;
 use std::io::{self, ErrorKind};
 
-/// A place: its client, if it has one, and else the room for what waits for the next one.
+/// A place: its client, if it has one, otherwise the room for what waits for the next one.
 #[derive(Drop)]
 pub struct ClientSlot<S: ClientStream> {
     pub client: Option<Client<S>>,
@@ -33,8 +33,8 @@ impl<S: ClientStream> ClientSlot<S> {
         }
     }
 
-    /// Gives the free place to a client that comes at a place of the trunk, and sends it these octets. If it
-    /// does not take them, the place stays free.
+    /// Gives the free place to a client that connects at this octet of the trunk, and sends it these octets.
+    /// If it does not take them, the place stays free.
     #[tactic(auto, unfolding(crate::specs::Clients::Seats))]
     pub fn seat(&mut self, stream: S, at: u64, octets: &[u8])
         requires free { self.old.client ≡ None }
@@ -62,7 +62,7 @@ impl<S: ClientStream> ClientSlot<S> {
         }
     }
 
-    /// Sends its client the lines of a text, and lets it go if it does not take them.
+    /// Sends its client the lines of a text, and disconnects it if it does not take them.
     pub fn tell(&mut self, text: &[u8], front: usize, at: u64)
         requires front { front ≤ length text.now }
         requires line { take front text.now ≡ at_line at }
@@ -77,7 +77,7 @@ impl<S: ClientStream> ClientSlot<S> {
         }
     }
 
-    /// Sends its client these octets, and lets it go if it does not take them.
+    /// Sends its client these octets, and disconnects it if it does not take them.
     pub fn give(&mut self, octets: &[u8])
         ensures room { HasRoom self.old → HasRoom self.new }
         ensures client { Gets S.has_written self.old.client self.new.client octets.now }
@@ -90,7 +90,7 @@ impl<S: ClientStream> ClientSlot<S> {
         }
     }
 
-    /// Writes what waits for its client, reads what it sent, and lets it go if it has gone.
+    /// Writes what waits for its client, reads what it sent, and disconnects it if it has left.
     pub fn listen(&mut self)
         ensures room { HasRoom self.old → HasRoom self.new }
         ensures client { IsHeard S.has_read S.has_written self.old.client self.new.client }

@@ -93,7 +93,7 @@ pub fn place_after(place: u64, head: &RecordHead, body: &[u8]) -> u64
 }
 
 /// Puts the lines of a record, which was answered with this code, behind a text. `place` is that before the
-/// record, `is` how the trunk stands after it, and `told` what was reported last.
+/// record, `is` the state of the trunk after it, and `told` what was reported last.
 #[inline(never)]
 pub fn report(
     place: u64,

@@ -31,8 +31,8 @@ const MOST_CLIENTS: usize = 8;
 const LOOK: u64 = 2048;
 
 /// Sends the clients of a Unix socket the state of a trunk and its changes, as lines of text (e1gw-tell(5)).
-/// What a client does not take at once waits for it: 64 KiB at most, in room that is taken at the beginning.
-/// A client that goes, or for whom there is no room, loses its connection, and nothing else happens.
+/// What a client does not take at once waits for it: 64 KiB at most, in memory taken at the start. A client
+/// that leaves, or for whom there is no room, loses its connection, and nothing else happens.
 #[derive(Drop)]
 pub struct Teller {
     door: UnixListener,
@@ -40,7 +40,7 @@ pub struct Teller {
     law: Law,
     // The octets of the trunk that the session has acted on.
     place: u64,
-    // What was reported last, also if nobody heard it.
+    // What was reported last, even if there was no client.
     told: GatewayStatus,
     // How often each line was seized since the session began.
     seized: [u64; 30],

@@ -6,7 +6,7 @@ ghost use Rattle.gw_tell.specs.Lines.{spaced, number_line};
 use arrayvec::ArrayVec;
 use itoa::Buffer;
 
-/// Room for the longest text, which the whole state stands in.
+/// Room for the longest text, which is that of the whole state.
 pub type Text = ArrayVec<u8, 3_200>;
 
 /// Adds octets to a text.

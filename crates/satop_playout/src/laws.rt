@@ -18,12 +18,12 @@ pub fn refusals_change_nothing()
     ensures { RefusalsChangeNothing }
 {}
 
-/// An accepted packet is played in its turn, as it was sent.
+/// An accepted packet is played in its turn, as it was sent, unless another stream begins before.
 pub fn accepted_packets_are_played()
     ensures { AcceptedIsPlayed }
 {}
 
-/// No number is accepted twice within the 2^15 plays after it; so no packet is played twice.
+/// No number of a stream is accepted twice within 2^15 plays; so no packet is played twice.
 #[tactic(auto, using(crate::proofs::Turns::nothing_is_accepted_twice))]
 pub fn nothing_is_accepted_twice()
     ensures { NothingIsAcceptedTwice }
@@ -31,7 +31,8 @@ pub fn nothing_is_accepted_twice()
 
 /// The order of arrival does not matter.
 ///
-/// If all packets are accepted in both of two orders, all plays give the same octets in both.
+/// If all packets of a stream are accepted in both of two orders, as many plays, up to 2^15, give the same
+/// octets in both.
 #[tactic(auto, using(crate::proofs::Orders::order_does_not_matter))]
 pub fn order_does_not_matter()
     ensures { OrderDoesNotMatter }

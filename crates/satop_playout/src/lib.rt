@@ -24,8 +24,8 @@ pub const MAX_WINDOW: usize = 1024;
 /// What replaces a missing packet.
 #[derive(Clone, Copy, Debug, PartialEq, Eq)]
 pub enum Replacement {
-    /// The octets one signalling multiframe (512 octets) before, so that alignment holds. After 2048 octets
-    /// in a row ones, so that nobody takes a long gap for a trunk.
+    /// The octets one signalling multiframe (512 octets) before, so that alignment holds; ones if more than
+    /// 2048 octets in a row would be replaced, so that nobody takes a long gap for a trunk.
     Again,
     /// Ones, as on a broken line.
     Ones,

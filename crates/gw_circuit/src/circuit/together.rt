@@ -1,5 +1,5 @@
 //! What a circuit's encoder has still to code, and what its decoder can decode before it is due, in a lane
-//! beside other circuits.
+//! alongside other circuits.
 //!
 //! Contracts see a circuit as if nothing waited and nothing were decoded early: nothing here changes it.
 

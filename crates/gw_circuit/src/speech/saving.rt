@@ -42,7 +42,7 @@ impl Speech {
     }
 
     // Reads saved speech of this law into this one, with its size of packets and its prefill. None if the
-    // octets are not those of speech; then it begins anew.
+    // octets are not those of speech; then it restarts.
     pub(crate) fn load(&mut self, law: Law, octets: &mut OctetReader<'_>) -> Option<()>
         ensures loaded { (other : Speech) (coding mine : PayloadFormat) (size prefill : ℕ)
             (heard before : List ℕ)

@@ -18,7 +18,7 @@ impl Gateway {
     ///
     /// # Errors
     ///
-    /// Memory was refused; then there is no gateway any more.
+    /// Memory was refused; then the gateway is gone.
     pub fn reconfigured(
         mut self,
         alloc: Global,

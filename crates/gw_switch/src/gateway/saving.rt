@@ -25,7 +25,7 @@ impl Gateway {
     }
 
     /// Reads a saved gateway into this one, whose circuits are configured as those that were saved. It takes
-    /// no memory. If the octets are not those of a gateway there is none any more.
+    /// no memory. If the octets are not those of a gateway, this one is gone, too.
     #[tactic(auto, unfolding(crate::specs::Saved::saved_gateway))]
     pub fn load(mut self, octets: &mut OctetReader<'_>) -> Result<Gateway, StateFault>
         ensures loaded { (config other : GatewayConfig) (saved : Gateway) (events before : List Event)
