@@ -1,4 +1,4 @@
--- The words of the command line: what is named by each, and what stands where one is left out.
+-- The words of the command line: what each names, and the default if one is left out.
 use Rattle.std.specs.Prelude.{◌≡◌, ◌^◌, ◌<◌, ◌≤◌, ◌+◌, ◌/◌, ℕ, List, Option, Some, None, codes}
 use Rattle.std.specs.Prelude.{Bool, true, IsSomeAnd, MatchOption}
 use Rattle.std.specs.Str.Parse.{IsNumeral, digits_value, without_leading_plus}
@@ -43,7 +43,7 @@ abbrev pub job_spec : SpeechJob → StreamSpec
 job_spec (Encode spec) = spec
 job_spec (Decode spec) = spec
 
--- the payload type where none is asked for: that of the law in G.711, else the first dynamic one
+-- the payload type if none is asked for: that of the law in G.711, else the first dynamic one
 abbrev pub usual_payload : Law → CodecKind → ℕ
 usual_payload law G711 = static_type law
 usual_payload law _ = 96

@@ -1,4 +1,4 @@
--- Octets with a check sum.
+-- Octets with a checksum.
 use Rattle.std.proofs.Common.{◌≡◌, ◌≤◌, ◌++◌, ◌∷◌, [], ◌+◌, ℕ, List, length, take, drop, refl, sym, ap, ◌∙◌, arith}
 use Rattle.std.proofs.Common.{Result, Ok, Err, IfOk, IfErr}
 use Rattle.std.proofs.Math.Seq.{take-append_seam, drop-append_seam}
@@ -18,7 +18,7 @@ use Rattle.gw_state.specs.Layout.{mark, law_octet, summed, saved_config, state_h
 use Rattle.gw_state.specs.Loaded.{ReadsAs, IsLoaded}
 use Rattle.gw_state.specs.Faults.{BeginsWith, IsOutside, IsNotRead, Refuses}
 
--- octets with their check sum are cut in one place alone
+-- octets with their checksum are cut in one place alone
 pub summed-once : (front sum other : List ℕ) → length sum ≡ 32 → front ++ sum ≡ summed other
     → (front ≡ other) × (sum ≡ sha256 front)
 summed-once front sum other counted e =
@@ -32,7 +32,7 @@ summed-once front sum other counted e =
           ∙ ap (λ (n : ℕ). drop n (summed other)) same ∙ drop-append_seam other (sha256 other) ∙ ap sha256 (sym fronts),
     )
 
--- the octets before a right check sum begin with the mark and the version
+-- the octets before a right checksum begin with the mark and the version
 pub inner-of : (octets front : List ℕ) → octets ≡ summed front → BeginsWith (mark ++ 1 ∷ []) octets
     → (5 ≤ length front) × (front ≡ mark ++ 1 ∷ drop 5 front)
 inner-of octets front whole begins =
@@ -43,7 +43,7 @@ inner-of octets front whole begins =
     ∙ ap (take 5) (sym whole) ∙ begins.front_is in
     (long, sym (take-append-drop 5 front) ∙ ap (λ (os : List ℕ). os ++ drop 5 front) first)
 
--- what is between the version and the check sum is told by the whole
+-- what is between the version and the checksum is told by the whole
 pub inner-same : (octets inner other : List ℕ) → octets ≡ summed (mark ++ 1 ∷ inner)
     → octets ≡ summed (mark ++ 1 ∷ other) → inner ≡ other
 inner-same octets inner other whole whole' =

@@ -25,7 +25,7 @@ kind_number kinds.Config = 5
 kind_number kinds.Value = 6
 kind_number kinds.Left = 7
 
--- the mark, the version, the configuration and the check sum have 4, 1, 481 and 32 octets
+-- the mark, the version, the configuration and the checksum have 4, 1, 481 and 32 octets
 abbrev pub least_octets : ℕ
 least_octets = 518
 
@@ -104,13 +104,13 @@ pub record HasNoGateway (config : GatewayConfig) (octets : List ℕ) (fault : Lo
   pub whole : octets ≡ saved_config old ++ state
   pub is : IsNoGateway old state fault
 
--- why octets between the version and the check sum are refused: the first reason, or that memory was refused
+-- why octets between the version and the checksum are refused: the first reason, or that memory was refused
 abbrev pub IsNotRead : GatewayConfig → List ℕ → LoadFault → Type 0
 IsNotRead config octets OutOfMemory = MemoryIsRefused
 IsNotRead config octets (Refused kinds.Config number) = IsOther config octets number
 IsNotRead config octets fault = HasNoGateway config octets fault
 
--- mark, version and check sum are right, and what is between them is refused
+-- mark, version and checksum are right, and what is between them is refused
 pub record IsInside (config : GatewayConfig) (octets : List ℕ) (fault : LoadFault) : Type 0 where
   pub inner : List ℕ
   pub whole : octets ≡ summed (mark ++ 1 ∷ inner)

@@ -1,4 +1,4 @@
--- The file of a state: a mark, the configuration that the state is of, the gateway, and a check sum over all
+-- The file of a state: a mark, the configuration that the state is of, the gateway, and a checksum over all
 -- before it.
 use Rattle.std.specs.Prelude.{◌≡◌, ◌<◌, ◌^◌, ℕ, List, [], ◌∷◌, ◌++◌, flat_map, length, All}
 use Rattle.saved_octets.specs.Numbers.{two_octets, four_octets}

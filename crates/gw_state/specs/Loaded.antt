@@ -22,7 +22,7 @@ abbrev pub GoesOn : GatewayConfig → List ℕ → Gateway → Type 0
 GoesOn old state gateway = (first : GatewayConfig) (saved : Gateway) (events : List Event)
     → StandsAs first saved events old → state ≡ saved_gateway saved → HasHistory first gateway events
 
--- What is between the version and the check sum is how the circuits of a gateway were configured, in one way
+-- What is between the version and the checksum is how the circuits of a gateway were configured, in one way
 -- alone, and the gateway. Those that are configured otherwise now begin as new, and all others go on.
 pub record ReadsAs (config : GatewayConfig) (octets : List ℕ) (loaded : Loaded) : Type 0 where
   pub law : loaded.old.law ≡ config.law

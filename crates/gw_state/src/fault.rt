@@ -15,13 +15,13 @@ pub enum StateKind {
     NoState,
     /// 3: a version that is not known.
     Version,
-    /// 4: the check sum is not that of the octets before it.
+    /// 4: the checksum is not that of the octets before it.
     Sum,
     /// 5: another law, or octets that configure no circuit.
     Config,
     /// 6: a value that the trunk or a circuit cannot have, or the octets end within it.
     Value,
-    /// 7: octets between the last circuit and the check sum.
+    /// 7: octets between the last circuit and the checksum.
     Left,
 }
 

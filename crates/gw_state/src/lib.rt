@@ -1,4 +1,4 @@
-//! The state of a gateway as a file: a mark, the configuration, the gateway, and a check sum.
+//! The state of a gateway as a file: a mark, the configuration, the gateway, and a checksum.
 #![tactic(auto)]
 
 mod fault;

@@ -1,4 +1,4 @@
-//! Whether octets are a state: mark, version, check sum, configuration, gateway (`load_gateway`).
+//! Whether octets are a state: mark, version, checksum, configuration, gateway (`load_gateway`).
 
 ghost use Rattle.std.specs.Prelude.{◌≡◌, ◌≢◌, ◌≤◌, ◌<◌, ◌++◌, ◌∷◌, [], ℕ, List, IfOk, IfErr, IfSome, IfNone};
 ghost use Rattle.std.specs.Prelude.{length, take};
@@ -24,10 +24,10 @@ use std::alloc::{AllocError, Global};
 // The octets of the least state.
 const LEAST: usize = 518;
 
-// The octets of a check sum.
+// The octets of a checksum.
 const SUM_LEN: usize = 32;
 
-// The octets before a check sum that is right.
+// The octets before a checksum that is right.
 fn summed_front(octets: &[u8]) -> Option<&[u8]>
     requires { 32 ≤ length octets.now }
     ensures right { IfSome result (λ front. octets.now ≡ summed front.now) }
@@ -42,7 +42,7 @@ fn summed_front(octets: &[u8]) -> Option<&[u8]>
     }
 }
 
-// The octets before the check sum of a state.
+// The octets before the checksum of a state.
 fn front_of(octets: &[u8]) -> Result<&[u8], LoadFault>
     ensures front { IfOk result (λ front. octets.now ≡ summed front.now) }
     ensures begins { IfOk result (λ front. BeginsWith (mark ++ 1 ∷ []) octets.now) }
@@ -74,7 +74,7 @@ fn of_value(fault: StateFault) -> LoadFault
     }
 }
 
-// The octets between the version and the check sum.
+// The octets between the version and the checksum.
 fn inner_of(octets: &[u8]) -> Result<&[u8], LoadFault>
     ensures inner { IfOk result (λ inner. octets.now ≡ summed (mark ++ 1 ∷ inner.now)) }
     ensures err { IfErr result (IsOutside octets.now) }

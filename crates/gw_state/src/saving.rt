@@ -11,7 +11,7 @@ use gw_switch::{Gateway, GatewayConfig};
 use sha2::{Digest, Sha256};
 use std::alloc::{AllocError, Global};
 
-// Appends the check sum of the octets.
+// Appends the checksum of the octets.
 fn append_sum(octets: &mut Vec<u8>) -> Result<(), AllocError>
     ensures { OnOk result (octets.new.items ≡ summed octets.old.items) }
 {

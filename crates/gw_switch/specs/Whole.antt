@@ -36,11 +36,11 @@ pub record Sending : Type 0 where
 abbrev pub sending_of : OctetOut → Sending
 sending_of out = record { octet = out.octet; packet = option_map (λ p. (p.0, p.1.items)) out.packet }
 
--- the same, where a datagram is in room that was lent
+-- the same, if a datagram is in room that was lent
 abbrev pub sending_in : OctetSent → List ℕ → Sending
 sending_in out room = record { octet = out.octet; packet = option_map (λ c. (c, room)) out.circuit }
 
--- a configuration, where none is meant: of a circuit that a gateway does not have
+-- a configuration if none is meant: of a circuit that a gateway does not have
 abbrev pub spare_config : CircuitConfig
 spare_config = record {
   role = Outgoing;

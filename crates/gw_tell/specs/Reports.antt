@@ -19,7 +19,7 @@ use Rattle.gw_tell.specs.declared.gateway_status.GatewayStatus.{GatewayStatus}
 use Rattle.gw_tell.specs.Lines.{at_line, alarms_line, event_line, row_line, seizures_line, hello_line}
 use Rattle.gw_tell.specs.Lines.{now_line}
 
--- what stands where no circuit is
+-- the status of no circuit
 abbrev pub no_status : Status
 no_status = record {
   role = roles.Outgoing;
@@ -43,7 +43,7 @@ abbrev pub AreOf : List Status → Gateway → Type 0
 AreOf rows gateway = (config : GatewayConfig) (events : List Event) → HasHistory config gateway events
     → (c : ℕ) → 1 ≤ c → c ≤ 30 → of_circuit rows c ≡ status_after config events c
 
--- the gateway stands so
+-- this is the gateway's status
 pub record Shows (gateway_status : GatewayStatus) (gateway : Gateway) : Type 0 where
   pub alarms_are : (config : GatewayConfig) (events : List Event) → HasHistory config gateway events
       → gateway_status.alarms ≡ alarms_after events
@@ -91,7 +91,7 @@ abbrev pub are_due : ℕ → ℕ → Bool
 are_due place place' = nat_lt (place / 65536) (place' / 65536)
 
 -- The lines of a record that was answered with this code go behind a text: its own line, the alarms and the
--- circuits. What was reported last is then `told`, where it was `was`.
+-- circuits. What was reported last was `was`, and is then `told`.
 pub record Changes (place : ℕ) (r : Record) (code : ℕ) (was is told : GatewayStatus) (text text' : List ℕ)
     : Type 0 where
   pub between : List ℕ
@@ -99,7 +99,7 @@ pub record Changes (place : ℕ) (r : Record) (code : ℕ) (was is told : Gatewa
   pub alarms_are : told.alarms ≡ is.alarms
   pub rows : RowSteps (are_due place (place_after place r)) was.rows is.rows told.rows between text' 30
 
--- what was reported last is how the trunk stands, but for the counts
+-- what was reported last is the state of the trunk, but for the counts
 pub record IsStatusOf (is told : GatewayStatus) : Type 0 where
   pub alarms_are : told.alarms ≡ is.alarms
   pub rows_are : (c : ℕ) → 1 ≤ c → c ≤ 30
