@@ -16,7 +16,7 @@ impl Circuits {
     ghost use Rattle.gw_switch.specs.Together.{AreDecoders, AreDecoded};
 
     /// Decodes the next words of each circuit that has them at hand, with three bundles at most. The others
-    /// have their turn 2 ms later, and from then on always.
+    /// follow 2 ms later, and keep that phase.
     pub(crate) fn decode_all(&mut self)
         ensures { self.new ≡ self.old }
     {
