@@ -7,12 +7,14 @@ import os
 import re
 from typing import Iterator
 
+from rattle_source import code_of
+
 TOP = os.path.dirname(os.path.dirname(os.path.realpath(__file__)))
 PORTED = {'arrayvec', 'byteorder', 'circular_buffer', 'clap', 'itoa', 'libc', 'mio', 'sha2', 'thiserror', 'toml'}
 # What has methods (of a trait all are public), and a function with its doc comment.
 OWNER = re.compile(r'(?m)^(?:pub )?(?P<kind>impl|trait)\b(?:<.*?>)? ?(?P<of>[^{\n]*? for )?(?P<name>\w+)')
-CALL = re.compile(r'(?m)^(?P<doc>(?: *///.*\n)*)(?: *#\[.*\]\n)*(?P<indent>(?: {4})?)(?P<pub>pub )?fn (?P<name>\w+)'
-                  r'(?P<head>(?s:.*?))(?:;$|\{$|^(?P=indent)\{)')
+CALL = re.compile(r'(?m)^(?P<doc>(?: *///.*\n)*)(?: *#\[.*\]\n)*(?P<indent>(?: {4})?)(?P<pub>pub )?fn (?P<name>\w+)')
+HEAD_END = re.compile(r'(?m);$|\{')        # where clauses are blanks
 TEST = re.compile(r'#\[test\]\n(?:#\[.*\]\n)*fn (\w+)')
 
 
@@ -85,11 +87,12 @@ def wrong_bodies_of(crate: str) -> list[str]:
 def calls(path: str) -> Iterator[tuple[str, str, list[str]]]:
     """The public functions and methods of a source that have clauses: name, sentence, and the clauses' names."""
     text = read(path)
-    owners = list(OWNER.finditer(text))
+    code, owners = code_of(text), list(OWNER.finditer(text))
     for call in CALL.finditer(text):
+        end = HEAD_END.search(code, call.end())
         before = [owner for owner in owners if owner.start() < call.start()]
         owner = before[-1] if call['indent'] and before else None
-        named = re.findall(r'\bensures (\w+|\{)', call['head'])
+        named = re.findall(r'\bensures (\w+|\{)', text[call.end():end.start() if end else None])
         if named and (call['pub'] or owner and (owner['of'] or owner['kind'] == 'trait')):
             sentence = re.sub(r'\s*/// ?', ' ', call['doc']).strip().partition('  ')[0]
             yield ((f'{owner["name"]}::' if owner else '') + call['name'], sentence,

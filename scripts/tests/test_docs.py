@@ -25,8 +25,10 @@ impl Counter {
     ) -> bool
         requires { IsTrue by }
         ensures { result ≡ true }
-        ensures stands { {n : ℕ} → n ≡ 0
-            → self.new ≡ self.old }
+        ensures stands { {n : ℕ} → n ≡ 0 → self.new ≡ (record {
+          count = n;
+        }) }
+        ensures err { self.new ≡ self.old }
     {
         self.private()
     }
@@ -126,7 +128,7 @@ class Tree(FolderCase):
         self.write('crates/small/src/counter.rt', CALLS)
         self.assertEqual(list(tree.calls('crates/small/src/counter.rt')),
                          [('law', 'Holds of all counters.', ['result']),
-                          ('Counter::more', 'Counts one more, at most 255; none at 0.', ['result', 'stands']),
+                          ('Counter::more', 'Counts one more, at most 255; none at 0.', ['result', 'stands', 'err']),
                           ('Told::told', '', ['bound'])])
 
     def test_links_out_of_the_package(self) -> None:
