@@ -47,7 +47,7 @@ HINTS = {
     'port': 'if the peer receives nothing: most receive at the port they send from',
     'code 1': 'not RTP: keep-alives or scans', 'code 2': 'not RTP: STUN or scans', 'code 3': 'cut, or not RTP',
     'code 4': 'cut, or not RTP', 'code 5': 'cut, or encrypted (SRTP)',
-    'code 13': 'another packet with a sequence number already received: a second sender, or one that restarted',
+    'code 13': 'its time has a packet already: a second sender, or packets longer than timestamps go on by (SRTP)',
     'code 15': 'the sender\'s packets are too long: at most 200 ms',
     'law': 'the sender has the other law: one law at both ends, or G.726',
     'type': 'another codec at the sender; comfort noise (13); telephone events; RTCP at this port',
