@@ -303,7 +303,7 @@ impl AnyCodec {
         self.codec.decode(self.law, word)
     }
 
-    /// Resets encoder and decoder of the circuit.
+    /// Resets encoder and decoder.
     pub fn reset(&mut self)
         ensures { self.new ≡ codec_after self.old.law self.old.kind [] [] }
     {

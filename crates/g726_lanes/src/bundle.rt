@@ -10,7 +10,7 @@ use e1_g711::Law;
 use g726_codec::{CodecKind, State};
 use g726_quant::{R16, R24, R32, R40};
 
-/// How many octets of each encoder, or words of each decoder, are coded at once at most.
+/// The most octets of each encoder, or words of each decoder, that are coded at once.
 pub const FRAMES: usize = 32;
 
 /// The encoders of eight circuits of one kind and law, circuit k in lane k, 0 to 7, with as many octets of
@@ -34,7 +34,7 @@ pub struct Bundle {
     ghost few: { count ≤ 32 },
 }
 
-// Puts octets at the begin of a row.
+// Puts octets at the start of a row.
 fn put_row(numbers: &mut [u8; 32], octets: &[u8])
     requires { length octets.now ≤ 32 }
     ensures { take (length octets.now) numbers.new ≡ octets.now }

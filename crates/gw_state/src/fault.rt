@@ -53,7 +53,7 @@ pub enum LoadFault {
     Refused {
         /// The kind of the fault.
         kind: StateKind,
-        /// The circuit that is not configured or has the value; 0 for the law, for the trunk, and at the
+        /// The circuit whose configuration or value has the fault; 0 for the law, for the trunk, and at the
         /// other kinds.
         at: u8,
     },

@@ -83,8 +83,8 @@ fn inner_of(octets: &[u8]) -> Result<&[u8], LoadFault>
     Ok(&front[5..])
 }
 
-// How the circuits of a trunk of this law were configured. The error is the number of the circuit that is not
-// configured, or 0 for the law.
+// How the circuits of a trunk of this law were configured. The error is the number of the first circuit whose
+// octets are those of none, or 0 for another law.
 fn read_config(config: &GatewayConfig, octets: &mut OctetReader<'_>) -> Result<GatewayConfig, u8>
     ensures next { (old : configs.GatewayConfig) (rest : List ℕ) → ConfigFits old → old.law ≡ config.now.law
         → octets.old ≡ saved_config old ++ rest → (result ≡ Ok old) × (octets.new ≡ rest) }
