@@ -7,8 +7,7 @@ use Rattle.gw_circuit.specs.declared.Status.{Status}
 use Rattle.gw_records.specs.Streams.{at_most}
 use Rattle.gw_tell.specs.Reports.{of_circuit}
 
--- a line was seized: from idle it is seized or, at the end that is seized, acknowledged
--- (ITU-T Q.421, table 3)
+-- a line was seized: from idle it is seized or, at the end that is seized, acknowledged (ITU-T Q.421)
 abbrev pub is_seizure : State → State → Bool
 is_seizure Idle Seized = true
 is_seizure Idle Acked = true
