@@ -21,9 +21,10 @@ from e1gw.lines import Event
 from e1gw.service import chain
 from e1gw.service.chain import BROKEN, CarriedTrunk
 from e1gw.service.crc4_trunk import Crc4Trunk
-from e1gw.service.line_process import waiting
+from e1gw.service.line_process import LineFiles, waiting
 from e1gw.service.slot_trunk import SlotTrunk
 from e1gw.service.trunk import LineOptions
+from e1gw.session import OCTETS_A_SECOND
 from e1gw.trunks import Stream
 
 
@@ -187,6 +188,15 @@ class LineProcessTests(support.FolderCase, unittest.IsolatedAsyncioTestCase):
         os.write(trunk.both[1], bytes(100_000))
         await trunk.finish(None)
         self.assertTrue(os.path.exists(self.path('over')))
+
+
+class LineFilesTests(unittest.TestCase):
+    def test_more_ones_than_there_is_room_for(self) -> None:
+        """A minute of them: as many as fit come, and nobody waits."""
+        files = LineFiles()
+        self.addCleanup(files.close)
+        files.pair(came=60 * OCTETS_A_SECOND)
+        self.assertIn(waiting(files['near']), range(OCTETS_A_SECOND // 2, 60 * OCTETS_A_SECOND))
 
 
 class CountedTrunkTests(unittest.IsolatedAsyncioTestCase):

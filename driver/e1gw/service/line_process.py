@@ -46,14 +46,15 @@ class LineFiles(dict[str, int]):
 
     def pair(self, sent: int = 0, came: int = 0) -> None:
         """Makes a socket pair, also in place of one with octets that nobody counts any more. This number of ones was
-        sent into it, and came."""
+        sent into it, and came, as far as it has room."""
         for name, line in zip(('near', 'far'), socket.socketpair()):
             if name in self:
                 os.close(self[name])
             self[name] = line.detach()
-        os.set_blocking(self['near'], False)
+            os.set_blocking(self[name], False)
         os.write(self['near'], b'\xff' * sent)
         os.write(self['far'], b'\xff' * came)
+        os.set_blocking(self['far'], True)
 
     def cut(self, name: str) -> None:
         """Has the process behind this one see the end of what comes."""
