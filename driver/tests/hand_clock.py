@@ -55,17 +55,14 @@ class HandClock:
         for pid in services:
             os.kill(pid, signal.SIGUSR1)
 
-    def stops(self) -> float:
-        """At this time."""
-        self._put(self.now())
-        return self.now()
-
     def goes_on(self, *services: int) -> None:
         """As the machine's does, which it is never behind."""
         self._put(min(0.0, machine() - self.now()), *services)
 
-    def advance(self, seconds: float, *services: int) -> None:
+    def stops(self, seconds: float = 0.0, *services: int) -> float:
+        """It stands so many seconds from now. When that is."""
         self._put(self.now() + seconds, *services)
+        return self.now()
 
     def steps(self, holds: Callable[[], object], *services: int) -> int:
         """Advances it by a millisecond whenever these services, and what they have started, rest, until something
@@ -75,7 +72,7 @@ class HandClock:
             time.sleep(STEP)
             now = [each for pid in services for each in threads_of(pid)]
             if now == before and all(each[0] == 'S' for each in now):
-                self.advance(STEP, *services)
+                self.stops(STEP, *services)
                 count += 1
             before = now
         return count
@@ -83,8 +80,7 @@ class HandClock:
 
 def threads_of(pid: int) -> list[str]:
     """The state of each thread of a process, and how often it had a processor; the states of what it has started (that
-    looks now and then by the machine's clock). What scripts/stalls has stopped looks as if it slept; what a test has
-    stopped rests."""
+    looks now and then by the machine's clock). What scripts/stalls has stopped does not rest; what a test has, does."""
     found: list[str] = []
     with suppress(OSError):
         for folder in Path(f'/proc/{pid}/task').iterdir():

@@ -8,6 +8,7 @@ import functools
 import json
 import os
 import random
+import re
 import signal
 import socket
 import subprocess
@@ -31,7 +32,7 @@ sys.dont_write_bytecode = True
 
 __all__ = ['Exchange', 'FolderCase', 'ReplayInSteps', 'SECONDS', 'Service', 'TOP', 'all_read', 'chance_of',
            'config_text', 'connected', 'in_memory', 'launcher', 'listening', 'octets_of', 'program', 'read_from',
-           'run', 'state_of', 'stopped', 'text_of', 'until', 'without']
+           'run', 'said', 'state_of', 'stopped', 'text_of', 'until', 'without']
 
 T = TypeVar('T')
 
@@ -52,6 +53,15 @@ def octets_of(path: str) -> bytes:
 def text_of(path: str) -> str:
     """The same as text."""
     return octets_of(path).decode(errors='replace')
+
+
+def said(path: str, process: subprocess.Popen[bytes], pattern: str | re.Pattern[str], start: int) -> re.Match[str]:
+    """What a process says next that is so, behind this place of the file of its standard error."""
+    while not (found := re.compile(pattern).search(text_of(path), start)):
+        if process.poll() is not None:
+            raise AssertionError(f'not said: {pattern}\n{text_of(path)}')
+        time.sleep(0.002)
+    return found
 
 
 def config_text(circuits: Mapping[int, Mapping[str, object]], law: str = 'A') -> str:

@@ -11,7 +11,6 @@ import re
 import signal
 import socket
 import subprocess
-import time
 import unittest
 from types import SimpleNamespace
 from typing import Any, Callable
@@ -21,8 +20,8 @@ from . import limits, support
 from .support import SECONDS
 from .world import trunk_command, words_of
 from e1gw.exchange import ACKNOWLEDGED, ANSWERED, SEIZED
-from e1gw.session import MULTIFRAME, Codec, Command, Kind, codec_record, command_record, packet_of, records_in
-from e1gw.session import trunk_record
+from e1gw.session import (FRAME, MULTIFRAME, Codec, Command, Kind, Packet, codec_record, command_record, packet_of,
+                          records_in, trunk_record)
 from e1gw.testing.ports import free_ports
 
 NO_EFFECT = codec_record(1, Codec.G726_16, 1)    # no payload type of the codec: it is refused
@@ -84,6 +83,12 @@ class RtpPeers:
                 return
             self.packets[self.circuits[port]].append(datagram)
 
+    def speak(self, number: int, host: str) -> None:
+        """Each sends its packet of this number, 20 ms of an octet of its own, to the trunk at a host."""
+        for port, circuit in self.circuits.items():
+            packet = Packet(8, number & 0xffff, 160 * number & 0xffffffff, circuit, bytes([circuit]) * 160)
+            self.socket.sendto(packet.encode(), (host, port))
+
 
 class KeeperCase(support.FolderCase):
     """A keeper with a device, thirty calls, and what was given and heard."""
@@ -95,12 +100,13 @@ class KeeperCase(support.FolderCase):
         self.device, self.peers = KeeperDevice(self.folder), RtpPeers()
         self.addCleanup(self.device.close)
         self.addCleanup(self.peers.socket.close)
-        self.config = self.write('trunk.toml', self.peers.config())
+        self.config, self.control = self.write('trunk.toml', self.peers.config()), 'control'
         self.given: list[bytes] = []            # what the gateway was given, in the order in which it took it
         self.unknown = 0                        # how many records a killed program had in hand, which nobody knows of
         self.heard: list[bytes | None] = []     # the answer to each record of the trunk, or None where it is lost
         self.told_from = self.first = 0         # what was heard before the keeper of now counted octets
         self.program = self.shadow = 0
+        self.speech_to, self.now, self._spoken = '', 0, -1  # where peers speak, by the trunk's time: 2 ms, and packets
         memory = support.in_memory()
         self.addCleanup(memory.cleanup)
         self.memory = memory.name
@@ -132,15 +138,11 @@ class KeeperCase(support.FolderCase):
     # ---- what the keeper says ----
 
     def told(self) -> str:
-        with open(self.path('told'), encoding='utf-8') as file:
-            return file.read()
+        return support.text_of(self.path('told'))
 
     def awaits(self, pattern: str | re.Pattern[str]) -> re.Match[str]:
         """What the keeper says next that is so."""
-        while not (found := re.compile(pattern).search(self.told(), self.told_from)):
-            if self.keeper.poll() is not None:
-                raise AssertionError(f'not said: {pattern}\n{self.told()}')
-            time.sleep(0.002)
+        found = support.said(self.path('told'), self.keeper, pattern, self.told_from)
         self.told_from = found.end()
         return found
 
@@ -160,6 +162,10 @@ class KeeperCase(support.FolderCase):
     def send(self, count: int = 1) -> int:
         """Sends multiframes that are not waited for yet."""
         for _ in range(count):
+            if self.speech_to and self.now // 10 != self._spoken:
+                self._spoken = self.now // 10
+                self.peers.speak(self._spoken, self.speech_to)
+            self.now += 1
             octets = self.device.multiframe()
             self.device.line.sendall(octets)
             self.given.append(trunk_record(octets))
@@ -174,7 +180,9 @@ class KeeperCase(support.FolderCase):
             self.peers.take()
 
     def client(self) -> socket.socket:
-        return support.connected(self.path('control'))
+        path = self.path(self.control)
+        support.until(lambda: os.path.exists(path))     # (the program may answer octets before)
+        return support.connected(path)
 
     def commands(self, circuits: range, command: Command) -> None:
         """Gives a command to each of these circuits, and sees it done."""
@@ -276,11 +284,17 @@ class KeeperCase(support.FolderCase):
 
     # ---- what must hold ----
 
-    def uncut(self) -> tuple[list[bytes], dict[int, list[bytes]]]:
+    def peers_heard(self, count: int = 1) -> set[int]:
+        """The circuits in which nothing but their peers was heard in the last records."""
+        back = b''.join(each or b'' for each in self.heard[-count:])
+        return {n for n in CIRCUITS if {*back[n + (n > 15)::FRAME]} == {n}}
+
+    def uncut(self, *words: str, given: bytes = b'') -> tuple[list[bytes], dict[int, list[bytes]]]:
         """What one replay of all that was given answers: records of the trunk, and packets by circuit."""
         octets: list[bytes] = []
         packets: dict[int, list[bytes]] = {circuit: [] for circuit in CIRCUITS}
-        for record in records_in(support.run('replay', '--config', self.config, given=b''.join(self.given))):
+        given = given or b''.join(self.given)
+        for record in records_in(support.run('replay', '--config', self.config, *words, given=given)):
             if record.kind is Kind.TRUNK:
                 octets.append(record.body)
             elif record.kind is Kind.DATAGRAM:

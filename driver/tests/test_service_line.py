@@ -3,6 +3,7 @@ processes on its line."""
 from __future__ import annotations
 
 import asyncio
+import functools
 import os
 import signal
 import socket
@@ -17,6 +18,7 @@ from .test_crc4 import MULTIFRAME, checked
 from .test_satop import ENDS, SCRIPT
 from .test_service_killed import RestartedKeeperCase
 from .test_trunk import is_there
+from .world import words_of
 from e1gw.lines import Event
 from e1gw.service import chain
 from e1gw.service.chain import BROKEN, CarriedTrunk
@@ -146,14 +148,17 @@ class LineProcessTests(support.FolderCase, unittest.IsolatedAsyncioTestCase):
         return int(trunk.note()['processes']['satop'][0])
 
     async def test_it_dies_and_is_stopped(self) -> None:
-        """Another one has the same socket pair; what it counts goes on in the status."""
+        """Another one has the same socket pair, and its numbers go on with the octets; what it counts goes on in the
+        status."""
         trunk = await self.opened(SCRIPT)
-        for number in signal.SIGKILL, signal.SIGSTOP:
+        for place, number in (256, signal.SIGKILL), (512, signal.SIGSTOP):
             await self.goes_round(trunk)
             await self.until(lambda: trunk.status().get('received') == 3)
-            before = self.process(trunk)
+            before, trunk.place = self.process(trunk), functools.partial(int, place)
             os.kill(before, number)
             await self.until(lambda: self.process(trunk) != before)
+            words = support.until(lambda: words_of(self.process(trunk)))
+            self.assertEqual(words[-2:], ['--sequence', str(trunk.zero + place // 256 & 0xffff)])
         await self.goes_round(trunk)
         self.assertEqual([event['event'] for event in self.told],
                          ['trunk', 'trunk lost', 'trunk', 'trunk lost', 'trunk'])

@@ -231,6 +231,8 @@ class RefusedOptionsTests(support.FolderCase):
             [], ['--unix', 'a', '--tcp', 'b:1'], ['--unix', 'a', '--repeat', '9'], ['--unix', 'a', '--keep', '1h'],
             ['--unix', 'a', '--session', 's', '--keep', '1x'], ['--unix', 'a', '--on-loss', 'drop'],
             ['--unix', 'a', '--http', '1'], ['--unix', 'a', '--gap', 'x'],
+            ['--unix', 'a', '--feed', '127.0.0.1:1'],
+            ['--unix', 'a', '--feed', '10.0.0.1:1', '--standby', '10.0.0.2:1'],
             # (each program has a longer one: that of the tenth could not be bound)
             *(['--unix', 'a', option, '/'.ljust(MOST_PATH - DIGITS + 1, 'x')] for option in
               ('--program-control', '--tell'))]
