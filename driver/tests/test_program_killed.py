@@ -340,6 +340,24 @@ class KeeperCase(support.FolderCase):
         self.assertFalse(os.path.lexists(self.path('control')))
 
 
+class KeeperLateTests(KeeperCase):
+    def test_a_second_is_lost(self) -> None:
+        """Behind a late takeover each datagram is Full, by the time that no octets came: calls are restarted, once."""
+        self.speech_to = '127.0.0.1'
+        self.starts('--control', self.path('ctl'))
+        self.calls()
+        self.assertEqual(self.peers_heard(), {*CIRCUITS})
+        self.dies()
+        self.now += 500
+        self.step(20)
+        self.assertEqual(self.peers_heard(), set())
+        while self.peers_heard() != {*CIRCUITS}:
+            self.step(10)
+        self.step(300)
+        self.assertEqual(self.peers_heard(300), {*CIRCUITS})
+        self.assertIn('resynchronised, datagrams are refused for their time: circuits ', self.told())
+
+
 class KeeperFifoTests(KeeperCase):
     def test_goes_on(self) -> None:
         """A trunk that is a pair of FIFOs, without a control socket."""
