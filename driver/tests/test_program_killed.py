@@ -344,7 +344,7 @@ class KeeperLateTests(KeeperCase):
     def test_a_second_is_lost(self) -> None:
         """Behind a late takeover each datagram is Full, by the time that no octets came: calls are restarted, once."""
         self.speech_to = '127.0.0.1'
-        self.starts('--control', self.path('ctl'))
+        self.starts()
         self.calls()
         self.assertEqual(self.peers_heard(), {*CIRCUITS})
         self.dies()

@@ -22,7 +22,7 @@ from .recordings import RecordingWants
 from .trunk import LineOptions
 from .watch import WatchWants
 
-WATCHED = 'control', 'http', 'metrics', 'json', 'calls', 'watch'      # what an operator may want of a trunk
+WATCHED = 'control', 'http', 'metrics', 'json', 'calls', 'watch'      # what an operator may have of a trunk
 MEMORY = '/dev/shm'         # where the folder of a trunk is by default
 DIGITS = 11                 # octets that the number of a program adds to a socket's path
 
@@ -113,11 +113,6 @@ def name_of(asked: argparse.Namespace) -> str:
     return name
 
 
-def is_watched(asked: argparse.Namespace) -> bool:
-    """Whether an operator wants something of the trunk."""
-    return any(getattr(asked, name) for name in WATCHED)
-
-
 def opens_of(asked: argparse.Namespace) -> list[str | None]:
     """Which trunk it is: the same for a service that is started again."""
     paths = [each and os.path.abspath(each) for each in (asked.input, asked.out, asked.unix, asked.program_control)]
@@ -196,8 +191,8 @@ def wants_of(asked: argparse.Namespace) -> TrunkWants:
             raise ValueError(f'{path}: a path of a socket has {MOST_PATH - DIGITS} octets at most')
     program = program_of(asked.program)
     program = os.path.abspath(shutil.which(program) or program)
-    tell = asked.tell or (os.path.join(folder, 'tell') if is_watched(asked) else None)
     state = None if asked.standby else asked.state      # (the other machine may have gone on from it)
-    return TrunkWants(program, asked.config, asked.senders, replace(line, program=program), folder, control, tell,
-                      state, ['--repeat', str(asked.repeat)] * (asked.repeat > 0), wait_words(asked.seizure_wait),
+    return TrunkWants(program, asked.config, asked.senders, replace(line, program=program), folder, control,
+                      asked.tell or os.path.join(folder, 'tell'), state,
+                      ['--repeat', str(asked.repeat)] * (asked.repeat > 0), wait_words(asked.seizure_wait),
                       asked.totals)

@@ -27,7 +27,7 @@ from ..writers import hold_descriptors
 from .commands import CannotListen
 from .journal import ServiceJournal
 from .lifecycle import GRACE, TrunkKeeper, TrunkWants
-from .options import add_options, is_watched, opens_of, recording_of, wants_of, watched_of
+from .options import add_options, opens_of, recording_of, wants_of, watched_of
 from .pair import open_pair
 from .program import TrunkProgram
 from .reader import LogReader
@@ -59,10 +59,8 @@ async def sign_of_life(notifier: Notifier) -> None:
 
 
 async def opened_watch(asked: argparse.Namespace, keeper: TrunkKeeper, requests: ReloadRequests,
-                       goes_on: bool) -> TrunkWatch | None:
-    """Watches the trunk, if an operator wants something of it. One that cannot listen ends no trunk that `goes_on`."""
-    if not is_watched(asked):
-        return None
+                       goes_on: bool) -> TrunkWatch:
+    """Watches the trunk. One that cannot listen ends no trunk that `goes_on`."""
     watch = TrunkWatch(watched_of(asked, keeper.wants.program), OperatedTrunk(keeper, requests))
     keeper.trunk.tell = watch.tell
     keeper.reader.found = watch.flowed
@@ -136,12 +134,12 @@ async def serve(asked: argparse.Namespace, wants: TrunkWants) -> int:
     if keeper.program:
         keeper.reader.began(keeper.program, False)
     beside = [asyncio.create_task(sign_of_life(notifier)), asyncio.create_task(keeper.reader.run())]
-    if watch := await opened_watch(asked, keeper, requests, note is not None):
-        beside.append(asyncio.create_task(watch.run()))
+    watch = await opened_watch(asked, keeper, requests, note is not None)
+    beside.append(asyncio.create_task(watch.run()))
     if not keeper.pair or keeper.pair.is_active:
         await open_first(keeper)
     status = await keeper.serve()
-    if watch and keeper.state.state >= 0:
+    if keeper.state.state >= 0:
         watch.status.saved(keeper.state.name())
     for task in beside:
         task.cancel()
