@@ -7,6 +7,7 @@ import os
 import re
 import signal
 import subprocess
+import sys
 from concurrent.futures import ThreadPoolExecutor
 from typing import Any, Callable
 
@@ -43,7 +44,7 @@ class Machine:
 
     def awaits(self, pattern: str) -> re.Match[str]:
         """What it says next that is so."""
-        found = support.said(self._told, self.process, pattern, self._from)
+        found = support.said_by(self.process, self._told, pattern, self._from)
         self._from = found.end()
         return found
 

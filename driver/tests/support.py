@@ -32,7 +32,7 @@ sys.dont_write_bytecode = True
 
 __all__ = ['Exchange', 'FolderCase', 'ReplayInSteps', 'SECONDS', 'Service', 'TOP', 'all_read', 'chance_of',
            'config_text', 'connected', 'in_memory', 'launcher', 'listening', 'octets_of', 'program', 'read_from',
-           'run', 'said', 'state_of', 'stopped', 'text_of', 'until', 'without']
+           'run', 'said_by', 'state_of', 'stopped', 'text_of', 'until', 'without']
 
 T = TypeVar('T')
 
@@ -55,13 +55,14 @@ def text_of(path: str) -> str:
     return octets_of(path).decode(errors='replace')
 
 
-def said(path: str, process: subprocess.Popen[bytes], pattern: str | re.Pattern[str], start: int) -> re.Match[str]:
-    """What a process says next that is so, behind this place of the file of its standard error."""
-    while not (found := re.compile(pattern).search(text_of(path), start)):
-        if process.poll() is not None:
-            raise AssertionError(f'not said: {pattern}\n{text_of(path)}')
+def said_by(process: subprocess.Popen[bytes], path: str, pattern: str | re.Pattern[str], since: int) -> re.Match[str]:
+    """What a process prints to a file behind this place, in whole lines, once it is so. (It may end behind it.)"""
+    while True:
+        has_ended, text = process.poll() is not None, text_of(path)
+        if found := re.compile(pattern).search(text, since, text.rfind('\n') + 1):
+            return found
+        assert not has_ended, f'not said: {pattern}\n{text}'
         time.sleep(0.002)
-    return found
 
 
 def config_text(circuits: Mapping[int, Mapping[str, object]], law: str = 'A') -> str:

@@ -142,7 +142,7 @@ class KeeperCase(support.FolderCase):
 
     def awaits(self, pattern: str | re.Pattern[str]) -> re.Match[str]:
         """What the keeper says next that is so."""
-        found = support.said(self.path('told'), self.keeper, pattern, self.told_from)
+        found = support.said_by(self.keeper, self.path('told'), pattern, self.told_from)
         self.told_from = found.end()
         return found
 
