@@ -243,19 +243,19 @@ class ControlSocketTests(support.FolderCase):
         self.assertEqual((found, os.listdir(self.folder)), ([False, True], ['control']))
 
 
-class UnnotedProgramTests(unittest.TestCase):
+class UnnotedProgramTests(support.FolderCase):
     """A program that a service has begun and not noted."""
 
     def test_found_by_its_control_socket(self) -> None:
         ends = 'import sys; sys.stdin.read()'
-        started = {path: subprocess.Popen([sys.executable, '-c', ends, 'trunk', '--control', path],
-                                          stdin=subprocess.PIPE) for path in ('/x/program.4', '/x/program.5',
-                                                                              '/x/program.y', '/x/other.5')}
+        started = {name: subprocess.Popen([sys.executable, '-c', ends, 'trunk', '--control', self.path(name)],
+                                          stdin=subprocess.PIPE) for name in ('program.4', 'program.5', 'program.y',
+                                                                              'other.5')}
         for process in started.values():
             self.addCleanup(process.communicate)
-        noted = started['/x/program.4'].pid
-        support.until(lambda: unnoted_programs('/x/program', noted) == [started['/x/program.5'].pid])
-        self.assertEqual(unnoted_programs('/x/none', noted), [])
+        path, noted = self.path('program'), started['program.4'].pid
+        support.until(lambda: unnoted_programs(path, noted) == [started['program.5'].pid])
+        self.assertEqual(unnoted_programs(self.path('none'), noted), [])
 
 
 class TrunkEndTests(support.FolderCase):
