@@ -1,6 +1,7 @@
 """The drawings: the trunk, the circuits over time, and a circuit's datagrams in its jitter buffer."""
 from __future__ import annotations
 
+from bisect import bisect_left, bisect_right
 from collections.abc import Callable
 from functools import partial
 from typing import NamedTuple, TypeVar
@@ -188,7 +189,7 @@ def _gaps(row: Row, scale: Scale, seen: Pixels, column: float) -> list[tuple[flo
     found = []
     for first, last, state in row.states.between(scale.start, scale.end):
         begin, end = scale.x(first) - LEFT, scale.x(last) - LEFT
-        edges = [begin - column, *(x for x in came if begin <= x <= end), end] if state in OPEN else []
+        edges = [begin - column, *came[bisect_left(came, begin):bisect_right(came, end)], end] if state in OPEN else []
         least = max((NOTHING if len(edges) > 2 else SECOND / 2) / scale.octets, 2.0)
         found += [(before + column, after) for before, after in zip(edges, edges[1:])
                   if after - before - column >= least]
