@@ -4,7 +4,7 @@ from collections import deque
 from dataclasses import dataclass, replace
 from itertools import product
 from random import Random
-from typing import Any, Iterator, TypeVar
+from typing import Any, Iterator, NamedTuple, TypeVar
 
 from e1gw.lines import Role, State
 from e1gw.session import Command
@@ -49,8 +49,7 @@ class OutgoingExchange:
         return 0b11 if self.blocks else 0b10
 
 
-@dataclass(frozen=True)
-class TieCircuitWorld:
+class TieCircuitWorld(NamedTuple):
     """A circuit with both its ends, both exchanges and what is on the way."""
 
     near: TieCircuit                       # the incoming end
@@ -68,11 +67,11 @@ class TieCircuitWorld:
 
     def with_end(self, side: int, circuit: TieCircuit) -> 'TieCircuitWorld':
         """With this end as it is now, which is on its way to the other one."""
-        if circuit == self.ends()[side]:
+        if circuit == (before := self.ends()[side]):
             return self
-        told = circuit.end() != self.ends()[side].end() and self.up
+        told = self.up and circuit.end() != before.end()
         on_way = put(self.on_way, side, circuit.end()) if told else self.on_way
-        return replace(self, on_way=on_way, **{('near', 'far')[side]: circuit})
+        return self._replace(on_way=on_way, **{('near', 'far')[side]: circuit})
 
     # ---- what can happen ----
 
@@ -83,7 +82,7 @@ class TieCircuitWorld:
         if state is circuit.state:
             return self
         begins = side == 0 and circuit.state is IDLE and state is ACKED
-        world = replace(self, calls=self.calls + begins)
+        world = self._replace(calls=self.calls + begins)
         return world.with_end(side, circuit.moved(state, f'call {world.calls}' if begins else None))
 
     def ask(self, side: int) -> 'TieCircuitWorld':
@@ -94,7 +93,7 @@ class TieCircuitWorld:
         if command is None:
             return world
         call = circuit.far.call if circuit.far and command is Command.SEIZE else None
-        return replace(world, asked=put(world.asked, side, (command, call or NO_CALL)))
+        return world._replace(asked=put(world.asked, side, (command, call or NO_CALL)))
 
     def do(self, side: int) -> 'TieCircuitWorld':
         """The gateway does a command or refuses it."""
@@ -107,34 +106,34 @@ class TieCircuitWorld:
             circuit = circuit.moved(to)
         if command is Command.SEIZE:
             circuit = circuit.tried(call)
-        return replace(self, asked=put(self.asked, side, None)).with_end(side, circuit)
+        return self._replace(asked=put(self.asked, side, None)).with_end(side, circuit)
 
     def deliver(self, side: int) -> 'TieCircuitWorld':
         """What is on the way to an end comes there."""
         told = self.on_way[1 - side]
         if told is None:
             return self
-        world = replace(self, on_way=put(self.on_way, 1 - side, None), links=put(self.links, side, GOOD))
+        world = self._replace(on_way=put(self.on_way, 1 - side, None), links=put(self.links, side, GOOD))
         return world.with_end(side, self.ends()[side].heard(told))
 
     def broken(self) -> 'TieCircuitWorld':
-        return replace(self, up=False, on_way=(None, None))
+        return self._replace(up=False, on_way=(None, None))
 
     def connected(self) -> 'TieCircuitWorld':
-        return replace(self, up=True, on_way=(self.near.end(), self.far.end()))
+        return self._replace(up=True, on_way=(self.near.end(), self.far.end()))
 
     def noticed(self, side: int) -> 'TieCircuitWorld':
         """An end gives the connection up, and later the call."""
         if self.up or self.links[side] is GIVEN_UP:
             return self
-        return replace(self, links=put(self.links, side, LOST if self.links[side] is GOOD else GIVEN_UP))
+        return self._replace(links=put(self.links, side, LOST if self.links[side] is GOOD else GIVEN_UP))
 
     def forgotten(self, side: int) -> 'TieCircuitWorld':
         """The tie of one end is started again. The driver knows the calls of its incoming circuits."""
         circuit = self.ends()[side]
         fresh = TieCircuit(circuit.role, circuit.state, circuit.call if side == 0 else None)
-        world = replace(self.broken(), asked=put(self.asked, side, None), links=put(self.links, side, LOST))
-        return replace(world, **{('near', 'far')[side]: fresh})
+        world = self.broken()._replace(asked=put(self.asked, side, None), links=put(self.links, side, LOST))
+        return world._replace(**{('near', 'far')[side]: fresh})
 
 
 T = TypeVar('T')
@@ -161,12 +160,12 @@ def outside(world: TieCircuitWorld, most: int) -> Iterator[TieCircuitWorld]:
     if world.far.state is RELEASING:
         yield world.with_end(1, replace(world.far, stuck=True))
     if world.forward == 0b00:
-        yield replace(world, forward=0b10)
+        yield world._replace(forward=0b10)
     elif world.calls < most:
-        yield replace(world, forward=0b00)
+        yield world._replace(forward=0b00)
     for backward in (0b10, 0b11, 0b01):
         if backward != world.backward:
-            yield replace(world, backward=backward)
+            yield world._replace(backward=backward)
 
 
 def recognised(world: TieCircuitWorld) -> TieCircuitWorld:
@@ -181,7 +180,7 @@ def recognised(world: TieCircuitWorld) -> TieCircuitWorld:
 def onward(world: TieCircuitWorld, exchange: OutgoingExchange) -> TieCircuitWorld:
     """One round in which nothing but the two ties acts: the connection is there and all is delivered."""
     before = world
-    world = replace(world, backward=exchange.pair(world.far.state, world.backward)).line(1).line(0)
+    world = world._replace(backward=exchange.pair(world.far.state, world.backward)).line(1).line(0)
     for side in (0, 1):
         world = world.ask(side).do(side)
     world = world.deliver(0).deliver(1)
@@ -252,9 +251,9 @@ def everything(first: TieCircuitWorld, most: int) -> set[TieCircuitWorld]:
     """All worlds that can come of one."""
     found, todo = {first}, deque((first,))
     while todo:
-        for world in happenings(todo.popleft(), most):
-            world = recognised(world)
-            if world not in found:
+        before = todo.popleft()
+        for world in happenings(before, most):
+            if world is not before and (world := recognised(world)) not in found:
                 found.add(world)
                 todo.append(world)
     return found
@@ -266,7 +265,7 @@ def walk(chance: Random, steps: int) -> TieCircuitWorld:
     for _ in range(steps):
         inside = [step(side) for side in (0, 1) for step in (world.line, world.ask, world.do, world.deliver,
                                                              world.noticed)]
-        then = inside * 2 + list(outside(world, 3)) + [replace(world, backward=0b00)]
+        then = inside * 2 + list(outside(world, 3)) + [world._replace(backward=0b00)]
         if chance.random() < 0.02:
             then = [world.forgotten(side) for side in (0, 1)]
         world = chance.choice([each for each in then if each is not world] or [world])
@@ -312,7 +311,7 @@ class TieAgreementTests(unittest.TestCase):
     def test_no_call_for_ever(self) -> None:
         """If the connection does not come again, no call is up and no circuit can be seized."""
         for world in anything():
-            world = replace(world, links=(GIVEN_UP, GIVEN_UP))
+            world = world._replace(links=(GIVEN_UP, GIVEN_UP))
             for _ in range(4):
                 world = recognised(world).ask(0).do(0).ask(1).do(1)
             self.assertNotIn(world.far.state, CALLED)
