@@ -312,6 +312,12 @@ def recorded(name: str) -> tuple[str, bytes]:
     return made.config(), b''.join(made.given())
 
 
+@functools.cache
+def made_of(name: str) -> Facts:
+    """What is gathered of it."""
+    return read_session(*recorded(name))
+
+
 # ---- captures with a session ----
 
 BEGIN = 1_700_000_000           # 2023-11-14 22:13:20 UTC

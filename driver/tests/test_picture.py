@@ -12,7 +12,8 @@ import unittest
 
 from .support import TOP, run
 
-from .picture_made import TROUBLES, MadeSession, PictureSender, configured, one_call, read_session, recorded, rtp
+from .picture_made import (TROUBLES, MadeSession, PictureSender, configured, made_of, one_call, read_session, recorded,
+                           rtp)
 
 from e1gw.picture.facts import MOST, RANK, Facts, Row, Spans
 from e1gw.picture.findings import findings
@@ -24,12 +25,6 @@ from e1gw.session import OCTETS_A_SECOND, Codec, Kind, codec_record, records_in,
 
 def facts_of(session: MadeSession, last: int | None = None) -> Facts:
     return read_session(session.config(), b''.join(session.given()), last)
-
-
-@functools.cache
-def made_of(name: str) -> Facts:
-    """What is gathered of a session with a trouble."""
-    return read_session(*recorded(name))
 
 
 class FactsTests(unittest.TestCase):
@@ -169,11 +164,11 @@ def busy_page() -> str:
         row.codec, row.payload, row.prefill = 'g726-32', 96, 320
         row.local, row.peer = '192.0.2.110:24002', '198.51.100.120:34002'
     states = ('idle', 'seized', 'acked', 'answered', 'releasing')
-    for second in range(0, 86_400, 40):
+    for column, second in enumerate(range(0, 86_400, 66)):      # (a column is 65.5 s)
         place = second * OCTETS_A_SECOND
         facts.turn(place)
         for row in facts.rows.values():
-            row.state(place, states[(second // 40 + row.number) % 5])
+            row.state(place, states[(column + row.number) % 5])
             row.cell.sent += 500
             for _ in range(3):
                 row.cell.admit(rng.randrange(0, 3000))

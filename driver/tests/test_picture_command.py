@@ -13,9 +13,10 @@ import subprocess
 from .support import SECONDS, TOP, FolderCase, program, text_of
 
 from .picture_made import (BEGIN, CAPTURED, COMMAND, PEER, TROUBLES, MadeSession, PictureSender, apart, captured, icmp,
-                           page_of, pcap, recorded, udp)
+                           made_of, page_of, pcap, recorded, udp)
 
 from e1gw.packets import BadCapture, Datagram, datagrams
+from e1gw.picture.page import draw
 from e1gw.session import Kind, records_in, trunk_record
 
 COUNTS = re.compile(r'(\d+) sent, (\d+) received, (\d+) discarded')
@@ -221,10 +222,12 @@ class PictureAnswersTests(FolderCase):
         self.assertEqual({name for name, _, _ in quotes}, set(TROUBLES) - {'sound'} | set(CAPTURED))
         for name, who, words in quotes:
             with self.subTest(name):
-                config, given, capture = captured(name) if name in CAPTURED else (*recorded(name), b'')
-                beside_it = ['--capture', self.write('call.pcap', capture)] if capture else []
-                page, _ = page_of('--config', self.write('trunk.toml', config), *beside_it, '-',
-                                     given=given)
+                if name in CAPTURED:
+                    config, given, capture = captured(name)
+                    page, _ = page_of('--config', self.write('trunk.toml', config), '--capture',
+                                      self.write('call.pcap', capture), '-', given=given)
+                else:
+                    page = draw(made_of(name), name)
                 entries = [re.sub('<.*?>', '', entry) for entry in re.findall('<li.*?</li>', page, re.S)]
                 wanted = who + words.replace("'", '&#x27;')
                 self.assertTrue(any(entry.startswith(wanted) for entry in entries), (wanted, entries))
