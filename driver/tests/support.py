@@ -17,7 +17,7 @@ import tempfile
 import termios
 import time
 import unittest
-from typing import Callable, Iterator, Mapping, TypeVar
+from typing import Callable, Iterator, Mapping, Sequence, TypeVar
 
 from . import limits
 from e1gw.__main__ import COMMANDS
@@ -169,13 +169,18 @@ class ReplayInSteps:
 
     def passes(self, record: bytes) -> Record:
         """The answer to a record."""
-        self.given += record
-        self._input.write(record)
+        return self.passes_all([record])[0]
+
+    def passes_all(self, records: Sequence[bytes]) -> list[Record]:
+        """The answers to records, which two pipes hold."""
+        octets, answers = b''.join(records), list[Record]()
+        self.given += octets
+        self._input.write(octets)
         self._input.flush()
         while True:
-            while answer := self._reader.take():
-                if answer.kind in (Kind.TRUNK, Kind.ANSWER):
-                    return answer
+            answers += [each for each in self._reader.whole() if each.kind in (Kind.TRUNK, Kind.ANSWER)]
+            if len(answers) == len(records):
+                return answers
             more = os.read(self._output.fileno(), 65_536)
             assert more, 'the replay has ended'
             self.written += more

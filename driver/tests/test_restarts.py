@@ -11,8 +11,8 @@ from e1gw.clock import TICK, Clock
 from e1gw.events import words_of
 from e1gw.lines import Event
 from e1gw.restarts import REFUSED, Restarts
-from e1gw.session import (FRAME, MULTIFRAME, Codec, Command, DatagramRefusal, Packet, codec_record, command_record,
-                          datagram_record, trunk_record)
+from e1gw.session import (FRAME, MULTIFRAME, Codec, Command, DatagramRefusal, Kind, Packet, codec_record,
+                          command_record, datagram_record, trunk_record)
 
 LATE, FULL = int(DatagramRefusal.LATE), int(DatagramRefusal.FULL)
 SECOND = 256_000
@@ -106,9 +106,10 @@ class RestartRuleTests(unittest.TestCase):
 
 
 STEP = 0.002                # a multiframe
+MOST = 50                   # records that are given at once
 PACKET = 0.02
-IDLE, SPOKEN = 0xD5, 0x55
-ACKNOWLEDGED, ANSWERED = 3, 1
+SPOKEN = 0x55
+IDLE, ACKNOWLEDGED, ANSWERED = 2, 3, 1
 
 
 class SimulatedCall:
@@ -121,11 +122,12 @@ class SimulatedCall:
         self._replay = support.ReplayInSteps('--config', config)
         self.events: list[Event] = []
         self.restarts: list[float] = []         # when
-        self.exchange, self._place = support.Exchange(), 0
+        self._place, self._record = 0, b''      # (the exchange sends this multiframe each time)
         self.clock = Clock(0.0, gap)
         self._restarts = Restarts(self._restart, self.events.append)
         self.now, self._tick = 0.0, TICK
         self.sent, self.heard, self._speaks = 0, 0, False
+        self._waiting = list[bytes]()           # records that were not given to the gateway yet
         self._began = 0.0
         self._up()
 
@@ -137,12 +139,13 @@ class SimulatedCall:
 
     def _up(self) -> None:
         """From alignment to a call that is answered, and half a second more."""
-        self.flow(0.1)
-        self._replay.passes(command_record(1, Command.SEIZE))
-        for pair in (ACKNOWLEDGED, ANSWERED):
-            self.exchange.pairs[1] = pair
-            self.flow(0.06)
-        self.flow(0.5)
+        exchange = support.Exchange()
+        for pair, seconds in (IDLE, 0.1), (ACKNOWLEDGED, 0.06), (ANSWERED, 0.56):
+            exchange.pairs[1] = pair
+            self._record = trunk_record(exchange.multiframe())
+            self.flow(seconds)
+            if pair == IDLE:
+                self._waiting.append(command_record(1, Command.SEIZE))
 
     def speak(self, behind: float = 0.003) -> None:
         """Sends packets, the first one `behind` seconds from now."""
@@ -152,6 +155,7 @@ class SimulatedCall:
         """Seconds of the speech that was sent which were not heard; no more is sent."""
         self._speaks = False
         self.flow(0.5)
+        self._give()
         return self.sent * PACKET - self.heard / 8000
 
     # ---- what the trunk and the machine do ----
@@ -193,6 +197,7 @@ class SimulatedCall:
         while self._tick <= until:
             self.now = self._tick
             self._tick += TICK
+            self._give()
             for finding in self.clock.look(self.now):
                 self.events.append({'event': finding.what, 'seconds': finding.value})
                 if finding.what in ('gap', 'ahead'):
@@ -206,16 +211,25 @@ class SimulatedCall:
         self._replay.passes(codec_record(1, Codec.G711, 8))
 
     def _read(self) -> None:
-        """A multiframe is given to the gateway behind the packets that have come."""
+        """A multiframe is read, behind the packets that have come."""
         while self._speaks and self._began + self.sent * PACKET <= self.now:
             packet = Packet(8, self.sent & 0xFFFF, 160 * self.sent, 7, bytes([SPOKEN]) * 160)
-            answer = self._replay.passes(datagram_record(1, packet.encode()))
-            self._restarts.counted(1, answer.body[1], self._place)
+            self._waiting.append(datagram_record(1, packet.encode()))
             self.sent += 1
         self.clock.took(MULTIFRAME, self.now)
-        answered = self._replay.passes(trunk_record(self.exchange.multiframe())).body
-        self.heard += answered[(1 - self._place) % FRAME::FRAME].count(SPOKEN)
-        self._place += MULTIFRAME
+        self._waiting.append(self._record)
+        if len(self._waiting) >= MOST:
+            self._give()
+
+    def _give(self) -> None:
+        """The gateway is given what was read. (Only a look, each TICK, depends on its answers.)"""
+        waiting, self._waiting = self._waiting, []
+        for answer in self._replay.passes_all(waiting):
+            if answer.kind is Kind.TRUNK:
+                self.heard += answer.body[(1 - self._place) % FRAME::FRAME].count(SPOKEN)
+                self._place += MULTIFRAME
+            elif answer.body[0] == Kind.DATAGRAM:
+                self._restarts.counted(1, answer.body[1], self._place)
 
 
 # What happens to a call, for how many seconds each; the seconds of speech that may be lost, and with each restart; the
