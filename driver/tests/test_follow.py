@@ -5,7 +5,6 @@ from __future__ import annotations
 import os
 import resource
 import subprocess
-import unittest
 from contextlib import suppress
 from functools import partial
 from itertools import accumulate
@@ -141,13 +140,13 @@ class FollowTests(support.FolderCase):
         self.assertEqual(self.followed(log, '--totals'), (1, 'fault 1 BadKind\n'))
 
 
-class LiveDeathTests(unittest.TestCase):
+class LiveDeathTests(support.FolderCase):
     """Live sessions of which the follower, or the program with it, is killed, and whose logs are cut: bench/cuts has a
     thousand."""
 
     def test_any_death(self) -> None:
-        program = support.program()
         for kills in 'both', 'follower':
-            with self.subTest(kills=kills), support.in_memory() as room:
-                session = CutSession(program, room, support.chance_of(self))
+            os.mkdir(self.path(kills))
+            with self.subTest(kills=kills):
+                session = CutSession(support.program(), self.path(kills), support.chance_of(self))
                 self.assertEqual([*session.live(kills, 5_500), *session.cuts(13)], [])
