@@ -124,16 +124,18 @@ class TrunkCommandTests(unittest.TestCase):
         port = int(support.text_of(world.config).split('local_port = ')[1].split()[0])
         causes = {'Short': b'', 'Version': bytes(12), 'PayloadType': b'\x80\x09' + bytes(10),
                   'TooMany': b'\x80\x08' + bytes(1700)}
-        for host in '127.0.0.1', '127.0.0.9':       # (nothing is received of another one than peer_host)
+        for host in '127.0.0.9', '127.0.0.1':       # (nothing is received of another one than peer_host)
             with socket.socket(socket.AF_INET, socket.SOCK_DGRAM) as line:
                 line.bind((host, 0))
                 for datagram in causes.values():
                     line.sendto(datagram, ('127.0.0.1', port))
-        world.step(4)
-        status = world.status()
-        self.assertEqual([row['state'] for row in status['circuits'][:3]], ['answered', 'idle', 'idle'])
-        counts = status['circuits'][0]['datagrams']
-        self.assertEqual({cause: counts.get(cause) for cause in causes}, dict.fromkeys(causes, 1))
+
+        def counts() -> dict[str, int]:
+            found = world.status()['circuits'][0]['datagrams']
+            return {cause: found.get(cause, 0) for cause in causes}
+        world.until(lambda: all(counts().values()))
+        self.assertEqual(counts(), dict.fromkeys(causes, 1))
+        self.assertEqual([row['state'] for row in world.status()['circuits'][:3]], ['answered', 'idle', 'idle'])
         table = world.ask('status').splitlines()
         self.assertEqual(len(table), 34)
         self.assertRegex(table[1], r' s of the trunk at ..:..:.. UTC, aligned; the other end: no alarm')

@@ -3,7 +3,6 @@
 It goes in lock step: what is sent is read back before more is sent. No test waits for a moment to come."""
 from __future__ import annotations
 
-import contextlib
 import array
 import fcntl
 import os
@@ -322,30 +321,34 @@ class LoggedTrunkTests(ServedTrunkCase):
         """Each fifth multiframe fills a packet; it dies in the append of one of these."""
         with socket.socket(socket.AF_INET, socket.SOCK_DGRAM) as peer:
             peer.bind(('127.0.0.1', 0))
-            peer.setblocking(False)
-            ports = f'ptime = 10\nlocal_port = {free_port()}\npeer_port = {peer.getsockname()[1]}\n'
+            peer.settimeout(SECONDS)
+            port = free_port(kind=socket.SOCK_DGRAM)
+            ports = f'ptime = 10\nlocal_port = {port}\npeer_port = {peer.getsockname()[1]}\n'
             self.write('trunk.toml', CONFIG.replace('number = 1\n', f'number = 1\n{ports}'))
             exchange, sent = support.Exchange(), list[bytes]()
             with TrunkProcess(self.serves('--record', self.recording), '') as trunk:
                 def passes(count: int) -> int:
-                    """How many packets come with multiframes: they are sent before the answer."""
-                    before = len(sent)
+                    """How many packets have come behind multiframes: all that belong to what is logged."""
                     for _ in range(count):
                         exchange.hear(trunk.passes(exchange.multiframe()))
-                        with contextlib.suppress(BlockingIOError):
-                            sent.append(peer.recv(2048))
-                    return len(sent) - before
+                    sent.extend(peer.recv(2048) for _ in range(len(self.due()) - len(sent)))
+                    return len(sent)
                 passes(20)
                 exchange.pairs[1] = SEIZED
-                self.assertGreater(passes(100), 10)
+                self.assertGreater(before := passes(100), 10)
                 self.assertEqual(exchange.signals[1], ACKNOWLEDGED)
-                while not passes(1):
+                while passes(1) == before:
                     pass
-                self.assertEqual(passes(4), 0)
+                self.assertEqual(passes(4), before + 1)
                 most = os.path.getsize(self.recording)
                 resource.prlimit(trunk.serving.pid, resource.RLIMIT_FSIZE, (most, most))
                 trunk.here.sendall(exchange.multiframe())
                 self.assertEqual(trunk.ended()[0], -signal.SIGXFSZ)
-            replayed = support.run('replay', '--config', self.config, given=support.octets_of(self.recording))
-            self.assertEqual([record.body for record in records_in(replayed) if record.kind is Kind.DATAGRAM], sent)
+            self.assertEqual(self.due(), sent)
+            peer.setblocking(False)
             self.assertRaises(BlockingIOError, peer.recv, 2048)
+
+    def due(self) -> list[bytes]:
+        """The packets of what is logged."""
+        replayed = support.run('replay', '--config', self.config, given=support.octets_of(self.recording))
+        return [record.body for record in records_in(replayed) if record.kind is Kind.DATAGRAM]
