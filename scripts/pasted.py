@@ -382,7 +382,7 @@ def wrong_options(place: str, text: str, program: str) -> Iterator[str]:
     """Options in a text that the commands do not have."""
     for words in commands_of(text):
         path = path_of(words[0], program)
-        sub = words[1:2] if re.match(r'(\./)?e1gw \w|e1gw-trunk reload\b', ' '.join(words)) else []
+        sub = words[1:2] if re.match(r'(\./)?e1gw \w', ' '.join(words)) else []
         for word in words[1:] if path else ():
             option = word.partition('=')[0]
             if path and re.fullmatch(r'--\w[\w-]*', option) and option not in options_of(path, *sub) | {'--help'}:

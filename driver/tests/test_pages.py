@@ -36,7 +36,7 @@ class PagesTests(unittest.TestCase):
                                 ('e1gw-picture', picture.parser())):
             options = {word for action in parser._actions for word in action.option_strings if word.startswith('--')}
             synopsis, described = page(f'{command}.1').split('.Sh DESCRIPTION')
-            named = {f'--{word}' for word in re.findall(r'(?:Fl|\|) -([\w-]+)', synopsis)} - {'--force'}     # of reload
+            named = {f'--{word}' for word in re.findall(r'(?:Fl|\|) -([\w-]+)', synopsis)}
             items = {f'--{word}' for line in re.findall(r'^\.It Fl .*', described, re.M)
                      for word in re.findall(r'(?:Fl|,) -([\w-]+)', line)}
             self.assertEqual(items, options)

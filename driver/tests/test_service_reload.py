@@ -8,9 +8,9 @@ import sys
 import unittest
 from typing import Iterator
 
-from .support import SECONDS
+from .support import SECONDS, launcher
 from .test_trunk import aligned, call
-from .world import LAUNCHER, World, config_of
+from .world import World, config_of
 
 CIRCUITS = range(1, 11)
 
@@ -26,8 +26,8 @@ class ServiceReloadTests(unittest.TestCase):
 
     def reload(self, *words: str) -> tuple[int, str]:
         """The status of the command, and what it prints."""
-        done = subprocess.run([sys.executable, '-B', LAUNCHER, 'reload', *words, self.world.path('ctl')], text=True,
-                              stdout=subprocess.PIPE, timeout=SECONDS)
+        done = subprocess.run([sys.executable, '-B', launcher('ctl'), self.world.path('ctl'), 'reload', *words],
+                              text=True, stdout=subprocess.PIPE, timeout=SECONDS)
         return done.returncode, done.stdout
 
     def up(self) -> Iterator[int]:
@@ -46,9 +46,9 @@ class ServiceReloadTests(unittest.TestCase):
         self.world.configure(self.text.replace('prefill = 160', 'prefill = 320', 4))
         words = '4 calls (circuits 1, 2, 3, 4)'
         self.assertEqual(self.reload(), (1, 'reload: refused, the trunk goes on as it was: it would end '
-                                         f'{words}; e1gw-trunk reload --force does\n'))
+                                         f'{words}; reload force does\n'))
         self.assertEqual([*self.up()], [1, 2, 3, 4, 5, 7])
-        self.assertEqual(self.reload('--force'), (0, f'reload: it ends {words}\nreload: done\n'))
+        self.assertEqual(self.reload('force'), (0, f'reload: it ends {words}\nreload: done\n'))
         self.assertEqual([*self.up()], [5, 7])
         self.world.configure(self.text.replace('prefill = 160', 'prefill = 320'))
         self.assertEqual(self.world.ask('reload').splitlines(),
@@ -64,7 +64,7 @@ class ServiceReloadTests(unittest.TestCase):
         mute = [re.sub(r'(local|peer)_port = \d+\n', '', table) for table in tables]
         self.world.configure('[[circuit]]'.join(tables[:6] + mute[6:]))
         self.assertEqual(self.reload()[1], 'reload: refused, the trunk goes on as it was: it would end 5 calls '
-                         '(circuits 6, 7, 8, 9, 10); e1gw-trunk reload --force does\n')
+                         '(circuits 6, 7, 8, 9, 10); reload force does\n')
         self.world.configure('[[circuit]]'.join(tables[:10] + mute[10:]))
         self.assertEqual(self.reload(), (0, 'reload: it takes the ports of 1 calls (circuits 10)\nreload: done\n'))
         self.assertEqual([*self.up()], [6, 7, 8, 9, 10])

@@ -69,7 +69,8 @@ class Units(unittest.TestCase):
         for name in (unit.replace('@*', '@') for unit in self.units()):
             with open(os.path.join(TOP, 'dist', 'system', name), encoding='utf-8') as unit:
                 found[name] = re.findall('(?m)^ExecReload=(.*)$', unit.read())
-        self.assertEqual(found, {'e1gw-tie@.service': [], 'e1gw-trunk@.service': ['/usr/bin/e1gw-trunk reload %i']})
+        self.assertEqual(found, {'e1gw-tie@.service': [], 'e1gw-trunk@.service': [
+            '/usr/bin/e1gw-ctl /run/e1gw/%i/control reload']})
 
     def test_an_update_names_what_runs_on(self) -> None:
         """Only where there was a version before, and only while units run."""

@@ -7,8 +7,7 @@ import os
 import time
 from typing import Iterable
 
-from .. import ctl
-from ..faults import Parser, words_of_fault
+from ..faults import words_of_fault
 from .lifecycle import TrunkKeeper, followed, refused
 from .log import Checkpoint
 from .program import TrunkProgram
@@ -66,7 +65,7 @@ class ReloadRequests:
             (new, _), (_, calls) = await version.check(checkpoint), await keeper.versions.now.check(checkpoint)
             mute = calls & keeper.versions.now.ports() - version.ports() - new
             if len(new & calls | mute) > MOST_ENDED and not force:
-                raise VersionRefused(f'it would end {calls_in(new & calls | mute)}; e1gw-trunk reload --force does')
+                raise VersionRefused(f'it would end {calls_in(new & calls | mute)}; reload force does')
         except BaseException:
             if version:
                 version.close()
@@ -121,21 +120,3 @@ def calls_in(circuits: Iterable[int]) -> str:
     """How many calls these are, and of which circuits."""
     numbers = sorted(circuits)
     return f'{len(numbers)} calls (circuits {", ".join(map(str, numbers))})'
-
-
-def ask_reload(name: str, words: list[str]) -> int:
-    """The command of this name that asks a trunk for a reload: prints what it answers, and returns the status."""
-    parser = Parser(f'{name} reload', description='Has a trunk in service take the program and the configuration of '
-                    'now. Statuses: 0 done; 1 refused, the trunk goes on as it was; 2 nobody listens there.')
-    parser.add_argument('--force', action='store_true', help=f'also if that ends more than {MOST_ENDED} calls')
-    parser.add_argument('trunk', metavar='TRUNK', help='its name, or the path of its socket of --control')
-    asked = parser.parse_args(words)
-    path = ctl.path_of(asked.trunk)
-    try:
-        return ctl.run(path, ['reload force' if asked.force else 'reload'])
-    except EOFError:
-        logger.error('the trunk has ended')
-        return 1
-    except OSError as fault:
-        logger.error('%s%s', words_of_fault(fault, path), ctl.unit_words(path, fault))
-        return 2

@@ -3,8 +3,6 @@
 The program carries the octets by itself, and logs all that it takes in memory. If it dies another one goes on from the
 state of that log. This process may be killed: the program goes on, and the next start takes it up.
 
-`e1gw-trunk reload TRUNK` takes the program and the configuration of now, and ends with 1 where they will not do.
-
 Signals: SIGHUP reload; SIGUSR2 another process in place of this one; SIGTERM, SIGINT end.
 Statuses: 0 ended as asked, or with the trunk's input; 1 the trunk or the program failed; 2 the command line or the
 configuration.
@@ -33,7 +31,7 @@ from .program import TrunkProgram
 from .reader import LogReader
 from .recovery import (CAUGHT, CannotBegin, Handover, Notifier, first_keeper, given_files, next_keeper, note_of,
                        open_first)
-from .reload import ReloadRequests, ask_reload
+from .reload import ReloadRequests
 from .status import OperatedTrunk
 from .version import NotYet, VersionRefused
 from .watch import TrunkWatch
@@ -154,8 +152,6 @@ async def serve(asked: argparse.Namespace, wants: TrunkWants) -> int:
 
 def status_of(words: list[str], loop: asyncio.AbstractEventLoop) -> int:
     """Serves by a command line; what is wrong is said in one line."""
-    if words[:1] == ['reload']:
-        return ask_reload(NAME, words[1:])
     asked = parser().parse_args(words)
     try:
         wants = wants_of(asked)
