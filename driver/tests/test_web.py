@@ -1,4 +1,4 @@
-"""What is seen from outside: pages over HTTP, the text of Prometheus, the file of metrics, and the rules of alerts."""
+"""What is seen from outside: pages over HTTP, the text of Prometheus, and the rules of alerts."""
 from __future__ import annotations
 
 import asyncio
@@ -8,7 +8,6 @@ import json
 import os
 import re
 import socket
-import threading
 import unittest
 import urllib.error
 import urllib.request
@@ -27,7 +26,6 @@ from e1gw.testing.ports import free_port
 from e1gw.tie import status as tie_status
 from e1gw.tie.blocked import BlockedCircuits
 from e1gw.tie.tie import Tie, TieOptions
-from e1gw.writers import put_file
 
 TABLE = 'text/plain; charset=utf-8'
 SAMPLE = re.compile(r'([a-z_0-9]+)(\{(?:[a-z_]+="(?:[^"\\]|\\.)*",?)*\})? (-?[0-9.e+-]+)')
@@ -90,32 +88,11 @@ class DrawnPageTests(unittest.IsolatedAsyncioTestCase):
         self.assertEqual(begun[0][-3:], ('--last', '60s', 'ring'))
 
 
-class MetricsFileTests(support.FolderCase, unittest.IsolatedAsyncioTestCase):
-    async def test_the_end_while_it_is_written(self) -> None:
-        """A thread put it again behind the end, and node_exporter had it for ever."""
-        begun, goes_on = threading.Event(), threading.Event()
-
-        def put(path: str, octets: bytes) -> None:
-            begun.set()
-            goes_on.wait()
-            put_file(path, octets)
-        pages = mock.Mock(fresh=mock.AsyncMock(return_value=mock.Mock(metrics='e1gw_up 1\n')))
-        with mock.patch.object(service_pages, 'put_file', put):
-            keeps = asyncio.create_task(service_pages.keep_metrics(pages, self.path('prom'), mock.Mock()))
-            await asyncio.to_thread(begun.wait)
-            keeps.cancel()
-            await asyncio.sleep(0)
-            goes_on.set()
-            await asyncio.wait([keeps])
-            await asyncio.get_running_loop().shutdown_default_executor()
-        self.assertEqual(os.listdir(self.folder), [])
-
-
 class WebTests(unittest.TestCase):
     def setUp(self) -> None:
         self.port = free_port()
-        self.world = World(config_of(FOUR), '--http', f'127.0.0.1:{self.port}', '--name', 'west', '--metrics', '@/prom',
-                           '--picture', '60', '--session', '@/ring', '--keep', LONG)
+        self.world = World(config_of(FOUR), '--http', f'127.0.0.1:{self.port}', '--name', 'west', '--picture', '60',
+                           '--session', '@/ring', '--keep', LONG)
         self.addCleanup(self.world.__exit__)
 
     def get(self, path: str, kind: str = 'text/plain; version=0.0.4; charset=utf-8') -> str:
@@ -178,13 +155,6 @@ class WebTests(unittest.TestCase):
         declared = set(re.findall(r'^# TYPE (\w+)', self.get('/metrics') + more, re.M)) | {
             'e1gw_trunk_rate_ppm'}
         self.assertLessEqual(named, declared)
-
-    def test_a_file_of_metrics(self) -> None:
-        path = self.world.path('prom')
-        support.until(lambda: os.path.exists(path))
-        self.assertIn('e1gw_uptime_seconds{trunk="west"}', samples(support.text_of(path)))
-        self.world.quit()
-        self.assertFalse(os.path.exists(path))
 
     def test_visitors_that_are_slow_or_mad(self) -> None:
         lines = []

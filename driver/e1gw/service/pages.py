@@ -3,7 +3,6 @@ many ask, and served over HTTP."""
 from __future__ import annotations
 
 import asyncio
-import contextlib
 import functools
 import json
 import os
@@ -11,18 +10,15 @@ import sys
 import time
 from typing import Any, Awaitable, Callable
 
-from ..faults import words_of_fault
 from ..lines import Line
 from ..metrics import exposition, table
 from ..priority import put_behind
 from ..sockets import SocketTables, with_sockets
-from ..writers import put_file
 
 EVERY = 0.25                        # seconds between two statuses
 SECONDS, MOST_VISITORS = 10.0, 64   # for one request, and who may ask at once
 FRESH, DRAWN = 5.0, 60.0            # seconds in which nobody gets another picture, and for one to be drawn
 NICE = 15                           # of the process that draws
-METRICS_EVERY = 5.0
 PACKAGE = os.path.dirname(os.path.dirname(os.path.dirname(os.path.abspath(__file__))))
 WAITED = 5.0                        # and for which somebody waits for it
 WHOLE = b'</html>\n'
@@ -159,22 +155,3 @@ class DrawnPage:
             self._drawn = b''
         finally:
             self._drawing, self._until = None, time.monotonic() + FRESH
-
-
-async def keep_metrics(pages: TrunkPages, path: str, ended: Callable[[str, str], None]) -> None:
-    """Keeps a file of metrics for node_exporter up, until it is cancelled or fails."""
-    puts: asyncio.Future[None] | None = None
-    try:
-        while True:
-            octets = (await pages.fresh()).metrics.encode()
-            puts = asyncio.ensure_future(asyncio.to_thread(put_file, path, octets))
-            await asyncio.shield(puts)
-            await asyncio.sleep(METRICS_EVERY)
-    except OSError as fault:
-        ended('metrics', words_of_fault(fault, path))
-    finally:
-        if puts:                # (a thread that is not waited for would put the file again)
-            await asyncio.wait([puts])
-        for each in (path, f'{path}.new'):
-            with contextlib.suppress(OSError):
-                os.unlink(each)

@@ -4,7 +4,6 @@ from __future__ import annotations
 
 import asyncio
 import contextlib
-import functools
 import logging
 import os
 import socket
@@ -12,7 +11,7 @@ import sys
 import time
 from collections import Counter
 from dataclasses import dataclass, field
-from typing import Any, Awaitable, Callable
+from typing import Any, Awaitable
 
 from ..calls import FIELDS
 from ..clearing import DisconnectWatch, OutageWatch, on_loss_of
@@ -26,12 +25,12 @@ from ..session import Codec, Command, codec_record, command_record
 from .commands import MOST_LINE, CannotListen, CommandServer, unix_listener
 from .connection import NoAnswer, ProgramConnection
 from .events import EventFile, json_line, tell_journal
-from .pages import TrunkPages, WebServer, keep_metrics
+from .pages import TrunkPages, WebServer
 from .status import OperatedTrunk, TrunkStatus
 from .trunk import again
 
 TICK = 0.1                  # seconds between two looks
-BESIDE = ('json', 'calls', 'metrics', 'pages')      # what may end without the calls
+BESIDE = 'json', 'calls'    # what may end without the calls
 
 logger = logging.getLogger(__name__)
 
@@ -46,7 +45,6 @@ class WatchWants:
     control_mode: int = 0o660
     control_group: str | None = None
     http: tuple[str, int] | None = None
-    metrics: str | None = None
     json: str | None = None
     calls: str | None = None
     watch: bool = False
@@ -213,10 +211,7 @@ class TrunkWatch:
 
     async def run(self) -> None:
         """Watches, until it is cancelled. Whatever fails is begun again."""
-        works: list[Callable[[], Awaitable[None]]] = [self.status.follow, self._program.run, self.status.look_at_flow,
-                                                      self._look]
-        if self.wants.metrics:
-            works.append(functools.partial(keep_metrics, self.pages, self.wants.metrics, self._note))
+        works = self.status.follow, self._program.run, self.status.look_at_flow, self._look
         try:
             await asyncio.gather(*(again(work, lambda: logger.exception(
                 'the watch of the trunk goes on', extra={'kind': 'fault'})) for work in works))
