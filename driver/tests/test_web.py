@@ -18,10 +18,11 @@ from .support import SECONDS
 from .test_recorder import LONG
 from .test_trunk import FOUR, aligned, call
 from .world import World, config_of
-from e1gw import sockets
 from e1gw.crc4 import Crc4
+from e1gw.lines import Line
 from e1gw.metrics import exposition, family
 from e1gw.service import pages as service_pages
+from e1gw.sockets import sockets_of
 from e1gw.testing.ports import free_port
 from e1gw.tie import status as tie_status
 from e1gw.tie.blocked import BlockedCircuits
@@ -51,15 +52,16 @@ class PageTextTests(unittest.TestCase):
         self.assertEqual(text, '# HELP a b\n# TYPE a gauge\na{h="i",c="d\\"e\\\\f\\ng"} 1\n')
 
 
-class SocketTableTests(unittest.IsolatedAsyncioTestCase):
-    async def test_who_asks_at_once(self) -> None:
-        """All get what one look at the kernel's tables finds."""
-        found = {1: {'waiting': 0, 'dropped': 2}}
-        with mock.patch.object(sockets, 'PATIENCE', SECONDS), \
-                mock.patch.object(sockets, 'sockets_of', return_value=found) as look:
-            tables = sockets.SocketTables([])
-            self.assertEqual(await asyncio.gather(*(tables.found() for _ in range(3))), [found] * 3)
-        self.assertEqual(look.call_count, 1)
+class SocketTableTests(unittest.TestCase):
+    def test_a_socket_that_nobody_reads(self) -> None:
+        """Octets wait there, and what has no room is dropped."""
+        with socket.socket(socket.AF_INET, socket.SOCK_DGRAM) as line:
+            line.bind(('127.0.0.1', 0))
+            for _ in range(2 * line.getsockopt(socket.SOL_SOCKET, socket.SO_RCVBUF) // 1000):
+                line.sendto(bytes(1000), line.getsockname())
+            found = sockets_of([Line(7, port=line.getsockname()[1]), Line(8)])
+        self.assertEqual([*found], [7])
+        self.assertGreater(min(found[7].values()), 0)
 
 
 class DrawnPageTests(unittest.IsolatedAsyncioTestCase):

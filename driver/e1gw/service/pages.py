@@ -13,7 +13,7 @@ from typing import Any, Awaitable, Callable
 from ..lines import Line
 from ..metrics import exposition, table
 from ..priority import put_behind
-from ..sockets import SocketTables, with_sockets
+from ..sockets import sockets_of, with_sockets
 
 EVERY = 0.25                        # seconds between two statuses
 SECONDS, MOST_VISITORS = 10.0, 64   # for one request, and who may ask at once
@@ -53,7 +53,7 @@ class TrunkPages:
     was told is known."""
 
     def __init__(self, status: Callable[[], dict[str, Any]], take: Callable[[], None], lines: list[Line]) -> None:
-        self._status, self._take, self._sockets = status, take, SocketTables(lines)
+        self._status, self._take, self._lines = status, take, lines
         self._due, self._has_changed = 0.0, True
         self._last: StatusTexts | None = None
 
@@ -67,11 +67,10 @@ class TrunkPages:
         wait = self._due - time.monotonic()
         if wait > 0 and self._has_changed:
             await asyncio.sleep(wait)
-        if self._last is None or time.monotonic() >= self._due:
-            sockets = await self._sockets.found()
             self._take()
+        if self._last is None or time.monotonic() >= self._due:
             self._has_changed, self._due = False, time.monotonic() + EVERY
-            self._last = StatusTexts(with_sockets(self._status(), sockets), table,
+            self._last = StatusTexts(with_sockets(self._status(), sockets_of(self._lines)), table,
                                      lambda status: exposition(status, str(status['name'])))
         return self._last
 
