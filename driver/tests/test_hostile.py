@@ -159,12 +159,11 @@ class OpeningTests(unittest.IsolatedAsyncioTestCase):
             file = os.open(os.devnull, os.O_RDWR)
             return Stream(file, file, os.devnull)
         files = trunk.TrunkFiles(opens, {})
-        with mock.patch.object(trunk, 'either', either), mock.patch.object(trunk, 'QUICK', limits.LONG):
-            for _ in range(5):
+        with mock.patch.multiple(trunk, either=either, QUICK=limits.LONG, MOST_PAUSE=30.0):
+            for _ in range(10):
                 await files.reopen(asyncio.Event())
                 files.close()
-        self.assertEqual(waits, [0.0, 0.25, 0.5, 1.0, 2.0])
-
+        self.assertEqual(waits, [0.0, 0.25, 0.5, 1.0, 2.0, 4.0, 8.0, 16.0, 30.0, 30.0])
 
     async def test_one_that_is_opened_too_late(self) -> None:
         """The other machine was to carry the trunk, or the end was asked for, while a thread waited for the other end.

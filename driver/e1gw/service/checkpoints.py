@@ -14,13 +14,12 @@ from ..faults import words_of_fault
 from .follower import LogFollower
 from .log import Checkpoint, take_room
 from .program import LoggedProgram
+from .trunk import Pause
 from .version import ProgramVersion
 
 LOG_ROOM = 32 << 20         # octets of a log behind its last checkpoint at which another one is taken: a minute
 TRIES = 4                   # followers that try to recover a state
 AGAIN = 0.25                # seconds before another one tries
-QUICK = 5.0                 # seconds within which a follower that ends has the next one wait
-PAUSE, MOST_PAUSE = 0.25, 60.0
 NO_ROOM = 'no-room'
 
 logger = logging.getLogger(__name__)
@@ -32,8 +31,7 @@ class Checkpoints:
     def __init__(self, folder: str, tell: str | None, words: Sequence[str]) -> None:
         self._folder, self._tell, self._words = folder, tell, words
         self._lock, self._has_folder = asyncio.Lock(), True
-        self._began, self._pause, self._due = 0.0, 0.0, 0.0
-        self._number = 0
+        self._pause, self._due, self._number = Pause(), 0.0, 0
         self._why = 'there was no shadow'
         self.tells = ''                         # where the follower tells that clients find
 
@@ -69,7 +67,7 @@ class Checkpoints:
         has_folder = self._tell and os.path.isdir(os.path.dirname(self._tell))
         tell = f'{self._tell}.{program.number}.{self._number}' if has_folder else None
         program.follower = follower = self._started(program, program.version, tell)
-        self._began = time.monotonic()
+        self._pause.begins()
         self._name(follower)
         return follower
 
@@ -88,8 +86,7 @@ class Checkpoints:
             return
         now, follower = time.monotonic(), program.follower
         if follower and (why := follower.fault(now)):
-            self._pause = min(MOST_PAUSE, max(PAUSE, 2 * self._pause)) if now < self._began + QUICK else 0.0
-            self._due, self._why = now + self._pause, why
+            self._due, self._why = now + self._pause.ends(), why
             program.unfollow()
         if not program.follower and now >= self._due:
             its = self.follow(program).process.pid

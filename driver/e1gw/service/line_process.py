@@ -10,7 +10,6 @@ import signal
 import socket
 import sys
 import termios
-import time
 from contextlib import suppress
 from typing import Any, Callable, Sequence
 
@@ -20,9 +19,9 @@ from ..satop import CONDITIONS, SatopCondition, counts_of as satop_counts
 from ..session import OCTETS_A_SECOND
 from .log import TrunkLog
 from .process import UNKNOWN, Child
+from .trunk import Pause
 
 SOON = 0.001                # seconds between two looks
-QUICK, PAUSE, MOST_PAUSE = 5.0, 0.25, 30.0      # seconds: who dies within QUICK of its start is begun again later
 
 logger = logging.getLogger(__name__)
 
@@ -74,13 +73,14 @@ class LineProcess:
         self.child: Child | None = None
         self.last = ''                  # what it said last that has no counts
         self._place = 0                 # up to where what it says was taken
-        self._began, self._pause = 0.0, 0.0
+        self._pause = Pause()
 
     def start(self) -> None:
         """OSError if it can't be started."""
         child = self._starts()
         self.close()
-        self.child, self._place, self._began = child, 0, time.monotonic()
+        self.child, self._place = child, 0
+        self._pause.begins()
 
     def is_there(self) -> bool:
         return self.child is not None and not self.child.over.is_set()
@@ -88,13 +88,11 @@ class LineProcess:
     async def begin_again(self) -> None:
         """Starts it at once, unless it has died soon after its start before."""
         while True:
-            wait = 0.0 if time.monotonic() - self._began > QUICK else self._pause
-            self._pause = min(MOST_PAUSE, 2 * wait + PAUSE)
-            await asyncio.sleep(wait)
+            await asyncio.sleep(self._pause.ends())
             try:
                 return self.start()
             except OSError as fault:
-                self._began = time.monotonic()
+                self._pause.begins()
                 logger.error('%s cannot be started: %s', self.name, fault.strerror)
 
     def ended_itself(self) -> int | None:
@@ -124,7 +122,7 @@ class LineProcess:
         """Goes on with the process of a service before this one, and what it says."""
         if note:
             pid, started, self._place = note
-            self.child, self._began = Child(pid, started, said), time.monotonic()
+            self.child = Child(pid, started, said)
 
     def note(self) -> Sequence[int]:
         """What the next service has to know of it; nothing if it is not there."""

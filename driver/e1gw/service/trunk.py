@@ -8,6 +8,7 @@ import select
 import stat
 import time
 from dataclasses import dataclass
+from math import inf
 from typing import Any, Awaitable, Callable
 
 from ..faults import words_of_fault
@@ -15,8 +16,8 @@ from ..lines import Event
 from ..trunks import Stream
 from .events import tell_journal
 
-REOPEN, MOST_REOPEN = 0.25, 30.0        # seconds before a trunk is opened again
-QUICK = 1.0                 # seconds: one that ends within them is opened again later
+QUICK = 1.0                 # seconds: what ends within them is begun again later
+PAUSE, MOST_PAUSE = 0.25, 30.0          # seconds up to then, at first and at most
 AGAIN = 0.1                 # seconds before what has failed is begun again
 
 logger = logging.getLogger(__name__)
@@ -40,6 +41,23 @@ class LineOptions:
         return not (self.satop or self.align or self.crc4 or self.law)
 
 
+class Pause:
+    """How long to wait before something is begun again: not at all, but if it has ended soon a little, and each time
+    twice as long."""
+
+    def __init__(self) -> None:
+        self._began, self._seconds = -inf, 0.0
+
+    def begins(self) -> None:
+        self._began = time.monotonic()
+
+    def ends(self) -> float:
+        """The seconds to wait for another one."""
+        is_soon = time.monotonic() < self._began + QUICK
+        self._seconds = min(MOST_PAUSE, max(PAUSE, 2 * self._seconds)) if is_soon else 0.0
+        return self._seconds
+
+
 class TrunkFiles:
     """The trunk's descriptors, if it is open."""
 
@@ -52,7 +70,7 @@ class TrunkFiles:
         self.zero = int.from_bytes(os.urandom(2))       # (SAToP) the number of the packet with the first octet of all
         self.ones: Callable[[], int] = lambda: 0        # octets of ones that are given to the next program
         self.since, self.fault = time.time(), ''         # when it was opened, and why it is not
-        self._opened, self._wait = 0.0, 0.0     # (by a clock that nobody sets)
+        self._pause = Pause()
         reads = files.get('trunk-in', -1)
         self.both = reads, files.get('trunk-out', reads)
 
@@ -73,23 +91,21 @@ class TrunkFiles:
         ends.cancel()
         if opens.done():
             opens.result()
-            self._opened = time.monotonic()
+            self._pause.begins()
         opens.cancel()
 
     async def reopen(self, ending: asyncio.Event) -> None:
         """Opens it, however long that takes, or until the end is asked for. The next try is later if one has failed, or
         what was opened has ended at once."""
-        if time.monotonic() >= self._opened + QUICK:
-            self._wait = 0.0
-        await either(self._wait, ending)
+        await either(self._pause.ends(), ending)
         while not self.is_open() and not ending.is_set():
-            self._wait = min(MOST_REOPEN, max(REOPEN, 2 * self._wait))
             try:
                 await self.open_until(ending)
             except OSError as fault:
                 self.fault = f'the trunk cannot be opened: {words_of_fault(fault)}'
                 logger.warning('%s; it is tried again', self.fault)
-                await either(self._wait, ending)
+                self._pause.begins()
+                await either(self._pause.ends(), ending)
 
     async def join(self, octets: int, is_new: bool, is_well: bool) -> None:
         """Called before a program begins, behind this number of octets of the trunk: with a new gateway, or with the
