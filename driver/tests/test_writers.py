@@ -40,7 +40,7 @@ class WriterOpeningTests(support.FolderCase):
     def test_a_trunk_whose_files_do_not_open(self) -> None:
         """Each is reported once, and no call ends."""
         support.program()
-        ended = {'json': f'nobody reads it: {self.fifo}', 'calls': 'No space left'}
+        ended = {'json': f'nobody reads it: {self.fifo}', 'calls': 'No space left', 'session': 'No space left'}
         with World(config_of(FOUR), '--json', self.fifo, '--calls', '/dev/full', '--session', '/dev/full',
                    within={'writers.OPENS': 0.1}) as world:
             aligned(world)
@@ -52,7 +52,7 @@ class WriterOpeningTests(support.FolderCase):
             world.until(lambda: world.state(1) == 'idle')
             call(world, 2)
             status, said = world.quit()
-            for what, why in [*ended.items(), ('session', 'No space left')]:
+            for what, why in ended.items():
                 lines = re.findall(f'{what} ended, the calls go on: .*{why}', said)
                 self.assertEqual((status, len(lines)), (0, 1), said)
 

@@ -46,14 +46,14 @@ class LogReader:
         if not wants:
             return
         left = left if left and left['kept'] == [wants.session, wants.keep] else {}
-        self._recording = TrunkRecording(wants, self._note, left.get('own', ()), left.get('ended', False))
+        self._recording = TrunkRecording(wants, self._note, left.get('own', ()), left.get('ended', ''))
         for each in left.get('logs', []):
             with suppress(KeyError):            # (its descriptors are gone)
                 self._put(ReadLog.of_note(each, files))
 
     def _put(self, log: ReadLog) -> None:
         self._logs.append(log)
-        if self._recording and not self._recording.has_ended:
+        if self._recording and not self._recording.why:
             self._recording.put(log)
 
     def began(self, program: TrunkProgram, lost: bool) -> None:
@@ -68,8 +68,12 @@ class LogReader:
             return self._put(log)
         self._logs.append(log)
         if self._recording and self._recording.ring:    # (of which nothing was noted)
-            self._recording.has_ended = True
+            self._recording.why = 'nothing was noted of it'
             self._retry.set()
+
+    def why(self) -> str | None:
+        """Why nothing is recorded any more, if that is so."""
+        return self._recording.why or None if self._recording else None
 
     # ---- for the service that comes after this one ----
 
@@ -82,13 +86,13 @@ class LogReader:
             self.needed[number] = min(place, self.needed.get(number, place))
         if not (recording := self._recording):
             return None
-        return {'kept': [recording.wants.session, recording.wants.keep], 'ended': recording.has_ended,
+        return {'kept': [recording.wants.session, recording.wants.keep], 'ended': recording.why,
                 'own': recording.ring.own if recording.ring else (), 'logs': copied}
 
     def _copies(self, log: ReadLog) -> bool:
         """Whether a log is not all copied yet, and will be."""
         recording = self._recording
-        return recording is not None and not recording.has_ended and log.is_copied and not log.is_kept
+        return recording is not None and not recording.why and log.is_copied and not log.is_kept
 
     # ---- reading ----
 
@@ -175,7 +179,7 @@ class LogReader:
             self._retry.clear()
             wait = AGAIN
             try:
-                if self._recording and self._recording.has_ended and await self._can_begin(self._recording):
+                if self._recording and self._recording.why and await self._can_begin(self._recording):
                     wait = AGAIN if await self._begin(self._recording) else SOON
             except Exception as fault:      # pylint: disable=broad-exception-caught
                 logger.warning('the recording does not begin again: %s', words_of_fault(fault))

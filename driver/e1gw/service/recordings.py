@@ -124,8 +124,8 @@ class TrunkRecording:
     before it has written."""
 
     def __init__(self, wants: RecordingWants, note: Callable[[], None], own: Iterable[Sequence[Any]] = (),
-                 has_ended: bool = False) -> None:
-        self.wants, self.has_ended = wants, has_ended
+                 why: str = '') -> None:
+        self.wants, self.why = wants, why       # (why it has ended, if it has)
         self.ring = Ring(wants.session, wants.name, wants.keep, own) if wants.keep else None
         self._logs, self._note, self._loop = deque[ReadLog](), note, asyncio.get_running_loop()
         self._log: ReadLog | None = None
@@ -150,9 +150,9 @@ class TrunkRecording:
 
     def end(self, why: str) -> None:
         """It goes on no more, and the calls do."""
-        if not self.has_ended:
-            self.has_ended = True
-            logger.warning('%s ended, the calls go on: %s', 'session', f'{why}: {self.wants.session}')
+        if not self.why:
+            self.why = f'{why}: {self.wants.session}'
+            logger.warning('%s ended, the calls go on: %s', 'session', self.why)
 
     # ---- in the thread ----
 
@@ -160,7 +160,7 @@ class TrunkRecording:
         put_behind(threading.get_native_id(), NICE)
         is_last = False
         try:
-            while not (is_last or self.has_ended):
+            while not (is_last or self.why):
                 is_last = self._closes.wait(EVERY)
                 self._copy_all()
         except Exception as fault:      # pylint: disable=broad-exception-caught
@@ -171,7 +171,7 @@ class TrunkRecording:
             self.ring.close()
 
     def _copy_all(self) -> None:
-        while self._logs and not self.has_ended:
+        while self._logs and not self.why:
             log = self._logs[0]
             has_ended = log.has_ended           # (before it is read how long it is)
             if log is not self._log:
@@ -215,7 +215,7 @@ class TrunkRecording:
 
     def _copy(self, log: ReadLog) -> None:
         upto = log.upto[0]
-        while log.kept[0] < upto and not self.has_ended:
+        while log.kept[0] < upto and not self.why:
             place, trunk, size = log.kept
             octets = log.read(place, min(PIECE, upto - place))
             length, its = whole_records(octets)

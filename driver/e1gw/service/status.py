@@ -39,10 +39,11 @@ class OperatedTrunk:
         return self._keeper.versions.now.config_path()
 
     def facts(self) -> dict[str, Any]:
-        """Since when it is open, why it is not, its version and its pair, as plain values."""
+        """Since when it is open, why it is not or not recorded, its version and its pair, as plain values."""
         keeper, pair = self._keeper, self._keeper.pair
         version = keeper.program.version if keeper.program else keeper.versions.now
-        return keeper.trunk.facts() | {'version': version.name, 'pair': pair.facts() if pair else {}}
+        return keeper.trunk.facts() | {'version': version.name, 'pair': pair.facts() if pair else {},
+                                       'session': keeper.reader.why()}
 
     def flow(self) -> dict[str, Any]:
         """Gaps and the rate of its octets."""

@@ -179,7 +179,8 @@ class TrunkWatch:
         status = self.status.values() | {
             'name': self.wants.name, 'version': facts.get('version', ''), 'time': round(now, 3), 'fault': fault,
             'uptime': 0.0 if fault else round(now - facts.get('since', self._began), 3),
-            'stale': self._counts.stale(), 'ended': dict(self.ended), 'renewed': self._resyncs,
+            'stale': self._counts.stale(), 'ended': self.ended | {'session': facts.get('session')},
+            'renewed': self._resyncs,
             'commands': [{'command': name, 'answer': answer, 'count': n}
                          for (name, answer), n in sorted(self._done.items())]}
         status['clock'] = self.trunk.flow() | status['clock']
