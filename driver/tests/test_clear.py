@@ -11,7 +11,7 @@ from . import support
 from .world import World, config_of
 from e1gw.clear import Clear
 from e1gw.events import words_of
-from e1gw.service.slot_trunk import PUMP
+from e1gw.service.process import python_words
 
 IDLE = 0xD5
 LOST = 33               # frames: two multiframe signals in error, 4 ms, and the frame in which octets were lost
@@ -226,7 +226,7 @@ class ClearServiceTests(unittest.TestCase):
     def test_the_pump_and_the_program_die(self) -> None:
         """Each slot goes on in its place, both ways."""
         with World(config_of(range(1, 2)), '--clear') as world:
-            for words in ('trunk',), ('-BP', '-c', PUMP), ('trunk',):
+            for words in ['trunk'], python_words('service.slot_pump')[1:4], ['trunk']:
                 world.kill(*words)
                 self.assertEqual(wrong_slots(self.through(world, 31 * 64)), [])
 

@@ -5,12 +5,12 @@ import asyncio
 import contextlib
 import http.client
 import json
-import os
 import re
 import socket
 import unittest
 import urllib.error
 import urllib.request
+from typing import Any, Callable
 from unittest import mock
 
 from . import support
@@ -69,17 +69,14 @@ class DrawnPageTests(unittest.IsolatedAsyncioTestCase):
 
     async def test_a_slow_picture(self) -> None:
         """One process draws, however many ask; they learn it, and later get the page."""
-        drawn, begun = asyncio.Event(), list[tuple[object, ...]]()
+        drawn, begun = asyncio.Event(), list[Any]()
 
-        async def communicate() -> tuple[bytes, None]:
+        async def ran(starts: Callable[[int, int], object], *_: object) -> tuple[int, str, bytes]:
+            begun.append(starts(0, 1))
             await drawn.wait()
-            return b'<html></html>\n', None
-
-        async def begin(*words: object, **_: object) -> object:
-            begun.append(words)
-            return mock.Mock(pid=os.getpid(), communicate=communicate)
-        with (mock.patch.object(service_pages, 'WAITED', 0.01), mock.patch.object(service_pages, 'put_behind'),
-              mock.patch('asyncio.create_subprocess_exec', begin)):
+            return 0, '', b'<html></html>\n'
+        with (mock.patch.multiple(service_pages, WAITED=0.01, put_behind=mock.Mock(), ran=ran),
+              mock.patch('e1gw.service.process.Child.start', lambda _, words, *files: mock.Mock(words=words))):
             page = service_pages.DrawnPage(['--last', '60s', 'ring'])
             for _ in range(3):
                 self.assertIn(b'is being drawn', await page.fresh())
@@ -87,7 +84,7 @@ class DrawnPageTests(unittest.IsolatedAsyncioTestCase):
             while (found := await page.fresh()) == service_pages.SOON:
                 await asyncio.sleep(0)
         self.assertEqual((found, len(begun)), (b'<html></html>\n', 1))
-        self.assertEqual(begun[0][-3:], ('--last', '60s', 'ring'))
+        self.assertEqual(begun[0].words[-3:], ['--last', '60s', 'ring'])
 
 
 class WebTests(unittest.TestCase):

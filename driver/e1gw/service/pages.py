@@ -5,8 +5,6 @@ from __future__ import annotations
 import asyncio
 import functools
 import json
-import os
-import sys
 import time
 from typing import Any, Awaitable, Callable
 
@@ -14,12 +12,12 @@ from ..lines import Line
 from ..metrics import exposition, table
 from ..priority import put_behind
 from ..sockets import sockets_of, with_sockets
+from .process import Child, python_words, ran
 
 EVERY = 0.25                        # seconds between two statuses
 SECONDS, MOST_VISITORS = 10.0, 64   # for one request, and who may ask at once
 FRESH, DRAWN = 5.0, 60.0            # seconds in which nobody gets another picture, and for one to be drawn
 NICE = 15                           # of the process that draws
-PACKAGE = os.path.dirname(os.path.dirname(os.path.dirname(os.path.abspath(__file__))))
 WAITED = 5.0                        # and for which somebody waits for it
 WHOLE = b'</html>\n'
 SOON = (b'<!DOCTYPE html><html><head><title>e1gw</title><meta http-equiv="refresh" content="10"></head><body>The '
@@ -138,18 +136,16 @@ class DrawnPage:
             return self._drawn
         return SOON if self._drawing else b''
 
+    def _start(self, reads: int, writes: int) -> Child:
+        words = python_words('picture.main', *self._words)
+        process = Child.start(words[0], words, reads, writes)
+        put_behind(process.pid, NICE)
+        return process
+
     async def _draw(self) -> None:
         try:
-            process = await asyncio.create_subprocess_exec(
-                sys.executable, '-BP', '-m', 'e1gw', 'picture', *self._words, stdin=asyncio.subprocess.DEVNULL,
-                stdout=asyncio.subprocess.PIPE, stderr=asyncio.subprocess.DEVNULL,
-                env=os.environ | {'PYTHONPATH': PACKAGE})
-            put_behind(process.pid, NICE)
-            try:
-                async with asyncio.timeout(DRAWN):
-                    self._drawn = (await process.communicate())[0]
-            except TimeoutError:
-                process.kill()
+            status, _, drawn = await ran(self._start, b'', DRAWN)
+            self._drawn = self._drawn if status is None else drawn
         except OSError:
             self._drawn = b''
         finally:

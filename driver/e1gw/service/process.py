@@ -7,16 +7,21 @@ import os
 import select
 import signal
 import subprocess
+import sys
 import time
 from collections import Counter
 from contextlib import suppress
-from typing import Iterable, Sequence
+from typing import Callable, Iterable, Sequence
 
-from .log import octets_in
+from .log import in_memory, octets_in
 
 LOOK = 0.1                  # seconds between two looks whether a signal has stopped it
 UNKNOWN = 255               # the status of a process that ended while nobody waited for it
 TOTALS, PLACE = ('records', 'octets', 'datagrams', 'dropped', 'port_faults', 'discarded_multiframes'), 'place'
+
+
+PYTHON = 'import sys; sys.path[:0] = [sys.argv.pop(1)]; from e1gw.{} import main; sys.exit(main())'
+TOP = os.path.dirname(os.path.dirname(os.path.dirname(os.path.abspath(__file__))))
 
 
 def fields_of(pid: int) -> list[str]:
@@ -150,6 +155,28 @@ class Child:
         if self.status is not None and self.status < 0:
             return f'ended by signal {signal_words(-self.status)}'
         return f'ended with status {self.status}'
+
+
+async def ran(starts: Callable[[int, int], Child], given: bytes, seconds: float) -> tuple[int | None, str, bytes]:
+    """Runs a process, which is started with standard input and output, to its end: its status, None if that takes too
+    long, what it says, and what it writes."""
+    reads, writes = in_memory(given), os.memfd_create('e1gw-written')
+    os.lseek(reads, 0, os.SEEK_SET)
+    try:
+        process = starts(reads, writes)
+        if not (in_time := await process.ends_within(seconds)):
+            await process.kill()
+        said = process.text()
+        process.close()
+        return process.status if in_time else None, said, octets_in(writes)
+    finally:
+        for file in (reads, writes):
+            os.close(file)
+
+
+def python_words(module: str, *words: str) -> list[str]:
+    """The command line of a module of this package, which has main()."""
+    return [sys.executable, '-BP', '-c', PYTHON.format(module), TOP, *words]
 
 
 def signal_words(number: int) -> str:

@@ -3,7 +3,6 @@ from __future__ import annotations
 
 import asyncio
 import os
-import sys
 import time
 from typing import Any
 
@@ -12,14 +11,12 @@ from .chain import ENDED, CarriedTrunk, shut
 from .crc4_trunk import Crc4Trunk
 from .line_process import SOON, unsent, waiting
 from .log import Checkpoint
-from .process import Child, held_pipe
+from .process import Child, held_pipe, python_words
 from .trunk import LineOptions, TrunkFiles
 from .version import ProgramVersion
 
 SIGNAL, SIGNALS = 0x9B, 2 * FRAME       # the octet with the frame alignment signal, and how many from one to the next
 MANY = 64 * SIGNALS                     # octets in which no other slot has it each time
-PUMP = 'import sys; sys.path[:0] = [sys.argv.pop(1)]; from e1gw.service.slot_pump import main; main()'
-TOP = os.path.dirname(os.path.dirname(os.path.dirname(os.path.abspath(__file__))))
 STATUS = 'silent', 'slots_lost', 'slots_moved'
 TAKES = 1.0                 # seconds for the pump to take a number
 
@@ -40,8 +37,8 @@ class SlotTrunk(CarriedTrunk):
         assert self.line.law
         files = [self.files['far'], self.files.joint('places')]
         place = [self.line.law(), self.counts.slots.get('found', False), self._first - self.origin, *files, self._first]
-        return Child.start(sys.executable, [sys.executable, '-BP', '-c', PUMP, TOP, *map(str, place)],
-                           self.files['line-in'], self.files.device_out(), files)
+        words = python_words('service.slot_pump', *map(str, place))
+        return Child.start(words[0], words, self.files['line-in'], self.files.device_out(), files)
 
     async def join(self, octets: int, is_new: bool, is_well: bool) -> None:
         await super().join(octets, is_new, is_well)

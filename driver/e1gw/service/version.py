@@ -16,8 +16,8 @@ from typing import Any, Iterable, Sequence
 
 from ..lines import IN_CALL, read_config, tables_of
 from ..programs import version_of
-from .log import Checkpoint, in_memory, octets_in
-from .process import Child
+from .log import Checkpoint, in_memory
+from .process import Child, ran
 
 MOST_OCTETS = 65_536        # of a configuration
 CHECK = 10.0                # seconds for the program to check it
@@ -67,20 +67,9 @@ class ProgramVersion:
                            writes, [self.file, self.config, *passed])
 
     async def run(self, words: Sequence[str], begun: Checkpoint, given: bytes = b'') -> tuple[int | None, str, bytes]:
-        """Runs a process of it to its end, from a state on: its status, None if that takes too long, what it says, and
-        what it writes."""
-        reads, writes = in_memory(given), os.memfd_create('e1gw-written')
-        os.lseek(reads, 0, os.SEEK_SET)
-        try:
-            process = self.start([*words, *begun.words()], reads, writes, begun.files())
-            if not (in_time := await process.ends_within(CHECK)):
-                await process.kill()
-            said = process.text()
-            process.close()
-            return process.status if in_time else None, said, octets_in(writes)
-        finally:
-            for file in (reads, writes):
-                os.close(file)
+        """Runs a process of it to its end, from a state on."""
+        return await ran(lambda reads, writes: self.start([*words, *begun.words()], reads, writes, begun.files()),
+                         given, CHECK)
 
     async def check(self, checkpoint: Checkpoint) -> tuple[frozenset[int], frozenset[int]]:
         """Has the program check the configuration, and whether it goes on from a state: the circuits that begin as new
