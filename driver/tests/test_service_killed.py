@@ -161,7 +161,7 @@ class KilledKeeperTests(RestartedKeeperCase):
 
 class ChildTests(unittest.IsolatedAsyncioTestCase):
     async def test_a_number_that_another_process_has(self) -> None:
-        """A process is known by its number and when it was started."""
+        """A process is known by its number and when it was started. One that is stopped is killed."""
         said = subprocess.run(['sh', '-c', f'sleep {SECONDS} > /dev/null & echo $!'], check=True,
                               stdout=subprocess.PIPE).stdout
         pid = int(said)
@@ -171,6 +171,5 @@ class ChildTests(unittest.IsolatedAsyncioTestCase):
         await other.kill()
         self.assertEqual(start_of(pid), when)
         os.kill(pid, signal.SIGSTOP)
-        support.until(its.is_stopped)
-        await its.kill()
+        await its.over.wait()
         self.assertEqual((its.status, its.words()), (UNKNOWN, 'ended while no keeper was there'))

@@ -202,11 +202,9 @@ class CarriedTrunk(TrunkFiles):
             child.signal(signal.SIGKILL)
 
     async def _look(self) -> None:
-        """Now and then: what the processes have said, and whether one was stopped."""
+        """Now and then: what the processes have said."""
         while True:
             self._hear()
-            for process in list(self._processes.values()):
-                process.kill_if_stopped()
             await asyncio.sleep(LOOK)
 
     def _hear(self) -> None:

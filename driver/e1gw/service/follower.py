@@ -87,8 +87,6 @@ class LogFollower:
         """What is wrong with it, if something is. To be called now and then."""
         if self.process.over.is_set():
             return f'the shadow {self.process.last_words()}'
-        if self.process.is_stopped():
-            return 'the shadow stood still'
         if now < self._seen[0] + PATIENCE:
             return ''
         before, self._seen = self._seen[1], (now, None if self.has_all(0) else self._done())

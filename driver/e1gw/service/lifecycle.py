@@ -169,9 +169,6 @@ class TrunkKeeper:
         """Sees to what runs alongside the program that carries the trunk."""
         now = time.monotonic()
         self.versions.look(now)
-        if program.process.is_stopped():
-            logger.warning('the program was stopped by a signal, and is killed')
-            await program.process.kill()
         self.checkpoints.look(program)
         if self.checkpoints.is_due(program):
             await self.checkpoints.take(program)

@@ -6,7 +6,6 @@ import fcntl
 import json
 import logging
 import os
-import signal
 import socket
 import sys
 import termios
@@ -128,16 +127,10 @@ class LineProcess:
         """What the next service has to know of it; nothing if it is not there."""
         return [self.child.pid, self.child.started, self._place] if self.child else []
 
-    def kill_if_stopped(self) -> None:
-        if self.child and self.child.is_stopped():
-            logger.warning('%s was stopped by a signal, and is killed', self.name)
-            self.child.signal(signal.SIGKILL)
-
     async def end(self, seconds: float) -> None:
         """Waits for its end, so long at most, and kills it."""
         if self.child:
-            if not seconds or not await self.child.ends_within(seconds):
-                await self.child.kill()
+            await self.child.end_within(seconds)
 
     def close(self) -> None:
         """Gives back what it has said."""

@@ -3,25 +3,25 @@ from __future__ import annotations
 
 import asyncio
 import fcntl
+import logging
 import os
 import select
 import signal
 import subprocess
 import sys
-import time
 from collections import Counter
 from contextlib import suppress
 from typing import Callable, Iterable, Sequence
 
 from .log import in_memory, octets_in
 
-LOOK = 0.1                  # seconds between two looks whether a signal has stopped it
+LOOK = 0.25                 # seconds between two looks whether a signal has stopped it
 UNKNOWN = 255               # the status of a process that ended while nobody waited for it
 TOTALS, PLACE = ('records', 'octets', 'datagrams', 'dropped', 'port_faults', 'discarded_multiframes'), 'place'
-
-
 PYTHON = 'import sys; sys.path[:0] = [sys.argv.pop(1)]; from e1gw.{} import main; sys.exit(main())'
 TOP = os.path.dirname(os.path.dirname(os.path.dirname(os.path.abspath(__file__))))
+
+logger = logging.getLogger(__name__)
 
 
 def fields_of(pid: int) -> list[str]:
@@ -38,8 +38,8 @@ def start_of(pid: int) -> int:
 
 
 class Child:
-    """A process, known by its number and when it was started. `over` is set once it has ended. What it says is held in
-    memory, so it waits for nobody who reads that."""
+    """A process, known by its number and when it was started. `over` is set once it has ended; one that a signal has
+    stopped is killed. What it says is held in memory, so it waits for nobody who reads that."""
 
     def __init__(self, pid: int, started: int = 0, said: int = -1) -> None:
         """`started` is 0 for one that was started here a moment ago; `said` has what it says, if that is held here."""
@@ -56,6 +56,7 @@ class Child:
             asyncio.get_running_loop().add_reader(self._file, self._end)
         if not is_it or select.select([self._file], [], [], 0)[0]:
             self._end()
+        self._look()
 
     @classmethod
     def start(cls, executable: str, words: Sequence[str], reads: int, writes: int, passed: Iterable[int] = ()) -> Child:
@@ -118,12 +119,16 @@ class Child:
         return self.over.is_set()
 
     async def end_within(self, seconds: float) -> None:
-        """Waits for its end, so long at most, and kills it then, or if a signal has stopped it."""
-        until = time.monotonic() + seconds
-        while time.monotonic() < until and not self.is_stopped():
-            if await self.ends_within(LOOK):
-                return
-        await self.kill()
+        """Waits for its end, so long at most, and kills it then."""
+        if not await self.ends_within(seconds):
+            await self.kill()
+
+    def _look(self) -> None:
+        if self.is_stopped():
+            logger.warning('process %d was stopped by a signal, and is killed', self.pid)
+            self.signal(signal.SIGKILL)
+        if not self.over.is_set():
+            asyncio.get_running_loop().call_later(LOOK, self._look)
 
     def is_stopped(self) -> bool:
         """Whether a signal has stopped it."""
