@@ -8,7 +8,6 @@ from __future__ import annotations
 import asyncio
 import contextlib
 import functools
-import logging
 import os
 import signal
 import socket
@@ -29,8 +28,6 @@ ENDED, BROKEN = 'the trunk has ended', 'the trunk cannot be read or written'
 PROCESSES = {'satop': 'satop', 'align': 'align', 'check': 'crc4 --check', 'send': 'crc4', 'pump': ''}
 TITLES = {'pump': 'the pump of slots'}
 WAITS = {'align': 'aligning', 'check': 'crc4_checking'}      # the names in the status
-
-logger = logging.getLogger(__name__)
 
 
 class CarriedTrunk(TrunkFiles):
@@ -137,7 +134,7 @@ class CarriedTrunk(TrunkFiles):
             self._tell_open()
 
     def _does(self, name: str, work: Callable[[], Awaitable[None]]) -> None:
-        self._tasks[name] = asyncio.create_task(again(work, tell_failure))
+        self._tasks[name] = asyncio.create_task(again(work, 'the line'))
 
     def _is_there(self, name: str) -> bool:
         return name in self._processes and self._processes[name].is_there()
@@ -286,10 +283,6 @@ class CarriedTrunk(TrunkFiles):
 def size_of(satop: list[str]) -> int:
     """The octets of a packet, by the words of `e1gw satop`."""
     return int(satop[satop.index('--size') + 1])
-
-
-def tell_failure() -> None:
-    logger.exception('the line goes on', extra={'kind': 'fault'})
 
 
 def drop(file: int) -> None:

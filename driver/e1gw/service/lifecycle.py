@@ -7,7 +7,6 @@ import asyncio
 import logging
 import os
 import time
-import traceback
 from collections import deque
 from dataclasses import dataclass, field
 from typing import TYPE_CHECKING
@@ -20,7 +19,7 @@ from .journal import NOTICE
 from .log import Checkpoint, in_memory, octets_in
 from .program import LoggedProgram, TrunkProgram
 from .reader import LogReader
-from .trunk import LineOptions, TrunkFiles, either
+from .trunk import LineOptions, TrunkFiles, again, either
 from .version import ProgramVersion, VersionHistory
 
 if TYPE_CHECKING:
@@ -30,7 +29,6 @@ if TYPE_CHECKING:
 START, GRACE = 10.0, 5.0    # seconds for a program to carry the trunk, and to end in order
 TICK = 0.25                 # seconds between two looks while nothing happens
 APART = 60.0                # seconds between two programs that follow for a control socket that is gone
-AGAIN = 0.1                 # seconds before a step that has failed is begun again
 DEATHS, WITHIN, MOST_PAUSE = 5, 2.0, 10.0       # deaths within seconds: the next one begins without a state
 DEMOTED = 'the other machine carries the trunk'
 LOST, ANEW = ', what it had in hand is lost: 2048 octets (8 ms) at most', '; all calls begin anew'
@@ -95,19 +93,18 @@ class TrunkKeeper:
 
     async def serve(self) -> int:
         """Carries the trunk until its end; returns the status."""
-        while self.status is None:
-            try:
-                if self.pair and not (self.pair.is_active or self.program):
-                    await self.pair.stand_by()
-                elif program := await self._begin():
-                    await self._succeed(program, await self._reason(program))
-            except Exception as fault:      # pylint: disable=broad-exception-caught
-                logger.error('the keeper goes on: %s', placed(fault), extra={'kind': 'fault'})
-                await asyncio.sleep(AGAIN)
+        await again(self._serve, 'the keeper')
         await self.trunk.finish(self.state.counted['octets'])
         if self._finishing:
             await asyncio.wait(self._finishing, timeout=GRACE)
-        return self.status
+        return self.status or 0
+
+    async def _serve(self) -> None:
+        while self.status is None:
+            if self.pair and not (self.pair.is_active or self.program):
+                await self.pair.stand_by()
+            elif program := await self._begin():
+                await self._succeed(program, await self._reason(program))
 
     async def _begin(self) -> TrunkProgram | None:
         """The program that carries the trunk, started if there is none; None if it does not come up."""
@@ -351,12 +348,6 @@ def pass_on(program: TrunkProgram) -> None:
     """Tells what the program says."""
     for line in program.news():
         logger.info('program: %s', line)
-
-
-def placed(fault: BaseException) -> str:
-    """What an exception says, and where it was raised."""
-    last = traceback.extract_tb(fault.__traceback__)[-1]
-    return f'{type(fault).__name__}: {fault} ({os.path.basename(last.filename)}:{last.lineno} in {last.name})'
 
 
 def trunk_words(program: TrunkProgram, words: str) -> str:

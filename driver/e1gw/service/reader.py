@@ -100,8 +100,7 @@ class LogReader:
         """Until it is cancelled. Whatever fails is begun again."""
         beside = asyncio.create_task(self._begin_again())
         try:
-            await again(self._look_on, lambda: logger.exception('the reading of the log goes on',
-                                                                extra={'kind': 'fault'}))
+            await again(self._look_on, 'the reading of the log')
         finally:
             beside.cancel()
 

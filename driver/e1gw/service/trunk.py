@@ -7,6 +7,7 @@ import os
 import select
 import stat
 import time
+import traceback
 from dataclasses import dataclass
 from math import inf
 from typing import Any, Awaitable, Callable
@@ -169,11 +170,13 @@ async def either(seconds: float, *events: asyncio.Event) -> None:
         each.cancel()
 
 
-async def again(work: Callable[[], Awaitable[None]], tells: Callable[[], None]) -> None:
-    """Does a work, and begins it again each time that it fails, which `tells` reports."""
+async def again(work: Callable[[], Awaitable[None]], what: str) -> None:
+    """Does a work, and begins it again each time that it fails, which is reported with the place."""
     while True:
         try:
             return await work()
-        except Exception:       # pylint: disable=broad-exception-caught
-            tells()
+        except Exception as fault:      # pylint: disable=broad-exception-caught
+            at = traceback.extract_tb(fault.__traceback__)[-1]
+            logger.error('%s goes on: %s: %s (%s:%s in %s)', what, type(fault).__name__, fault,
+                         os.path.basename(at.filename), at.lineno, at.name, extra={'kind': 'fault'})
             await asyncio.sleep(AGAIN)

@@ -4,7 +4,6 @@ from __future__ import annotations
 
 import asyncio
 import contextlib
-import logging
 import os
 import socket
 import sys
@@ -31,8 +30,6 @@ from .trunk import again
 
 TICK = 0.1                  # seconds between two looks
 BESIDE = 'json', 'calls'    # what may end without the calls
-
-logger = logging.getLogger(__name__)
 
 
 @dataclass(kw_only=True)
@@ -214,8 +211,7 @@ class TrunkWatch:
         """Watches, until it is cancelled. Whatever fails is begun again."""
         works = self.status.follow, self._program.run, self.status.look_at_flow, self._look
         try:
-            await asyncio.gather(*(again(work, lambda: logger.exception(
-                'the watch of the trunk goes on', extra={'kind': 'fault'})) for work in works))
+            await asyncio.gather(*(again(work, 'the watch of the trunk') for work in works))
         finally:
             self._close()
 
