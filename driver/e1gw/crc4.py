@@ -44,17 +44,15 @@ class Crc4:
     """What is known of a trunk's CRC-4, over all devices that are opened one after another for one gateway."""
 
     def __init__(self) -> None:
-        self.checked = 0                        # octets that came and whose counts are known
         self.counts = dict.fromkeys(COUNTS, 0)
         self.aligned: bool | None = None        # whether alignment stood at the last count of this device
         self._errors = {'errored': ErroredSubmultiframes(), 'far_end_errored': ErroredSubmultiframes()}
-        self._last, self._last_octets = dict.fromkeys(COUNTS, 0), 0     # of this device, at the last count
+        self._last = dict.fromkeys(COUNTS, 0)   # of this device, at the last count
 
-    def take(self, counts: dict[str, int], octets: int) -> list[Event]:
-        """The counts of a check that has read this number of octets up to now; returns what is to be reported."""
+    def take(self, counts: dict[str, int]) -> list[Event]:
+        """The counts of a check up to now; returns what is to be reported."""
         more = {name: counts[name] - self._last[name] for name in COUNTS}
-        self.checked += octets - self._last_octets
-        self._last, self._last_octets = counts, octets
+        self._last = counts
         for name, count in more.items():
             self.counts[name] += count
         stood, self.aligned = self.aligned, counts['multiframes_found'] > counts['multiframes_lost']
@@ -77,16 +75,16 @@ class Crc4:
     def ended(self) -> None:
         """A device has ended: another one may have no CRC-4."""
         self.aligned = None
-        self._last, self._last_octets = dict.fromkeys(COUNTS, 0), 0
+        self._last = dict.fromkeys(COUNTS, 0)
 
     def note(self) -> list[Any]:
         """All of it but for errors that were reported, as plain values."""
-        return [self.checked, self.counts, self.aligned, self._last, self._last_octets]
+        return [self.counts, self.aligned, self._last]
 
     def take_up(self, note: list[Any]) -> None:
         """Goes on where another one has left."""
-        self.checked, self.counts, self.aligned, self._last, self._last_octets = note
+        self.counts, self.aligned, self._last = note
 
     def status(self) -> dict[str, Any]:
         """As plain values."""
-        return {**self.counts, 'aligned': self.aligned, 'checked': self.checked}
+        return {**self.counts, 'aligned': self.aligned}

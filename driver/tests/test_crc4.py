@@ -121,15 +121,14 @@ class Crc4CountTests(unittest.TestCase):
              ['CRC multiframe alignment found', 'CRC multiframe alignment lost and found again']),
             ((5903, 919, 2, 5, 5, 1), 1, ['false frame alignment: 915 of 1000 submultiframes errored',
              'CRC multiframe alignment lost', 'CRC-4 errors: 915 of 915 submultiframes']))
-        known, octets = Crc4(), 0
+        known = Crc4()
         for numbers, times, told in rows:
             for number in range(times):
-                octets += 256_000
-                events = [words_of(event) for event in known.take(self.counts(*numbers), octets)]
+                events = [words_of(event) for event in known.take(self.counts(*numbers))]
                 self.assertEqual(events, [] if number and told else told, numbers)
-        self.assertEqual((known.checked, known.counts), (octets, self.counts(5903, 919, 2, 5, 5, 1)))
+        self.assertEqual(known.counts, self.counts(5903, 919, 2, 5, 5, 1))
         known.ended()
-        known.take(self.counts(100, 0, 0, 1, 0, 0), 256_000)
+        known.take(self.counts(100, 0, 0, 1, 0, 0))
         self.assertEqual(known.counts, self.counts(6003, 919, 2, 6, 5, 1))
 
     def test_metrics(self) -> None:
@@ -138,7 +137,7 @@ class Crc4CountTests(unittest.TestCase):
         status['crc4'] = known.status()
         text = ''.join(metrics.family(*each) for each in metrics.crc4_families(status))
         self.assertNotRegex(text, r'(?m)^e1gw_crc4_aligned')        # nothing is known yet
-        known.take(self.counts(9988, 3, 2, 1, 0, 0), 2_560_000)
+        known.take(self.counts(9988, 3, 2, 1, 0, 0))
         status['crc4'] = known.status()
         text = ''.join(metrics.family(*each) for each in metrics.crc4_families(status))
         self.assertEqual([line for line in text.splitlines() if not line.startswith('#')], [

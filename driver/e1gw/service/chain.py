@@ -141,7 +141,6 @@ class CarriedTrunk(TrunkFiles):
 
     async def join(self, octets: int, is_new: bool, is_well: bool) -> None:
         self.origin = octets if is_new else self.origin
-        self.counts.line_begins(octets)
 
     # ---- while it is there ----
 
@@ -227,7 +226,7 @@ class CarriedTrunk(TrunkFiles):
             await self._end_process(name, 0.0 if name in self._inward else GRACE)
         if near:
             asyncio.get_running_loop().remove_reader(near)
-        self.counts.line_ends(octets if self._why else None)
+        self.counts.line_ends()
         self.files.close()
         self._satop = []
 

@@ -15,7 +15,6 @@ from typing import Any, Callable, Sequence
 from ..crc4 import COUNTS, Crc4, counts_in
 from ..lines import Event
 from ..satop import CONDITIONS, SatopCondition, counts_of as satop_counts
-from ..session import OCTETS_A_SECOND
 from .log import TrunkLog
 from .process import UNKNOWN, Child
 from .trunk import Pause
@@ -147,9 +146,7 @@ class LineCounts:
         self._satop: dict[str, int] = {}
         self._conditions = [(name, SatopCondition(count), words) for name, count, words in CONDITIONS]
         self._tell = tell
-        self._seconds, self._end = 0, dict[str, int]()  # how often a check has told its counts, and those at its end
-        self._began: int | None = None                  # the octet of the trunk with which it has begun, if known
-        self._is_open = False
+        self._end = dict[str, int]()                    # the counts that a check tells at its end
         self.slots: dict[str, Any] = {}
         self.has_ended = False                          # whether a device that keeps slot 0 has
 
@@ -164,8 +161,7 @@ class LineCounts:
             self._take_satop(counts)
         elif self._crc4 and (counts := counts_in(line)):
             if line.startswith('live '):
-                self._seconds += 1
-                self._take_crc4(counts, self._seconds * OCTETS_A_SECOND)
+                self._take_crc4(counts)
             else:
                 self._end |= counts
         elif line.startswith('{'):
@@ -180,9 +176,9 @@ class LineCounts:
             if condition.changes(counts):
                 self._tell({'event': 'satop', 'what': words, 'on': condition.on})
 
-    def _take_crc4(self, counts: dict[str, int], octets: int) -> None:
+    def _take_crc4(self, counts: dict[str, int]) -> None:
         if self._crc4 and len(counts) == len(COUNTS):
-            for event in self._crc4.take(counts, octets):
+            for event in self._crc4.take(counts):
                 self._tell(event)
 
     def _take_slots(self, told: dict[str, Any]) -> None:
@@ -191,21 +187,17 @@ class LineCounts:
         self.slots = told.get('slots', self.slots)
         self.has_ended |= told.get('ended', False)
 
-    def line_begins(self, octets: int) -> None:
-        """A program begins behind this number of octets of the trunk: the first one, or another one, on this line."""
-        self._began, self._is_open = (self._began if self._is_open else octets), True
-
-    def check_ends(self, octets: int | None = None) -> None:
-        """A check has ended, and another one may follow. It has read this number of octets, if that is known."""
+    def check_ends(self) -> None:
+        """A check has ended, and another one may follow."""
         if self._crc4:
-            self._take_crc4(self._end, self._seconds * OCTETS_A_SECOND if octets is None else octets)
+            self._take_crc4(self._end)
             self._crc4.ended()
-        self._seconds, self._end, self._began = 0, {}, None
+        self._end = {}
 
-    def line_ends(self, octets: int | None) -> None:
-        """The line has ended, behind this number of octets of the trunk, if all of them were read."""
-        self.check_ends(None if octets is None or self._began is None else octets - self._began)
-        self.has_ended = self._is_open = False
+    def line_ends(self) -> None:
+        """The line has ended."""
+        self.check_ends()
+        self.has_ended = False
 
     def satop_status(self) -> dict[str, int]:
         return self._satop | {name: int(each.on) for name, each, _ in self._conditions}
@@ -216,10 +208,10 @@ class LineCounts:
     def note(self) -> list[Any]:
         """What the next service has to know."""
         crc4 = self._crc4.note() if self._crc4 else None
-        return [self._seconds, self._began, self._is_open, self.slots, self.has_ended, crc4]
+        return [self.slots, self.has_ended, crc4]
 
     def take_up(self, note: list[Any]) -> None:
-        self._seconds, self._began, self._is_open, self.slots, self.has_ended, its = note
+        self.slots, self.has_ended, its = note
         if self._crc4 and its:
             self._crc4.take_up(its)
 
