@@ -131,7 +131,7 @@ class LineProcessTests(support.FolderCase, unittest.IsolatedAsyncioTestCase):
         trunk.tell = self.told.append
         await trunk.open()
         await trunk.join(0, True, True)
-        self.addAsyncCleanup(trunk.finish, None)
+        self.addAsyncCleanup(trunk.finish)
         return trunk
 
     async def until(self, holds: Callable[[], object]) -> None:
@@ -170,13 +170,13 @@ class LineProcessTests(support.FolderCase, unittest.IsolatedAsyncioTestCase):
             before = self.process(trunk)
             os.kill(before, signal.SIGKILL)
             await self.until(lambda: self.process(trunk) != before)
-        await trunk.finish(None)
+        await trunk.finish()
         self.assertEqual(trunk.note()['processes'], {})
 
     async def test_it_plays_into_a_full_socket(self) -> None:
         """It ends as soon as it can look at its input."""
         trunk = await self.opened('\nimport os\nos.write(1, bytes(1 << 22))\nos.read(0, 1)\n')
-        await trunk.finish(None)
+        await trunk.finish()
 
     async def test_it_ends_by_itself(self) -> None:
         """The program sees the end of the trunk; with --reopen another one is tried."""
@@ -191,7 +191,7 @@ class LineProcessTests(support.FolderCase, unittest.IsolatedAsyncioTestCase):
     async def test_what_it_was_given_last_goes_out(self) -> None:
         trunk = await self.opened(f"""{SCRIPT}open('{self.path('over')}', 'w')\n""")
         os.write(trunk.both[1], bytes(100_000))
-        await trunk.finish(None)
+        await trunk.finish()
         self.assertTrue(os.path.exists(self.path('over')))
 
 
@@ -215,7 +215,7 @@ class CountedTrunkTests(unittest.IsolatedAsyncioTestCase):
         options = LineOptions(lambda: Stream(file, file, 'line'), crc4=True, program=support.program())
         trunk = Crc4Trunk(options, {}, None)
         await trunk.open()
-        self.addAsyncCleanup(trunk.finish, None)
+        self.addAsyncCleanup(trunk.finish)
         exchange, place, sent = support.Exchange(), 0, b''
         for lost in 0, 1, 300, 0, 2048:
             await trunk.join(place, place == 0, False)
@@ -236,7 +236,7 @@ class CountedTrunkTests(unittest.IsolatedAsyncioTestCase):
         file = ours.detach()
         trunk = SlotTrunk(LineOptions(lambda: Stream(file, file, 'card'), law=lambda: 'A'), {}, None)
         await trunk.open()
-        self.addAsyncCleanup(trunk.finish, None)
+        self.addAsyncCleanup(trunk.finish)
         sent = bytes(range(1, 32)) * 16
         for octets, count in (0, 100), (512, 0), (1024, 511), (1536, 512):
             await trunk.join(octets, False, False)

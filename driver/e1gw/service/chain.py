@@ -73,7 +73,7 @@ class CarriedTrunk(TrunkFiles):
             for name in [*self._inward, *(['satop'] if self._satop else [])]:
                 self._begin(name)
         except OSError:
-            await self.finish(None)
+            await self.finish()
             raise
         self._does('look', self._look)
         self._tell_open()
@@ -215,7 +215,7 @@ class CarriedTrunk(TrunkFiles):
     def failure(self) -> str:
         return '' if self._why == ENDED else self._why
 
-    async def finish(self, octets: int | None) -> None:
+    async def finish(self) -> None:
         if look := self._tasks.pop('look', None):
             look.cancel()
         self.close()

@@ -95,11 +95,11 @@ class Crc4Trunk(CarriedTrunk):
             await asyncio.sleep(SOON)
         self._begin('send')
 
-    async def finish(self, octets: int | None) -> None:
+    async def finish(self) -> None:
         if (send := self._processes.get('send')) and send.child:
             await self._passes_on(send.child)
         await self._end_process('send', 0.0)
-        await super().finish(octets)
+        await super().finish()
 
     def note(self) -> dict[str, Any]:
         return super().note() | {'first': self._first}

@@ -94,7 +94,7 @@ class TrunkKeeper:
     async def serve(self) -> int:
         """Carries the trunk until its end; returns the status."""
         await again(self._serve, 'the keeper')
-        await self.trunk.finish(self.state.counted['octets'])
+        await self.trunk.finish()
         if self._finishing:
             await asyncio.wait(self._finishing, timeout=GRACE)
         return self.status or 0
@@ -198,7 +198,7 @@ class TrunkKeeper:
         if is_over:
             self.why = failure or trunk_words(program, words)
             logger.warning('%s, behind octet %d; it is opened again', self.why, self.state.counted['octets'])
-            await self.trunk.finish(self.state.counted['octets'])
+            await self.trunk.finish()
             self.trunk.fault = self.why
             self.note()             # (the next one has the same names)
         else:

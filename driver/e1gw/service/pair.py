@@ -69,7 +69,7 @@ class TrunkPair:
     async def _give_up(self) -> None:
         """The trunk is closed. What is known of it is what this machine had itself, if it carried it."""
         keeper = self._keeper
-        await keeper.trunk.finish(keeper.state.counted['octets'])
+        await keeper.trunk.finish()
         keeper.trunk.fault = 'standby'
         await self.feed.finish(GRACE)
         if keeper.state.state >= 0:

@@ -117,8 +117,8 @@ class TrunkFiles:
             os.close(file)
         self.both = -1, -1
 
-    async def finish(self, octets: int | None) -> None:
-        """Closes it, after this number of octets, behind what was sent last."""
+    async def finish(self) -> None:
+        """Closes it, behind what was sent last."""
         self.close()
 
     def failure(self) -> str:
