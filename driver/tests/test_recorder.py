@@ -120,16 +120,6 @@ class RecordedRingTests(RecorderCase):
         self.write('trunk.toml', self.peers.config())
         self.as_uncut(7)
 
-    def test_files_of_one_program(self) -> None:
-        """Each begins at a checkpoint, with its state, where the one before it ends."""
-        self.starts('--session', self.path('ring'), '--keep', '1m', '--name', 'west',
-                    **self.within(checkpoints_LOG_ROOM=65_536, recordings_FILES=600))
-        self.calls()
-        while len(self.files()) < 5:
-            self.step(10)
-        self.ends()
-        self.each_file_replays()
-
     def test_a_checkpoint_at_the_end(self) -> None:
         """One that the reader of the log has not seen before its program is gone begins no file."""
         self.starts('--session', self.path('ring'), '--keep', '1m', '--name', 'west',
