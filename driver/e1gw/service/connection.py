@@ -21,10 +21,6 @@ class NoAnswer(Exception):
     """Why a record has no answer."""
 
 
-class BadAnswer(Exception):
-    """The program answers what is no answer."""
-
-
 @dataclass(eq=False)
 class GivenRecord:
     """A record that was given to the program. `told` is set once the follower has told of it."""
@@ -49,17 +45,16 @@ class ProgramConnection:
     async def run(self) -> None:
         """Connects, again and again."""
         while True:
-            why = 'it has closed the connection'
             try:
                 reader, self._writer = await asyncio.open_unix_connection(self._path)
                 self._stands('program', True, '')
                 while True:
                     kind, circuit, length = HEAD.unpack(await reader.readexactly(HEAD.size))
                     self._take(kind, circuit, await reader.readexactly(length))
-            except BadAnswer:
-                why = 'it answers what is no answer'
             except asyncio.IncompleteReadError:
-                pass
+                why = 'it has closed the connection'
+            except (ValueError, IndexError):
+                why = 'it answers what is no answer'
             except OSError as fault:
                 why = words_of_fault(fault)
             finally:
@@ -68,13 +63,10 @@ class ProgramConnection:
             await asyncio.sleep(AGAIN)
 
     def _take(self, kind: int, circuit: int, body: bytes) -> None:
-        """An answer of the program."""
-        try:
-            record = Record(Kind(kind), circuit, body)
-            record.refusal      # pylint: disable=pointless-statement
-            next(each for each in self._given if not each.answer.done()).answer.set_result(record)
-        except (ValueError, IndexError, StopIteration):
-            raise BadAnswer from None
+        """An answer of the program. ValueError or IndexError if it is none."""
+        record = Record(Kind(kind), circuit, body)
+        record.refusal      # pylint: disable=pointless-statement
+        [each for each in self._given if not each.answer.done()][0].answer.set_result(record)
 
     def _lose(self) -> None:
         if self._writer:
