@@ -26,10 +26,6 @@ _WORDS: dict[str, Callable[[Event], str]] = {
     'state': lambda e: f'{e["circuit"]}: {e["state"]}, was {e["was"]}',
     'alarm': lambda e: f'alarm{_over(e)}: {LOSSES[e["what"]]}',
     'remote alarm': lambda e: f'alarm of the other end{_over(e)}: {REMOTE[e["what"]]}',
-    'aligned': lambda e: f'{e["what"]} alignment found',
-    'lost': lambda e: f'{e["what"]} alignment lost',
-    'codec': lambda e: f'{e["circuit"]}: codec {e["codec"]}, payload type {e["payload"]}',
-    'command': lambda e: f'{e["circuit"]}: {e["command"]}: {e["answer"]}',
     'renewed': lambda e: f'jitter buffer resynchronised, {e["why"]}: circuits {_circuits(e)}',
     'cleared': lambda e: f'calls cleared, {e["why"]}: circuits {_circuits(e)}',
     'stalled': lambda e: f'no octets of the trunk for {e["seconds"]} s',
@@ -64,5 +60,5 @@ def _more_than_once(event: Event) -> str:
 
 
 def words_of(event: Event) -> str:
-    """An event in words."""
+    """An event in words, of those that an operator is to read."""
     return _WORDS[event['event']](event)

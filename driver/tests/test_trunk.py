@@ -151,21 +151,22 @@ class TrunkCommandTests(unittest.TestCase):
 class BesideCallsTests(unittest.TestCase):
     """Something ends; the calls go on."""
 
-    def goes_on(self, world: World) -> None:
-        """A call comes up, and nothing has ended."""
+    def goes_on(self, world: World, **ended: str) -> None:
+        """A call comes up, and nothing else has ended."""
         aligned(world)
         call(world, 1)
-        self.assertEqual({*world.status()['ended'].values()}, {None})
+        self.assertEqual({what: why for what, why in world.status()['ended'].items() if why}, ended)
 
     def test_readers_that_go_and_readers_that_stand_still(self) -> None:
         reads, writes = os.pipe()
-        with World(config_of(FOUR), '--watch', stdout=writes) as world:
+        with World(config_of(FOUR), '--json', '-', stdout=writes) as world:
             os.close(writes)
             deaf = [support.connected(world.path('ctl')) for _ in range(5)]
             for line in deaf:
                 line.sendall(b'events\n' + b'status\n' * 2000)
             os.close(reads)
-            self.goes_on(world)
+            world.until(lambda: world.told()['ended']['json'])
+            self.goes_on(world, json='Broken pipe')
             for line in deaf:
                 line.close()
             call(world, 2)

@@ -22,7 +22,7 @@ from .recordings import RecordingWants
 from .trunk import LineOptions
 from .watch import WatchWants
 
-WATCHED = 'control', 'http', 'json', 'calls', 'watch'      # what an operator may have of a trunk
+WATCHED = 'control', 'http', 'json', 'calls'      # what an operator may have of a trunk
 MEMORY = '/dev/shm'         # where the folder of a trunk is by default
 DIGITS = 11                 # octets that the number of a program adds to a socket's path
 
@@ -85,7 +85,6 @@ def add_reports(words: argparse._ArgumentGroup) -> None:
     words.add_argument('--http', type=checked(host_and_port), metavar='HOST:PORT',
                        help='serves /metrics (Prometheus), /status (JSON), /table and / (the table, or the picture)')
     words.add_argument('--json', metavar='FILE', help='a line of JSON for each change; - is standard output')
-    words.add_argument('--watch', action='store_true', help='tells each change on standard output')
     words.add_argument('--picture', type=number(10, 3600, float), metavar='SECONDS',
                        help='/ is a picture of the last seconds, 10 to 3600, of what --keep has; wants both')
 

@@ -16,7 +16,6 @@ from ..calls import FIELDS
 from ..clearing import DisconnectWatch, OutageWatch, on_loss_of
 from ..clock import ClockFinding
 from ..counts import DatagramCounts
-from ..events import words_of
 from ..faults import named, words_of_refusal
 from ..lines import OPEN, Event, Role, State
 from ..restarts import Restarts
@@ -44,7 +43,6 @@ class WatchWants:
     http: tuple[str, int] | None = None
     json: str | None = None
     calls: str | None = None
-    watch: bool = False
     dark: float | None = None
     on_loss: list[str] = field(default_factory=lambda: ['keep'])
     picture: list[str] = field(default_factory=list)
@@ -71,7 +69,6 @@ class TrunkWatch:
         self._done, self._resyncs, self._began = Counter[tuple[str, str]](), 0, time.time()
         self._json = EventFile('json', sys.stdout if wants.json == '-' else wants.json, self._note) \
             if wants.json else None
-        self._out = EventFile('standard output', sys.stdout, lambda *_: None) if wants.watch else None
         self._calls = EventFile('calls', wants.calls, self._note, ','.join(FIELDS)) if wants.calls else None
         self._tasks = set[asyncio.Future[Any]]()
         self._listens: asyncio.Server | None = None     # at the control socket
@@ -148,8 +145,6 @@ class TrunkWatch:
             peer.tell(text)
         if self._json:
             self._json.put(text)
-        if self._out:
-            self._out.put(words_of(event))
 
     def flowed(self, finding: ClockFinding) -> None:
         """What was found of the flow: octets that were lost or came too early, or another rate."""
@@ -230,7 +225,7 @@ class TrunkWatch:
 
     def _close(self) -> None:
         self.status.calls.finish()
-        for each in (self._json, self._calls, self._out):
+        for each in (self._json, self._calls):
             if each:
                 each.close()
         if self.wants.control:
