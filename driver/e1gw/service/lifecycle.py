@@ -19,7 +19,7 @@ from .journal import NOTICE
 from .log import Checkpoint, in_memory, octets_in
 from .program import LoggedProgram, TrunkProgram
 from .reader import LogReader
-from .trunk import LineOptions, TrunkFiles, again, either
+from .trunk import LineOptions, Tasks, TrunkFiles, again, either
 from .version import ProgramVersion, VersionHistory
 
 if TYPE_CHECKING:
@@ -86,7 +86,7 @@ class TrunkKeeper:
         self.ends, self.wake = asyncio.Event(), asyncio.Event()
         self._handover, self.notifier = handover, notifier
         self.silent, self._due, self._deaths = time.monotonic(), 0.0, DeathCount()
-        self._finishing = set[asyncio.Task[None]]()
+        self._finishing = Tasks()
         trunk.ask, trunk.place = self.ask, self.place
 
     # ---- from the beginning to the end ----
@@ -261,9 +261,7 @@ class TrunkKeeper:
     def _retire(self, program: TrunkProgram) -> None:
         """Another one follows. The follower still reads the rest of the log, for those whom it tells."""
         self.program = None
-        task = asyncio.create_task(close_behind(program))
-        self._finishing.add(task)
-        task.add_done_callback(self._finishing.discard)
+        self._finishing.begin(close_behind(program))
 
     def finish(self, why: str, status: int) -> None:
         """No other program follows."""

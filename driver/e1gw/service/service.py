@@ -17,7 +17,7 @@ import shutil
 import signal
 import stat
 import sys
-from typing import Any, NoReturn
+from typing import NoReturn
 
 from ..explain import config_words
 from ..faults import Parser, options_words, words_of_fault
@@ -33,6 +33,7 @@ from .recovery import (CAUGHT, CannotBegin, Handover, Notifier, first_keeper, gi
                        open_first)
 from .reload import ReloadRequests
 from .status import OperatedTrunk
+from .trunk import Tasks
 from .version import NotYet, VersionRefused
 from .watch import TrunkWatch
 
@@ -89,14 +90,9 @@ def reader_of(asked: argparse.Namespace, keeper: TrunkKeeper) -> LogReader:
 
 
 def catch_signals(keeper: TrunkKeeper, requests: ReloadRequests) -> None:
-    loop = asyncio.get_running_loop()
-    tasks = set[asyncio.Task[Any]]()
-
-    def runs(task: asyncio.Task[Any]) -> None:
-        tasks.add(task)
-        task.add_done_callback(tasks.discard)
-    loop.add_signal_handler(signal.SIGHUP, lambda: runs(loop.create_task(requests.reload())))
-    loop.add_signal_handler(signal.SIGUSR2, lambda: runs(loop.create_task(requests.replace())))
+    loop, tasks = asyncio.get_running_loop(), Tasks()
+    loop.add_signal_handler(signal.SIGHUP, lambda: tasks.begin(requests.reload()))
+    loop.add_signal_handler(signal.SIGUSR2, lambda: tasks.begin(requests.replace()))
     loop.add_signal_handler(signal.SIGUSR1, lambda: None)
     for each in (signal.SIGTERM, signal.SIGINT):
         loop.add_signal_handler(each, keeper.end, f'signal {each}')

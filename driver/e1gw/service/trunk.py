@@ -10,7 +10,7 @@ import time
 import traceback
 from dataclasses import dataclass
 from math import inf
-from typing import Any, Awaitable, Callable
+from typing import Any, Awaitable, Callable, Coroutine
 
 from ..faults import words_of_fault
 from ..lines import Event
@@ -168,6 +168,14 @@ async def either(seconds: float, *events: asyncio.Event) -> None:
     await asyncio.wait(waits, timeout=seconds, return_when=asyncio.FIRST_COMPLETED)
     for each in waits:
         each.cancel()
+
+
+class Tasks(set[asyncio.Task[Any]]):
+    """Tasks that are held until they are done."""
+
+    def begin(self, work: Coroutine[Any, Any, Any]) -> None:
+        self.add(task := asyncio.create_task(work))
+        task.add_done_callback(self.discard)
 
 
 async def again(work: Callable[[], Awaitable[None]], what: str) -> None:

@@ -10,7 +10,7 @@ import sys
 import time
 from collections import Counter
 from dataclasses import dataclass, field
-from typing import Any, Awaitable
+from typing import Any
 
 from ..calls import FIELDS
 from ..clearing import DisconnectWatch, OutageWatch, on_loss_of
@@ -25,7 +25,7 @@ from .connection import NoAnswer, ProgramConnection
 from .events import EventFile, json_line, tell_journal
 from .pages import TrunkPages, WebServer
 from .status import OperatedTrunk, TrunkStatus
-from .trunk import again
+from .trunk import Tasks, again
 
 TICK = 0.1                  # seconds between two looks
 BESIDE = 'json', 'calls'    # what may end without the calls
@@ -70,7 +70,7 @@ class TrunkWatch:
         self._json = EventFile('json', sys.stdout if wants.json == '-' else wants.json, self._note) \
             if wants.json else None
         self._calls = EventFile('calls', wants.calls, self._note, ','.join(FIELDS)) if wants.calls else None
-        self._tasks = set[asyncio.Future[Any]]()
+        self._tasks = Tasks()
         self._listens: asyncio.Server | None = None     # at the control socket
 
     def _hurry(self) -> None:
@@ -106,7 +106,7 @@ class TrunkWatch:
             elif blocks and line.role is Role.INCOMING and line.state is State.IDLE:
                 command = Command.BLOCK
             if command:
-                self._does(self.command(command_record(n, command), n, command.word))
+                self._tasks.begin(self.command(command_record(n, command), n, command.word))
                 cleared += [n] * (command is not Command.BLOCK)
         if cleared:
             self.tell({'event': 'cleared', 'why': why, 'circuits': cleared})
@@ -116,17 +116,12 @@ class TrunkWatch:
         for n in circuits:
             line = self._lines.lines[n]
             codec = next(each for each in Codec if each.word(self._lines.law) == line.codec)
-            self._does(self._renew(codec_record(n, codec, line.payload)))
+            self._tasks.begin(self._renew(codec_record(n, codec, line.payload)))
         self._resyncs += len(circuits)
 
     async def _renew(self, record: bytes) -> None:
         with contextlib.suppress(NoAnswer):     # (the next program may have another configuration)
             await self._program.ask(record, lambda: None, waits=False)
-
-    def _does(self, work: Awaitable[Any]) -> None:
-        task = asyncio.ensure_future(work)
-        self._tasks.add(task)
-        task.add_done_callback(self._tasks.discard)
 
     def _put_call(self, line: str) -> None:
         if self._calls and self.trunk.facts().get('pair', {}).get('role') != 'standby':

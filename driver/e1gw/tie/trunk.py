@@ -4,10 +4,11 @@ from __future__ import annotations
 import asyncio
 import json
 from collections import deque
-from typing import TYPE_CHECKING, Any, Callable, Coroutine
+from typing import TYPE_CHECKING, Callable
 
 from ..faults import words_of_fault
 from ..lines import Event
+from ..service.trunk import Tasks
 
 if TYPE_CHECKING:
     from .tie import Tie
@@ -27,13 +28,7 @@ class TrunkLink:
         self._path, self._hold, self._tie, self._tell = path, hold, tie, tie.tell
         self._writer: asyncio.StreamWriter | None = None
         self._asked: deque[asyncio.Future[str]] = deque()
-        self._tasks: set[asyncio.Task[None]] = set()
-
-    def begin(self, work: Coroutine[Any, Any, None]) -> None:
-        """Begins to give a command. The task is held until it is done."""
-        task = asyncio.create_task(work)
-        self._tasks.add(task)
-        task.add_done_callback(self._tasks.discard)
+        self.begin = Tasks().begin                      # to give a command
 
     async def follow(self) -> None:
         """Keeps the connection up for ever, and tells each reason once why it is not."""
