@@ -33,7 +33,6 @@ class CallNames:
         self._base: Seizures = {}       # seizures before that session
         self._last: Seizures = {}       # all of them, when the lines were looked at last
         self._in_call = list[int]()     # the lines that were in a call then
-        self._counts = False            # whether the follower of now tells seizures
         self._noted, self._noted_life = '', ''
         self._read()
 
@@ -53,13 +52,9 @@ class CallNames:
             pass
 
     def begin(self, session: str, told: Seizures, lines: Mapping[int, Line]) -> None:
-        """A follower has told how all lines stand, and how often each was seized in its session, unless it is of an
-        earlier version."""
-        self._counts = bool(told)
-        goes_on = told and (self._last or session == self._session)
+        """A follower has told how all lines stand, and how often each was seized in its session."""
+        goes_on = self._last or session == self._session
         self.life = self.life or (self._noted_life if goes_on else '') or secrets.token_hex(4)
-        if not told:
-            return
         if session != self._session:
             # (a line that is in a call, and was in none, was seized while nobody looked)
             new = {n: bool(self._last) and lines[n].state in IN_CALL and n not in self._in_call for n in told}
@@ -74,7 +69,7 @@ class CallNames:
         """To be called when a follower has told another state of a line: notes how they stand."""
         last = {n: line.seizures for n, line in lines.items()}
         in_call = [n for n, line in lines.items() if line.state in IN_CALL]
-        if self._counts and (last, in_call) != (self._last, self._in_call):
+        if (last, in_call) != (self._last, self._in_call):
             self._last, self._in_call = last, in_call
             self._note()
 

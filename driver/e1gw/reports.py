@@ -35,7 +35,7 @@ class TrunkState:
         self.live = False                   # whether changes are reported now
         self._before = 0                    # the place at which this session has begun
         self._held = ''
-        self.seizures: dict[int, int] = {}  # how often each line was seized in this session, if reported
+        self.seizures: dict[int, int] = {}  # how often each line was seized in this session
         self._led: dict[int, State] = {}    # where commands have led lines whose state is still to be told
         self._greeting: dict[str, Callable[..., None]] = {'e1gw': self._greet}
         self._changes: dict[str, Callable[..., None]] = {

@@ -165,15 +165,6 @@ class NamingTests(FolderCase):
             naming = self.naming()
             self.assertEqual((self.counts(naming, session, 2), naming.life == 'x'), (count, session == 'a'))
 
-    def test_no_counts(self) -> None:
-        """A shadow that tells none: each watcher gives calls new names."""
-        names = [self.naming(), self.naming()]
-        for naming in names:
-            naming.begin('a', {}, {})
-            naming.look({})
-        self.assertNotEqual(names[0].life, names[1].life)
-        self.assertEqual(os.listdir(self.folder), [])
-
     def test_a_note_that_is_none(self) -> None:
         for text in ('', '[]', '{"life": 1}', '{"life": "x", "session": "a", "base": {"x": 1}}'):
             self.write('calls', text)

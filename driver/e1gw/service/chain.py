@@ -250,7 +250,7 @@ class CarriedTrunk(TrunkFiles):
     def _take_up(self, files: dict[str, int], note: dict[str, Any]) -> None:
         """Goes on where the service before this one has left, if it has its descriptors."""
         self.name, self._satop = str(note['name']), list(note['satop'])
-        self.origin, self.zero, self._why = int(note['origin']), int(note.get('zero', self.zero)), str(note['why'])
+        self.origin, self.zero, self._why = int(note['origin']), int(note['zero']), str(note['why'])
         self.counts.take_up(note['counts'])
         its = {what: files[name] for what, name in note['files'].items() if name in files}
         self.files |= {what: file for what, file in its.items() if not what.startswith('said-')}

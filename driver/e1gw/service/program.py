@@ -77,8 +77,7 @@ class TrunkProgram(LoggedProgram):
 
     def __init__(self, number: int, version: ProgramVersion, begun: Checkpoint, log: TrunkLog, process: Child,
                  control: str, saves: str, end: int, end_there: int) -> None:
-        """What is written to `end` asks it to end; that has another number in the program. (One of an earlier version
-        may have none.)"""
+        """What is written to `end` asks it to end; that has another number in the program."""
         super().__init__(number, version, begun, log, process.pid)
         self.process, self.control, self._saves = process, control, saves
         self._end, self._end_there = end, end_there
@@ -160,8 +159,7 @@ class TrunkProgram(LoggedProgram):
     def close(self) -> None:
         super().close()
         self.process.close()
-        if self._end >= 0:
-            os.close(self._end)
+        os.close(self._end)
         forget(self._saves, self.control)
 
     # ---- for the service that comes after this one ----
@@ -181,10 +179,10 @@ class TrunkProgram(LoggedProgram):
         """The program of a service before this one. KeyError if a descriptor is missing that it needs."""
         its = {what: files[name] for what, name in note['files'].items()}
         version = ProgramVersion(str(note['program']), its['program'], its['config'], str(note['senders']),
-                                 str(note.get('version', '')))
+                                 str(note['version']))
         found = cls(int(note['number']), version, Checkpoint(-1, 0, Counter(note['begun'])), TrunkLog(its['log']),
                     Child(int(note['pid']), int(note['started']), its['words']), str(note['control']),
-                    str(note['saves']), its.get('end', -1), int(note.get('end', -1)))
+                    str(note['saves']), its['end'], int(note['end']))
         found.checkpoint = Checkpoint(its.get('state', -1), int(note['place']), Counter(note['counted']))
         found.is_up, found._told, found.is_adopted = bool(note['up']), int(note['told']), True
         return found
