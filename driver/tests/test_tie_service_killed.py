@@ -9,7 +9,7 @@ import unittest
 from typing import Any, Callable
 
 from .limits import LONG
-from .stand_ins import StandInShadow, WatchedTrunk
+from .stand_ins import WatchedTrunk
 from .support import FolderCase, text_of
 from .test_operator import CONFIG, ROWS
 from e1gw.lines import Line, Role, State
@@ -106,17 +106,6 @@ class TieKilledWatcherTests(unittest.IsolatedAsyncioTestCase):
         await self.again()
         self.assertEqual((self.far.call(2), self.commands()), (name, before))
         self.assertEqual({self.tie.circuits[n].state for n in (1, 2)}, {State.ANSWERED})
-
-    async def test_another_state(self) -> None:
-        """Program and service die at once: the next shadow has another state, and has seen no seizure."""
-        name, before = await self.up(), self.commands()
-
-        def another_shadow() -> None:
-            rows = [*self.world.shadow.rows.values()]
-            self.world.shadow.close()
-            self.world.shadow = self.world.program.shadow = StandInShadow(self.world.path('tell'), rows)
-        await self.again(another_shadow)
-        self.assertEqual((self.far.call(2), self.commands()), (name, before))
 
     async def test_another_call_meanwhile(self) -> None:
         """The exchange clears circuit 2 and seizes it again while nobody watches: that is reported as another call."""
