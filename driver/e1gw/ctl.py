@@ -18,6 +18,7 @@ import socket
 import subprocess
 import sys
 from contextlib import suppress
+from pathlib import Path
 from typing import BinaryIO
 
 from .ctl_all import SOCKETS, connected, overview, trunks_here
@@ -30,9 +31,7 @@ SEVERAL = ('seize', 'clear', 'answer', 'clear-back', 'block', 'unblock', 'codec'
 
 def path_of(word: str) -> str:
     """The socket that a path or the name of a trunk means."""
-    if '/' in word or os.path.exists(word):
-        return word
-    return f'{SOCKETS}/{word}/control'
+    return word if '/' in word or Path(word).is_socket() else f'{SOCKETS}/{word}/control'
 
 
 def unit_words(path: str, fault: OSError) -> str:

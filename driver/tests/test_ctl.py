@@ -7,6 +7,7 @@ import os
 import re
 import socket
 import sys
+import tempfile
 import unittest
 from unittest import mock
 
@@ -25,9 +26,12 @@ class CtlWordTests(unittest.TestCase):
             self.assertEqual(ctl.each_circuit(command), each)
 
     def test_a_trunk_that_is_not_in_service(self) -> None:
+        """Where a folder has its name."""
         said, here = io.StringIO(), '/run/e1gw/no-such-trunk/control: No such file or directory'
-        with mock.patch.object(sys, 'argv', ['e1gw-ctl', 'no-such-trunk', 'status']), \
+        with tempfile.TemporaryDirectory() as folder, contextlib.chdir(folder), \
+                mock.patch.object(sys, 'argv', ['e1gw-ctl', 'no-such-trunk', 'status']), \
                 contextlib.redirect_stderr(said), self.assertRaises(SystemExit) as ended:
+            os.mkdir('no-such-trunk')
             ctl.main()
         self.assertEqual(ended.exception.code, 2)
         self.assertEqual(said.getvalue(), f'e1gw-ctl: {here} (systemctl status e1gw-trunk@no-such-trunk; '
