@@ -54,10 +54,20 @@ class RequestTests(unittest.IsolatedAsyncioTestCase):
 
 
 class StartFaultTests(KeeperCase):
-    """A program cannot begin, and the state is not why."""
+    """A program cannot begin."""
+
+    def test_a_state_with_which_each_one_dies(self) -> None:
+        """After five deaths the trunk begins without it."""
+        self.other_program(f'trunk) for word; do [ $word = --load ] && kill -9 $$; done; exec {support.program()} "$@"')
+        self.starts(**self.within(lifecycle_WITHIN=limits.LONG))
+        self.calls()
+        os.kill(self.program, signal.SIGKILL)
+        self.awaits('5 times in a short time: the trunk begins without a state, in 0 s')
+        self.assertIn('; all calls begin anew', self.goes_on())
+        self.ends()
 
     def test_a_port_that_is_taken_for_a_time(self) -> None:
-        """After the fifth try the calls were given up."""
+        """The state is not why. After the fifth try the calls were given up."""
         flag = self.path('taken')
         self.other_program(f'trunk) [ -e {flag} ] && {{ echo socket 3 >&2; exit 1; }}; exec {support.program()} "$@"')
         self.starts()
