@@ -71,7 +71,7 @@ class TieCircuitWorld(NamedTuple):
             return self
         told = self.up and circuit.end() != before.end()
         on_way = put(self.on_way, side, circuit.end()) if told else self.on_way
-        return self._replace(on_way=on_way, **{('near', 'far')[side]: circuit})
+        return self._replace(near=circuit, on_way=on_way) if side == 0 else self._replace(far=circuit, on_way=on_way)
 
     # ---- what can happen ----
 
@@ -133,7 +133,7 @@ class TieCircuitWorld(NamedTuple):
         circuit = self.ends()[side]
         fresh = TieCircuit(circuit.role, circuit.state, circuit.call if side == 0 else None)
         world = self.broken()._replace(asked=put(self.asked, side, None), links=put(self.links, side, LOST))
-        return world._replace(**{('near', 'far')[side]: fresh})
+        return world._replace(near=fresh) if side == 0 else world._replace(far=fresh)
 
 
 T = TypeVar('T')
