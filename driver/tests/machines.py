@@ -1,5 +1,4 @@
-"""Two machines of one trunk for tests, on this one: all of 127.0.0.0/8 is here, so the addresses that move are
-too. A machine dies when all its processes are killed at once."""
+"""Two machines of one trunk for tests, on this one, which has all of 127.0.0.0/8: the addresses that move, too."""
 from __future__ import annotations
 
 import functools

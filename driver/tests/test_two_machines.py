@@ -1,5 +1,4 @@
-"""A trunk that two machines have: one dies with thirty calls up and the other one goes on; two that are active at
-once; standbys that are slow, strange or configured otherwise; feeds that are bad."""
+"""A trunk that two machines have: one dies with thirty calls up, or both are active; standbys and feeds are bad."""
 from __future__ import annotations
 
 import contextlib
@@ -94,7 +93,9 @@ class DeathTests(PairCase):
         b.process.send_signal(signal.SIGSTOP)
         self.step(4)
         fed, until = octets_in(log), self.clock.now() + 3 * TICK
-        self.clock.steps(lambda: self.clock.now() > until, *pids[:1])
+        self.clock.steps(lambda: self.clock.now() > until - 0.001, *pids[:1])
+        a.process.send_signal(signal.SIGSTOP)
+        support.until(lambda: support.state_of(a.process.pid) == 'T')
         self.step(2)                    # (these are lost)
         a.power_off(link_down=True)
         self.clock.stops(SILENCE)
