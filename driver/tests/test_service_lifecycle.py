@@ -35,6 +35,7 @@ LIMIT = 600 << 9            # octets of a file, in which a state has room
 HELD = 12                   # multiframes that a device holds which nobody reads
 NAMELESS = 35               # a signal of real time: the service could not tell it, and no program followed
 SIGNALS = NAMELESS, signal.SIGKILL, signal.SIGSTOP, signal.SIGTERM, signal.SIGSEGV
+NEAR = 8 * MULTIFRAME       # octets of a log before a checkpoint is due
 HANGS = 5.0                 # seconds, which no program takes that does not hang, on a machine that stalls
 
 
@@ -46,11 +47,30 @@ def refusals(right: str) -> list[tuple[str | None, str]]:
             ('#' * 70_000, '.*more than 65536 octets'), (None, '.*trunk.toml is no file')]
 
 
-class ServiceEventsCase(RestartedKeeperCase, RecorderCase):
+class FollowerCase(RestartedKeeperCase):
+    """A trunk of which a follower is known that stays."""
+
+    limits: dict[str, Any] = {}
+
+    def finds_follower(self) -> None:
+        """Waits until there is one follower, and no checkpoint comes for some multiframes, behind which there is
+        another one. Fewer and fewer are given meanwhile, until it has come."""
+        room, pause = self.limits.get('checkpoints_LOG_ROOM', LOG_ROOM), 0.005
+        while True:
+            pids, its = children(self.keeper.pid, 'replay'), self.noted().get('program', {})
+            if its.get('pid') == self.program:
+                if os.path.getsize(self.log_of()) - its['place'] > room - NEAR:
+                    self.step()
+                elif len(pids) == 1:
+                    (self.shadow,) = pids
+                    return
+            time.sleep(pause := min(2 * pause, 1.0))
+
+
+class ServiceEventsCase(FollowerCase, RecorderCase):
     """What may happen to a trunk."""
 
     keeps: tuple[str, ...] = ()
-    limits: dict[str, Any] = {}
 
     def begins(self, *options: str) -> None:
         """With all that may be wanted of a trunk, in a folder that can be full (if the test may mount one)."""
@@ -269,15 +289,6 @@ class ServiceEventsCase(RestartedKeeperCase, RecorderCase):
         os.rmdir(self.path('control'))
         self.dies()
         self.finds_follower()
-
-    def finds_follower(self) -> None:
-        """Waits until there is one follower, and no checkpoint is due, behind which there is another one."""
-        def stays() -> list[int] | None:
-            pids, its = children(self.keeper.pid, 'replay'), self.noted().get('program', {})
-            is_due = its.get('pid') != self.program or os.path.getsize(self.log_of()) - its['place'] >= self.limits.get(
-                'checkpoints_LOG_ROOM', LOG_ROOM)
-            return pids if len(pids) == 1 and not is_due else None
-        (self.shadow,) = support.until(stays)
 
     def client_asks(self) -> None:
         """Another codec of a circuit in a call, or what is refused."""
