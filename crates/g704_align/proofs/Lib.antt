@@ -4,3 +4,4 @@ pub mod Steps
 pub mod Standing
 pub mod FirstFas
 pub mod Callers
+pub mod Rest

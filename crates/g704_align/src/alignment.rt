@@ -1,6 +1,6 @@
 //! The place of an octet in its frame, and when frame alignment is found and lost (`Aligner`).
 
-ghost use Rattle.std.specs.Prelude.{◌≡◌, ◌+◌, ◌%◌, ◌<◌, ℕ, List, Option, [], ◌∷◌, ◌++◌, length};
+ghost use Rattle.std.specs.Prelude.{◌≡◌, ◌+◌, ◌%◌, ◌<◌, ◌≤◌, ℕ, List, Option, [], ◌∷◌, ◌++◌, length};
 ghost use Rattle.std.specs.Prelude.{nat_lt, ◌≢◌, IfSome, IfNone};
 ghost use Rattle.g704_align.specs.declared.alignment.Place.TheVariants.{Slot};
 ghost use Rattle.g704_align.specs.Search.{is_fas, is_nfas};
@@ -127,6 +127,26 @@ impl Aligner {
             }
         }
         None
+    }
+
+    /// Skips the rest of a frame, or this many of its octets, and returns how many.
+    ///
+    /// It does what `octet` does with any octets. At slot 0 and without alignment it skips none.
+    #[inline]
+    pub fn pass_rest(&mut self, most: usize) -> usize
+        ensures bound { result ≤ most }
+        ensures stands { (history octets : List ℕ) → HasHistory self.old history → length octets ≡ result
+            → HasHistory self.new (history ++ octets) }
+        ensures placed { (history octets : List ℕ) → HasHistory self.old history → length octets ≡ result
+            → (k : ℕ) → k < result → 0 < number_of (place (history ++ octets) (length history + k)) }
+    {
+        let SyncState::Aligned { age, .. } = &mut self.phase else {
+            return 0;
+        };
+        let now = *age;
+        let count = usize::from((FRAME - now % FRAME) % FRAME).min(most);
+        *age = now.wrapping_add(count as u8) % TWO_FRAMES;
+        count
     }
 
     // Does the work of `octet` for an octet that may be a signal.
