@@ -134,3 +134,9 @@ pub part-begun : (part : List ℕ) (x : ℕ) (octets : List ℕ) → GoesOn part
     → 0 < length part
 part-begun [] x octets g = (g.begins aligned-nil).1
 part-begun (y ∷ part) x octets g = omega arith
+
+-- An octet after others of the alignment goes on with them.
+pub goes_with : (part before octets : List ℕ) (x : ℕ) → GoesOn part x before octets → 0 < length before
+    → octets ≡ before ++ x ∷ []
+goes_with part [] octets x g lt = absurd (omega arith)
+goes_with part (y ∷ before) octets x g lt = g.goes_on (λ e. cc)

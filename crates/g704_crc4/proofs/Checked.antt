@@ -34,7 +34,7 @@ module _ (m : Checker) (h : List ℕ) (x : ℕ) (s : ChecksAfter m h) where
   ]
 
   -- The remainder of the submultiframe with the octet.
-  abbrev with_octet : Remainder
+  abbrev pub with_octet : Remainder
   with_octet = remainder_of (submultiframe (length h / 256) (cleared (h ++ x ∷ [])))
 
   -- What a checker counts with the next octet is the remainder with that octet.
@@ -47,13 +47,12 @@ module _ (m : Checker) (h : List ℕ) (x : ℕ) (s : ChecksAfter m h) where
       ∙ ap crc_number (sym (remainder-grows cleared_at h x))
 
   -- An octet within a submultiframe.
-  pub checks-within : (taken place left : ℕ) (bits : Remainder) → taken ≡ cleared_at (length h) x
-      → place ≡ (m.place + 1) % 512
-      → ((r : Remainder) → m.running ≡ crc_number r → left ≡ crc_number (after_octet r taken))
+  pub checks-within : (place left : ℕ) (bits : Remainder) → place ≡ (m.place + 1) % 512
+      → left ≡ crc_number with_octet
       → bits ≡ check_bits_with m.check_bits m.place (nat_le 128 x) → place % 256 ≢ 0
       → ChecksAfter (record { place = place; before = m.before; running = left; check_bits = bits; begun = m.begun })
       (h ++ x ∷ [])
-  checks-within taken place left bits is at more now ne =
+  checks-within place left bits at is now ne =
       let p = s.place in
       let l = length_push h x in
       let same : length h / 256 ≡ length (h ++ x ∷ []) / 256 = omega (arith, ne) in
@@ -63,7 +62,7 @@ module _ (m : Checker) (h : List ℕ) (x : ℕ) (s : ChecksAfter m h) where
         before = λ le.
             s.before (omega (arith, ne, le)) ∙ sym (remainder-stays h x (length h / 256 - 1) (omega (arith, ne, le)))
             ∙ ap (λ n. remainder_in (h ++ x ∷ []) (n - 1)) same;
-        running = counted-more taken left is more
+        running = is
             ∙ ap (λ n. crc_number (remainder_of (submultiframe n (cleared (h ++ x ∷ []))))) same;
         c1 = λ lt. ap (λ (r : Remainder). r.c1) now ∙ first m h x s
             ∙ ap (λ n. si_of (h ++ x ∷ []) (8 * n)) same;

@@ -2,8 +2,13 @@
 use Rattle.g704_crc4.proofs.Common.{◌≡◌, ℕ, ◌+◌, ◌-◌, ◌^◌, Bool, true, false, List, [], ◌∷◌, ◌++◌, Option, None, sym}
 use Rattle.g704_crc4.proofs.Common.{ap, ◌∙◌, arith, append_assoc, append-nil, min, bit_number, learned, tells_given_up}
 use Rattle.g704_crc4.proofs.Common.{times_after, receiver_counts_with}
+use Rattle.g704_crc4.proofs.Common.{Some, refl}
+use Rattle.std.specs.Prelude.{is_some}
 use Rattle.g704_crc4.specs.declared.receiving.ReceiverEvent.{ReceiverEvent}
+use Rattle.g704_crc4.specs.declared.receiving.Receiver.{Receiver}
 use Rattle.g704_crc4.specs.declared.counting.ReceiverCounts.{ReceiverCounts}
+use Rattle.g704_crc4.specs.declared.counting.TrunkChecker.{TrunkChecker}
+use Rattle.g704_crc4.specs.Receivers.{ChecksTrunk, ReceivesAfter}
 use Rattle.g704_crc4.specs.ReceiverCounts.{tells_block, tells_errored, tells_far_end, tells_found, tells_lost, times}
 use Rattle.g704_crc4.specs.ReceiverCounts.{count_with, receiver_counts_of}
 
@@ -53,3 +58,27 @@ pub receiver_counts-same : (history : List ℕ) (x : ℕ) → None ≡ learned h
     → receiver_counts_of history ≡ receiver_counts_of (history ++ x ∷ [])
 receiver_counts-same history x e = ap (receiver_counts_with (receiver_counts_of history)) e
     ∙ receiver_counts-more history x
+
+-- Where nothing is learned by many they stay.
+pub receiver_counts-silent : (history octets : List ℕ) → times_after is_some history octets ≡ 0
+    → receiver_counts_of history ≡ receiver_counts_of (history ++ octets)
+unfolding times_after
+receiver_counts-silent history [] e = ap receiver_counts_of (sym (append-nil history))
+receiver_counts-silent history (x ∷ octets) e =
+    receiver_counts-same history x (no_event (learned history x) (omega (arith, e)))
+    ∙ receiver_counts-silent (history ++ x ∷ []) octets (omega (arith, e))
+    ∙ ap receiver_counts_of (append_assoc history (x ∷ []) octets)
+  where
+    no_event : (o : Option ReceiverEvent) → bit_number (is_some o) ≡ 0 → None ≡ o
+    no_event None none = refl
+    no_event (Some event) none = absurd (omega (arith, none))
+
+-- A checker of a trunk, more octets by which nothing is learned.
+pub checks-silent : (checker : TrunkChecker) (receiver : Receiver) (history octets : List ℕ)
+    → ChecksTrunk checker history → ReceivesAfter receiver (history ++ octets)
+    → times_after is_some history octets ≡ 0
+    → ChecksTrunk (record checker { receiver = receiver }) (history ++ octets)
+checks-silent checker receiver history octets s receives none = record {
+  receives = receives;
+  receiver_counts = s.receiver_counts ∙ receiver_counts-silent history octets none;
+}

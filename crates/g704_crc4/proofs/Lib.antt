@@ -19,3 +19,4 @@ pub mod Followings
 pub mod Searched
 pub mod CountsOfEvents
 pub mod Reports
+pub mod Quiet

@@ -3,6 +3,7 @@ use Rattle.g704_crc4.proofs.Common.{◌≡◌, ℕ, zero, suc, ◌+◌, ◌-◌,
 use Rattle.g704_crc4.proofs.Common.{get_or, Option, None, refl, sym, ap, ◌∙◌, arith, append-nil, true, false, take-suc}
 use Rattle.g704_crc4.proofs.Common.{drop-append_seam, length_push, take_all, age_in, IsFraming, RestartsAfter, last_of}
 use Rattle.g704_crc4.proofs.Common.{octets_since, since_start, is_given_up, aligned_octets, parts, part_before}
+use Rattle.g704_crc4.proofs.Common.{learned, learned_of}
 use Rattle.std.proofs.Common.{length-append}
 use Rattle.g704_framing.specs.Alignment.{alignments_of}
 use Rattle.g704_framing.proofs.Ages.{age-over, age-at_over, age-standing}
@@ -92,3 +93,9 @@ pub part-kept : (part : List ℕ) (x : ℕ)
     → is_given_up (aligned_octets (part ++ x ∷ [])) ≡ false
     → (position : ℕ) → position < length (part ++ x ∷ []) → parts.is_lost (part ++ x ∷ []) position ≡ false
 part-kept part x kept up = kept-more parts parts_are_framing part x kept (given_up-is part x ∙ up)
+
+-- What is learned, by the octets of the part.
+pub learned-is : (history part : List ℕ) (x : ℕ) → part_before history ≡ part
+    → learned_of (aligned_octets part) (aligned_octets (part ++ x ∷ [])) ≡ learned history x
+unfolding learned
+learned-is history part x e = rw e refl

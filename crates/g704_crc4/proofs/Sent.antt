@@ -1,6 +1,7 @@
 -- The octets that are sent, one for each that comes.
 use Rattle.g704_crc4.proofs.Common.{◌≡◌, ℕ, zero, suc, ◌+◌, ◌*◌, ◌<◌, ◌/◌, ◌%◌, Bool, true, false, List, [], ◌∷◌, ◌++◌}
-use Rattle.g704_crc4.proofs.Common.{length, take, refl, sym, ap, ◌∙◌, arith, append_assoc, inl, inr, ◌≢◌, slice_index}
+use Rattle.g704_crc4.proofs.Common.{length, length_push, take, refl, sym, ap, ◌∙◌, arith, append_assoc, inl, inr, ◌≢◌}
+use Rattle.g704_crc4.proofs.Common.{slice_index}
 use Rattle.g704_crc4.proofs.Common.{nat_le, cases_eq, eq-eqb, ne_eqb, le-leb, lt-leb, cases_lt, get_or_past}
 use Rattle.g704_crc4.proofs.Common.{length-take-le, replies_after, Remainder, with_si, si_at, octet_at}
 use Rattle.g704_crc4.proofs.Common.{check_bits_after, sent_octet, sent_octets, si_of, LengthIsKept, OthersAreKept}
@@ -31,6 +32,16 @@ at-frame bits place x e = rw (eq-eqb (place % 32) 0 e) refl
 pub at-other : (bits : Remainder) (place : ℕ) (x : ℕ) → place % 32 ≢ 0 → octet_at bits place x ≡ x
 unfolding octet_at
 at-other bits place x ne = rw (ne_eqb (place % 32) 0 ne) refl
+
+-- So are octets that begin no frame.
+pub sent-same : (before octets : List ℕ) → ((k : ℕ) → k < length octets → (length before + k) % 32 ≢ 0)
+    → replies_after sent_octet before octets ≡ octets
+unfolding replies_after sent_octet
+sent-same before [] rest = refl
+sent-same before (x ∷ octets) rest =
+    let here = at-other (check_bits_after before) (length before) x (λ e. rest 0 (omega arith) (omega (arith, e))) in
+    rw here (ap (λ xs. x ∷ xs) (sent-same (before ++ x ∷ []) octets
+    (λ k lt e. rest (suc k) (omega arith) (omega (arith, e, length_push before x)))))
 
 -- Each octet that is sent, by those before it.
 sent-at : (before octets : List ℕ) (i : ℕ) → i < length octets

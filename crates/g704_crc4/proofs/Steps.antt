@@ -3,8 +3,11 @@ use Rattle.g704_crc4.proofs.Common.{◌≡◌, ℕ, ◌+◌, ◌-◌, ◌/◌, �
 use Rattle.g704_crc4.proofs.Common.{inl, inr, ◌≢◌, length_push, cases_eq, ne_eqb, Remainder, no_remainder, after_octet}
 use Rattle.g704_crc4.proofs.Common.{sent_bits, remainder_of, crc_number, each_at, submultiframe, octet_at, zeroed}
 use Rattle.g704_crc4.proofs.Common.{check_bits_after, SendsAfter, SendsNext}
+use Rattle.g704_crc4.proofs.Common.{◌<◌, suc, append-nil, append_assoc}
+use Rattle.g704_crc4.specs.Remainder.{after_all}
 use Rattle.g704_crc4.specs.declared.sending.Crc4Inserter.{Crc4Inserter}
-use Rattle.g704_crc4.proofs.Submultiframes.{part-stays, remainder-grows, remainder-none}
+use Rattle.g704_crc4.proofs.Sent.{at-other}
+use Rattle.g704_crc4.proofs.Submultiframes.{after-first, part-stays, remainder-grows, remainder-none}
 
 -- A multiframer that has sent nothing.
 pub sends-none : SendsAfter (record { place = 0; before = 0; running = 0 }) []
@@ -71,20 +74,58 @@ next-begins m h s e = record {
   running = ap crc_number (remainder-none (octet_at no_remainder) (length h / 256) h (omega (arith, e)));
 }
 
+-- The remainder of the submultiframe of the octet after these, up to that octet.
+abbrev pub running_at : List ℕ → Remainder
+running_at h = remainder_of (submultiframe (length h / 256) (zeroed h))
+
+-- The same of the last of these.
+abbrev pub running_before : List ℕ → Remainder
+running_before h = remainder_of (submultiframe ((length h - 1) / 256) (zeroed h))
+
 -- One octet more.
 pub sends-more : (m : Crc4Inserter) (h : List ℕ) (x counted place left : ℕ) → SendsNext m h
     → counted ≡ octet_at no_remainder (length h) x → place ≡ (m.place + 1) % 65536
-    → ((remainder : Remainder) → m.running ≡ crc_number remainder → left ≡ crc_number (after_octet remainder counted))
+    → left ≡ crc_number (after_octet (running_at h) counted)
     → SendsAfter (record { place = place; before = m.before; running = left }) (h ++ x ∷ [])
 sends-more m h x counted place left s is at more =
     let p = s.place in
     let l = length_push h x in
-    let running = remainder_of (submultiframe (length h / 256) (zeroed h)) in
     let same : length h / 256 ≡ (length (h ++ x ∷ []) - 1) / 256 = omega arith in
     record {
       place = omega arith;
       before = λ ne. s.before ∙ ap crc_number (sym (check-bits-stay h x (λ z. ne (omega (arith, z)))));
-      running = more running s.running
-          ∙ ap crc_number (ap (after_octet running) is ∙ sym (remainder-grows (octet_at no_remainder) h x))
+      running = more
+          ∙ ap crc_number (ap (after_octet (running_at h)) is ∙ sym (remainder-grows (octet_at no_remainder) h x))
           ∙ ap (λ n. crc_number (remainder_of (submultiframe n (zeroed (h ++ x ∷ []))))) same;
     }
+
+-- The rest of a frame, or some of its octets.
+pub sends-rest : (m : Crc4Inserter) (h xs : List ℕ) (left : ℕ) → SendsAfter m h
+    → ((k : ℕ) → k < length xs → (length h + k) % 32 ≢ 0) → left ≡ crc_number (after_all (running_before h) xs)
+    → SendsAfter (record m { place = (m.place + length xs) % 65536; running = left }) (h ++ xs)
+unfolding sent_bits
+sends-rest m h [] left s rest is =
+    let p = s.place in
+    let same : (m.place + 0) % 65536 ≡ m.place = omega arith in
+    let running : left ≡ m.running = is ∙ sym s.running in
+    rw (append-nil h, same, running) s
+sends-rest m h (x ∷ xs) left s rest is =
+    let p = s.place in
+    let l = length_push h x in
+    let within : length h % 32 ≢ 0 = λ e. rest 0 (omega arith) (omega (arith, e)) in
+    let now : (length h - 1) / 256 ≡ length h / 256 = omega (arith, within) in
+    let later_at : (length (h ++ x ∷ []) - 1) / 256 ≡ length h / 256 = omega arith in
+    let taken = sym (at-other no_remainder (length h) x within) in
+    let next = sends-more m h x x ((m.place + 1) % 65536) _ (next-within m h s (λ e. within (omega (arith, e)))) taken
+    refl refl in
+    let later = sends-rest (record m {
+      place = (m.place + 1) % 65536;
+      running = crc_number (after_octet (running_at h) x);
+    }) (h ++ x ∷ []) xs left next
+    (λ k lt e. rest (suc k) (omega arith) (omega (arith, e)))
+    (is ∙ ap crc_number (after-first (running_before h) x xs)
+    ∙ ap (λ r. crc_number (after_all r xs)) (ap (λ n. after_octet (remainder_of (submultiframe n (zeroed h))) x) now
+    ∙ ap (after_octet (running_at h)) taken ∙ sym (remainder-grows (octet_at no_remainder) h x)
+    ∙ ap (λ n. remainder_of (submultiframe n (zeroed (h ++ x ∷ [])))) (sym later_at))) in
+    let same : ((m.place + 1) % 65536 + length xs) % 65536 ≡ (m.place + suc (length xs)) % 65536 = omega arith in
+    rw (← append_assoc h (x ∷ []) xs, ← same) later

@@ -3,7 +3,7 @@ use Rattle.g704_crc4.proofs.Common.{◌≡◌, ℕ, suc, ◌+◌, ◌*◌, ◌�
 use Rattle.g704_crc4.proofs.Common.{ap, ◌∙◌, arith, append_assoc, length-drop, take-append-le, drop-append-le, take_all}
 use Rattle.g704_crc4.proofs.Common.{drop_all, length_push, Remainder, no_remainder, after_bits, after_octet, sent_bits}
 use Rattle.g704_crc4.proofs.Common.{remainder_of, each_at, submultiframe}
-use Rattle.g704_crc4.specs.Remainder.{bits_in}
+use Rattle.g704_crc4.specs.Remainder.{after_all, bits_in}
 
 -- The remainder of bits, and of others after them.
 pub after-append : (left : Remainder) (bits others : List Bool)
@@ -18,11 +18,22 @@ bits-push [] x = refl
 bits-push (y ∷ octets) x =
     ap (λ s. bits_in y ++ s) (bits-push octets x) ∙ sym (append_assoc (bits_in y) (sent_bits octets) (bits_in x))
 
+-- The remainder after octets, and after one more.
+pub after-push : (left : Remainder) (octets : List ℕ) (x : ℕ)
+    → after_all left (octets ++ x ∷ []) ≡ after_octet (after_all left octets) x
+after-push left octets x =
+    ap (after_bits left) (bits-push octets x) ∙ after-append left (sent_bits octets) (bits_in x)
+
+-- The remainder after an octet, and after others behind it.
+pub after-first : (left : Remainder) (x : ℕ) (octets : List ℕ)
+    → after_all left (x ∷ octets) ≡ after_all (after_octet left x) octets
+unfolding sent_bits
+after-first left x octets = after-append left (bits_in x) (sent_bits octets)
+
 -- The remainder with an octet more.
 remainder-push : (octets : List ℕ) (x : ℕ) → remainder_of (octets ++ x ∷ []) ≡ after_octet (remainder_of octets) x
 unfolding remainder_of
-remainder-push octets x =
-    ap (after_bits no_remainder) (bits-push octets x) ∙ after-append no_remainder (sent_bits octets) (bits_in x)
+remainder-push octets x = after-push no_remainder octets x
 
 -- An octet after a whole submultiframe changes nothing in it.
 part-whole : (number : ℕ) (octets others : List ℕ) → 256 * (number + 1) ≤ length octets

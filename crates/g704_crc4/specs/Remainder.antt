@@ -51,6 +51,10 @@ sent_bits (octet ∷ octets) = bits_in octet ++ sent_bits octets
 abbrev pub after_octet : Remainder → ℕ → Remainder
 after_octet left octet = after_bits left (bits_in octet)
 
+-- The remainder after the bits of octets.
+abbrev pub after_all : Remainder → List ℕ → Remainder
+after_all left octets = after_bits left (sent_bits octets)
+
 -- The remainder of the bits of octets.
 unfoldable pub remainder_of : List ℕ → Remainder
 remainder_of octets = after_bits no_remainder (sent_bits octets)

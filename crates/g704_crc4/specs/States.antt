@@ -36,3 +36,10 @@ pub record ChecksAfter (checker : Checker) (history : List ℕ) : Type 0 where
   pub c2 : 64 < length history % 256 → checker.check_bits.c2 ≡ si_of history (8 * (length history / 256) + 2)
   pub c3 : 128 < length history % 256 → checker.check_bits.c3 ≡ si_of history (8 * (length history / 256) + 4)
   pub c4 : 192 < length history % 256 → checker.check_bits.c4 ≡ si_of history (8 * (length history / 256) + 6)
+
+-- This many octets from this place of a multiframe show nothing: they are in one frame, and are neither its
+-- first octet nor the last one of its submultiframe.
+pub record IsQuiet (place count : ℕ) : Type 0 where
+  pub begun : 0 < count → place % 32 ≢ 0
+  pub in_frame : place % 32 + count ≤ 32
+  pub in_submultiframe : place % 256 + count < 256

@@ -5,11 +5,11 @@ ghost use Rattle.std.specs.Prelude.{◌∷◌, ◌++◌, length, true};
 ghost use Rattle.g704_crc4.specs.Checking.{same, check_bits_with, far_end_event, block_event, event_of};
 ghost use Rattle.g704_crc4.specs.Checking.{counts_of, counts_with, errors_with};
 ghost use Rattle.g704_crc4.specs.declared.remainder.Remainder.{Remainder};
-ghost use Rattle.g704_crc4.specs.Remainder.{crc_number};
+ghost use Rattle.g704_crc4.specs.Remainder.{after_all, crc_number};
 ghost use Rattle.g704_crc4.specs.Receiving.{cleared_at};
-ghost use Rattle.g704_crc4.specs.States.{ChecksAfter};
+ghost use Rattle.g704_crc4.specs.States.{ChecksAfter, IsQuiet};
 
-use crate::remainder::{NO_REMAINDER, Remainder, add, number_after, of_number};
+use crate::remainder::{NO_REMAINDER, Remainder, add, number_after, number_after_all, of_number};
 use crate::{BIT_1, FRAME, MULTIFRAME, SUBMULTIFRAME, TWO_FRAMES};
 
 /// What a receiver learns from an octet.
@@ -92,6 +92,31 @@ impl Checker {
             return self.end_submultiframe();
         }
         None
+    }
+
+    /// How many of the next octets show nothing: the rest of a frame, but for a submultiframe's last octet.
+    #[inline]
+    pub(crate) fn quiet_count(&self) -> usize
+        ensures { IsQuiet self.now.place result }
+    {
+        let in_frame = (FRAME - self.place % FRAME) % FRAME;
+        let before_last = SUBMULTIFRAME - 1 - self.place % SUBMULTIFRAME;
+        usize::from(in_frame.min(before_last))
+    }
+
+    /// Takes octets that show nothing.
+    #[inline]
+    pub(crate) fn pass_quiet(&mut self, octets: &[u8])
+        requires { IsQuiet self.old.place (length octets.now) }
+        ensures running { (left : Remainder) → self.old.running ≡ crc_number left
+            → self.new.running ≡ crc_number (after_all left octets.now) }
+        ensures others { self.new ≡ record self.old {
+          place = (self.old.place + length octets.now) % 512;
+          running = self.new.running;
+        } }
+    {
+        self.running = number_after_all(self.running, octets);
+        self.place = self.place.wrapping_add(octets.len() as u16) % MULTIFRAME;
     }
 
     // Takes the first octet of a frame.

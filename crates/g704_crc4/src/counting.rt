@@ -51,8 +51,21 @@ impl TrunkChecker {
         }
     }
 
-    /// Takes the next octet of the trunk.
-    pub fn octet(&mut self, octet: u8)
+    /// Takes the next octets of the trunk.
+    pub fn octets(&mut self, octets: &[u8])
+        ensures { (history : List ℕ) → ChecksTrunk self.old history
+            → ChecksTrunk self.new (history ++ octets.now) }
+    {
+        let mut at = 0;
+        while at < octets.len() {
+            self.octet(octets[at]);
+            at += 1;
+            at += self.receiver.pass_rest(&octets[at..]);
+        }
+    }
+
+    // Takes the next octet of the trunk.
+    fn octet(&mut self, octet: u8)
         ensures { (history : List ℕ) → ChecksTrunk self.old history
             → ChecksTrunk self.new (history ++ octet ∷ []) }
     {

@@ -1,11 +1,11 @@
 //! When CRC-4 multiframes are found, and when frame alignment is given up for them (`Receiver`).
 
 ghost use Rattle.std.specs.Prelude.{◌≡◌, ◌∷◌, ◌++◌, ◌+◌, ◌%◌, ◌<◌, ◌==◌, ℕ, Bool, true, false, List, []};
-ghost use Rattle.std.specs.Prelude.{length, slice_index, nat_le, if◌then◌else◌, Some};
+ghost use Rattle.std.specs.Prelude.{◌≤◌, length, slice_index, take, nat_le, is_some, if◌then◌else◌, Some};
 ghost use Rattle.g704_crc4.specs.declared.receiving.MultiframeSync.TheVariants.{Hunting};
 ghost use Rattle.g704_crc4.specs.Aligning.{learned, learned_of, followed, multiframe_in, checked_octets};
 ghost use Rattle.g704_crc4.specs.Aligning.{is_given_up, is_excessive};
-ghost use Rattle.g704_crc4.specs.ReceiverCounts.{tells_given_up};
+ghost use Rattle.g704_crc4.specs.ReceiverCounts.{tells_given_up, times_after};
 ghost use Rattle.g704_crc4.specs.Receivers.{ReceivesAfter, IsSearched, IsStage, IsFollowed};
 ghost use Rattle.g704_crc4.specs.Receivers.{GoesOn, BeginsAnew};
 
@@ -87,6 +87,26 @@ impl Receiver {
         match self.aligner.octet(octet) {
             Place::Hunting => self.hunt(octet),
             Place::Slot { .. } => self.follow(octet),
+        }
+    }
+
+    /// Takes octets that show nothing, in CRC multiframes the rest of a frame at most, and returns how many.
+    #[inline]
+    pub(crate) fn pass_rest(&mut self, octets: &[u8]) -> usize
+        ensures bound { result ≤ length octets.now }
+        ensures stands { (history : List ℕ) → ReceivesAfter self.old history
+            → ReceivesAfter self.new (history ++ take result octets.now) }
+        ensures silent { (history : List ℕ) → ReceivesAfter self.old history
+            → times_after is_some history (take result octets.now) ≡ 0 }
+    {
+        match &mut self.stage {
+            MultiframeSync::SubmultiframeCheck(following) if following.to_come == 0 => {
+                let quiet = following.checker.quiet_count().min(octets.len());
+                let count = self.aligner.pass_rest(quiet);
+                following.checker.pass_quiet(&octets[..count]);
+                count
+            }
+            _ => 0,
         }
     }
 

@@ -2,7 +2,7 @@
 
 ghost use Rattle.std.specs.Prelude.{◌≡◌, ◌≤◌, ◌<◌, ℕ, Bool};
 ghost use Rattle.g704_crc4.specs.declared.remainder.Remainder.{Remainder};
-ghost use Rattle.g704_crc4.specs.Remainder.{add, after_octet, crc_number};
+ghost use Rattle.g704_crc4.specs.Remainder.{add, after_octet, after_all, crc_number};
 ghost use Rattle.g704_crc4.specs.Multiframe.{check_bit};
 
 use crate::table::REMAINDERS;
@@ -34,6 +34,18 @@ pub(crate) fn number_after(left: u8, octet: u8) -> u8
         → result ≡ crc_number (after_octet remainder octet) }
 {
     REMAINDERS[usize::from((left << 4) ^ octet)]
+}
+
+// The remainder after the bits of more octets, both as numbers.
+pub(crate) fn number_after_all(left: u8, octets: &[u8]) -> u8
+    ensures { (remainder : Remainder) → left ≡ crc_number remainder
+        → result ≡ crc_number (after_all remainder octets.now) }
+{
+    let mut now = left;
+    for octet in octets {
+        now = number_after(now, *octet);
+    }
+    now
 }
 
 // The sum of two coefficients, modulo 2.

@@ -1,13 +1,15 @@
 //! Bit 1 of time slot 0 as sent: check bits, alignment signal and E bits (`Crc4Inserter`).
 
-ghost use Rattle.std.specs.Prelude.{◌≡◌, ◌==◌, ◌+◌, ◌%◌, ◌/◌, ◌<◌, ℕ, List, [], ◌∷◌, ◌++◌, length};
+ghost use Rattle.std.specs.Prelude.{◌≡◌, ◌≢◌, ◌==◌, ◌+◌, ◌%◌, ◌/◌, ◌<◌, ◌≤◌, ℕ, List, [], ◌∷◌, ◌++◌, length};
+ghost use Rattle.std.specs.Prelude.{take};
+ghost use Rattle.g704_framing.specs.Replies.{replies_after};
 ghost use Rattle.g704_crc4.specs.declared.remainder.Remainder.{Remainder};
 ghost use Rattle.g704_crc4.specs.Remainder.{no_remainder, crc_number};
 ghost use Rattle.g704_crc4.specs.Multiframe.{check_bit, signal_bit, si_at, with_si, sent_octet};
 ghost use Rattle.g704_crc4.specs.Reporting.{has_e_bit};
 ghost use Rattle.g704_crc4.specs.States.{SendsAfter, SendsNext};
 
-use crate::remainder::{check_bit, number_after};
+use crate::remainder::{check_bit, number_after, number_after_all};
 use crate::{BIT_1, FRAME, MULTIFRAME, SUBMULTIFRAME};
 
 /// Puts CRC-4 multiframes into bit 1 of time slot 0.
@@ -36,14 +38,6 @@ impl Crc4Inserter {
         }
     }
 
-    /// Whether the next octet is the first of a frame. Only such octets can have an E bit.
-    pub fn begins_frame(&self) -> bool
-        ensures { (history : List ℕ) → SendsAfter self.now history
-            → result ≡ (length history % 32 == 0) }
-    {
-        self.place % FRAME == 0
-    }
-
     /// Whether the next octet has an E bit.
     pub fn next_has_e_bit(&self) -> bool
         ensures { (history : List ℕ) → SendsAfter self.now history → result ≡ has_e_bit (length history) }
@@ -64,6 +58,23 @@ impl Crc4Inserter {
         self.place = self.place.wrapping_add(1);
         self.running = number_after(self.running, octet);
         octet
+    }
+
+    /// Takes the rest of a frame, or these octets of it, which are sent as they come, and returns how many.
+    #[inline]
+    pub fn pass_rest(&mut self, octets: &[u8]) -> usize
+        ensures bound { result ≤ length octets.now }
+        ensures in_frame { (history : List ℕ) → SendsAfter self.old history
+            → (k : ℕ) → k < result → (length history + k) % 32 ≢ 0 }
+        ensures reply { (history : List ℕ) → SendsAfter self.old history
+            → replies_after sent_octet history (take result octets.now) ≡ take result octets.now }
+        ensures stands { (history : List ℕ) → SendsAfter self.old history
+            → SendsAfter self.new (history ++ take result octets.now) }
+    {
+        let count = usize::from((FRAME - self.place % FRAME) % FRAME).min(octets.len());
+        self.place = self.place.wrapping_add(count as u16);
+        self.running = number_after_all(self.running, &octets[..count]);
+        count
     }
 
     // Takes the first octet of a frame.

@@ -1,17 +1,19 @@
 -- Octets and reports that arrive, one part after another.
 use Rattle.std.proofs.Common.{◌≡◌, ◌+◌, ◌<◌, ℕ, suc, Bool, List, [], ◌∷◌, ◌++◌, length, take, get_or, map, Option, Some}
-use Rattle.std.proofs.Common.{None, false, ◌%◌}
-use Rattle.std.specs.Prelude.{◌==◌}
-use Rattle.std.proofs.lemmas.Bool.{eq-eqb}
+use Rattle.std.proofs.Common.{None, drop, ◌%◌}
 use Rattle.std.proofs.Common.{refl, sym, ap, ◌∙◌, arith, append_assoc, append-nil}
 use Rattle.std.proofs.lemmas.List.{map-append}
-use Rattle.std.proofs.Math.Seq.{take-suc}
+use Rattle.std.proofs.Math.Seq.{take-add, take-suc}
 use Rattle.std.specs.Io.KnownBytes.{Appends}
 use Rattle.g704_framing.specs.Replies.{replies_after}
 use Rattle.g704_framing.proofs.Replies.{replies-append}
-use Rattle.g704_crc4.proofs.Reports.{e-bit-frame}
+use Rattle.std.proofs.lemmas.List.{length_push}
+use Rattle.std.specs.Prelude.{◌≢◌}
+use Rattle.g704_crc4.proofs.Reports.{e-bit-frame, without-bit}
+use Rattle.g704_crc4.specs.declared.reporting.EBitReporter.{EBitReporter}
 use Rattle.g704_crc4.specs.Multiframe.{sent_octet, sent_octets}
-use Rattle.g704_crc4.specs.Reporting.{SenderInput, Octet, Errored, octet_count, has_e_bit, octet_with_e}
+use Rattle.g704_crc4.specs.Reporting.{SenderInput, Octet, Errored, ReportsAfter, octet_count, has_e_bit}
+use Rattle.g704_crc4.specs.Reporting.{octet_with_e}
 use Rattle.gw_filter.specs.Crc4.{trunk_octets_in, reports_in, with_e_bits}
 
 -- The octets of arrivals, and of others after them.
@@ -29,7 +31,7 @@ reports-append (Octet x ∷ a) b = reports-append a b
 reports-append (Errored n ∷ a) b = ap (λ xs. n ∷ xs) (reports-append a b)
 
 -- The octets with E bits of arrivals, and of others after them.
-with-e-append : (before a b : List SenderInput) → with_e_bits before (a ++ b)
+pub with-e-append : (before a b : List SenderInput) → with_e_bits before (a ++ b)
     ≡ with_e_bits before a ++ with_e_bits (before ++ a) b
 unfolding with_e_bits
 with-e-append before [] b = ap (λ h. with_e_bits h b) (sym (append-nil before))
@@ -65,12 +67,23 @@ pub same-e-bit : (arrivals : List SenderInput) (has : Bool) → has ≡ has_e_bi
     → has ≡ has_e_bit (octet_count arrivals)
 same-e-bit arrivals has e = e ∙ ap has_e_bit (with-e-length [] arrivals)
 
--- An octet that begins no frame has no E bit.
-pub no-e-bit : (arrivals : List SenderInput) (begins : Bool)
-    → begins ≡ (length (with_e_bits [] arrivals) % 32 == 0) → begins ≡ false → has_e_bit (octet_count arrivals) ≡ false
-no-e-bit arrivals begins e none = e-bit-frame (octet_count arrivals)
-    (λ all. cc (sym none ∙ e ∙ eq-eqb (length (with_e_bits [] arrivals) % 32) 0
-    (ap (λ n. n % 32) (with-e-length [] arrivals) ∙ all)))
+-- Octets that begin no frame go as they come, and report nothing.
+pub without-bits : (bits : EBitReporter) (h : List SenderInput) (xs : List ℕ) → ReportsAfter bits h
+    → ((k : ℕ) → k < length xs → (length (with_e_bits [] h) + k) % 32 ≢ 0)
+    → (with_e_bits h (map Octet xs) ≡ xs) × ReportsAfter bits (h ++ map Octet xs)
+unfolding with_e_bits
+without-bits bits h [] s rest = (refl, rw (append-nil h) s)
+without-bits bits h (x ∷ xs) s rest =
+    let count = with-e-length [] h in
+    let none = e-bit-frame (octet_count h) (λ e. rest 0 (omega arith) (omega (arith, e))) in
+    let one = without-bit bits h x s none in
+    let next : length (with_e_bits [] (h ++ Octet x ∷ [])) ≡ length (with_e_bits [] h) + 1
+    = ap length (with-e-octet h x) ∙ length_push (with_e_bits [] h) (octet_with_e h x) in
+    let more = without-bits bits (h ++ Octet x ∷ []) xs one.1
+    (λ k lt e. rest (suc k) (omega arith) (omega (arith, e, next))) in (
+      rw (← one.0) (ap (λ ys. x ∷ ys) more.0),
+      rw (← append_assoc h (Octet x ∷ []) (map Octet xs)) more.1,
+    )
 
 -- What is sent, one octet more.
 pub sent-more : (octets : List ℕ) (x : ℕ) → sent_octets (octets ++ x ∷ [])
@@ -110,6 +123,14 @@ arrives-next arrive a xs i lt =
     append_assoc a (map arrive (take i xs)) (arrive (get_or xs i 0) ∷ [])
     ∙ ap (λ ys. a ++ ys) (sym (map-append arrive (take i xs) (get_or xs i 0 ∷ []))
     ∙ ap (map arrive) (sym (take-suc xs i 0 lt) ∙ ap (λ k. take k xs) one))
+
+-- Arrivals of the first items, and of more.
+pub arrives-more : (arrive : ℕ → SenderInput) (a : List SenderInput) (xs : List ℕ) (i n : ℕ)
+    → (a ++ map arrive (take i xs)) ++ map arrive (take n (drop i xs)) ≡ a ++ map arrive (take (i + n) xs)
+arrives-more arrive a xs i n =
+    append_assoc a (map arrive (take i xs)) (map arrive (take n (drop i xs)))
+    ∙ ap (λ ys. a ++ ys) (sym (map-append arrive (take i xs) (take n (drop i xs)))
+    ∙ ap (map arrive) (sym (take-add i n xs)))
 
 -- Octets known to have been given, and others after them.
 pub given-after : (a b : Option (List ℕ)) (xs ys : List ℕ) → a ≡ Some xs → Appends a b ys → b ≡ Some (xs ++ ys)

@@ -1,23 +1,14 @@
 -- A checker of CRC-4 multiframes, with more octets and reports.
-use Rattle.std.proofs.Common.{◌≡◌, ◌+◌, ◌-◌, ◌≤◌, ◌^◌, ℕ, Bool, List, [], ◌∷◌, ◌++◌, Option, refl, sym, ap, ◌∙◌, arith}
+use Rattle.std.proofs.Common.{◌≡◌, ◌+◌, ◌-◌, ◌≤◌, ℕ, Bool, List, [], ◌∷◌, ◌++◌, Option, refl, ap, arith}
 use Rattle.std.proofs.Common.{append_assoc, append-nil}
 use Rattle.std.proofs.lemmas.List.Sums.{sum_by-append}
 use Rattle.std.specs.Prelude.{sum}
-use Rattle.g704_framing.specs.Replies.{replies_after}
 use Rattle.g704_crc4.specs.declared.receiving.ReceiverEvent.{ReceiverEvent}
 use Rattle.g704_crc4.specs.declared.counting.ReceiverCounts.{ReceiverCounts}
 use Rattle.g704_crc4.specs.declared.counting.TrunkChecker.{TrunkChecker}
 use Rattle.g704_crc4.specs.Receivers.{ChecksTrunk}
-use Rattle.g704_crc4.specs.Remainder.{bit_number}
 use Rattle.g704_crc4.specs.ReceiverCounts.{times_after, tells_errored, receiver_counts_of}
-use Rattle.g704_crc4.specs.Aligning.{learned}
-use Rattle.gw_filter.specs.Check.{same_octet, HasReported}
-
--- Replies that are the octets as they came.
-pub same_octets : (before octets : List ℕ) → replies_after same_octet before octets ≡ octets
-unfolding replies_after
-same_octets before [] = refl
-same_octets before (x ∷ octets) = ap (λ xs. x ∷ xs) (same_octets (before ++ x ∷ []) octets)
+use Rattle.gw_filter.specs.Check.{HasReported}
 
 -- Events of octets, and of others after them.
 times-append : (passes : Option ReceiverEvent → Bool) (before a b : List ℕ)
@@ -52,15 +43,14 @@ none_checked checker reports s none = record {
 }
 
 -- After more octets, which are returned as they came.
-pub more_checked : (a b : TrunkChecker) (reported : ℕ) (reports octets returned old new : List ℕ)
+pub more_checked : (a b : TrunkChecker) (reported : ℕ) (reports octets returned old : List ℕ)
     → HasReported a reported reports octets returned → ChecksTrunk b (octets ++ old)
-    → new ≡ replies_after same_octet octets old
-    → HasReported b reported reports (octets ++ old) (returned ++ new)
-more_checked a b reported reports octets returned old new s checks is =
+    → HasReported b reported reports (octets ++ old) (returned ++ old)
+more_checked a b reported reports octets returned old s checks =
     let grows = errored-grows octets old in
     record {
       checks = checks;
-      same = ap (λ xs. xs ++ new) s.same ∙ ap (λ xs. octets ++ xs) (is ∙ same_octets octets old);
+      same = ap (λ xs. xs ++ old) s.same;
       total = s.total;
       unreported = (receiver_counts_of (octets ++ old)).errored - reported;
       others = omega (arith, s.others, grows);

@@ -1,17 +1,21 @@
 -- A sender of CRC-4 multiframes, one arrival more.
-use Rattle.std.proofs.Common.{◌≡◌, false, ◌+◌, ◌<◌, ◌≤◌, ℕ, suc, List, [], ◌∷◌, ◌++◌, length, take, drop, get_or}
+use Rattle.std.proofs.Common.{◌≡◌, ◌+◌, ◌<◌, ◌≤◌, ℕ, suc, List, [], ◌∷◌, ◌++◌, length, take, drop, get_or}
 use Rattle.std.proofs.Common.{slice_set, map}
 use Rattle.std.proofs.Common.{Option, Some, refl, sym, ap, ◌∙◌, arith, subst, append_assoc, append-nil, length-append}
-use Rattle.std.proofs.Math.Seq.{drop-cons, set-append_seam, get_or-append_seam}
-use Rattle.std.proofs.lemmas.List.{length-set, take_all, drop_all}
+use Rattle.std.proofs.Common.{◌%◌, length-drop}
+use Rattle.std.specs.Prelude.{◌≢◌}
+use Rattle.std.proofs.Math.Seq.{drop-append_seam, drop-cons, set-append_seam, get_or-append_seam}
+use Rattle.std.proofs.lemmas.List.{length-set, length-take-le, take_all, drop_all, drop-drop, take-append-drop}
+use Rattle.g704_framing.specs.Replies.{replies_after}
+use Rattle.g704_framing.proofs.Replies.{replies-append}
 use Rattle.std.specs.Io.KnownBytes.{Appends}
-use Rattle.g704_crc4.proofs.Reports.{without-bit}
 use Rattle.g704_crc4.specs.Multiframe.{sent_octet, sent_octets}
-use Rattle.g704_crc4.specs.Reporting.{SenderInput, Octet, Errored, ReportsAfter, octet_count, has_e_bit, octet_with_e}
+use Rattle.g704_crc4.specs.Reporting.{SenderInput, Octet, Errored, ReportsAfter, octet_with_e}
 use Rattle.g704_crc4.specs.States.{SendsAfter}
 use Rattle.gw_filter.specs.declared.sending.Crc4Sender.{Crc4Sender}
 use Rattle.gw_filter.specs.Crc4.{with_e_bits, sent_for, trunk_octets_in, reports_in, SendsCrc4, HasSent, IsSent}
-use Rattle.gw_filter.proofs.Arrivals.{with-e-octet, with-e-report, sent-more, arrives-next, given-after}
+use Rattle.gw_filter.proofs.Arrivals.{with-e-octet, with-e-report, sent-more, arrives-next, arrives-more, given-after}
+use Rattle.gw_filter.proofs.Arrivals.{with-e-append, without-bits}
 use Rattle.gw_filter.proofs.Arrivals.{octets-append, reports-append, octets-of-octets, reports-of-octets}
 use Rattle.gw_filter.proofs.Arrivals.{octets-of-reports, reports-of-reports}
 
@@ -35,14 +39,21 @@ octet-sent a b arrivals sent x with_bit y s is bits reply multiframer =
           ∙ sym (sent-more (with_e_bits [] arrivals) with_bit) ∙ ap sent_octets all;
     }
 
--- After one octet more that has no E bit.
-pub octet-without : (a b : Crc4Sender) (arrivals : List SenderInput) (sent : List ℕ) (x y : ℕ)
-    → SendsCrc4 a arrivals sent → has_e_bit (octet_count arrivals) ≡ false → b.error_bits ≡ a.error_bits
-    → y ≡ sent_octet (with_e_bits [] arrivals) x → SendsAfter b.multiframer (with_e_bits [] arrivals ++ x ∷ [])
-    → SendsCrc4 b (arrivals ++ Octet x ∷ []) (sent ++ y ∷ [])
-octet-without a b arrivals sent x y s none same reply multiframer =
-    let unchanged = without-bit a.error_bits arrivals x s.bits none in
-    octet-sent a b arrivals sent x x y s (unchanged.0) (rw (same) (unchanged.1)) reply multiframer
+-- After more octets that begin no frame.
+pub octets-without : (a b : Crc4Sender) (arrivals : List SenderInput) (sent xs : List ℕ) → SendsCrc4 a arrivals sent
+    → ((k : ℕ) → k < length xs → (length (with_e_bits [] arrivals) + k) % 32 ≢ 0) → b.error_bits ≡ a.error_bits
+    → replies_after sent_octet (with_e_bits [] arrivals) xs ≡ xs
+    → SendsAfter b.multiframer (with_e_bits [] arrivals ++ xs)
+    → SendsCrc4 b (arrivals ++ map Octet xs) (sent ++ xs)
+octets-without a b arrivals sent xs s rest same reply multiframer =
+    let unchanged = without-bits a.error_bits arrivals xs s.bits rest in
+    let all = with-e-append [] arrivals (map Octet xs) ∙ ap (λ ys. with_e_bits [] arrivals ++ ys) unchanged.0 in
+    record {
+      bits = rw same unchanged.1;
+      multiframer = rw all multiframer;
+      sent_is = ap (λ ys. ys ++ xs) s.sent_is ∙ ap (λ ys. sent_for arrivals ++ ys) (sym reply)
+          ∙ sym (replies-append sent_octet [] (with_e_bits [] arrivals) xs) ∙ ap sent_octets (sym all);
+    }
 
 -- After one report more.
 pub report-taken : (a b : Crc4Sender) (arrivals : List SenderInput) (sent : List ℕ) (n : ℕ) → SendsCrc4 a arrivals sent
@@ -109,6 +120,35 @@ one_sent first sender after old now i y so lt step = record {
     same = ap (λ (xs : List ℕ). get_or xs i 0) split
         ∙ ap (λ (k : ℕ). get_or (so.done ++ get_or old i 0 ∷ drop (suc i) old) k 0) (sym so.counted)
         ∙ get_or-append_seam so.done (get_or old i 0) (drop (suc i) old) 0
+
+-- More octets of the slice are sent as they came.
+pub some_sent : (first sender after : Crc4Sender) (old now : List ℕ) (i n : ℕ) → IsSentTo first sender old now i
+    → n ≤ length (drop i now)
+    → ((arrivals : List SenderInput) (sent : List ℕ) → SendsCrc4 sender arrivals sent
+    → SendsCrc4 after (arrivals ++ map Octet (take n (drop i now))) (sent ++ take n (drop i now)))
+    → IsSentTo first after old now (i + n)
+some_sent first sender after old now i n so le step = record {
+  done = so.done ++ take n (drop i old);
+  counted = omega (arith, length-append so.done (take n (drop i old)), length-take-le n (drop i old) fits, so.counted);
+  within = omega (arith, fits, length-drop i old, so.within);
+  len = so.len;
+  now_is = so.now_is ∙ ap (λ (xs : List ℕ). so.done ++ xs) (sym (take-append-drop n (drop i old))
+      ∙ ap (λ (xs : List ℕ). take n (drop i old) ++ xs) (drop-drop n i old))
+      ∙ sym (append_assoc so.done (take n (drop i old)) (drop (i + n) old));
+  sends = λ arrivals sent s.
+      sends-same after _ _ _ _
+      (ap (λ (xs : List ℕ). (arrivals ++ map Octet (take i old)) ++ map Octet (take n xs)) same
+      ∙ arrives-more Octet arrivals old i n)
+      (ap (λ (xs : List ℕ). (sent ++ so.done) ++ take n xs) same ∙ append_assoc sent so.done (take n (drop i old)))
+      (step (arrivals ++ map Octet (take i old)) (sent ++ so.done) (so.sends arrivals sent s));
+}
+  where
+    same : drop i now ≡ drop i old
+    same = ap (drop i) so.now_is ∙ ap (λ (k : ℕ). drop k (so.done ++ drop i old)) (sym so.counted)
+        ∙ drop-append_seam so.done (drop i old)
+
+    fits : n ≤ length (drop i old)
+    fits = rw same at le
 
 -- All of them are sent.
 pub all_sent : (first sender : Crc4Sender) (old now : List ℕ) (i : ℕ) → IsSentTo first sender old now i

@@ -10,10 +10,6 @@ use Rattle.gw_records.specs.Streams.{SourceState, SinkState, GivesOctets}
 use Rattle.gw_filter.specs.declared.checking.Checked.{Checked}
 use Rattle.gw_filter.specs.Filter.{FiltersUntil, filter_totals}
 
--- The octet as received.
-abbrev pub same_octet : List ℕ → ℕ → ℕ
-same_octet before octet = octet
-
 -- This number of errored submultiframes of these octets is not yet reported; the reports sent add up to the
 -- others.
 abbrev pub AreReported : List ℕ → List ℕ → ℕ → Type 0

@@ -5,11 +5,11 @@ ghost use Rattle.std.specs.Prelude.{IfOk, IfErr};
 ghost use Rattle.g704_crc4.specs.ReceiverCounts.{receiver_counts_of};
 ghost use Rattle.g704_crc4.specs.Receivers.{ChecksTrunk};
 ghost use Rattle.gw_records.specs.Streams.{CanBegin};
-ghost use Rattle.gw_filter.specs.Check.{same_octet, HasReported, ChecksMultiframes, ChecksMultiframesUntil};
+ghost use Rattle.gw_filter.specs.Check.{HasReported, ChecksMultiframes, ChecksMultiframesUntil};
 ghost use Rattle.gw_filter.specs.Check.{ReportsUpTo};
 
 use crate::reports::{CountsTeller, ReportSink};
-use crate::through::{BufferFilter, OctetFilter, filter_all, octets_through};
+use crate::through::{BufferFilter, octets_through};
 use g704_crc4::{ReceiverCounts, TrunkChecker};
 use gw_records::{RunFault, Sink, Source, Totals};
 
@@ -18,17 +18,6 @@ const SECOND: usize = 256_000;
 
 // The most errored submultiframes in one report.
 const MOST_REPORTED: u64 = 255;
-
-impl OctetFilter for TrunkChecker {
-    ghost has_taken = { ChecksTrunk };
-
-    ghost reply_after = { same_octet };
-
-    fn next_octet(&mut self, octet: u8) -> u8 {
-        self.octet(octet);
-        octet
-    }
-}
 
 /// The counts of a checked trunk.
 #[derive(Clone, Copy, Debug, PartialEq, Eq)]
@@ -133,7 +122,7 @@ impl<R: ReportSink, T: CountsTeller + Drop> BufferFilter for ReportingChecker<R,
             → T.has_told self.new.teller (receiver_counts_of (history ++ octets.old)) }
         ensures untold { self.new.untold ≡ (self.old.untold + length octets.old) % 256000 }
     {
-        filter_all(&mut self.checker, octets);
+        self.checker.octets(octets);
         self.report();
         self.tell(octets.len());
     }

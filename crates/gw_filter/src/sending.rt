@@ -36,9 +36,6 @@ impl Crc4Sender {
         ensures { (arrivals : List SenderInput) (sent : List ℕ) → SendsCrc4 self.old arrivals sent
             → SendsCrc4 self.new (arrivals ++ Octet octet ∷ []) (sent ++ result ∷ []) }
     {
-        if !self.multiframer.begins_frame() {
-            return self.multiframer.octet(octet);
-        }
         let has_bit = self.multiframer.next_has_e_bit();
         let with_bit = self.error_bits.octet(octet, has_bit);
         self.multiframer.octet(with_bit)
@@ -60,8 +57,11 @@ impl Crc4Sender {
         ensures sent { (arrivals : List SenderInput) (sent : List ℕ) → SendsCrc4 self.old arrivals sent
             → SendsCrc4 self.new (arrivals ++ map Octet octets.old) (sent ++ octets.new) }
     {
-        for octet in octets.iter_mut() {
-            *octet = self.octet(*octet);
+        let mut at = 0;
+        while at < octets.len() {
+            octets[at] = self.octet(octets[at]);
+            at += 1;
+            at += self.multiframer.pass_rest(&octets[at..]);
         }
     }
 }

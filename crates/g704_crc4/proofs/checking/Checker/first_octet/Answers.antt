@@ -1,5 +1,5 @@
 use Rattle.g704_crc4.proofs.Common.{length, refl, ◌+◌, ◌%◌, ◌∙◌, arith}
-use Rattle.g704_crc4.proofs.Checked.{checks-within, far-end-event-is}
+use Rattle.g704_crc4.proofs.Checked.{counted-more, checks-within, far-end-event-is}
 use Rattle.g704_crc4.proofs.checking.Checker.first_octet.Goals as goal
 
 pub returns-clause-reply : goal.returns-clause-reply
@@ -12,5 +12,6 @@ returns-clause-reply c history s e =
 pub returns-clause-stands : goal.returns-clause-stands
 returns-clause-stands c history s e =
     let p = s.place in
-    checks-within c.args.self.now history c.args.octet s _ _ _ _ (c.cleared.ensures (length history) s.place)
-    (omega arith) c.number_after-self.ensures c.check_bits_with-self.ensures (λ z. absurd (omega (arith, z, e)))
+    checks-within c.args.self.now history c.args.octet s _ _ _ (omega arith)
+    (counted-more c.args.self.now history c.args.octet s _ _ (c.cleared.ensures (length history) s.place)
+    c.number_after-self.ensures) c.check_bits_with-self.ensures (λ z. absurd (omega (arith, z, e)))

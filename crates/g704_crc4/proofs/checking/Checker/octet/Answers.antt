@@ -34,6 +34,6 @@ pub returns-clause-stands : goal.returns-clause-stands
 returns-clause-stands c history s =
     let p = s.place in
     let m = c.args.self.now in
-    checks-within m history c.args.octet s c.args.octet _ _ _
-    (taken-whole m history c.args.octet s c.if-self-eq0.false) (omega arith) c.number_after-self.ensures
-    (bits-kept m history c.args.octet s c.if-self-eq0.false) c.if-self-eq0-2.false
+    checks-within m history c.args.octet s _ _ _ (omega arith)
+    (counted-more m history c.args.octet s c.args.octet _ (taken-whole m history c.args.octet s c.if-self-eq0.false)
+    c.number_after-self.ensures) (bits-kept m history c.args.octet s c.if-self-eq0.false) c.if-self-eq0-2.false

@@ -1,15 +1,10 @@
 use Rattle.g704_crc4.proofs.Common.{◌≡◌, ◌<◌, ◌++◌, ◌∷◌, [], ℕ, List, length, refl, sym, ap, ◌∙◌, arith, ◌-◌, get_or}
 use Rattle.g704_crc4.proofs.Common.{slice_set, false≢true, length_push, take_more_set, take-suc, is_given_up}
 use Rattle.g704_crc4.proofs.Common.{tells_given_up, GoesOn, IsSearched}
+use Rattle.g704_crc4.proofs.Alignments.{goes_with}
 use Rattle.g704_crc4.proofs.Searched.{long-learned, long-given_up, short-learned, short-kept}
 use Rattle.g704_crc4.proofs.Followings.{tells-excess}
 use Rattle.g704_crc4.proofs.receiving.Receiver.follow.Goals as goal
-
--- An octet after others of the alignment goes on with them.
-goes_with : (part before octets : List ℕ) (x : ℕ) → GoesOn part x before octets → 0 < length before
-    → octets ≡ before ++ x ∷ []
-goes_with part [] octets x g lt = absurd (omega arith)
-goes_with part (y ∷ before) octets x g lt = g.goes_on (λ e. cc)
 
 pub returns-then-gives_up-clause-reply : goal.returns-then-gives_up-clause-reply
 returns-then-gives_up-clause-reply c part before octets s g room =

@@ -1,16 +1,10 @@
-use Rattle.g704_crc4.proofs.Common.{◌≡◌, ◌++◌, ◌∷◌, [], ℕ, ◌-◌, List, length, refl, sym, ap, ◌∙◌, arith, None, inl, inr}
-use Rattle.g704_crc4.proofs.Common.{cases_Bool, length_push, get_or_push, last_of, since-more, since-anew, learned}
+use Rattle.g704_crc4.proofs.Common.{◌≡◌, ◌++◌, ◌∷◌, [], ◌-◌, length, refl, sym, ap, ◌∙◌, arith, None, inl, inr}
+use Rattle.g704_crc4.proofs.Common.{cases_Bool, length_push, get_or_push, last_of, since-more, since-anew}
 use Rattle.g704_crc4.proofs.Common.{learned_of, aligned_octets, is_given_up, parts, part_before}
 use Rattle.g704_crc4.proofs.Alignments.{aligned-none, aligned-nil, slot-goes_on, part-begun}
-use Rattle.g704_crc4.proofs.Parts.{part-is, part-over, part-kept}
+use Rattle.g704_crc4.proofs.Parts.{part-is, part-over, part-kept, learned-is}
 use Rattle.g704_crc4.proofs.Searched.{short-kept}
 use Rattle.g704_crc4.proofs.receiving.Receiver.octet.Goals as goal
-
--- What is learned, by the octets of the part.
-learned-is : (history earlier part : List ℕ) (x : ℕ) → part_before history ≡ part
-    → learned_of (aligned_octets part) (aligned_octets (part ++ x ∷ [])) ≡ learned history x
-unfolding learned
-learned-is history earlier part x e = rw e refl
 
 pub returns-in-Hunting-clause-reply : goal.returns-in-Hunting-clause-reply
 returns-in-Hunting-clause-reply c history h =
@@ -18,7 +12,7 @@ returns-in-Hunting-clause-reply c history h =
     let none = aligned-none h.since c.args.octet (sym c.in-Hunting.is ∙ c.octet.ensures.placed h.since f.aligner) in
     c.hunt.ensures.reply h.since (aligned_octets h.since) f.stage
     ∙ ap (learned_of (aligned_octets h.since)) (sym none)
-    ∙ learned-is history h.earlier h.since c.args.octet (ap part_before h.whole
+    ∙ learned-is history h.since c.args.octet (ap part_before h.whole
     ∙ part-is h.earlier h.since h.over f.kept)
 
 pub returns-in-Hunting-clause-stands : goal.returns-in-Hunting-clause-stands
@@ -42,7 +36,7 @@ returns-in-Slot-clause-reply c history h =
     let f = h.fields in
     let on = slot-goes_on h.since c.args.octet _ _ (sym c.in-Slot.is ∙ c.octet.ensures.placed h.since f.aligner) in
     c.follow.ensures.reply h.since (aligned_octets h.since) _ f.stage on f.room
-    ∙ learned-is history h.earlier h.since c.args.octet (ap part_before h.whole
+    ∙ learned-is history h.since c.args.octet (ap part_before h.whole
     ∙ part-is h.earlier h.since h.over f.kept)
 
 pub returns-in-Slot-clause-stands : goal.returns-in-Slot-clause-stands

@@ -26,4 +26,4 @@ returns-clause-stands c history s e =
     ∙ ap (λ si. with_si si c.args.octet) (c.si_at.ensures no_remainder refl
     ∙ ap (λ k. si_at no_remainder k (nat_le 128 c.args.octet)) n)
     ∙ sym (at-frame no_remainder (length history) c.args.octet e))
-    (omega arith) c.number_after-self.ensures
+    (omega arith) (c.number_after-self.ensures _ next.running)

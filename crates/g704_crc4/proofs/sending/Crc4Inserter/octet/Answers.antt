@@ -14,6 +14,7 @@ pub returns-clause-stands : goal.returns-clause-stands
 returns-clause-stands c history s =
     let p = s.place in
     let within : length history % 32 ≢ 0 = λ z. c.if-self-eq0.false (omega (arith, z)) in
-    sends-more c.args.self.now history c.args.octet c.args.octet _ _
-    (next-within c.args.self.now history s (λ z. within (omega (arith, z))))
-    (sym (at-other no_remainder (length history) c.args.octet within)) (omega arith) c.number_after-self.ensures
+    let next = next-within c.args.self.now history s (λ z. within (omega (arith, z))) in
+    sends-more c.args.self.now history c.args.octet c.args.octet _ _ next
+    (sym (at-other no_remainder (length history) c.args.octet within)) (omega arith)
+    (c.number_after-self.ensures _ next.running)

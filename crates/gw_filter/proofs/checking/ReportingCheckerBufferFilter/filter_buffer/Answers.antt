@@ -3,11 +3,10 @@ use Rattle.gw_filter.proofs.checking.ReportingCheckerBufferFilter.filter_buffer.
 
 pub returns-clause-stands : goal.returns-clause-stands
 returns-clause-stands g c taken returned s =
-    let more = more_checked _ c.filter_all.new.filter _ _ taken returned _ _ s
-    (c.filter_all.ensures.stands taken s.checks) (c.filter_all.ensures.replies taken s.checks) in
+    let more = more_checked _ c.octets.new.self _ _ taken returned _ s (c.octets.ensures taken s.checks) in
     let done = c.report.ensures.stands _ _ more in
     rw (c.tell.ensures.checker, c.tell.ensures.reported, c.tell.ensures.reports) done
 
 pub returns-clause-reports : goal.returns-clause-reports
 returns-clause-reports g c history s =
-    rw (c.tell.ensures.reports) (c.report.ensures.reports _ (c.filter_all.ensures.stands history s))
+    rw (c.tell.ensures.reports) (c.report.ensures.reports _ (c.octets.ensures history s))
