@@ -2,7 +2,7 @@
 
 ghost use Rattle.std.specs.Prelude.{◌≡◌, ◌-◌, ◌^◌, ◌<◌, ◌∷◌, ◌++◌, ℕ, List, [], length, IfOk, IfErr};
 ghost use Rattle.g704_framing.specs.Replies.{replies_after};
-ghost use Rattle.gw_records.specs.Streams.{CanBegin};
+ghost use Rattle.gw_records.specs.Streams.{CanBegin, HadRoom};
 ghost use Rattle.gw_filter.specs.Filter.{Filters, FiltersUntil};
 
 use gw_records::{MAX_READS, NO_TOTALS, RunFault, Sink, Source, Totals, read_behind, write_all};
@@ -70,6 +70,7 @@ pub fn octets_through<F: BufferFilter, S: Source, K: Sink>(
         (S.tells source.old) (S.tells source.new) (K.tells sink.old) (K.tells sink.new)) }
     ensures fault { IfErr result (FiltersUntil (F.has_returned filter.new)
         (S.tells source.old) (S.tells source.new) (K.tells sink.old) (K.tells sink.new)) }
+    ensures had_room { HadRoom (S.was_offered source.new) }
 {
     let mut buffer = [0u8; BUFFER_LEN];
     let mut octets = 0u64;

@@ -1,7 +1,7 @@
 //! When a log is read again at its end, and when its reading ends (`Following`).
 
 ghost use Rattle.std.specs.Prelude.{◌≡◌, ◌⊎◌, ◌<◌, ◌≤◌, ◌+◌, ◌^◌, ℕ, List, [], length, true, Some};
-ghost use Rattle.std.specs.Prelude.{Option, Result, Ok, Err, IfOk, OnErr};
+ghost use Rattle.std.specs.Prelude.{Option, Result, Ok, Err, IfOk, OnErr, ⊤};
 ghost use Rattle.std.specs.Io.KnownBytes.{Consumes, ReadConsumes};
 ghost use Rattle.gw_records.specs.declared.streams.SourceFault.{SourceFault};
 
@@ -17,11 +17,15 @@ pub trait LogReader {
     /// Relates a reader to what its last read returned.
     ghost has_read: { Self → Result ℕ SourceFault → Type 0 };
 
+    /// Relates a reader to the room that its last read was offered.
+    ghost was_offered: { Self → ℕ → Type 0 } = { λ _ _. ⊤ };
+
     /// Reads octets to the front of `room`, and returns how many: 0 if there are no more to be given yet.
     fn read_more(&mut self, room: &mut [u8]) -> Result<usize, SourceFault>
         ensures bound { IfOk result (λ n. n ≤ length room.new) }
         ensures octets { ReadConsumes (remaining self.old) (remaining self.new) result room.new }
-        ensures read { has_read self.new result };
+        ensures read { has_read self.new result }
+        ensures offered { was_offered self.new (length room.new) };
 }
 
 /// Waits for more of a log, and says when no more is waited for.
@@ -55,6 +59,7 @@ fn read_on<R: LogReader, W: Waiter>(
         × R.has_read reader.new (Ok 0)) }
     ensures err { OnErr result (R.has_read reader.new (Err record {})
         ⊎ (R.has_read reader.new (Ok 0) × (2 ^ 63 ≤ W.waits waiter.new))) }
+    ensures offered { R.was_offered reader.new (length room.new) }
 {
     'reading: for turn in 0..u64::MAX {
         prove!(turn < u64::MAX);
@@ -107,6 +112,8 @@ impl<R: LogReader, W: Waiter> Source for Following<R, W> {
       given = Some s.log.octets;
       to_come = R.remaining s.reader;
     } };
+
+    ghost was_offered = { λ s. R.was_offered s.reader };
 
     fn read(&mut self, buf: &mut [u8]) -> Result<usize, SourceFault> {
         match read_on(&mut self.reader, &mut self.waiter, &mut self.over, buf) {

@@ -1,7 +1,7 @@
 //! The whole records of a log: of a part of one nothing is given until the rest has come (`WholeRecords`).
 
 ghost use Rattle.std.specs.Prelude.{◌≡◌, ◌≤◌, ◌<◌, ◌+◌, ◌++◌, [], None, length, false, drop, IfOk, OnOk};
-ghost use Rattle.std.specs.Prelude.{if◌then◌else◌};
+ghost use Rattle.std.specs.Prelude.{if◌then◌else◌, min};
 ghost use Rattle.std.specs.Io.KnownBytes.{IsAtEnd};
 ghost use Rattle.gw_records.specs.Reader.{held};
 ghost use Rattle.gw_records.specs.Records.{is_open};
@@ -110,7 +110,7 @@ impl<R: Read> WholeRecords<R> {
     fn give(&mut self, room: &mut [u8]) -> usize
         requires { 0 < length room.old }
         ensures bound { result ≤ length room.new }
-        ensures some { result ≡ 0 → self.old.due ≡ 0 }
+        ensures most { result ≡ min self.old.due (length room.old) }
         ensures held { held self.new.reader ≡ drop result (held self.old.reader) }
         ensures due { self.new.due + result ≡ self.old.due }
         ensures source { self.new.source ≡ self.old.source }

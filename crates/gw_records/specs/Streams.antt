@@ -61,6 +61,10 @@ GivesUp source source' octets =
     (source.failures < source'.failures) ⊎ ((source.reads + 2 ^ 62 ≤ source'.reads)
     × (2 ^ 62 ≤ length octets))
 
+-- the last read of a source was offered room for 32 KiB at least
+abbrev pub HadRoom : (ℕ → Type 0) → Type 0
+HadRoom WasOffered = (room : ℕ) × WasOffered room × (32768 ≤ room)
+
 -- the source gave n octets, which are behind the present ones; none only at its end
 pub record Refills (old new : List ℕ) (source source' : SourceState) (n : ℕ) : Type 0 where
   pub octets : List ℕ
@@ -68,6 +72,14 @@ pub record Refills (old new : List ℕ) (source source' : SourceState) (n : ℕ)
   pub holds : new ≡ old ++ octets
   pub gives : GivesOctets source source' octets
   pub ended : n ≡ 0 → IsAtEnd source'.to_come
+
+-- known octets grew by a prefix of these, and the last write was given all the others
+pub record GaveRest (old new : Option (List ℕ)) (octets : List ℕ) (WasGiven : List ℕ → Type 0) : Type 0 where
+  pub written : List ℕ
+  pub rest : List ℕ
+  pub whole : octets ≡ written ++ rest
+  pub appended : Appends old new written
+  pub given : WasGiven rest
 
 -- known octets grew by a prefix of these
 pub record AppendsPrefix (old new : Option (List ℕ)) (octets : List ℕ) : Type 0 where

@@ -1,5 +1,5 @@
 //! When a session reads on, and where the octets that it has not used are kept (`Reader`).
-ghost use Rattle.std.specs.Prelude.{◌≡◌, ◌+◌, ◌<◌, ◌≤◌, [], length, take, IfOk, OnErr};
+ghost use Rattle.std.specs.Prelude.{◌≡◌, ◌+◌, ◌-◌, ◌<◌, ◌≤◌, [], length, take, IfOk, OnErr};
 ghost use Rattle.gw_records.specs.Streams.{CountsRead, CountsTurn, Refills, GivesOctets};
 ghost use Rattle.gw_records.specs.Records.{is_open};
 
@@ -12,6 +12,9 @@ use std::alloc::{AllocError, Global};
 const RECORD_LEN: usize = 65_539;
 
 const BUFFER_LEN: usize = 2 * RECORD_LEN;
+
+// The least room for a read: 32 KiB.
+const LEAST_ROOM: usize = 32_768;
 
 /// Read limit: a session ends with `Read` after this many.
 pub const MAX_READS: u64 = 1 << 62;
@@ -52,6 +55,7 @@ pub fn read_behind<S: Source>(
     ensures counts { CountsRead (S.tells source.old).failures (S.tells source.new).failures result }
     ensures turns { CountsTurn (S.tells source.old).reads (S.tells source.new).reads result }
     ensures len { length buffer.new ≡ length buffer.old }
+    ensures had_room { S.was_offered source.new (length buffer.old - filled) }
 {
     let n = source.read(&mut buffer[filled..])?;
     Ok(n)
@@ -59,9 +63,10 @@ pub fn read_behind<S: Source>(
 
 impl Reader {
     ghost use Rattle.std.specs.Prelude.{◌≡◌, ◌+◌, ◌-◌, ◌^◌, ◌<◌, ◌≤◌};
-    ghost use Rattle.std.specs.Prelude.{[], length, drop, Some, IfOk, IfErr, OnErr};
+    ghost use Rattle.std.specs.Prelude.{[], length, drop, true, Some, IfOk, IfErr, OnErr};
     ghost use Rattle.gw_records.specs.Streams.{CanCount, CountsRead, CountsTurn, Refills, GivesOctets};
-    ghost use Rattle.gw_records.specs.Records.{end_of};
+    ghost use Rattle.gw_records.specs.Streams.{HadRoom};
+    ghost use Rattle.gw_records.specs.Records.{end_of, is_open};
     ghost use Rattle.gw_records.specs.Reader.{held, ReadsOn, FailsToRead};
 
     /// An empty buffer, with its memory.
@@ -111,19 +116,19 @@ impl Reader {
 
     // Makes room behind the octets.
     //
-    // They move only when the room is used up. If more are wanted, at most half of the buffer is in use, so
-    // no move copies more octets than were read since the last one.
+    // They move only if less than 32 KiB is left. If more are wanted, at most half of the buffer is in use,
+    // so no move copies more than twice the octets that were read since the last one.
     #[tactic(auto, unfolding(crate::specs::Reader::held))]
     fn make_room(&mut self)
-        requires { length (held self.old) < 131078 }
+        requires { length (held self.old) + 32768 ≤ 131078 }
         ensures holds { held self.new ≡ held self.old }
-        ensures room { self.new.filled < 131078 }
+        ensures room { self.new.filled + 32768 ≤ 131078 }
         ensures turns { self.new.reads_left ≡ self.old.reads_left }
     {
         if self.start == self.filled {
             self.start = 0;
             self.filled = 0;
-        } else if self.filled == BUFFER_LEN {
+        } else if BUFFER_LEN - self.filled < LEAST_ROOM {
             self.compact();
         }
     }
@@ -132,7 +137,7 @@ impl Reader {
     //
     // Returns how many.
     fn refill<S: Source>(&mut self, source: &mut S) -> Result<usize, SourceFault>
-        requires room { length (held self.old) < 131078 }
+        requires room { length (held self.old) + 32768 ≤ 131078 }
         requires turn { 0 < self.old.reads_left }
         ensures gives { IfOk result (λ n. Refills (held self.old) (held self.new)
             (S.tells source.old) (S.tells source.new) n) }
@@ -141,6 +146,7 @@ impl Reader {
         ensures counts { CountsRead (S.tells source.old).failures (S.tells source.new).failures result }
         ensures reads { CountsTurn (S.tells source.old).reads (S.tells source.new).reads result }
         ensures turns { self.new.reads_left + 1 ≡ self.old.reads_left }
+        ensures had_room { HadRoom (S.was_offered source.new) }
     {
         self.make_room();
         self.reads_left -= 1;
@@ -164,6 +170,8 @@ impl Reader {
             self.old self.new ending came) }
         ensures fault { IfErr result (λ e. (e ≡ RunFault.Read)
             × FailsToRead (S.tells source.old) (S.tells source.new) self.old self.new ending) }
+        ensures had_room { is_open ending ≡ true → 0 < self.old.reads_left
+            → HadRoom (S.was_offered source.new) }
     {
         if !is_open(ending) {
             return Ok(false);

@@ -1,6 +1,8 @@
 //! Sources and sinks of octets (`Source`, `Sink`), also over readers and writers of std.
 ghost use Rattle.std.specs.Prelude.{◌≡◌, ◌<◌, ◌≤◌, ◌++◌, ℕ, List, [], length, IfOk, OnErr, Some};
+ghost use Rattle.std.specs.Prelude.{⊤};
 ghost use Rattle.gw_records.specs.Calls.{HasFailedToRead, HasFailedToWrite, SystemGave, SystemTookSome};
+ghost use Rattle.gw_records.specs.Calls.{SystemWasOffered, SystemWasGiven};
 ghost use Rattle.std.specs.Io.KnownBytes.{ReadConsumes, WriteAppends};
 ghost use Rattle.gw_records.specs.Streams.{SourceState, SinkState, CountsRead, CountsTurn, CountsWrite};
 ghost use Rattle.gw_records.specs.Streams.{or_none};
@@ -25,6 +27,9 @@ pub trait Source {
     /// known, the octets that it gave and those to come.
     ghost tells: { Self → SourceState };
 
+    /// Relates a source to the room that its last read was offered.
+    ghost was_offered: { Self → ℕ → Type 0 } = { λ _ _. ⊤ };
+
     /// Reads octets to the front of `buf` and returns how many.
     ///
     /// It returns 0 for a nonempty slice only if no octet is to come.
@@ -33,7 +38,8 @@ pub trait Source {
         ensures gives { WriteAppends (tells self.old).given (tells self.new).given result buf.new }
         ensures consumes { ReadConsumes (tells self.old).to_come (tells self.new).to_come result buf.new }
         ensures counts { CountsRead (tells self.old).failures (tells self.new).failures result }
-        ensures turns { CountsTurn (tells self.old).reads (tells self.new).reads result };
+        ensures turns { CountsTurn (tells self.old).reads (tells self.new).reads result }
+        ensures offered { was_offered self.new (length buf.new) };
 }
 
 /// Takes octets.
@@ -42,19 +48,24 @@ pub trait Sink {
     /// nonempty piece, and, if known, the octets that it took.
     ghost tells: { Self → SinkState };
 
+    /// Relates a sink to the octets that its last write was given.
+    ghost was_given: { Self → List ℕ → Type 0 } = { λ _ _. ⊤ };
+
     /// Takes octets from the front of `octets` and returns how many.
     fn write(&mut self, octets: &[u8]) -> Result<usize, SinkFault>
         ensures bound { IfOk result (λ n. n ≤ length octets.now) }
         ensures takes { WriteAppends (tells self.old).taken (tells self.new).taken result octets.now }
-        ensures counts { CountsWrite (tells self.old).failures (tells self.new).failures result octets.now };
+        ensures counts { CountsWrite (tells self.old).failures (tells self.new).failures result octets.now }
+        ensures given { was_given self.new octets.now };
 }
 
 // Reads octets to the front of `room`, and returns how many.
-#[tactic(auto, unfolding(crate::specs::Calls::SystemGave))]
+#[tactic(auto, unfolding(crate::specs::Calls::SystemGave, crate::specs::Calls::SystemWasOffered))]
 fn read_once<R: Read>(reader: &mut R, room: &mut [u8]) -> Result<usize, ErrorKind>
     ensures bound { IfOk result (λ n. n ≤ length room.new) }
     ensures octets { ReadConsumes (R.remaining reader.old) (R.remaining reader.new) result room.new }
     ensures read { SystemGave reader.new result }
+    ensures offered { SystemWasOffered reader.new (length room.new) }
 {
     match reader.read(room) {
         Ok(n) => Ok(n),
@@ -63,11 +74,12 @@ fn read_once<R: Read>(reader: &mut R, room: &mut [u8]) -> Result<usize, ErrorKin
 }
 
 // Writes octets from the front of `octets`, and returns how many.
-#[tactic(auto, unfolding(crate::specs::Calls::SystemTookSome))]
+#[tactic(auto, unfolding(crate::specs::Calls::SystemTookSome, crate::specs::Calls::SystemWasGiven))]
 fn write_once<W: Write>(writer: &mut W, octets: &[u8]) -> Result<usize, ErrorKind>
     ensures bound { IfOk result (λ n. n ≤ length octets.now) }
     ensures octets { WriteAppends (W.contents writer.old) (W.contents writer.new) result octets.now }
     ensures wrote { SystemTookSome writer.new result }
+    ensures given { SystemWasGiven writer.new octets.now }
 {
     match writer.write(octets) {
         Ok(n) => Ok(n),
@@ -114,6 +126,8 @@ impl<R: Read> Source for FromRead<R> {
       to_come = R.remaining s.reader;
     } };
 
+    ghost was_offered = { λ s room. SystemWasOffered s.reader room };
+
     fn read(&mut self, buf: &mut [u8]) -> Result<usize, SourceFault>
         ensures bound { IfOk result (λ n. n ≤ length buf.new) }
         ensures gives { WriteAppends (Some self.old.log.octets) (Some self.new.log.octets) result buf.new }
@@ -122,6 +136,7 @@ impl<R: Read> Source for FromRead<R> {
         ensures counts { CountsRead self.old.failed self.new.failed result }
         ensures turns { CountsTurn self.old.reads self.new.reads result }
         ensures fails { OnErr result (HasFailedToRead self.new.reader) }
+        ensures offered { SystemWasOffered self.new.reader (length buf.new) }
     {
         match read_once(&mut self.reader, buf) {
             Ok(n) => {
@@ -176,12 +191,15 @@ impl<W: Write> Sink for ToWrite<W> {
       taken = Some (or_none (W.contents s.start.value) ++ s.log.octets);
     } };
 
+    ghost was_given = { λ s octets. SystemWasGiven s.writer octets };
+
     fn write(&mut self, octets: &[u8]) -> Result<usize, SinkFault>
         ensures bound { IfOk result (λ n. n ≤ length octets.now) }
         ensures takes { WriteAppends (Some (or_none (W.contents self.old.start.value) ++ self.old.log.octets))
             (Some (or_none (W.contents self.new.start.value) ++ self.new.log.octets)) result octets.now }
         ensures counts { CountsWrite self.old.failed self.new.failed result octets.now }
         ensures fails { OnErr result (HasFailedToWrite self.new.writer) }
+        ensures given { SystemWasGiven self.new.writer octets.now }
     {
         match write_once(&mut self.writer, octets) {
             Ok(n) => {

@@ -1,7 +1,8 @@
 //! When octets are written to a sink, and when they wait in a buffer (`put`, `flush`).
 ghost use Rattle.std.specs.Prelude.{◌≡◌, ◌-◌, ◌<◌, ◌++◌, [], length, IfErr, OnOk, OnErr};
 ghost use Rattle.std.specs.Io.KnownBytes.{Appends};
-ghost use Rattle.gw_records.specs.Streams.{CanCount, Puts, Writes, FailsAfterPrefix};
+ghost use Rattle.std.specs.Prelude.{◌+◌, ◌≤◌};
+ghost use Rattle.gw_records.specs.Streams.{CanCount, Puts, Writes, FailsAfterPrefix, GaveRest};
 
 use crate::outcome::RunFault;
 use crate::streams::Sink;
@@ -24,6 +25,8 @@ pub fn write_all<K: Sink>(sink: &mut K, octets: &[u8]) -> Result<(), RunFault>
     ensures some { OnErr result (0 < length octets.now) }
     ensures fault { IfErr result (λ e. (e ≡ RunFault.Write)
         × FailsAfterPrefix (K.tells sink.old) (K.tells sink.new) octets.now) }
+    ensures rest { OnErr result (GaveRest (K.tells sink.old).taken (K.tells sink.new).taken octets.now
+        (K.was_given sink.new)) }
 {
     let mut rest = octets;
     while !rest.is_empty() {
@@ -64,8 +67,9 @@ fn write_waiting<K: Sink>(sink: &mut K, waiting: &mut OutputBuffer) -> Result<()
 /// Adds octets to the buffer; if both do not fit, it is written first.
 pub fn put<K: Sink>(sink: &mut K, waiting: &mut OutputBuffer, octets: &[u8]) -> Result<(), RunFault>
     requires { CanCount (K.tells sink.old).failures }
-    ensures { Puts (K.tells sink.old) (K.tells sink.new) waiting.new.items
+    ensures puts { Puts (K.tells sink.old) (K.tells sink.new) waiting.new.items
         (waiting.old.items ++ octets.now) result }
+    ensures waits { length waiting.old.items + length octets.now ≤ 65536 → sink.new ≡ sink.old }
 {
     if octets.len() <= waiting.remaining_capacity() {
         let _ = waiting.try_extend_from_slice(octets);

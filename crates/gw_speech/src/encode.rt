@@ -3,7 +3,7 @@ ghost use Rattle.std.specs.Prelude.{◌≡◌, ◌+◌, ◌-◌, ◌*◌, ◌^�
 ghost use Rattle.std.specs.Prelude.{ℕ, List, [], length, take, IfOk, OnOk, IfErr};
 ghost use Rattle.std.specs.List.{All};
 ghost use Rattle.rtp_pack.specs.Payload.{IsPayload};
-ghost use Rattle.gw_records.specs.Streams.{CanBegin, CanCount, Puts, Writes};
+ghost use Rattle.gw_records.specs.Streams.{CanBegin, CanCount, HadRoom, Puts, Writes};
 ghost use Rattle.gw_speech.specs.Encode.{packet_len, word_bits, header_at, packet_record};
 ghost use Rattle.gw_speech.specs.Encode.{records_from, full_packets, filled, Encodes, EncodesUntil};
 ghost use Rattle.gw_speech.specs.Encode.{header_with, IsPacket, IsDecoding};
@@ -205,6 +205,7 @@ pub fn encode_stream<S: Source, K: Sink>(
         (S.tells source.old) (S.tells source.new) (K.tells sink.old) (K.tells sink.new)) }
     ensures fault { IfErr result (EncodesUntil spec.now
         (S.tells source.old) (S.tells source.new) (K.tells sink.old) (K.tells sink.new)) }
+    ensures had_room { HadRoom (S.was_offered source.new) }
 {
     g726_codec::laws::words_are_counted();
     g726_codec::laws::prefixes_come_first();

@@ -23,6 +23,7 @@ reading-init g c = record {
   };
   counted = refl;
   room = refl;
+  had = λ some. absurd (omega (arith, some));
   turns = omega arith;
   calls = omega arith;
 }
@@ -64,6 +65,7 @@ reading-preserved g c =
         length-drop c.in-Ok.n c.read_behind.new.buffer,
         length-append c.filter_buffer.new.octets (drop c.in-Ok.n c.read_behind.new.buffer),
       );
+      had = λ some. (_, c.in-Ok.ensures.had_room, omega (arith, w.room));
       turns = omega (arith, w.turns, c.if-n-eq0.false, came.counted, length-append w.stage.given came.octets);
       calls = omega (arith, w.calls, c.in-Ok.ensures.turns, c.requires.streams.turns);
     }

@@ -1,5 +1,5 @@
-use Rattle.gw_records.specs.Streams.{at_most}
-use Rattle.std.proofs.Common.{◌≡◌, ◌+◌, ◌≤◌, length}
+use Rattle.gw_records.specs.Streams.{at_most, HadRoom}
+use Rattle.std.proofs.Common.{◌≡◌, ◌+◌, ◌<◌, ◌≤◌, length}
 use Rattle.gw_filter.proofs.Stages.{Stage}
 use Rattle.gw_filter.proofs.through.octets_through.Given as goal
 
@@ -10,6 +10,7 @@ invariant-reading g l = record {
       (g.K.Sink.tells l.initial.sink) (g.K.Sink.tells l.sink) l.filter;
   counted : l.octets ≡ at_most (length stage.given);
   room : length l.buffer ≡ 32768;
+  had : 0 < l.turn → HadRoom (g.S.Source.was_offered l.source);
   turns : l.turn ≤ length stage.given;
   calls : (g.S.Source.tells l.source).reads ≡ (g.S.Source.tells l.initial.source).reads + l.turn;
 }

@@ -6,4 +6,4 @@ pub returns-then-eq-clause-puts : goal.returns-then-eq-clause-puts
 returns-then-eq-clause-puts g c = λ before at.
     let kind : c.args.spec.now.codec ≡ G711 = search rules in
     rw (speech_of_octets c.args.spec.now before c.args.payload.now kind (λ i. omega (arith, c.type_inv.payload i))
-    c.octets_are_words.ensures.words c.octets_are_words-then-eq.ensures.read) c.put.ensures
+    c.octets_are_words.ensures.words c.octets_are_words-then-eq.ensures.read) c.put.ensures.puts

@@ -29,6 +29,7 @@ reading-init g c = record {
   kind = ap (λ (a : CodecState). a.kind) c.new-codec.ensures;
   at = c.first_packet-progress.ensures c.args.spec.now refl refl;
   none = c.new-waiting.ensures;
+  had = λ some. absurd (omega (arith, some));
   turns = omega arith;
   calls = omega arith;
 }
@@ -128,6 +129,11 @@ reading-preserved g c =
       kind = e.kind;
       at = c.in_ok-left.ensures.next w.stage.count w.at;
       none = c.in_ok-left.ensures.empty;
+      had = λ some. (
+        _,
+        c.in-Ok.ensures.had_room,
+        omega (arith, w.stage.fits, w.stage.open_packet, c.args.spec.now.ptime_fits.most),
+      );
       turns = omega (arith, w.turns, c.if-n-eq0.false, came.counted, length-append w.stage.given came.octets);
       calls = omega (arith, w.calls, c.in-Ok.ensures.turns, c.requires.turns);
     }

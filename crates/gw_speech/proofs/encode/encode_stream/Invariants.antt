@@ -1,4 +1,5 @@
-use Rattle.gw_speech.proofs.Common.{◌≡◌, ◌+◌, ◌≤◌, [], length, IsPacket}
+use Rattle.gw_speech.proofs.Common.{◌≡◌, ◌+◌, ◌<◌, ◌≤◌, [], length, IsPacket}
+use Rattle.gw_records.specs.Streams.{HadRoom}
 use Rattle.gw_speech.proofs.PacketLemmas.{Encoding}
 use Rattle.gw_speech.proofs.encode.encode_stream.Given as goal
 
@@ -9,6 +10,7 @@ invariant-reading g l = record {
   kind : l.codec.kind ≡ l.spec.codec;
   at : IsPacket l.spec l.progress stage.count;
   none : l.waiting.items ≡ [];
+  had : 0 < l.turn → HadRoom (g.S.Source.was_offered l.source);
   turns : l.turn ≤ length stage.given;
   calls : (g.S.Source.tells l.source).reads ≡ (g.S.Source.tells l.initial.source).reads + l.turn;
 }
