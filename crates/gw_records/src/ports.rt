@@ -1,5 +1,5 @@
 //! The trait of the circuits' ports, which receive and send datagrams (`Ports`).
-ghost use Rattle.std.specs.Prelude.{◌≡◌, ◌≤◌, length, IfOk, IfSome};
+ghost use Rattle.std.specs.Prelude.{◌≡◌, ◌≤◌, length, IfOk, IfSome, ⊤};
 ghost use Rattle.gw_records.specs.Ports.{PortsState, Receives, Sends, CountsFault, KeepsSends, KeepsReceives};
 
 use g704_cas::CircuitNo;
@@ -17,11 +17,14 @@ pub trait Ports {
     /// results.
     ghost tells: { Self → PortsState };
 
+    /// Holds of ports that have looked.
+    ghost has_looked: { Self → Type 0 } = { λ _. ⊤ };
+
     /// Learns which circuits have a datagram waiting; receives and sends nothing. It is called before the
     /// first octet of each trunk record.
     fn look(&mut self)
-        ensures { tells self.new ≡ tells self.old }
-    {}
+        ensures tells { tells self.new ≡ tells self.old }
+        ensures looked { has_looked self.new };
 
     /// Receives one datagram of a circuit into `room` and returns its length.
     ///

@@ -128,6 +128,8 @@ impl<P: Ports + Drop> Repeating<P> {
 impl<P: Ports> Ports for Repeating<P> {
     ghost tells = { λ r. told (P.tells r.ports) r.send_failed r.log.calls };
 
+    ghost has_looked = { λ r. P.has_looked r.ports };
+
     fn look(&mut self) {
         self.ports.look();
     }

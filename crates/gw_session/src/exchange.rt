@@ -64,7 +64,7 @@ pub struct SessionBuffers {
 
 impl SessionBuffers {
     ghost use Rattle.std.specs.Prelude.{◌≡◌, ◌+◌, ◌<◌, ◌≤◌, ◌^◌, ◌∷◌, ◌++◌, [], length, OnOk, OnErr, true};
-    ghost use Rattle.std.specs.Prelude.{vec_capacity, if◌then◌else◌};
+    ghost use Rattle.std.specs.Prelude.{◌&&◌, nat_le, vec_capacity, if◌then◌else◌};
     ghost use Rattle.gw_records.specs.Outcome.{nothing_counted};
     ghost use Rattle.gw_records.specs.Streams.{CanCount, Puts};
     ghost use Rattle.gw_session.specs.Exchange.{ComesInTurn, GoToPorts, Hearing, ExchangingAll, IsSilent};
@@ -92,6 +92,27 @@ impl SessionBuffers {
             batch: Batch::new(),
             room,
         }
+    }
+
+    // Begins a record of this many octets of the trunk, before which the ports look for datagrams.
+    fn begin_record<O: PacketPorts>(&mut self, packet_ports: &mut O, len: usize)
+        ensures looked { O.has_looked packet_ports.new }
+        ensures tells { O.tells packet_ports.new ≡ O.tells packet_ports.old }
+        ensures holding { self.new.holding ≡ (self.old.held.holds && nat_le len 2048) }
+        ensures empty { self.new.held.packets.items ≡ [] }
+        ensures holds { self.new.held.holds ≡ self.old.held.holds }
+        ensures batch { self.new.batch.items ≡ [] }
+        ensures others { self.new ≡ record self.old {
+          recorded = 0;
+          batch = self.new.batch;
+          holding = self.new.holding;
+          held = self.new.held;
+        } }
+    {
+        self.recorded = 0;
+        self.batch.clear();
+        self.holding = self.held.begin(len);
+        packet_ports.look_for_datagrams();
     }
 
     // Sends the packet that goes with an octet, or holds it.
@@ -249,10 +270,7 @@ impl SessionBuffers {
         ensures at_once { self.new.at_once ≡ self.old.at_once }
         ensures holds { self.new.held.holds ≡ self.old.held.holds }
     {
-        self.recorded = 0;
-        self.batch.clear();
-        self.holding = self.held.begin(octets.len());
-        packet_ports.look_for_datagrams();
+        self.begin_record(packet_ports, octets.len());
         for i in 0..octets.len() {
             let heard = &octets[..i];
             self.receive_next(gateway, packet_ports, tape, heard);

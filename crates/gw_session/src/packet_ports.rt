@@ -1,5 +1,5 @@
 //! Where the packets of a session go, and where datagrams come from beside its records.
-ghost use Rattle.std.specs.Prelude.{◌≡◌, ◌≤◌, ◌<◌, ◌++◌, ℕ, length, IfOk, IfSome, OnOk, OnErr};
+ghost use Rattle.std.specs.Prelude.{◌≡◌, ◌≤◌, ◌<◌, ◌++◌, ⊤, ℕ, length, IfOk, IfSome, OnOk, OnErr};
 ghost use Rattle.gw_records.specs.Streams.{CanCount, Puts};
 ghost use Rattle.gw_records.specs.Ports.{PortsState, Receives, CountsFault, KeepsSends, KeepsReceives};
 ghost use Rattle.gw_session.specs.PacketPorts.{PacketOutput, silent, in_record, no_ports, Went};
@@ -13,10 +13,13 @@ pub trait PacketPorts {
     ghost tells: { Self → PortsState };
     /// What a packet puts in front of the answer.
     ghost spells: { PacketOutput };
+    /// Holds if it has looked for datagrams.
+    ghost has_looked: { Self → Type 0 } = { λ _. ⊤ };
 
     /// Learns which circuits have a datagram waiting, as [`Ports::look`] does.
     fn look_for_datagrams(&mut self)
-        ensures { tells self.new ≡ tells self.old };
+        ensures tells { tells self.new ≡ tells self.old }
+        ensures looked { has_looked self.new };
 
     /// Takes out the first datagram that waits at a circuit, as [`Ports::receive`] does.
     fn receive_datagram(
@@ -90,6 +93,8 @@ impl<P: Ports> PacketPorts for P {
     ghost tells = { P.tells };
 
     ghost spells = { silent };
+
+    ghost has_looked = { P.has_looked };
 
     fn look_for_datagrams(&mut self) {
         self.look();

@@ -123,6 +123,8 @@ fn make_room<T: Tape>(tape: &mut T, batch: &mut Batch, body: &[u8]) -> bool
         (taping (T.tells tape.new) batch.new.items) [] }
     ensures room { result ≡ true → length batch.new.items + (4 + length body.now) ≤ 4096 }
     ensures empty { result ≡ false → batch.new.items ≡ [] }
+    ensures together { length batch.old.items + (4 + length body.now) ≤ 4096
+        → (result ≡ true) × (tape.new ≡ tape.old) × (batch.new ≡ batch.old) }
 {
     let len = FRONT_LEN + body.len();
     if len > batch.remaining_capacity() {
@@ -134,8 +136,10 @@ fn make_room<T: Tape>(tape: &mut T, batch: &mut Batch, body: &[u8]) -> bool
 // Puts octets of the trunk into the batch, if there are any.
 fn batch_octets<T: Tape>(tape: &mut T, batch: &mut Batch, octets: &[u8])
     requires { length octets.now < 2 ^ 16 }
-    ensures { Batches (taping (T.tells tape.old) batch.old.items) (taping (T.tells tape.new) batch.new.items)
-        (map Event.Octet octets.now) }
+    ensures batches { Batches (taping (T.tells tape.old) batch.old.items)
+        (taping (T.tells tape.new) batch.new.items) (map Event.Octet octets.now) }
+    ensures together { length batch.old.items + (4 + length octets.now) ≤ 4096 → (tape.new ≡ tape.old)
+        × (length batch.new.items ≤ length batch.old.items + (4 + length octets.now)) }
 {
     if octets.is_empty() {
         return;
@@ -149,8 +153,9 @@ fn batch_octets<T: Tape>(tape: &mut T, batch: &mut Batch, octets: &[u8])
 
 // Puts a datagram of a circuit into the batch. One that is too long for a record ends the tape.
 fn batch_datagram<T: Tape>(tape: &mut T, batch: &mut Batch, circuit: CircuitNo, octets: &[u8])
-    ensures { Batches (taping (T.tells tape.old) batch.old.items) (taping (T.tells tape.new) batch.new.items)
-        (Event.Given circuit (Datagram octets.now) ∷ []) }
+    ensures batches { Batches (taping (T.tells tape.old) batch.old.items)
+        (taping (T.tells tape.new) batch.new.items) (Event.Given circuit (Datagram octets.now) ∷ []) }
+    ensures together { length batch.old.items + (4 + length octets.now) ≤ 4096 → tape.new ≡ tape.old }
 {
     if octets.len() > LONGEST {
         write_batch(tape, batch);
@@ -173,8 +178,11 @@ pub fn batch_arrival<T: Tape>(
     octets: &[u8],
 )
     requires { length fresh.now < 2 ^ 16 }
-    ensures { Batches (taping (T.tells tape.old) batch.old.items) (taping (T.tells tape.new) batch.new.items)
+    ensures batches { Batches (taping (T.tells tape.old) batch.old.items)
+        (taping (T.tells tape.new) batch.new.items)
         (map Event.Octet fresh.now ++ Event.Given circuit (Datagram octets.now) ∷ []) }
+    ensures together { length batch.old.items + (8 + length fresh.now + length octets.now) ≤ 4096
+        → tape.new ≡ tape.old }
 {
     batch_octets(tape, batch, fresh);
     batch_datagram(tape, batch, circuit, octets);

@@ -19,11 +19,12 @@ split_at xs i h =
 
 pub loop-i-init : goal.loop-i-init
 loop-i-init g c = record {
-  heard = rw (c.begin-self.ensures.empty) (heard_none _ _ _ _ _ _ c.clear.ensures);
+  heard = rw (c.begin_record.ensures.empty, ap (λ (s : SessionBuffers). s.recorded) c.begin_record.ensures.others)
+      (heard_none _ _ _ _ _ _ c.begin_record.ensures.batch);
   at_once = refl;
   holds = refl;
-  holding = c.begin-self.ensures.holding ∙ ap (λ (h : Bool). h && nat_le (length c.args.octets.now) 2048)
-      (sym c.begin-self.ensures.holds);
+  holding = c.begin_record.ensures.holding ∙ ap (λ (h : Bool). h && nat_le (length c.args.octets.now) 2048)
+      (sym c.begin_record.ensures.holds);
 }
 
 -- a session that holds the packets of a record is one that holds packets, and the record is short
@@ -31,7 +32,7 @@ pub receive_octet-requires-clause-silent : goal.receive_octet-requires-clause-si
 receive_octet-requires-clause-silent g c = λ on.
     let same = ap (λ (s : SessionBuffers). s.holding) c.receive_next.ensures.others in
     let both = and_parts _ _ (sym c.loop-i.invariant.holding ∙ sym same ∙ on) in
-    c.requires.silent (sym c.begin-self.ensures.holds ∙ both.0)
+    c.requires.silent (sym c.begin_record.ensures.holds ∙ both.0)
 
 pub receive_octet-requires-clause-room : goal.receive_octet-requires-clause-room
 receive_octet-requires-clause-room g c = λ on.
@@ -52,7 +53,8 @@ push-requires g c =
     ≡ c.loop-i.self.answer = ap (λ (s : SessionBuffers). s.answer) c.receive_octet.ensures.others
     ∙ ap (λ (s : SessionBuffers). s.answer) c.receive_next.ensures.others in
     let len : length c.receive_octet.new.self.answer.items ≡ length c.args.self.now.answer.items + length w.sent =
-    rw kept (ap length w.behind ∙ length-append c.args.self.now.answer.items w.sent) in
+    rw kept (ap length w.behind ∙ length-append c.begin_record.new.self.answer.items w.sent)
+    ∙ ap (λ (s : SessionBuffers). length s.answer.items + length w.sent) c.begin_record.ensures.others in
     let room : length c.receive_octet.new.self.answer.items < 65539 =
     omega (arith, w.so.0.lengths, c.requires.fits, c.loop-i-test.true) in
     (omega arith, room)
@@ -64,9 +66,16 @@ returns-in_err-sent-clause-exchanges g c =
     let p = err_from_is_err_and c.from_residual.result c.from_residual.ensures.1 in
     let waits = ap (λ (s : SessionBuffers). s.waiting.items) c.receive_next.ensures.others in
     let held = ap (λ (s : SessionBuffers). s.held) c.receive_next.ensures.others in
-    let holds = c.loop-i.invariant.holds ∙ c.begin-self.ensures.holds in
+    let holds = c.loop-i.invariant.holds ∙ c.begin_record.ensures.holds in
     let hears = rw (waits, held, holds) at c.in_err-sent.ensures.hears in
-    let heard = rw (c.look_for_datagrams.ensures, c.begin-self.ensures.holds) at c.loop-i.invariant.heard in
+    let o = c.begin_record.ensures.others in
+    let heard = rw (
+      c.begin_record.ensures.tells,
+      c.begin_record.ensures.holds,
+      ap (λ (s : SessionBuffers). s.totals) o,
+      ap (λ (s : SessionBuffers). s.waiting) o,
+      ap (λ (s : SessionBuffers). s.answer) o,
+    ) at c.loop-i.invariant.heard in
     rw (p.1, p.2) (
       hears.0,
       stops_after (drop (i + 1) octets) (split_at octets i c.loop-i-test.true) heard.so.0
@@ -100,6 +109,7 @@ pub returns-in_err-sent-clause-at_once : goal.returns-in_err-sent-clause-at_once
 returns-in_err-sent-clause-at_once g c =
     ap (λ (s : SessionBuffers). s.at_once) c.receive_octet.ensures.others
     ∙ ap (λ (s : SessionBuffers). s.at_once) c.receive_next.ensures.others ∙ c.loop-i.invariant.at_once
+    ∙ ap (λ (s : SessionBuffers). s.at_once) c.begin_record.ensures.others
 
 pub send_held-requires-clause-silent : goal.send_held-requires-clause-silent
 send_held-requires-clause-silent g c = λ some.
@@ -109,18 +119,26 @@ send_held-requires-clause-silent g c = λ some.
     let on = some_now c.args.octets.now c.loop-i.i c.loop-i.self.recorded c.loop-i.invariant.heard refl
     (omega (arith, len, items, some)) in
     let both = and_parts _ _ (sym c.loop-i.invariant.holding ∙ on) in
-    c.requires.silent (sym c.begin-self.ensures.holds ∙ both.0)
+    c.requires.silent (sym c.begin_record.ensures.holds ∙ both.0)
 
 pub returns-clause-at_once : goal.returns-clause-at_once
-returns-clause-at_once g c = c.loop-i.invariant.at_once
+returns-clause-at_once g c =
+    c.loop-i.invariant.at_once ∙ ap (λ (s : SessionBuffers). s.at_once) c.begin_record.ensures.others
 
 pub returns-clause-exchanges : goal.returns-clause-exchanges
 returns-clause-exchanges g c =
     let end : c.loop-i.i ≡ length c.args.octets.now = omega (arith, c.loop-i-test.false, c.loop-i.auto.i-end) in
-    let heard = rw (c.look_for_datagrams.ensures, c.begin-self.ensures.holds) at c.loop-i.invariant.heard in
+    let o = c.begin_record.ensures.others in
+    let heard = rw (
+      c.begin_record.ensures.tells,
+      c.begin_record.ensures.holds,
+      ap (λ (s : SessionBuffers). s.totals) o,
+      ap (λ (s : SessionBuffers). s.waiting) o,
+      ap (λ (s : SessionBuffers). s.answer) o,
+    ) at c.loop-i.invariant.heard in
     let sends = rw c.as_slice.ensures.value at c.send_held.ensures.sends in
     let told = rw c.as_slice.ensures.value at c.send_held.ensures.acts in
     heard_all c.args.self.now.held.holds c.args.octets.now _ c.loop-i.i c.loop-i.self.recorded heard end
     (take_rest c.args.octets.now c.loop-i.self.recorded) c.record_octets.ensures.recorded refl
-    (rw c.begin-self.ensures.holds at c.loop-i.invariant.holding) sends c.send_held.ensures.passes
+    (rw c.begin_record.ensures.holds at c.loop-i.invariant.holding) sends c.send_held.ensures.passes
     c.send_held.ensures.no_failure told

@@ -22,7 +22,7 @@ receiving-preserved g c =
     let items = c.receive_datagram.new.room in
     let n = c.in-Ok-Some.n in
     let r = rw c.in-Ok-Some.field-0-is at c.in-Ok-Some.ensures.receives in
-    let said = rw c.deref.ensures at c.batch_arrival.ensures in
+    let said = rw c.deref.ensures at c.batch_arrival.ensures.batches in
     let given = rw c.deref.ensures at c.give_datagram.ensures.given in
     let fresh : take (length c.args.heard.now - recorded) (drop recorded c.args.heard.now)
     ≡ drop recorded c.args.heard.now = take_rest c.args.heard.now recorded in
