@@ -6,7 +6,7 @@ use Rattle.std.proofs.lemmas.List.{length-take-le, take-take}
 use Rattle.gw_trunk.specs.declared.sink.RecordPosition.{RecordPosition}
 use Rattle.gw_trunk.specs.declared.sink.RecordPosition.TheVariants.{Kind, Circuit, High, Low, Body}
 use Rattle.gw_trunk.specs.Bodies.{HasPassed, StepsOver, place_next, place_behind, passed, part_passed, body_after}
-use Rattle.gw_trunk.specs.Bodies.{to_clients, is_answer}
+use Rattle.gw_trunk.specs.Bodies.{to_clients, is_answer, GivesBody}
 
 -- The place after octets and more is that after the others, from the place after the first.
 pub place_append : (p : RecordPosition) (xs ys : List ℕ)
@@ -115,6 +115,15 @@ first-passes p octet (suc zero) (x ∷ xs) went told told' some is out few one e
   went_are = rw (front-stays p x out) (sym (append-nil went));
   told_are = e ∙ ap (λ (ys : List ℕ). told ++ ys) (sym (append-nil (cond (is_answer p x) (x ∷ []) [])));
 }
+
+-- The front of a record is in no body.
+pub front-gives : (p : RecordPosition) (octets : List ℕ) (given : List ℕ → Type 0)
+    → ((to_trunk : Bool) (more : ℕ) → p ≡ Body to_trunk more → ⊥) → GivesBody p octets given
+front-gives Kind octets given out = tt
+front-gives (Circuit t) octets given out = tt
+front-gives (High t) octets given out = tt
+front-gives (Low t high) octets given out = tt
+front-gives (Body t more) octets given out = absurd (out t more refl)
 
 -- No octet passes.
 pub none-passes : (p : RecordPosition) (n : ℕ) (went told told' octets : List ℕ) (c : Bool) → n ≤ 0

@@ -1,6 +1,6 @@
 -- What of the records that answer goes to the trunk, and what to clients (module `sink`).
 use Rattle.std.specs.Prelude.{◌≡◌, ◌==◌, ◌+◌, ◌*◌, ◌-◌, if◌then◌else◌, ◌++◌, ℕ, zero, suc, Bool, true, not}
-use Rattle.std.specs.Prelude.{nat_lt, List, [], ◌∷◌}
+use Rattle.std.specs.Prelude.{nat_lt, List, [], ◌∷◌, ◌<◌, ⊤, length, min, take}
 use Rattle.gw_trunk.specs.declared.sink.RecordPosition.{RecordPosition}
 use Rattle.gw_trunk.specs.declared.sink.RecordPosition.TheVariants.{Kind, Circuit, High, Low, Body}
 
@@ -31,6 +31,12 @@ place_behind place (octet ∷ octets) = place_behind (place_next place octet) oc
 unfoldable pub passed : RecordPosition → List ℕ → List ℕ
 passed place [] = []
 passed place (octet ∷ octets) = part_passed place octet ++ passed (place_next place octet) octets
+
+-- In the body of a T record the last write to the trunk was given all of this body that is in these octets.
+abbrev pub GivesBody : RecordPosition → List ℕ → (List ℕ → Type 0) → Type 0
+GivesBody (Body true more) octets WasGiven =
+    0 < length octets → WasGiven (take (min (length octets) (more + 1)) octets)
+GivesBody _ octets WasGiven = ⊤
 
 -- the octets in the bodies of the T records among these records, whose last one may be cut
 abbrev pub bodies : List ℕ → List ℕ

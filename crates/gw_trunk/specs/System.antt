@@ -10,6 +10,10 @@ use Rattle.std.specs.declared.io.ErrorKind.{ErrorKind}
 unfoldable pub SystemRead : {S : Type 0} → S → Result ℕ ErrorKind → Type 0
 SystemRead reader read = ⊤
 
+-- .. and was offered room for this many octets
+unfoldable pub SystemWasOffered : {S : Type 0} → S → ℕ → Type 0
+SystemWasOffered reader room = ⊤
+
 -- the last write to a writer was of these octets, and returned this
 unfoldable pub SystemWrote : {S : Type 0} → S → List ℕ → Result ℕ ErrorKind → Type 0
 SystemWrote writer octets written = ⊤
@@ -21,6 +25,10 @@ SystemTook writer written = ⊤
 -- .. and was of these octets
 unfoldable pub SystemWasGiven : {S : Type 0} → S → List ℕ → Type 0
 SystemWasGiven writer octets = ⊤
+
+-- a writer was given the line that says that the device is slow
+unfoldable pub SystemWasTold : {S : Type 0} → S → Type 0
+SystemWasTold writer = ⊤
 
 -- a connection that waited at a door was accepted
 unfoldable pub SystemAccepted : {D S : Type 0} → D → S → Type 0

@@ -23,21 +23,21 @@ abbrev pub has_drained : ℕ → Result ℕ ErrorKind → Bool
 has_drained room (Ok n) = nat_lt 0 n && nat_lt n room
 has_drained room (Err kind) = false
 
--- Nothing comes any more. Or the clients were asked whether the trunk can be read; it was read if so, and
--- this is told of it.
-abbrev pub ReadsTrunk : {R : Type 0} {m : _} → (R → Result ℕ ErrorKind → Type 0)
+-- Nothing comes any more. Or the clients were asked whether the trunk can be read; it was read if so, with
+-- all of the room, and this is told of it.
+abbrev pub ReadsTrunk : {R : Type 0} {m : _} → (R → ℕ → Result ℕ ErrorKind → Type 0)
     → WithClients R m → WithClients R m → Clients → ℕ → Result DeviceRead DeviceFault → Type 0
 ReadsTrunk has_read d d' answered room told =
     ((d.ended ≡ true) × (d'.ended ≡ true) × (told ≡ Ok Ended) × (d'.clients ≡ answered))
     ⊎ ((d.ended ≡ false) × ((looked : Clients) × (is_ready : Bool) × CanRead answered looked is_ready
     × (((is_ready ≡ false) × (told ≡ Ok NoneNow) × (d'.reader.reader ≡ d.reader.reader)
     × (d'.ended ≡ false) × (d'.clients ≡ looked))
-    ⊎ ((is_ready ≡ true) × ((read : Result ℕ ErrorKind) × has_read d'.reader.reader read
+    ⊎ ((is_ready ≡ true) × ((read : Result ℕ ErrorKind) × has_read d'.reader.reader room read
     × (told ≡ read_told read)
     × (d'.clients ≡ record looked { is_drained = has_drained room read || looked.is_drained }))))))
 
 -- In a read the answer to the last record of a client is given before the trunk is read.
-pub record ReadsInTurn {R : Type 0} {m : _} (has_read : R → Result ℕ ErrorKind → Type 0)
+pub record ReadsInTurn {R : Type 0} {m : _} (has_read : R → ℕ → Result ℕ ErrorKind → Type 0)
     (d d' : WithClients R m) (room : ℕ) (told : Result DeviceRead DeviceFault) : Type 0 where
   pub answered : Clients
   pub gives : GivesAnswer d.clients answered

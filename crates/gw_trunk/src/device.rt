@@ -134,6 +134,9 @@ pub trait TrunkOutput {
     /// Relates a device to how many octets its last write took.
     ghost has_taken: { Self → ℕ → Type 0 } = { λ _ _. ⊤ };
 
+    /// Relates a device to the octets that its last write was given.
+    ghost was_given: { Self → List ℕ → Type 0 } = { λ _ _. ⊤ };
+
     /// How many times it was waited for without a limit.
     ghost waits: { Self → ℕ };
 
@@ -161,6 +164,7 @@ pub trait TrunkOutput {
         ensures slow { slow_waits self.new ≡ slow_waits self.old }
         ensures taken { IfOk result (λ n. IfSome n (λ m. has_taken self.new m × (is_slow self.new ≡ false))) }
         ensures full { IfOk result (λ n. IfNone n (is_full self.new)) }
+        ensures given { was_given self.new octets.now }
         ensures err { IfErr result (λ _. has_failed self.new) };
 
     /// Waits until it may take octets.
@@ -276,6 +280,8 @@ impl<R: DeviceReader> TrunkInput for FromDevice<R> {
 
     ghost has_failed = { λ d. HasFailed (λ kind. R.has_read d.reader.reader (Err kind)) };
 
+    ghost reads = { λ _ d room _. R.was_offered d.reader.reader room };
+
     ghost sleeps = { λ d d'. Waits d.waiting d'.waiting };
 
     ghost waits = { λ d. length d.waits.octets };
@@ -308,6 +314,8 @@ impl<W: DeviceWriter> TrunkOutput for ToDevice<W> {
 
     ghost has_taken = { λ d n. W.has_written d.writer (Ok n) };
 
+    ghost was_given = { λ d. W.was_given d.writer };
+
     ghost waits = { λ d. length d.waits.octets };
 
     ghost sleeps = { λ d d'. Waits d.waiting d'.waiting };
@@ -320,18 +328,7 @@ impl<W: DeviceWriter> TrunkOutput for ToDevice<W> {
 
     ghost may_have_room = { λ d. (limit : ℕ) × SystemIsReady d.waiting limit };
 
-    fn write(&mut self, octets: &[u8]) -> Result<Option<usize>, DeviceFault>
-        ensures bound { IfOk result (λ n. IfSome n (λ m. m ≤ length octets.now)) }
-        ensures went { self.new.log.octets ≡ self.old.log.octets ++ written_of result octets.now }
-        ensures waits { length self.new.waits.octets ≡ length self.old.waits.octets }
-        ensures slow { length self.new.slow_waits.octets ≡ length self.old.slow_waits.octets }
-        ensures taken { IfOk result (λ n. IfSome n (λ m.
-            W.has_written self.new.writer (Ok m) × (self.new.is_slow ≡ false))) }
-        ensures full { IfOk result (λ n. IfNone n
-            (IsForLater (λ kind. W.has_written self.new.writer (Err kind)))) }
-        ensures err { IfErr result (λ _. HasFailed (λ kind. W.has_written self.new.writer (Err kind))) }
-        ensures given { W.was_given self.new.writer octets.now }
-    {
+    fn write(&mut self, octets: &[u8]) -> Result<Option<usize>, DeviceFault> {
         match self.writer.write_now(octets) {
             Ok(n) => {
                 self.log.append(octets, n);

@@ -4,7 +4,7 @@ ghost use Rattle.std.specs.Prelude.{◌≡◌, ◌≤◌, ℕ, List, length, IfO
 ghost use Rattle.std.specs.Io.KnownBytes.{ReadConsumes, WriteAppends};
 ghost use Rattle.std.specs.declared.io.ErrorKind.{ErrorKind};
 ghost use Rattle.gw_trunk.specs.Device.{is_for_later};
-ghost use Rattle.gw_trunk.specs.System.{SystemRead, SystemTook, SystemWasGiven};
+ghost use Rattle.gw_trunk.specs.System.{SystemRead, SystemTook, SystemWasGiven, SystemWasOffered};
 
 use std::io::{ErrorKind, Read, Write};
 
@@ -18,11 +18,15 @@ pub trait DeviceReader {
     /// Relates a reader to what its last read returned.
     ghost has_read: { Self → Result ℕ ErrorKind → Type 0 };
 
+    /// Relates a reader to the room that its last read was offered.
+    ghost was_offered: { Self → ℕ → Type 0 };
+
     /// Reads octets to the front of `room`, and returns how many: 0 only at the end, or if there is no room.
     fn read_now(&mut self, room: &mut [u8]) -> Result<usize, ErrorKind>
         ensures bound { IfOk result (λ n. n ≤ length room.new) }
         ensures octets { ReadConsumes (remaining self.old) (remaining self.new) result room.new }
-        ensures read { has_read self.new result };
+        ensures read { has_read self.new result }
+        ensures offered { was_offered self.new (length room.new) };
 }
 
 /// Writes octets without waiting for room.
@@ -51,7 +55,9 @@ impl<R: Read> DeviceReader for R {
 
     ghost has_read = { SystemRead };
 
-    #[tactic(auto, unfolding(crate::specs::System::SystemRead))]
+    ghost was_offered = { SystemWasOffered };
+
+    #[tactic(auto, unfolding(crate::specs::System::SystemRead, crate::specs::System::SystemWasOffered))]
     fn read_now(&mut self, room: &mut [u8]) -> Result<usize, ErrorKind> {
         match self.read(room) {
             Ok(n) => Ok(n),

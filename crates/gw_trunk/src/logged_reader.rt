@@ -42,6 +42,7 @@ impl<R: DeviceReader> LoggedReader<R> {
         ensures log { self.new.log.octets ≡ self.old.log.octets ++ octets_read result room.new }
         ensures end { IfOk result (λ n. n ≡ 0 → 0 < length room.new → IsAtEnd (R.remaining self.new.reader)) }
         ensures read { R.has_read self.new.reader result }
+        ensures offered { R.was_offered self.new.reader (length room.new) }
     {
         match self.reader.read_now(room) {
             Ok(n) => {

@@ -1,10 +1,11 @@
 //! When octets for a slow device are discarded: whole multiframes, so that the far end keeps alignment.
 
-ghost use Rattle.std.specs.Prelude.{◌≡◌, ◌<◌, ◌≤◌, ◌+◌, ◌++◌, ◌⊎◌, ℕ, [], true, false, length, take};
-ghost use Rattle.std.specs.Prelude.{IfOk, IfSome, IfNone, OnErr};
+ghost use Rattle.std.specs.Prelude.{◌≡◌, ◌<◌, ◌≤◌, ◌+◌, ◌-◌, ◌++◌, ◌⊎◌, ℕ, [], true, false, length, take};
+ghost use Rattle.std.specs.Prelude.{min, IfOk, IfSome, IfNone, OnErr};
 ghost use Rattle.gw_trunk.specs.Device.{written_of};
 ghost use Rattle.gw_trunk.specs.Multiframes.{IsThinned, IsPrompt, HasRoom, Steps, GoesInTime};
 ghost use Rattle.gw_trunk.specs.Multiframes.{position_after, position_discarding};
+ghost use Rattle.gw_trunk.specs.System.{SystemWasTold};
 
 use crate::device::{DeviceFault, TrunkOutput};
 use crate::held::drop_first;
@@ -69,6 +70,7 @@ fn give<O: TrunkOutput>(outgoing: &mut O, octets: &[u8]) -> Result<Option<usize>
     ensures slow { IfOk result (λ n. IfNone n (O.slow_waits outgoing.old < O.slow_waits outgoing.new)) }
     ensures waits { O.slow_waits outgoing.old ≤ O.slow_waits outgoing.new }
     ensures taken { IfOk result (λ n. IfSome n (O.has_taken outgoing.new)) }
+    ensures given { IfOk result (λ n. IfSome n (λ _. O.was_given outgoing.new octets.now)) }
     ensures err { OnErr result (O.has_failed outgoing.new ⊎ O.is_full outgoing.new) }
 {
     for _turn in 0..u64::MAX {
@@ -127,6 +129,7 @@ fn give_behind<O: TrunkOutput>(
     ensures all { IfOk result (λ n. IfSome n (λ _. held.new.items ≡ [])) }
     ensures slow { IfOk result (λ n. IfNone n (O.slow_waits outgoing.old < O.slow_waits outgoing.new)) }
     ensures waits { O.slow_waits outgoing.old ≤ O.slow_waits outgoing.new }
+    ensures given { IfOk result (λ n. IfSome n (λ _. O.was_given outgoing.new octets.now)) }
 {
     if give_held(outgoing, held)? {
         return give(outgoing, octets);
@@ -176,6 +179,8 @@ fn pass<O: TrunkOutput>(
     ensures prompt { O.slow_waits outgoing.new ≡ 0 → IsPrompt held.old.items position.old
         → IsPrompt held.new.items position.new }
     ensures waits { O.slow_waits outgoing.old ≤ O.slow_waits outgoing.new }
+    ensures given { IfOk result (λ _. position.old.discards ≡ false
+        → (O.slow_waits outgoing.old < O.slow_waits outgoing.new) ⊎ O.was_given outgoing.new octets.now) }
 {
     if position.discards {
         *position = position_after(*position, octets.len());
@@ -187,6 +192,14 @@ fn pass<O: TrunkOutput>(
     }
     take_slow(held, position, octets);
     Ok(octets.len())
+}
+
+// Reports that the device is slow.
+#[tactic(auto, unfolding(crate::specs::System::SystemWasTold))]
+fn tell_slow<E: Write>(notes: &mut E)
+    ensures { SystemWasTold notes.new }
+{
+    let _ = notes.write(SLOW);
 }
 
 /// A device that octets go to in time. If it takes none within the time that it is waited for, whole
@@ -207,6 +220,7 @@ pub struct MultiframeDropper<O: TrunkOutput, E> {
     ghost below: { position.place < 512 },
     ghost room: { HasRoom held.items position },
     ghost prompt: { O.slow_waits outgoing ≡ 0 → IsPrompt held.items position },
+    ghost told: { 0 < position.discarded → ∥ SystemWasTold notes ∥₁ },
 }
 
 impl<O: TrunkOutput, E: Write> MultiframeDropper<O, E> {
@@ -257,7 +271,15 @@ impl<O: TrunkOutput, E: Write> TrunkOutput for MultiframeDropper<O, E> {
 
     ghost waits = { λ d. length d.waits.octets };
 
-    fn write(&mut self, octets: &[u8]) -> Result<Option<usize>, DeviceFault> {
+    fn write(&mut self, octets: &[u8]) -> Result<Option<usize>, DeviceFault>
+        ensures bound { IfOk result (λ n. IfSome n (λ m. m ≤ length octets.now)) }
+        ensures went { self.new.log.octets ≡ self.old.log.octets ++ written_of result octets.now }
+        ensures waits { length self.new.waits.octets ≡ length self.old.waits.octets }
+        ensures given { IfOk result (λ _. self.old.position.discards ≡ false
+            → (O.slow_waits self.old.outgoing < O.slow_waits self.new.outgoing)
+            ⊎ O.was_given self.new.outgoing
+            (take (min (length octets.now) (512 - self.old.position.place)) octets.now)) }
+    {
         let before = self.position.discarded;
         let most = octets.len().min(MULTIFRAME_LEN - self.position.place);
         let n = match pass(
@@ -271,7 +293,7 @@ impl<O: TrunkOutput, E: Write> TrunkOutput for MultiframeDropper<O, E> {
         };
         self.log.append(octets, n);
         if before == 0 && self.position.discarded > 0 {
-            let _ = self.notes.write(SLOW);
+            tell_slow(&mut self.notes);
         }
         Ok(Some(n))
     }

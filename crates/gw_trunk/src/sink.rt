@@ -1,11 +1,12 @@
 //! Which octets of a session's answers go to the trunk, and which to clients (`TrunkRecordSink`).
 
 ghost use Rattle.std.specs.Prelude.{◌≡◌, ◌≤◌, ◌<◌, ◌++◌, [], length, take, IfOk, OnErr, Some, if◌then◌else◌};
-ghost use Rattle.std.specs.Prelude.{◌⊎◌, slice_index};
+ghost use Rattle.std.specs.Prelude.{◌⊎◌, slice_index, true};
 ghost use Rattle.std.specs.Io.KnownBytes.{WriteAppends};
 ghost use Rattle.gw_records.specs.Streams.{CountsWrite};
 ghost use Rattle.gw_trunk.specs.Device.{FailsOrStands};
 ghost use Rattle.gw_trunk.specs.Bodies.{HasPassed, StepsOver, is_answer, place_next, body_place, body_after};
+ghost use Rattle.gw_trunk.specs.Bodies.{GivesBody};
 
 use crate::device::TrunkOutput;
 use gw_records::{Log, Sink, SinkFault, TRUNK};
@@ -91,6 +92,7 @@ fn put_out<O: TrunkOutput>(outgoing: &mut O, octets: &[u8]) -> Result<usize, Sin
     ensures went { IfOk result (λ n. O.went outgoing.new ≡ O.went outgoing.old ++ take n octets.now) }
     ensures err { OnErr result (O.went outgoing.new ≡ O.went outgoing.old) }
     ensures fails { OnErr result (FailsOrStands O.has_failed O.waits outgoing.new) }
+    ensures given { IfOk result (λ _. O.was_given outgoing.new octets.now) }
 {
     for _turn in 0..u64::MAX {
         match outgoing.write(octets) {
@@ -137,6 +139,7 @@ fn put_body<O: TrunkOutput, A: TrunkOutput>(
     ensures untold { OnErr result (A.went answers.new ≡ A.went answers.old) }
     ensures fails { OnErr result (FailsOrStands O.has_failed O.waits outgoing.new
         ⊎ FailsOrStands A.has_failed A.waits answers.new) }
+    ensures given { IfOk result (λ _. to_trunk ≡ true → O.was_given outgoing.new octets.now) }
 {
     if to_trunk {
         return put_out(outgoing, octets);
@@ -160,6 +163,7 @@ fn pass<O: TrunkOutput, A: TrunkOutput>(
     ensures stays { OnErr result (place.new ≡ place.old) }
     ensures fails { OnErr result (FailsOrStands O.has_failed O.waits outgoing.new
         ⊎ FailsOrStands A.has_failed A.waits answers.new) }
+    ensures given { IfOk result (λ _. GivesBody place.old octets.now (O.was_given outgoing.new)) }
 {
     let Some(octet) = octets.first() else {
         return Ok(0);
@@ -216,6 +220,8 @@ impl<O: TrunkOutput, A: TrunkOutput> Sink for TrunkRecordSink<O, A> {
         ensures counts { CountsWrite self.old.failed self.new.failed result octets.now }
         ensures fails { OnErr result (FailsOrStands O.has_failed O.waits self.new.outgoing
             ⊎ FailsOrStands A.has_failed A.waits self.new.answers) }
+        ensures given { IfOk result (λ _. GivesBody self.old.place octets.now
+            (O.was_given self.new.outgoing)) }
     {
         match pass(
             &mut self.outgoing,

@@ -9,6 +9,7 @@ ghost use Rattle.gw_trunk.specs.Clients.{AreOpened};
 ghost use Rattle.gw_trunk.specs.Device.{HasFailed};
 ghost use Rattle.gw_trunk.specs.System.{SystemListens, SystemPairs, SystemRefusesDoor, SystemRefusesStream};
 ghost use Rattle.gw_trunk.specs.System.{SystemWatches};
+ghost use Rattle.mio.specs.Net.{unix_stream_fd};
 
 use crate::client::ClientPoll;
 use crate::clients::Clients;
@@ -108,6 +109,7 @@ pub fn open_clients<R: DeviceReader + Drop>(
     ensures door { IfOk result (λ both. SystemListens path.now both.0.clients.door) }
     ensures joined { IfOk result (λ both. SystemPairs both.0.clients.answers.reader both.1.writer) }
     ensures goes { IfOk result (λ both. both.0.ended ≡ false) }
+    ensures waiting { IfOk result (λ both. both.1.waiting.descriptor ≡ unix_stream_fd both.1.writer) }
     ensures clients { IfOk result (λ both. AreOpened descriptor both.0.clients.door
         both.0.clients.answers.reader both.0.clients) }
     ensures err { IfErr result (λ e. SystemRefusesDoor path.now e ⊎ SystemRefusesStream e) }
@@ -132,7 +134,7 @@ impl<R: DeviceReader> TrunkInput for WithClients<R> {
 
     ghost has_failed = { λ d. HasFailed (λ kind. R.has_read d.reader.reader (Err kind)) };
 
-    ghost reads = { ReadsInTurn R.has_read };
+    ghost reads = { ReadsInTurn (λ r room read. R.has_read r read × R.was_offered r room) };
 
     ghost commands = { CommandsInTurn };
 

@@ -1,6 +1,6 @@
 use Rattle.std.proofs.Common.{◌≤◌, suc, length, refl, sym, append-nil, arith}
 use Rattle.gw_trunk.specs.Bodies.{place_behind, passed, to_clients}
-use Rattle.gw_trunk.proofs.Passing.{first-passes, none-passes, body-passes}
+use Rattle.gw_trunk.proofs.Passing.{first-passes, none-passes, body-passes, front-gives}
 use Rattle.gw_trunk.proofs.sink.pass.Goals as goal
 
 pub returns-in_default-clause-passes : goal.returns-in_default-clause-passes
@@ -20,6 +20,7 @@ returns-then-n-gt0 g c =
       untold = tt;
       stays = tt;
       fails = tt;
+      given = front-gives _ _ _ c.in_default-place.not-Body;
     }
 
 pub returns-else-n-gt0 : goal.returns-else-n-gt0
@@ -30,6 +31,7 @@ returns-else-n-gt0 g c = record {
   untold = tt;
   stays = tt;
   fails = tt;
+  given = front-gives _ _ _ c.in_default-place.not-Body;
 }
 
 pub returns-clause-passes : goal.returns-clause-passes

@@ -12,6 +12,7 @@ invariant_of-self g c =
       below = s.below;
       room = λ goes begun. let room = s.room goes begun in omega (arith, e.shorter, room);
       prompt = finished s.position _ _ _ _ e.waits e.shorter s.prompt;
+      told = s.told;
     }
 
 pub returns-clause-goes : goal.returns-clause-goes

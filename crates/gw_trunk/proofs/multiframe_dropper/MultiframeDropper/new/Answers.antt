@@ -10,4 +10,5 @@ invariant_of-result g c = record {
   below = omega arith;
   room = λ goes begun. absurd (begun refl);
   prompt = λ e. record { none_held = c.new.ensures; goes = refl; none_discarded = refl };
+  told = λ some. absurd (omega (arith, some));
 }

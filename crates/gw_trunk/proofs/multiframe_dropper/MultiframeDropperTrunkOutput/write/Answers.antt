@@ -14,6 +14,7 @@ invariant_of-self-then-self-gt0 g c =
       below = c.in-Ok.ensures.below;
       room = c.in-Ok.ensures.room;
       prompt = λ e. c.in-Ok.ensures.prompt e (s.prompt (omega (arith, c.in-Ok.ensures.waits, e)));
+      told = λ some. ∣ c.tell_slow.ensures ∣₁;
     }
 
 pub invariant_of-self-else-self-gt0 : goal.invariant_of-self-else-self-gt0
@@ -27,6 +28,7 @@ invariant_of-self-else-self-gt0 g c =
       below = c.in-Ok.ensures.below;
       room = c.in-Ok.ensures.room;
       prompt = λ e. c.in-Ok.ensures.prompt e (s.prompt (omega (arith, c.in-Ok.ensures.waits, e)));
+      told = λ some. absurd (omega (arith, some, c.if-self-gt0.false));
     }
 
 pub invariant_of-self-else-before-eq0 : goal.invariant_of-self-else-before-eq0
@@ -40,6 +42,7 @@ invariant_of-self-else-before-eq0 g c =
       below = c.in-Ok.ensures.below;
       room = c.in-Ok.ensures.room;
       prompt = λ e. c.in-Ok.ensures.prompt e (s.prompt (omega (arith, c.in-Ok.ensures.waits, e)));
+      told = λ some. s.told (omega (arith, c.if-before-eq0.false));
     }
 
 pub invariant_of-self : goal.invariant_of-self
@@ -51,4 +54,5 @@ invariant_of-self g c =
       below = e.below;
       room = e.room;
       prompt = λ none. e.prompt none (s.prompt (omega (arith, e.waits, none)));
+      told = λ some. s.told (rw e.err at some);
     }

@@ -40,7 +40,7 @@ returns-in-Ok-eq0-clause-reads g c = record {
         c.if-not-can_read.false,
         (
           Ok c.in-Ok-eq0.field-0,
-          c.in-Ok-eq0.ensures.read,
+          (c.in-Ok-eq0.ensures.read, c.in-Ok-eq0.ensures.offered),
           end-told _ c.in-Ok-eq0.field-0-test,
           rw (end-stays c.in-Ok-eq0.field-0 _ c.in-Ok-eq0.field-0-test) refl,
         ),
@@ -64,7 +64,7 @@ returns-then-n-room-clause-reads g c = record {
         c.if-not-can_read.false,
         (
           Ok c.in-Ok.n,
-          c.in-Ok.ensures.read,
+          (c.in-Ok.ensures.read, c.in-Ok.ensures.offered),
           octets-told c.in-Ok.n (omega arith),
           rw (few-drain c.in-Ok.n _ (omega arith) c.if-n-room.true) c.note_drained.ensures,
         ),
@@ -88,7 +88,7 @@ returns-else-n-room-clause-reads g c = record {
         c.if-not-can_read.false,
         (
           Ok c.in-Ok.n,
-          c.in-Ok.ensures.read,
+          (c.in-Ok.ensures.read, c.in-Ok.ensures.offered),
           octets-told c.in-Ok.n (omega arith),
           rw (most-stay c.in-Ok.n _ c.if-n-room.false) refl,
         ),
@@ -112,7 +112,7 @@ returns-in-Err-clause-reads g c = record {
         c.if-not-can_read.false,
         (
           Err c.in-Err.kind,
-          c.in-Err.ensures.read,
+          (c.in-Err.ensures.read, c.in-Err.ensures.offered),
           none-told c.in-Err.kind (sym c.is_for_later.ensures ∙ c.if-is_for_later.true),
           refl,
         ),
@@ -136,7 +136,7 @@ returns-in-Err-2-clause-reads g c = record {
         c.if-not-can_read.false,
         (
           Err c.in-Err.kind,
-          c.in-Err.ensures.read,
+          (c.in-Err.ensures.read, c.in-Err.ensures.offered),
           fault-told c.in-Err.kind _ (sym c.is_for_later.ensures ∙ c.if-is_for_later.false),
           refl,
         ),
