@@ -80,12 +80,16 @@ class HandClock:
 
 def threads_of(pid: int) -> list[str]:
     """The state of each thread of a process, and how often it had a processor; the states of what it has started (that
-    looks now and then by the machine's clock). What scripts/stalls has stopped does not rest; what a test has, does."""
+    looks now and then by the machine's clock). What scripts/stalls has stopped looks as if it slept, and may go on
+    while it is looked at; what a test has stopped rests."""
     found: list[str] = []
     with suppress(OSError):
         for folder in Path(f'/proc/{pid}/task').iterdir():
-            stat, runs, children, within = ((folder / name).read_text('ascii', 'replace')
-                                            for name in ('stat', 'schedstat', 'children', 'wchan'))
-            found.append(('T' if within in STOPPED else stat.rpartition(')')[2][1].replace('T', 'S')) + runs)
+            before, stat, within, again, runs, children = (
+                (folder / name).read_text('ascii', 'replace')
+                for name in ('schedstat', 'stat', 'wchan', 'stat', 'schedstat', 'children'))
+            state, its = (each.rpartition(')')[2][1] for each in (stat, again))
+            sleeps = within not in STOPPED and (before, state) == (runs, its)
+            found.append((state.replace('T', 'S') if sleeps else 'T') + runs)
             found += [each[0] for child in children.split() for each in threads_of(int(child))]
     return found
