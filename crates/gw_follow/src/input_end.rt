@@ -8,6 +8,7 @@ use gw_records::Log;
 use mio::unix::SourceFd;
 use mio::{Events, Interest, Poll, Token};
 use std::io::{self, ErrorKind, Read};
+use std::net::Net;
 use std::rt::Stdin;
 use std::time::Duration;
 
@@ -32,7 +33,7 @@ pub struct InputEnd {
 
 impl InputEnd {
     /// Waits for the end of standard input. The error is the system's.
-    pub fn open(rt: &HostRuntime) -> io::Result<InputEnd> {
+    pub fn open(rt: &(impl Net + AllocGlobal), input: Stdin) -> io::Result<InputEnd> {
         let poll = Poll::new(rt)?;
         let events = Events::with_capacity(rt.alloc(), 1)?;
         // (A regular file can't be waited for, and never has to be.)
@@ -42,7 +43,7 @@ impl InputEnd {
         Ok(InputEnd {
             poll,
             events,
-            input: rt.stdin(),
+            input,
             waits: Log::new(),
         })
     }

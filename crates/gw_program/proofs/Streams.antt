@@ -1,27 +1,33 @@
 -- Commands on new streams.
-use Rattle.std.proofs.Common.{◌≡◌, ◌⊎◌, inl, inr, ℕ, List, [], Option, None, Some, Result, Err, refl, sym, subst}
-use Rattle.std.specs.Prelude.{⊤, MatchOption}
+use Rattle.std.proofs.Common.{◌≡◌, ◌⊎◌, inl, inr, ℕ, List, [], Option, None, Some, Result, Err, refl, sym, subst, arith}
 use Rattle.gw_config.specs.declared.config.Config.{Config}
 use Rattle.gw_records.specs.declared.outcome.Totals.{Totals}
 use Rattle.gw_switch.specs.declared.GatewayConfig.{GatewayConfig}
 use Rattle.gw_switch.specs.declared.gateway.Gateway.{Gateway}
 use Rattle.gw_records.specs.declared.outcome.RunFault.{RunFault}
 use Rattle.gw_records.specs.Ports.{PortsState}
-use Rattle.gw_records.specs.Streams.{SourceState, SinkState}
+use Rattle.gw_records.specs.Streams.{CanBegin, SourceState, SinkState}
 use Rattle.gw_session.specs.PacketPorts.{no_ports}
 use Rattle.gw_session.specs.Serve.{SessionStreams, around}
 use Rattle.gw_session.specs.Tape.{TapeState, no_tape}
 use Rattle.gw_command.specs.declared.command.SessionKind.{SessionKind}
 use Rattle.gw_command.specs.declared.command.SessionKind.TheVariants.{Replay, Check, Serve}
 use Rattle.gw_program.specs.declared.program_fault.ProgramFault.{ProgramFault}
-use Rattle.gw_program.specs.declared.program_fault.ProgramFault.TheVariants as program_faults
 use Rattle.gw_program.specs.Performing.{EndedSaved, NotBegun, RunsSession, Performed, LacksSession, SystemFiles}
 use Rattle.gw_program.specs.Performing.Performed.{Lacked, Done}
 use Rattle.gw_program.specs.Performing.{WithEnds}
 use Rattle.gw_program.specs.State.{BeginsWaiting, HasBegun, IsFromState, IsSaved, LacksGateway}
-use Rattle.gw_program.specs.Requests.{AsksPlace, AsksWait, CommandLine, DoesSession, EndsSession, FollowsLog}
-use Rattle.gw_program.specs.Requests.{OnNewStreams, TakesAsked, config_in, files_in, follow_in, load_in, save_in}
+use Rattle.gw_program.specs.Requests.{AreNew, AsksPlace, AsksWait, CommandLine, EndsSession, FollowsLog}
+use Rattle.gw_program.specs.Requests.{OnNewStreams, TakesAsked, config_in, files_in, load_in, save_in}
 use Rattle.gw_program.specs.Setup.{IsMeant, LacksConfigAt, PathGives}
+
+-- a session can begin on a new source and a new sink
+pub can_begin : {s : SourceState} {k : SinkState} → AreNew s k → CanBegin s k
+can_begin n = record {
+  reads = omega (arith, n.no_failed_read);
+  turns = omega (arith, n.unread);
+  writes = omega (arith, n.no_failed_write);
+}
 
 -- what was done on streams to which nothing had happened was done on new streams
 pub on_new : (s s' : SourceState) (k k' : SinkState) {does : SessionStreams → SessionStreams → Type 0}
@@ -34,35 +40,17 @@ on_new s s' k k' done reads given failures writes = record {
   done = done;
 }
 
--- a session is not begun for a command that names no configuration
-pub no_session : (command : CommandLine) (session : SessionKind) → config_in command ≡ None
-    → (lacks : ProgramFault → Type 0) → lacks program_faults.Nothing
-    → DoesSession command session lacks (Err program_faults.Nothing)
-no_session command session none lacks why = go (follow_in command)
-  where
-    source : SourceState
-    source = record { failures = 0; reads = 0; given = Some []; to_come = None }
-
-    sink : SinkState
-    sink = record { failures = 0; taken = None }
-
-    go : (o : Option (List ℕ))
-        → MatchOption o
-        ((place : ℕ) × EndsSession command session lacks (λ _. ⊤) 0 place (Err program_faults.Nothing))
-        (λ path. FollowsLog command session lacks path (Err program_faults.Nothing))
-    go None = (
-      0,
-      on_new source source sink sink (
-        tt,
-        Lacked (record {
-          program_fault = program_faults.Nothing;
-          why = why;
-          told_is = refl;
-          untouched = refl;
-        }),
-      ) refl refl refl refl,
-    )
-    go (Some path) = inr (refl, inl none)
+-- a session was not begun for such a reason
+pub no_session : (command : CommandLine) (session : SessionKind) (lacks : ProgramFault → Type 0) (a : SessionStreams)
+    (from place : ℕ) (fault : ProgramFault) → lacks fault
+    → EndsSession command session lacks a a from place (Err fault)
+no_session command session lacks a from place fault why = record {
+  ports = no_ports;
+  ports' = no_ports;
+  tape = no_tape;
+  tape' = no_tape;
+  done = Lacked (record { program_fault = fault; why = why; told_is = refl; untouched = refl });
+}
 
 -- nothing was begun for one of these reasons, so for one of more
 pub told_why : {X Z : Type 0} {x x' : X} {z z' : Z} {why lacks : ProgramFault → Type 0}
@@ -84,42 +72,39 @@ performed_so is (Lacked n) = Lacked (told_why is (λ e. e) n)
 performed_so is (Done config read gateway gateway' begun done) = Done config read gateway gateway' begun done
 
 -- A session that ended so did, or was not begun for one of more reasons.
-ends_so : (command : CommandLine) (session : SessionKind) (lacks lacks' : ProgramFault → Type 0)
-    (Given : SourceState → Type 0) (from place : ℕ) (told : Result Totals ProgramFault)
+pub session_so : (session : SessionKind) (from place : ℕ) {command : CommandLine}
+    {lacks lacks' : ProgramFault → Type 0} {a a' : SessionStreams} {told : Result Totals ProgramFault}
     → ((fault : ProgramFault) → lacks fault → lacks' fault)
-    → EndsSession command session lacks Given from place told → EndsSession command session lacks' Given from place told
-ends_so command session lacks lacks' Given from place told is e = record {
-  before = e.before;
-  after = e.after;
-  new = e.new;
-  done = (e.done.0, performed_so is e.done.1);
+    → EndsSession command session lacks a a' from place told → EndsSession command session lacks' a a' from place told
+session_so session from place is e = record {
+  ports = e.ports;
+  ports' = e.ports';
+  tape = e.tape;
+  tape' = e.tape';
+  done = performed_so is e.done;
 }
 
--- .. on standard input or on a log
-pub session_so : (command : CommandLine) (session : SessionKind) (lacks lacks' : ProgramFault → Type 0)
-    (told : Result Totals ProgramFault) → ((fault : ProgramFault) → lacks fault → lacks' fault)
-    → DoesSession command session lacks told → DoesSession command session lacks' told
-session_so command session lacks lacks' told is = go (follow_in command)
-  where
-    go : (o : Option (List ℕ))
-        → MatchOption o ((place : ℕ) × EndsSession command session lacks (λ _. ⊤) 0 place told)
-        (λ path. FollowsLog command session lacks path told)
-        → MatchOption o ((place : ℕ) × EndsSession command session lacks' (λ _. ⊤) 0 place told)
-        (λ path. FollowsLog command session lacks' path told)
-    go None e = (e.0, ends_so command session lacks lacks' _ 0 e.0 told is e.1)
-    go (Some path) (inr n) = inr n
-    go (Some path) (inl h) = inl (record {
-      place = h.place;
-      from = h.from;
-      done = elim h.done [
-        | inl n ↦ inl n
-        | inr e ↦ inr (record {
-          place = e.place;
-          ends = ends_so command session lacks lacks' _ h.place e.place told is e.ends;
-          tells = e.tells;
-        })
-      ];
+-- .. on a log
+pub log_so : (session : SessionKind) {command : CommandLine} {lacks lacks' : ProgramFault → Type 0} {path : List ℕ}
+    {told : Result Totals ProgramFault} → ((fault : ProgramFault) → lacks fault → lacks' fault)
+    → FollowsLog command session lacks path told → FollowsLog command session lacks' path told
+log_so session is (inr n) = inr n
+log_so session is (inl h) = inl (record {
+  place = h.place;
+  from = h.from;
+  done = elim h.done [
+    | inl n ↦ inl n
+    | inr e ↦ inr (record {
+      place = e.place;
+      before = e.before;
+      after = e.after;
+      new = e.new;
+      given = e.given;
+      ends = session_so session h.place e.place is e.ends;
+      tells = e.tells;
     })
+  ];
+})
 
 -- what was loaded at a place was loaded at what this was asked by
 loaded_at : (place : Option ℕ) (at : Option ℕ → Type 0) (given : List ℕ → Type 0) (config : GatewayConfig)
@@ -258,38 +243,43 @@ module _ {s s' : SourceState} {k k' : SinkState} {X P T : Type 0} {x x' : X} {fi
     (opens : Config → P → Type 0) (begins : T → Type 0) (ports_tell : P → PortsState) (tape_tells : T → TapeState)
     {told : Result Totals ProgramFault}
   where
-    -- a session on new streams, of a source of which this is known, took what the command names
-    pub session_done : (session : SessionKind) (from place : ℕ) (Given : SourceState → Type 0) → Given s'
+    -- a session took what the command names
+    pub session_done : (session : SessionKind) (from place : ℕ)
         → Performed x x' files (LacksSession files lacks_more) (λ config gateway gateway'.
         WithEnds session (opens config) begins ports_tell tape_tells (λ ports ports' tape tape'.
         EndedSaved (RunsSession session (around s k ports tape) (around s' k' ports' tape') gateway gateway' from place)
         (files.saves config gateway') told)) told
         → (x' ≡ x → around s' k' no_ports no_tape ≡ around s k no_ports no_tape)
-        → s.reads ≡ 0 → s.given ≡ Some [] → s.failures ≡ 0 → k.failures ≡ 0
-        → EndsSession command session (LacksSession (files_in command) lacks_more) Given from place told
-    session_done session from place Given given (Lacked n) f a b c d = on_new s s' k k' (
-      given,
-      Lacked (told_why (lacks_asked takes lacks_more) f n),
-    ) a b c d
-    session_done Replay from place Given given (Done config read gateway gateway' begun done) f a b c d =
-        on_new s s' k k' (
-          given,
-          Done config (takes.read config read) gateway gateway' (takes.begun config gateway begun)
-              (saved_told takes config gateway' done),
-        ) a b c d
-    session_done Check from place Given given (Done config read gateway gateway' begun done) f a b c d =
-        on_new s s' k k' (
-          given,
-          Done config (takes.read config read) gateway gateway' (takes.begun config gateway begun)
-              (saved_told takes config gateway' done),
-        ) a b c d
-    session_done Serve from place Given given (Done config read gateway gateway' begun v) f a b c d = record {
-      before = around s k (ports_tell v.ports) (tape_tells v.tape);
-      after = around s' k' (ports_tell v.ports') (tape_tells v.tape');
-      new = record { unread = a; no_octet = b; no_failed_read = c; no_failed_write = d };
-      done = (
-        given,
-        Done config (takes.read config read) gateway gateway' (takes.begun config gateway begun)
-            (saved_told takes config gateway' v.done),
-      );
+        → EndsSession command session (LacksSession (files_in command) lacks_more) (around s k no_ports no_tape)
+        (around s' k' no_ports no_tape) from place told
+    session_done session from place (Lacked n) f = record {
+      ports = no_ports;
+      ports' = no_ports;
+      tape = no_tape;
+      tape' = no_tape;
+      done = Lacked (told_why (lacks_asked takes lacks_more) f n);
+    }
+    session_done Replay from place (Done config read gateway gateway' begun done) f = record {
+      ports = no_ports;
+      ports' = no_ports;
+      tape = no_tape;
+      tape' = no_tape;
+      done = Done config (takes.read config read) gateway gateway' (takes.begun config gateway begun)
+          (saved_told takes config gateway' done);
+    }
+    session_done Check from place (Done config read gateway gateway' begun done) f = record {
+      ports = no_ports;
+      ports' = no_ports;
+      tape = no_tape;
+      tape' = no_tape;
+      done = Done config (takes.read config read) gateway gateway' (takes.begun config gateway begun)
+          (saved_told takes config gateway' done);
+    }
+    session_done Serve from place (Done config read gateway gateway' begun v) f = record {
+      ports = ports_tell v.ports;
+      ports' = ports_tell v.ports';
+      tape = tape_tells v.tape;
+      tape' = tape_tells v.tape';
+      done = Done config (takes.read config read) gateway gateway' (takes.begun config gateway begun)
+          (saved_told takes config gateway' v.done);
     }

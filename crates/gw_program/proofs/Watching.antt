@@ -1,5 +1,5 @@
 -- What a watch was shown that another one was shown in its place.
-use Rattle.std.proofs.Common.{◌≡◌, ◌∙◌, ◌∷◌, inl, inr, ℕ, List, [], map, Result, Ok, Err, ap}
+use Rattle.std.proofs.Common.{◌≡◌, ◌∷◌, inl, inr, ℕ, List, [], map, Result, Ok, Err, ap}
 use Rattle.gw_records.specs.Records.{Record}
 use Rattle.gw_records.specs.Streams.{SourceState, SinkState}
 use Rattle.gw_records.specs.Outcome.{SessionTo}

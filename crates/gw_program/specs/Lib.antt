@@ -6,6 +6,7 @@ pub mod Listing
 pub mod Performing
 pub mod Report
 pub mod Setup
+pub mod StandardEnds
 pub mod Filters
 pub mod Requests
 pub mod Continuing

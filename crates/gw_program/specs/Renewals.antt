@@ -1,5 +1,5 @@
 -- Which circuits are reported to begin as new (module `state`).
-use Rattle.std.specs.Prelude.{◌≡◌, ◌≢◌, ◌≤◌, ⊤, ℕ}
+use Rattle.std.specs.Prelude.{◌≢◌, ◌≤◌, ⊤, ℕ}
 use Rattle.gw_switch.specs.declared.GatewayConfig.{GatewayConfig}
 use Rattle.gw_switch.specs.Whole.{config_of}
 

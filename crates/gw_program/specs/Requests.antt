@@ -1,13 +1,15 @@
 -- What was done of what the command line asks for (module `requests`).
-use Rattle.std.specs.Prelude.{◌≡◌, ◌≢◌, ◌⊎◌, ⊤, ℕ, List, [], Option, Some, None, Result, Err, IfOk}
+use Rattle.std.specs.Prelude.{◌≡◌, ◌≢◌, ◌⊎◌, ℕ, List, [], Option, Some, None, Result, Err, IfOk}
 use Rattle.std.specs.Prelude.{IfErr, IsErrAnd, IsSomeAnd, OnOk}
 use Rattle.std.specs.Prelude.{MatchResult, MatchOption, codes}
 use Rattle.clap.specs.Words.{Row}
 use Rattle.gw_config.specs.declared.config.Config.{Config}
 use Rattle.gw_switch.specs.declared.gateway.Gateway.{Gateway}
 use Rattle.gw_records.specs.declared.outcome.Totals.{Totals}
-use Rattle.gw_records.specs.Streams.{SourceState}
-use Rattle.gw_session.specs.Serve.{SessionStreams}
+use Rattle.gw_records.specs.Ports.{PortsState}
+use Rattle.gw_records.specs.Streams.{SourceState, SinkState}
+use Rattle.gw_session.specs.Serve.{SessionStreams, around}
+use Rattle.gw_session.specs.Tape.{TapeState}
 use Rattle.gw_command.specs.Command.{IsRequest, text_in, SaysNumberIn, SaysWait}
 use Rattle.gw_command.specs.declared.command.Filter.{Filter}
 use Rattle.gw_command.specs.declared.command.Filter.TheVariants.{Align, Crc4}
@@ -22,7 +24,7 @@ use Rattle.gw_program.specs.Following.{IsLogged, LacksLog}
 use Rattle.gw_program.specs.Jobs.{Does, DoesUntil}
 use Rattle.gw_program.specs.Report.{SystemPrints}
 use Rattle.gw_program.specs.ReportsFile.{LacksReportsAt}
-use Rattle.gw_program.specs.Performing.{Ended, EndedSaved, Performed, RunsSession, SystemFiles}
+use Rattle.gw_program.specs.Performing.{Ended, EndedSaved, NotBegun, Performed, RunsSession, SystemFiles}
 use Rattle.gw_program.specs.Setup.{IsConfigAt, LacksConfigAt}
 use Rattle.gw_program.specs.State.{BeginsWaiting, IsSaved, LacksGateway}
 
@@ -34,15 +36,23 @@ CommandLine = Option (List ℕ × List Row)
 abbrev pub AsksCheck : CommandLine → Type 0
 AsksCheck command = text_in (codes "check") command ≡ Some (codes "true")
 
+-- the log that the command names to be followed
+abbrev pub follow_in : CommandLine → Option (List ℕ)
+follow_in command = text_in (codes "follow") command
+
+-- what a filter does, of what filters and the check of CRC-4 multiframes do
+abbrev pub by_filter : (Filter → Type 0) → Type 0 → CommandLine → Filter → Type 0
+by_filter filters checks command Align = filters Align
+by_filter filters checks command Crc4 = (AsksCheck command × checks) ⊎ ((¬ AsksCheck command) × filters Crc4)
+
 -- what a request does, of what jobs, filters, the check of CRC-4 multiframes, sessions, the trunk and the
 -- circuit do
 abbrev pub by_request : (SpeechJob → Type 0) → (Filter → Type 0) → Type 0 → (SessionKind → Type 0) → Type 0
     → Type 0
     → CommandLine → Request → Type 0
 by_request jobs filters checks sessions trunk satop command (requests.SpeechJob job) = jobs job
-by_request jobs filters checks sessions trunk satop command (requests.Filter Align) = filters Align
-by_request jobs filters checks sessions trunk satop command (requests.Filter Crc4) =
-    (AsksCheck command × checks) ⊎ ((¬ AsksCheck command) × filters Crc4)
+by_request jobs filters checks sessions trunk satop command (requests.Filter filter) =
+    by_filter filters checks command filter
 by_request jobs filters checks sessions trunk satop command (requests.Session session) = sessions session
 by_request jobs filters checks sessions trunk satop command requests.Trunk = trunk
 by_request jobs filters checks sessions trunk satop command requests.Satop = satop
@@ -58,34 +68,35 @@ pub record NoRequest (command : CommandLine) (told : Result Totals ProgramFault)
   pub nothing : (request : Request) → ¬ IsRequest command request
   pub told_is : told ≡ Err program_faults.Nothing
 
--- nothing has happened to the streams: no read, no octet and no failure
-pub record AreNew (a : SessionStreams) : Type 0 where
-  pub unread : a.source.reads ≡ 0
-  pub no_octet : a.source.given ≡ Some []
-  pub no_failed_read : a.source.failures ≡ 0
-  pub no_failed_write : a.sink.failures ≡ 0
+-- nothing has happened to a source and a sink: no read, no octet and no failure
+pub record AreNew (s : SourceState) (k : SinkState) : Type 0 where
+  pub unread : s.reads ≡ 0
+  pub no_octet : s.given ≡ Some []
+  pub no_failed_read : s.failures ≡ 0
+  pub no_failed_write : k.failures ≡ 0
 
 -- this was done on new streams
 pub record OnNewStreams (does : SessionStreams → SessionStreams → Type 0) : Type 0 where
   pub before : SessionStreams
   pub after : SessionStreams
-  pub new : AreNew before
+  pub new : AreNew before.source before.sink
   pub done : does before after
 
--- the job was done with this result
-abbrev pub DoesJob : SpeechJob → Result Totals ProgramFault → Type 0
-DoesJob job told = OnNewStreams (λ a a'. Ended (λ end. MatchResult end
-    (Does job a.source a'.source a.sink a'.sink) (DoesUntil job a.source a'.source a.sink a'.sink)) told)
+-- the job was done from a source to a sink, with this result
+abbrev pub DoesJob : SpeechJob → SourceState → SourceState → SinkState → SinkState
+    → Result Totals ProgramFault → Type 0
+DoesJob job s s' k k' = Ended (λ end. MatchResult end (Does job s s' k k') (DoesUntil job s s' k k'))
 
 -- the file of reports that the command names
 abbrev pub reports_path_in : CommandLine → Option (List ℕ)
 reports_path_in command = text_in (codes "reports") command
 
--- a file of reports is named and can't be opened, and this is returned
-pub record LacksReports (named : Option (List ℕ)) (told : Result Totals ProgramFault) : Type 0 where
-  pub program_fault : ProgramFault
-  pub why : IsSomeAnd named (λ path. LacksReportsAt path program_fault)
-  pub told_is : told ≡ Err program_fault
+-- a file of reports is named and can't be opened, this is returned, and nothing was read or written
+abbrev pub LacksReports : Option (List ℕ) → SourceState → SourceState → SinkState → SinkState
+    → Result Totals ProgramFault → Type 0
+LacksReports named s s' k k' =
+    NotBegun {X = SourceState × SinkState} (s, k) (s', k')
+    (λ fault. IsSomeAnd named (λ path. LacksReportsAt path fault))
 
 -- this was done with the reports that came from the file, and none came where no file is named
 pub record WithReports (named : Option (List ℕ)) (does : Option (List ℕ) → Type 0) : Type 0 where
@@ -94,17 +105,17 @@ pub record WithReports (named : Option (List ℕ)) (does : Option (List ℕ) →
   pub done : does reports
 
 -- the filter ran with this result, and with the file of reports if one is named
-abbrev pub RunsFilter : Option (List ℕ) → Filter → Result Totals ProgramFault → Type 0
-RunsFilter named filter told = LacksReports named told ⊎ WithReports named (λ reports. OnNewStreams (λ a a'.
-    Ended (λ end. MatchResult end
-    (DoesFilter reports filter a.source a'.source a.sink a'.sink)
-    (DoesFilterUntil reports filter a.source a'.source a.sink a'.sink)) told))
+abbrev pub RunsFilter : Option (List ℕ) → Filter → SourceState → SourceState → SinkState → SinkState
+    → Result Totals ProgramFault → Type 0
+RunsFilter named filter s s' k k' told = LacksReports named s s' k k' told
+    ⊎ WithReports named (λ reports. Ended (λ end. MatchResult end
+    (DoesFilter reports filter s s' k k') (DoesFilterUntil reports filter s s' k k')) told)
 
 -- CRC-4 multiframes were checked with this result, and with the file of reports if one is named
-abbrev pub ChecksCrc4 : Option (List ℕ) → Result Totals ProgramFault → Type 0
-ChecksCrc4 named told = LacksReports named told ⊎ OnNewStreams (λ a a'.
-    IfOk told (HasChecked a.source a'.source a.sink a'.sink)
-    × IfErr told (HasCheckedUntil a.source a'.source a.sink a'.sink))
+abbrev pub ChecksCrc4 : Option (List ℕ) → SourceState → SourceState → SinkState → SinkState
+    → Result Totals ProgramFault → Type 0
+ChecksCrc4 named s s' k k' told = LacksReports named s s' k k' told
+    ⊎ (IfOk told (HasChecked s s' k k') × IfErr told (HasCheckedUntil s s' k k'))
 
 -- the file of the configuration, the state to load and the state to save that the command names
 abbrev pub config_in : CommandLine → Option (List ℕ)
@@ -119,10 +130,6 @@ save_in command = text_in (codes "save") command
 -- the wait of a seizure that the command asks for, in signals; none if it asks for none
 abbrev pub AsksWait : CommandLine → Option ℕ → Type 0
 AsksWait command wait = MatchOption wait ((signals : ℕ) → ¬ SaysWait command signals) (SaysWait command)
-
--- the log that the command names to be followed
-abbrev pub follow_in : CommandLine → Option (List ℕ)
-follow_in command = text_in (codes "follow") command
 
 -- the octet that the command names, from which on the log is read
 abbrev pub IsFrom : CommandLine → ℕ → Type 0
@@ -162,13 +169,21 @@ abbrev pub ByGateway : SessionStreams → SessionStreams → CommandLine → (Pr
     → Result Totals ProgramFault → (Config → Gateway → Gateway → Type 0) → Type 0
 ByGateway a a' command lacks told does = Performed a a' (files_in command) lacks does told
 
--- The session that the command names ended with this result, or was not begun for such a reason, and this is
--- known of its source. A replay began at the place `from`, and ended at the place `place`.
-abbrev pub EndsSession : CommandLine → SessionKind → (ProgramFault → Type 0) → (SourceState → Type 0) → ℕ → ℕ
-    → Result Totals ProgramFault → Type 0
-EndsSession command session lacks Given from place told = OnNewStreams (λ a a'. Given a'.source
-    × ByGateway a a' command lacks told (λ config gateway gateway'.
-    EndedSaved (RunsSession session a a' gateway gateway' from place)
+-- this was done from the source to the sink of streams, with some ports and some tape
+pub record OnStreams (a a' : SessionStreams) (does : SessionStreams → SessionStreams → Type 0) : Type 0 where
+  pub ports : PortsState
+  pub ports' : PortsState
+  pub tape : TapeState
+  pub tape' : TapeState
+  pub done : does (around a.source a.sink ports tape) (around a'.source a'.sink ports' tape')
+
+-- The session that the command names ended with this result, or was not begun for such a reason. A replay
+-- began at the place `from`, and ended at the place `place`.
+abbrev pub EndsSession : CommandLine → SessionKind → (ProgramFault → Type 0) → SessionStreams
+    → SessionStreams → ℕ → ℕ → Result Totals ProgramFault → Type 0
+EndsSession command session lacks a a' from place told = OnStreams a a' (λ b b'.
+    ByGateway b b' command lacks told (λ config gateway gateway'.
+    EndedSaved (RunsSession session b b' gateway gateway' from place)
     (IsSaved (save_in command) config.gateway gateway') told))
 
 -- a value was printed with its name, if the command asks for totals
@@ -181,7 +196,11 @@ IsPrinted command name value =
 pub record EndsOnLog (command : CommandLine) (session : SessionKind) (lacks : ProgramFault → Type 0)
     (path : List ℕ) (from : ℕ) (told : Result Totals ProgramFault) : Type 0 where
   pub place : ℕ
-  pub ends : EndsSession command session lacks (IsLogged path from) from place told
+  pub before : SessionStreams
+  pub after : SessionStreams
+  pub new : AreNew before.source before.sink
+  pub given : IsLogged path from after.source
+  pub ends : EndsSession command session lacks before after from place told
   pub tells : OnOk told (IsPrinted command (codes "place") place)
 
 -- so did the session on the log from the octet on that the command names, or the log was not opened
@@ -197,10 +216,3 @@ abbrev pub FollowsLog : CommandLine → SessionKind → (ProgramFault → Type 0
 FollowsLog command session lacks path told = HasFollowed command session lacks path told
     ⊎ ((told ≡ Err program_faults.Nothing)
     × ((config_in command ≡ None) ⊎ ((place : ℕ) → ¬ IsFrom command place)))
-
--- the session that the command names ended with this result, on standard input or on the log that is followed
-abbrev pub DoesSession : CommandLine → SessionKind → (ProgramFault → Type 0) → Result Totals ProgramFault
-    → Type 0
-DoesSession command session lacks told = MatchOption (follow_in command)
-    ((place : ℕ) × EndsSession command session lacks (λ _. ⊤) 0 place told)
-    (λ path. FollowsLog command session lacks path told)

@@ -7,6 +7,7 @@ ghost use Rattle.gw_program.specs.Files.{SystemSeeks, SystemRefusesSeek};
 ghost use Rattle.gw_program.specs.Files.{SystemCreates, SystemTakes, SystemFailsToWrite, SystemSyncs};
 ghost use Rattle.gw_program.specs.Files.{SystemAppends, SystemCreatesNew, SystemRenames};
 
+use crate::machine::Machine;
 use std::fs::{self, File, OpenOptions};
 use std::io::{self, Seek, SeekFrom, Write};
 use std::os::unix::fs::OpenOptionsExt;
@@ -17,7 +18,7 @@ const MODE: u32 = 0o640;
 
 /// The length of the regular file at a path; None if there is something else. The error is the system's.
 #[tactic(auto, unfolding(crate::specs::Files::SystemShowsFile, crate::specs::Files::SystemRefusesFile))]
-pub(crate) fn file_len(rt: &HostRuntime, path: &str) -> io::Result<Option<u64>>
+pub(crate) fn file_len(rt: &impl Machine, path: &str) -> io::Result<Option<u64>>
     ensures shows { IfOk result (SystemShowsFile path.now) }
     ensures err { IfErr result (SystemRefusesFile path.now) }
 {
@@ -30,7 +31,7 @@ pub(crate) fn file_len(rt: &HostRuntime, path: &str) -> io::Result<Option<u64>>
 
 /// Opens the file at a path, to be read. The error is the system's.
 #[tactic(auto, unfolding(crate::specs::Files::SystemOpens, crate::specs::Files::SystemRefusesFile))]
-pub(crate) fn open_file(rt: &HostRuntime, path: &str) -> io::Result<File>
+pub(crate) fn open_file(rt: &impl Machine, path: &str) -> io::Result<File>
     ensures opens { IfOk result (SystemOpens path.now) }
     ensures err { IfErr result (SystemRefusesFile path.now) }
 {
@@ -50,7 +51,7 @@ pub(crate) fn seek_to(file: &mut File, place: u64) -> io::Result<()>
 /// Creates the file at a path, or empties the one that is there, which keeps its permissions. The error is
 /// the system's.
 #[tactic(auto, unfolding(crate::specs::Files::SystemCreates, crate::specs::Files::SystemRefusesFile))]
-pub(crate) fn create_file(rt: &HostRuntime, path: &str) -> io::Result<File>
+pub(crate) fn create_file(rt: &impl Machine, path: &str) -> io::Result<File>
     ensures creates { IfOk result (SystemCreates path.now 416) }
     ensures err { IfErr result (SystemRefusesFile path.now) }
 {
@@ -64,7 +65,7 @@ pub(crate) fn create_file(rt: &HostRuntime, path: &str) -> io::Result<File>
 
 /// Creates the file at a path, where there is none. The error is the system's.
 #[tactic(auto, unfolding(crate::specs::Files::SystemCreatesNew, crate::specs::Files::SystemRefusesFile))]
-pub(crate) fn create_new_file(rt: &HostRuntime, path: &str) -> io::Result<File>
+pub(crate) fn create_new_file(rt: &impl Machine, path: &str) -> io::Result<File>
     ensures creates { IfOk result (SystemCreatesNew path.now 416) }
     ensures err { IfErr result (SystemRefusesFile path.now) }
 {
@@ -77,7 +78,7 @@ pub(crate) fn create_new_file(rt: &HostRuntime, path: &str) -> io::Result<File>
 
 /// Opens what is at a path, to be appended to. The error is the system's.
 #[tactic(auto, unfolding(crate::specs::Files::SystemAppends, crate::specs::Files::SystemRefusesFile))]
-pub(crate) fn append_file(rt: &HostRuntime, path: &str) -> io::Result<File>
+pub(crate) fn append_file(rt: &impl Machine, path: &str) -> io::Result<File>
     ensures appends { IfOk result (SystemAppends path.now) }
     ensures err { IfErr result (SystemRefusesFile path.now) }
 {
@@ -105,7 +106,7 @@ pub(crate) fn sync_file(file: &File) -> io::Result<()>
 
 /// Gives the file at a path another one, in place of what is there. The error is the system's.
 #[tactic(auto, unfolding(crate::specs::Files::SystemRenames, crate::specs::Files::SystemRefusesFile))]
-pub(crate) fn rename_file(rt: &HostRuntime, from: &str, to: &str) -> io::Result<()>
+pub(crate) fn rename_file(rt: &impl Machine, from: &str, to: &str) -> io::Result<()>
     ensures renames { OnOk result (SystemRenames from.now to.now) }
     ensures err { IfErr result (SystemRefusesFile to.now) }
 {

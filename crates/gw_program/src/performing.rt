@@ -1,17 +1,18 @@
 //! In which order a job or a session opens, runs, saves and ends, by what it has of the system (`System`).
 
-ghost use Rattle.std.specs.Prelude.{◌≡◌, ◌⊎◌, ◌-◌, ◌^◌, ◌<◌, IfOk, IfErr, MatchResult};
+ghost use Rattle.std.specs.Prelude.{◌≡◌, ◌⊎◌, ◌-◌, ◌^◌, ◌<◌, IfOk, IfErr};
 ghost use Rattle.gw_records.specs.Streams.{CanBegin};
 ghost use Rattle.gw_command.specs.declared.command.SessionKind.TheVariants.{Replay, Serve};
 ghost use Rattle.gw_session.specs.PacketPorts.{no_ports};
 ghost use Rattle.gw_session.specs.Serve.{around};
 ghost use Rattle.gw_session.specs.Tape.{no_tape};
-ghost use Rattle.gw_program.specs.Jobs.{Does, DoesUntil};
-ghost use Rattle.gw_program.specs.Performing.{Ended, NotBegun, Performed, HasServed, RunsSession, WithEnds};
+ghost use Rattle.gw_program.specs.Performing.{NotBegun, Performed, HasServed, RunsSession, WithEnds};
 ghost use Rattle.gw_program.specs.Performing.{LacksMore, LacksSession, LacksTapeOrPorts};
 ghost use Rattle.gw_program.specs.Performing.{told_as, IsTold, IsWatched, EndedSaved};
+ghost use Rattle.gw_program.specs.Requests.{DoesJob};
 
 use crate::jobs::do_job;
+use crate::machine::Machine;
 use crate::place::PlaceWatch;
 use crate::program_fault::ProgramFault;
 use crate::report::passed_over;
@@ -127,21 +128,29 @@ fn tell_passed_over(rt: &impl Eprint, job: &SpeechJob, totals: &Totals) {
     }
 }
 
+/// The source and the sink of a session, and the place in its input at which the next record begins.
+#[derive(Drop)]
+pub struct SessionEnds<S: Source, K: Sink> {
+    /// Where its octets come from.
+    pub source: S,
+    /// Where its answers go.
+    pub sink: K,
+    /// The place at which the next record begins.
+    pub place: u64,
+}
+
 /// Encodes or decodes standard input to standard output, and reports skipped datagrams.
 #[inline(never)]
 pub fn perform_job<S: Source + StandardInput, K: Sink + StandardOutput>(
-    rt: &HostRuntime,
+    rt: &impl Machine,
     job: &SpeechJob,
-    source: &mut S,
-    sink: &mut K,
+    ends: &mut SessionEnds<S, K>,
 ) -> Result<Totals, ProgramFault>
-    requires { CanBegin (S.tells source.old) (K.tells sink.old) }
-    ensures { Ended (λ end. MatchResult end
-        (Does job.now (S.tells source.old) (S.tells source.new) (K.tells sink.old) (K.tells sink.new))
-        (DoesUntil job.now (S.tells source.old) (S.tells source.new) (K.tells sink.old) (K.tells sink.new)))
-        result }
+    requires { CanBegin (S.tells ends.old.source) (K.tells ends.old.sink) }
+    ensures { DoesJob job.now (S.tells ends.old.source) (S.tells ends.new.source)
+        (K.tells ends.old.sink) (K.tells ends.new.sink) result }
 {
-    let ended = do_job(rt.alloc(), job, source, sink);
+    let ended = do_job(rt.alloc(), job, &mut ends.source, &mut ends.sink);
     if let Ok(totals) = &ended {
         tell_passed_over(rt, job, totals);
     }
@@ -173,14 +182,6 @@ pub fn end_session<Y: System>(
             Err(program_fault)
         }
     }
-}
-
-/// The source and the sink of a session, and the place in its input at which the next record begins.
-#[derive(Drop)]
-pub(crate) struct SessionEnds<S: Source, K: Sink> {
-    pub(crate) source: S,
-    pub(crate) sink: K,
-    pub(crate) place: u64,
 }
 
 // Replays with a gateway, and shows each record to a watch of the system.
@@ -248,7 +249,7 @@ fn perform_serve<Y: System, S: Source, K: Sink>(
 /// `serve` uses the system's ports and tape. If the system cannot provide one of these, its fault is
 /// returned, and nothing was read or written. After a replay the place of its ends is that behind the last
 /// whole record.
-pub(crate) fn perform_session<Y: System, S: Source + StandardInput, K: Sink + StandardOutput>(
+pub fn perform_session<Y: System, S: Source + StandardInput, K: Sink + StandardOutput>(
     system: &Y,
     alloc: Global,
     session: SessionKind,

@@ -10,6 +10,7 @@ ghost use Rattle.gw_program.specs.Recording.{IsDescriptor, IsOpenedAt, IsOpenedF
 ghost use Rattle.gw_program.specs.Recording.{SystemNeverWaits};
 
 use crate::files::{append_file, create_file, create_new_file, file_len};
+use crate::machine::Machine;
 use crate::program_fault::ProgramFault;
 use crate::recording_file::RecordingFile;
 use gw_session::{Recorder, TrunkRecord};
@@ -43,7 +44,7 @@ fn is_descriptor(path: &str) -> bool
 }
 
 // Opens a file that is there. A regular one is emptied; None if it may not be written over.
-fn open_old(rt: &HostRuntime, recording: Recording<'_>) -> io::Result<Option<File>>
+fn open_old(rt: &impl Machine, recording: Recording<'_>) -> io::Result<Option<File>>
     ensures some { IfOk result (λ found. IfSome found
         (IsOpenedAt recording.entry.path.now recording.entry.over)) }
     ensures none { IfOk result (λ found. IfNone found
@@ -58,7 +59,7 @@ fn open_old(rt: &HostRuntime, recording: Recording<'_>) -> io::Result<Option<Fil
 }
 
 // Opens the file of a recording: a new one, or what is there already. None if that may not be written over.
-fn open(rt: &HostRuntime, recording: Recording<'_>) -> io::Result<Option<File>>
+fn open(rt: &impl Machine, recording: Recording<'_>) -> io::Result<Option<File>>
     ensures some { IfOk result (λ found. IfSome found
         (IsOpenedAt recording.entry.path.now recording.entry.over)) }
     ensures none { IfOk result (λ found. IfNone found
@@ -91,7 +92,7 @@ pub(crate) fn never_wait(file: &File) -> io::Result<()>
 
 // Opens the file of a recording, whose writes wait only if they are to. None if the file that is there may
 // not be written over.
-fn open_as_asked(rt: &HostRuntime, recording: Recording<'_>) -> io::Result<Option<File>>
+fn open_as_asked(rt: &impl Machine, recording: Recording<'_>) -> io::Result<Option<File>>
     ensures some { IfOk result (λ found. IfSome found
         (IsOpenedFor recording.entry.path.now recording.entry.over recording.entry.waits)) }
     ensures none { IfOk result (λ found. IfNone found
@@ -124,7 +125,7 @@ fn open_room(alloc: Global) -> Option<Box<TrunkRecord>>
 ///
 /// [`ProgramFault::OldRecording`] if a regular file is there that may not be written over,
 /// [`ProgramFault::Recording`] if the system refuses the file, [`ProgramFault::OutOfMemory`].
-pub fn begin(rt: &HostRuntime, recording: Option<Recording<'_>>) -> Result<Tape, ProgramFault>
+pub fn begin(rt: &impl Machine, recording: Option<Recording<'_>>) -> Result<Tape, ProgramFault>
     ensures err { IfErr result (λ program_fault. IsSomeAnd recording.entry
         (λ asked. LacksRecording asked.path.now asked.over program_fault)) }
     ensures ok { IfOk result (λ tape. IsBegun recording.entry
@@ -140,7 +141,7 @@ pub fn begin(rt: &HostRuntime, recording: Option<Recording<'_>>) -> Result<Tape,
         return Err(ProgramFault::OutOfMemory);
     };
     match open_as_asked(rt, recording) {
-        Ok(Some(file)) => Ok(Some(Recorder::new(RecordingFile::new(file, rt.stderr()), room))),
+        Ok(Some(file)) => Ok(Some(Recorder::new(RecordingFile::new(file, rt.errors()), room))),
         Ok(None) => Err(ProgramFault::OldRecording),
         Err(error) => Err(ProgramFault::of(&error, ProgramFault::Recording)),
     }

@@ -6,6 +6,7 @@ ghost use Rattle.gw_program.specs.Recording.{SystemNeverWaits};
 ghost use Rattle.gw_program.specs.ReportsFile.{AreNotOpened, AreOpenAt, LacksReportsAt, SystemOpensBoth};
 
 use crate::files::file_len;
+use crate::machine::Machine;
 use crate::program_fault::ProgramFault;
 use crate::recording::never_wait;
 use std::fs::{File, OpenOptions};
@@ -13,7 +14,7 @@ use std::io;
 
 // Opens the file for both, so that the opening of a FIFO waits for nobody. The error is the system's.
 #[tactic(auto, unfolding(crate::specs::ReportsFile::SystemOpensBoth, crate::specs::Files::SystemRefusesFile))]
-fn open_both(rt: &HostRuntime, path: &str) -> io::Result<File>
+fn open_both(rt: &impl Machine, path: &str) -> io::Result<File>
     ensures opens { IfOk result (SystemOpensBoth path.now) }
     ensures err { IfErr result (SystemRefusesFile path.now) }
 {
@@ -21,7 +22,7 @@ fn open_both(rt: &HostRuntime, path: &str) -> io::Result<File>
 }
 
 // Opens the file for both, so that no call of it waits. The error is the system's.
-fn open(rt: &HostRuntime, path: &str) -> io::Result<File>
+fn open(rt: &impl Machine, path: &str) -> io::Result<File>
     ensures opens { IfOk result (SystemOpensBoth path.now) }
     ensures never_waits { IfOk result (λ file. SystemNeverWaits file) }
     ensures err { IfErr result (AreNotOpened path.now) }
@@ -36,7 +37,7 @@ fn open(rt: &HostRuntime, path: &str) -> io::Result<File>
 /// # Errors
 ///
 /// [`ProgramFault::Reports`] if it can't be opened or is a regular file, or want of memory.
-pub fn open_reports(rt: &HostRuntime, path: &str) -> Result<File, ProgramFault>
+pub fn open_reports(rt: &impl Machine, path: &str) -> Result<File, ProgramFault>
     ensures ok { IfOk result (AreOpenAt path.now) }
     ensures err { IfErr result (LacksReportsAt path.now) }
 {

@@ -1,35 +1,44 @@
 //! Which method is called for the subcommand of the command line (`perform`).
 
-ghost use Rattle.std.specs.Prelude.{◌⊎◌};
+ghost use Rattle.std.specs.Prelude.{◌⊎◌, MatchOption};
 ghost use Rattle.clap.specs.Words.{subcommand_rows_of};
-ghost use Rattle.gw_program.specs.Requests.{HasRequest, NoRequest, by_request};
+ghost use Rattle.gw_program.specs.Requests.{HasRequest, NoRequest, by_filter, by_request, follow_in};
 
 use crate::program_fault::ProgramFault;
 use clap::ArgMatches;
-use gw_command::{Filter, Request, SessionKind, SpeechJob, asks_check, request_of};
+use gw_command::{Filter, Request, SessionKind, SpeechJob, asks_check, follow_of, request_of};
 use gw_session::Totals;
 
-/// What the program does for its subcommands: one method for each. The relations belong to the type. A
-/// generic caller has them only for results that these calls returned.
+/// What the program does for its subcommands: one method for each, and one for sessions on a log. The
+/// relations belong to the type. A generic caller has them only for results that these calls returned.
 pub trait Commands {
-    ghost use Rattle.std.specs.Prelude.{Result};
+    ghost use Rattle.std.specs.Prelude.{List, Result, ℕ};
     ghost use Rattle.gw_command.specs.declared.command.Filter.{Filter};
     ghost use Rattle.gw_command.specs.declared.command.SpeechJob.{SpeechJob};
     ghost use Rattle.gw_command.specs.declared.command.SessionKind.{SessionKind};
     ghost use Rattle.gw_records.specs.declared.outcome.Totals.{Totals};
     ghost use Rattle.gw_program.specs.declared.program_fault.ProgramFault.{ProgramFault};
 
-    /// Holds of a job and its result.
-    ghost does_job: { Self → SpeechJob → Result Totals ProgramFault → Type 0 };
+    /// What a command is performed between.
+    type Ends: Drop;
 
-    /// Holds of a filter and its result.
-    ghost does_filter: { Self → Filter → Result Totals ProgramFault → Type 0 };
+    /// Holds of ends that nothing has happened to.
+    ghost are_new: { Self.Ends → Type 0 };
 
-    /// Holds of the result of checking CRC-4 multiframes.
-    ghost does_check: { Self → Result Totals ProgramFault → Type 0 };
+    /// Relates the ends before and after a job to it and its result.
+    ghost does_job: { Self → Self.Ends → Self.Ends → SpeechJob → Result Totals ProgramFault → Type 0 };
 
-    /// Holds of a session and its result.
-    ghost does_session: { Self → SessionKind → Result Totals ProgramFault → Type 0 };
+    /// Relates the ends before and after a filter to it and its result.
+    ghost does_filter: { Self → Self.Ends → Self.Ends → Filter → Result Totals ProgramFault → Type 0 };
+
+    /// Relates the ends before and after CRC-4 multiframes were checked to the result.
+    ghost does_check: { Self → Self.Ends → Self.Ends → Result Totals ProgramFault → Type 0 };
+
+    /// Relates the ends before and after a session to it and its result.
+    ghost does_session: { Self → Self.Ends → Self.Ends → SessionKind → Result Totals ProgramFault → Type 0 };
+
+    /// Holds of a session, the path of the log that it ran on, and its result.
+    ghost follows: { Self → SessionKind → List ℕ → Result Totals ProgramFault → Type 0 };
 
     /// Holds of the result of serving a trunk.
     ghost does_trunk: { Self → Result Totals ProgramFault → Type 0 };
@@ -38,51 +47,109 @@ pub trait Commands {
     ghost does_satop: { Self → Result Totals ProgramFault → Type 0 };
 
     /// Encodes or decodes a stream of speech.
-    fn job(&self, job: &SpeechJob) -> Result<Totals, ProgramFault>
-        ensures { does_job self.now job.now result };
+    fn job(&self, ends: &mut Self::Ends, job: &SpeechJob) -> Result<Totals, ProgramFault>
+        requires { are_new ends.old }
+        ensures { does_job self.now ends.old ends.new job.now result };
 
     /// Runs a filter of a trunk.
-    fn filter(&self, filter: Filter) -> Result<Totals, ProgramFault>
-        ensures { does_filter self.now filter result };
+    fn filter(&self, ends: &mut Self::Ends, filter: Filter) -> Result<Totals, ProgramFault>
+        requires { are_new ends.old }
+        ensures { does_filter self.now ends.old ends.new filter result };
 
     /// Checks the CRC-4 multiframes of a trunk.
-    fn check(&self) -> Result<Totals, ProgramFault>
-        ensures { does_check self.now result };
+    fn check(&self, ends: &mut Self::Ends) -> Result<Totals, ProgramFault>
+        requires { are_new ends.old }
+        ensures { does_check self.now ends.old ends.new result };
 
     /// Runs a session of a gateway.
-    fn session(&self, session: SessionKind) -> Result<Totals, ProgramFault>
-        ensures { does_session self.now session result };
+    fn session(&self, ends: &mut Self::Ends, session: SessionKind) -> Result<Totals, ProgramFault>
+        requires { are_new ends.old }
+        ensures { does_session self.now ends.old ends.new session result };
+
+    /// Runs a session of a gateway on the log at a path.
+    fn follow(
+        &self,
+        ends: Self::Ends,
+        session: SessionKind,
+        path: &str,
+    ) -> Result<Totals, ProgramFault>
+        ensures { follows self.now session path.now result };
 
     /// Serves a trunk.
-    fn trunk(&self) -> Result<Totals, ProgramFault>
+    fn trunk(&self, ends: Self::Ends) -> Result<Totals, ProgramFault>
         ensures { does_trunk self.now result };
 
     /// Carries a trunk over SAToP.
-    fn satop(&self) -> Result<Totals, ProgramFault>
+    fn satop(&self, ends: Self::Ends) -> Result<Totals, ProgramFault>
         ensures { does_satop self.now result };
 }
 
-/// Runs the subcommand that the command line names.
+// Runs a filter between the ends, or checks CRC-4 multiframes if the command line asks for it.
+fn run_filter<C: Commands>(
+    commands: &C,
+    ends: &mut C::Ends,
+    matches: &ArgMatches<'_>,
+    filter: Filter,
+) -> Result<Totals, ProgramFault>
+    requires { C.are_new ends.old }
+    ensures { by_filter (λ filter. C.does_filter commands.now ends.old ends.new filter result)
+        (C.does_check commands.now ends.old ends.new result) (subcommand_rows_of matches.now) filter }
+{
+    match filter {
+        Filter::Crc4 if asks_check(matches) => commands.check(ends),
+        _ => commands.filter(ends, filter),
+    }
+}
+
+// Runs a session between the ends, or on the log that the command line names to be followed.
+fn run_session<C: Commands>(
+    commands: &C,
+    ends: C::Ends,
+    matches: &ArgMatches<'_>,
+    session: SessionKind,
+) -> Result<Totals, ProgramFault>
+    requires { C.are_new ends }
+    ensures { (after : C.Ends) × MatchOption (follow_in (subcommand_rows_of matches.now))
+        (C.does_session commands.now ends after session result)
+        (λ path. C.follows commands.now session path result) }
+{
+    let mut ends = ends;
+    match follow_of(matches) {
+        Some(path) => commands.follow(ends, session, path),
+        None => commands.session(&mut ends, session),
+    }
+}
+
+/// Runs the subcommand that the command line names between these ends.
 ///
 /// # Errors
 ///
 /// [`ProgramFault::Nothing`] if the command line names no subcommand, otherwise the fault of the subcommand.
-pub fn perform<C: Commands>(commands: &C, matches: &ArgMatches<'_>) -> Result<Totals, ProgramFault>
-    ensures { HasRequest (subcommand_rows_of matches.now) (by_request
-        (λ job. C.does_job commands.now job result) (λ filter. C.does_filter commands.now filter result)
-        (C.does_check commands.now result) (λ session. C.does_session commands.now session result)
+pub fn perform<C: Commands>(
+    commands: &C,
+    ends: C::Ends,
+    matches: &ArgMatches<'_>,
+) -> Result<Totals, ProgramFault>
+    requires { C.are_new ends }
+    ensures { (after : C.Ends) × (HasRequest (subcommand_rows_of matches.now) (by_request
+        (λ job. C.does_job commands.now ends after job result)
+        (λ filter. C.does_filter commands.now ends after filter result)
+        (C.does_check commands.now ends after result)
+        (λ session. MatchOption (follow_in (subcommand_rows_of matches.now))
+        (C.does_session commands.now ends after session result)
+        (λ path. C.follows commands.now session path result))
         (C.does_trunk commands.now result) (C.does_satop commands.now result))
-        ⊎ NoRequest (subcommand_rows_of matches.now) result }
+        ⊎ NoRequest (subcommand_rows_of matches.now) result) }
 {
     let Some(request) = request_of(matches) else {
         return Err(ProgramFault::Nothing);
     };
+    let mut ends = ends;
     match request {
-        Request::SpeechJob(job) => commands.job(&job),
-        Request::Filter(Filter::Crc4) if asks_check(matches) => commands.check(),
-        Request::Filter(filter) => commands.filter(filter),
-        Request::Session(session) => commands.session(session),
-        Request::Trunk => commands.trunk(),
-        Request::Satop => commands.satop(),
+        Request::SpeechJob(job) => commands.job(&mut ends, &job),
+        Request::Filter(filter) => run_filter(commands, &mut ends, matches, filter),
+        Request::Session(session) => run_session(commands, ends, matches, session),
+        Request::Trunk => commands.trunk(ends),
+        Request::Satop => commands.satop(ends),
     }
 }

@@ -7,6 +7,7 @@ ghost use Rattle.gw_program.specs.Files.{SystemReads, SystemFailsToRead};
 ghost use Rattle.gw_program.specs.Setup.{Says, IsRefusedOf, LacksConfig, LacksConfigAt, IsMeant, PathGives};
 
 use crate::files::open_file;
+use crate::machine::Machine;
 use crate::program_fault::ProgramFault;
 use gw_config::Config;
 use std::alloc::Global;
@@ -81,7 +82,7 @@ fn config_of<T: Text>(alloc: Global, text: T) -> Result<Config, ProgramFault>
 /// [`ProgramFault::File`] if the system refuses the file or a read of it, [`ProgramFault::Config`] if its
 /// octets are no configuration, [`ProgramFault::OutOfMemory`].
 #[inline(never)]
-pub fn read_config(rt: &HostRuntime, path: &str) -> Result<Config, ProgramFault>
+pub fn read_config(rt: &impl Machine, path: &str) -> Result<Config, ProgramFault>
     ensures meant { IfOk result (IsMeant (PathGives path.now)) }
     ensures err { IfErr result (LacksConfigAt path.now) }
 {

@@ -6,6 +6,7 @@
 ghost use Rattle.std.specs.Prelude.{pos, true, false};
 ghost use Rattle.gw_program.specs.Standard.{IsReserved, IsUpTo, SystemOpensNull};
 
+use crate::machine::Machine;
 use std::fs::{File, OpenOptions};
 use std::os::fd::{AsRawFd, RawFd};
 use std::{fs, io};
@@ -24,7 +25,7 @@ pub struct ReservedDescriptors {
 
 // Opens the file that replaces a descriptor, to be written or to be read.
 #[tactic(auto, unfolding(crate::specs::Standard::SystemOpensNull))]
-fn open_null(rt: &HostRuntime, for_writing: bool) -> io::Result<File>
+fn open_null(rt: &impl Machine, for_writing: bool) -> io::Result<File>
     ensures { SystemOpensNull for_writing result }
 {
     if for_writing {
@@ -49,7 +50,7 @@ fn up_to(most: RawFd, opened: io::Result<File>) -> Option<File>
 }
 
 /// Opens a file for each of 0, 1 and 2 that is closed. If the system cannot open one, it stays closed.
-pub fn reserve_descriptors(rt: &HostRuntime) -> ReservedDescriptors
+pub fn reserve_descriptors(rt: &impl Machine) -> ReservedDescriptors
     ensures input { IsReserved (pos 0) true result.input }
     ensures output { IsReserved (pos 2) false result.output }
     ensures error { IsReserved (pos 2) false result.error }

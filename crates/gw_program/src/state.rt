@@ -17,6 +17,7 @@ ghost use Rattle.byteorder.specs.Endian.{big_bytes};
 ghost use Rattle.gw_program.specs.declared.program_fault.ProgramFault.TheVariants.{OtherPlace};
 
 use crate::files::{create_file, file_len, open_file, rename_file, sync_file, write_file};
+use crate::machine::Machine;
 use crate::program_fault::ProgramFault;
 use crate::setup::Text;
 use byteorder::{BigEndian, ByteOrder};
@@ -174,14 +175,14 @@ fn is_same(old: &CircuitConfig, config: &CircuitConfig) -> bool
 
 // Reports that a circuit begins as new.
 #[tactic(auto, unfolding(crate::specs::Renewals::SystemTellsNew))]
-fn tell_new(rt: &HostRuntime, circuit: usize)
+fn tell_new(rt: &impl Machine, circuit: usize)
     ensures { SystemTellsNew circuit }
 {
     let _ = eprintln!(rt; "circuit {} begins as new", circuit);
 }
 
 // Reports that a circuit begins as new if its configuration changed.
-fn tell_changed(rt: &HostRuntime, circuit: usize, old: &CircuitConfig, config: &CircuitConfig)
+fn tell_changed(rt: &impl Machine, circuit: usize, old: &CircuitConfig, config: &CircuitConfig)
     ensures { old.now ≢ config.now → SystemTellsNew circuit }
 {
     if !is_same(old, config) {
@@ -190,7 +191,7 @@ fn tell_changed(rt: &HostRuntime, circuit: usize, old: &CircuitConfig, config: &
 }
 
 // Reports which circuits begin as new, since their configuration changed.
-fn tell_renewed(rt: &HostRuntime, old: &GatewayConfig, config: &GatewayConfig)
+fn tell_renewed(rt: &impl Machine, old: &GatewayConfig, config: &GatewayConfig)
     ensures { AreTold old.now config.now 30 }
 {
     for at in 0..config.circuits.len() {
@@ -200,7 +201,7 @@ fn tell_renewed(rt: &HostRuntime, old: &GatewayConfig, config: &GatewayConfig)
 
 // Loads the gateway whose state is in the file at a path, with this configuration.
 fn loaded_gateway(
-    rt: &HostRuntime,
+    rt: &impl Machine,
     config: &GatewayConfig,
     path: &str,
     place: Option<u64>,
@@ -230,7 +231,7 @@ fn open_gateway(alloc: Global, config: &GatewayConfig) -> Result<Gateway, AllocE
 
 // Loads the gateway whose state is in a file if one is named; otherwise opens a new one.
 fn first_gateway(
-    rt: &HostRuntime,
+    rt: &impl Machine,
     config: &GatewayConfig,
     path: Option<&str>,
     place: Option<u64>,
@@ -265,7 +266,7 @@ fn waiting(gateway: Gateway, wait: Option<u16>) -> Gateway
 /// Circuits whose configuration changed begin as new, and standard error says which. A checkpoint of another
 /// place than `place`, if there is one, is refused.
 pub fn begin_gateway(
-    rt: &HostRuntime,
+    rt: &impl Machine,
     config: &GatewayConfig,
     path: Option<&str>,
     place: Option<u64>,
@@ -292,7 +293,7 @@ fn unfinished(alloc: Global, path: &str) -> Result<String, AllocError>
 }
 
 // Writes octets to a new file at a path, which the disk keeps. The error is the system's.
-fn write_new(rt: &HostRuntime, octets: &[u8], path: &str) -> io::Result<()>
+fn write_new(rt: &impl Machine, octets: &[u8], path: &str) -> io::Result<()>
     ensures ok { OnOk result (IsWritten path.now octets.now) }
     ensures err { IfErr result (IsUnwritten path.now) }
 {
@@ -304,7 +305,7 @@ fn write_new(rt: &HostRuntime, octets: &[u8], path: &str) -> io::Result<()>
 
 // Writes octets to a new file at a path, and gives it another one. What can't be written whole is removed.
 // The error is the system's.
-fn replace(rt: &HostRuntime, octets: &[u8], new: &str, path: &str) -> io::Result<()>
+fn replace(rt: &impl Machine, octets: &[u8], new: &str, path: &str) -> io::Result<()>
     ensures written { OnOk result (IsWritten new.now octets.now) }
     ensures renamed { OnOk result (SystemRenames new.now path.now) }
     ensures err { IfErr result (λ error. IsUnwritten new.now error ⊎ SystemRefusesFile path.now error) }
@@ -317,7 +318,7 @@ fn replace(rt: &HostRuntime, octets: &[u8], new: &str, path: &str) -> io::Result
 }
 
 // Whether the path has nothing, or a regular file that may be replaced.
-fn is_replaced(rt: &HostRuntime, path: &str) -> bool
+fn is_replaced(rt: &impl Machine, path: &str) -> bool
     ensures yes { result ≡ true → IsReplaced path.now }
     ensures no { result ≡ false → SystemShowsFile path.now None }
 {
@@ -330,7 +331,7 @@ fn is_replaced(rt: &HostRuntime, path: &str) -> bool
 
 // Keeps octets in the file at a path. They are written beside it, synced and renamed. If that fails, the old
 // file stays as it was.
-fn keep_at(rt: &HostRuntime, octets: &[u8], path: &str) -> Result<(), ProgramFault>
+fn keep_at(rt: &impl Machine, octets: &[u8], path: &str) -> Result<(), ProgramFault>
     ensures { Keeps path.now octets.now result }
 {
     if !is_replaced(rt, path) {
@@ -348,7 +349,7 @@ fn keep_at(rt: &HostRuntime, octets: &[u8], path: &str) -> Result<(), ProgramFau
 
 /// Saves the state of a gateway to a file, if one is named.
 pub fn keep_gateway(
-    rt: &HostRuntime,
+    rt: &impl Machine,
     config: &GatewayConfig,
     gateway: &Gateway,
     path: Option<&str>,
@@ -366,7 +367,7 @@ pub fn keep_gateway(
 
 /// Writes a checkpoint of a gateway to a file, as a state is saved.
 pub fn keep_checkpoint(
-    rt: &HostRuntime,
+    rt: &impl Machine,
     config: &GatewayConfig,
     gateway: &Gateway,
     place: u64,

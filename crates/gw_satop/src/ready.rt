@@ -11,6 +11,7 @@ use gw_trunk::{
 };
 use mio::Interest;
 use std::io;
+use std::net::Net;
 use std::time::Duration;
 
 /// Whether a descriptor has something to read.
@@ -61,7 +62,11 @@ pub struct WhenReady<I: TrunkInput, W: Readiness> {
 impl<I: TrunkInput + Drop> WhenReady<I, Waiting> {
     /// A trunk read from `incoming` only when its descriptor is ready. The error is the system's.
     #[tactic(auto, unfolding(crate::specs::Opening::SystemRefusesTrunk))]
-    pub fn open(rt: &HostRuntime, incoming: I, descriptor: i32) -> io::Result<WhenReady<I, Waiting>>
+    pub fn open(
+        rt: &(impl Net + AllocGlobal),
+        incoming: I,
+        descriptor: i32,
+    ) -> io::Result<WhenReady<I, Waiting>>
         ensures ok { IfOk result (λ r. r.incoming ≡ incoming) }
         ensures err { IfErr result SystemRefusesTrunk }
     {
@@ -76,7 +81,7 @@ impl<I: TrunkInput + Drop> WhenReady<I, Waiting> {
 // A trunk's input from a reader with this descriptor.
 #[tactic(auto, unfolding(crate::specs::Opening::SystemRefusesTrunk))]
 fn device<R: DeviceReader + Drop>(
-    rt: &HostRuntime,
+    rt: &(impl Net + AllocGlobal),
     reader: R,
     descriptor: i32,
 ) -> io::Result<FromDevice<R>>
@@ -89,7 +94,7 @@ fn device<R: DeviceReader + Drop>(
 
 /// A trunk's input from a reader, only when its descriptor is ready. The error is the system's.
 pub fn open_input<R: DeviceReader + Drop>(
-    rt: &HostRuntime,
+    rt: &(impl Net + AllocGlobal),
     reader: R,
     descriptor: i32,
 ) -> io::Result<WhenReady<FromDevice<R>, Waiting>>
@@ -104,7 +109,7 @@ pub fn open_input<R: DeviceReader + Drop>(
 /// A trunk's output to a writer with this descriptor. The error is the system's.
 #[tactic(auto, unfolding(crate::specs::Opening::SystemRefusesTrunk))]
 pub fn open_output<W: DeviceWriter + Drop>(
-    rt: &HostRuntime,
+    rt: &(impl Net + AllocGlobal),
     writer: W,
     descriptor: i32,
 ) -> io::Result<ToDevice<W>>

@@ -13,8 +13,9 @@ use gw_trunk::Waiting;
 use gw_udp::Socket;
 use mio::unix::SourceFd;
 use mio::{Events, Interest, Poll, Token};
-use std::io;
+use std::net::Net;
 use std::time::{Duration, Instant};
+use std::{io, rt};
 
 const TRUNK: usize = 0;
 
@@ -26,8 +27,8 @@ const STDERR: i32 = 2;
 /// The clock of this system, the descriptor that the trunk's octets come from, the socket, and standard
 /// error.
 #[derive(Drop)]
-pub struct SystemClock<'r> {
-    rt: &'r HostRuntime,
+pub struct SystemClock<'r, R> {
+    rt: &'r R,
     started: Instant,
     now: u64,
     poll: Poll,
@@ -38,14 +39,14 @@ pub struct SystemClock<'r> {
     waits: Log,
 }
 
-impl<'r> SystemClock<'r> {
+impl<'r, R: Net + rt::Clock + Eprint + AllocGlobal> SystemClock<'r, R> {
     /// Waits for the socket of the far end and for a descriptor. The error is the system's.
     #[tactic(auto, unfolding(crate::specs::Opening::SystemRefusesTrunk))]
     pub fn open<S: Socket>(
-        rt: &'r HostRuntime,
+        rt: &'r R,
         descriptor: i32,
         peer: &mut UdpPeer<S>,
-    ) -> io::Result<SystemClock<'r>>
+    ) -> io::Result<SystemClock<'r, R>>
         ensures received { peer.new.received ≡ peer.old.received }
         ensures sent { peer.new.sent ≡ peer.old.sent }
         ensures watched { IfOk result (λ _. (agreed : Bool) × S.watches peer.new.socket 1 agreed) }
@@ -81,7 +82,7 @@ fn micros_of(time: Duration) -> u64
 
 // How long ago a start was; None if the system does not say it.
 #[tactic(auto, unfolding(crate::specs::System::SystemShows))]
-fn passed_since(rt: &HostRuntime, started: &Instant) -> Option<Duration>
+fn passed_since(rt: &impl rt::Clock, started: &Instant) -> Option<Duration>
     ensures { SystemShows started.now result }
 {
     started.elapsed(rt).ok()
@@ -89,13 +90,13 @@ fn passed_since(rt: &HostRuntime, started: &Instant) -> Option<Duration>
 
 // Prints counts on standard error.
 #[tactic(auto, unfolding(crate::specs::System::SystemPrintsCounts))]
-fn print_counts(rt: &HostRuntime, counts: &Counts)
+fn print_counts(rt: &impl Eprint, counts: &Counts)
     ensures { SystemPrintsCounts counts.now }
 {
     let _ = eprintln!(rt; "{}", counts);
 }
 
-impl Clock for SystemClock<'_> {
+impl<R: rt::Clock + Eprint> Clock for SystemClock<'_, R> {
     ghost time = { λ s. s.now };
 
     ghost waits = { λ s. length s.waits.octets };

@@ -14,8 +14,8 @@ use clap::ArgMatches;
 use gw_command::{checkpoint_of, load_of, save_of, seizure_wait_of, tell_of};
 use gw_config::Config;
 use gw_program::{
-    ProgramFault, Recording, RecordingFile, System, Tape, begin, begin_gateway, keep_checkpoint,
-    keep_gateway, print_fault, read_config,
+    Machine, ProgramFault, Recording, RecordingFile, System, Tape, begin, begin_gateway,
+    keep_checkpoint, keep_gateway, print_fault, read_config,
 };
 use gw_repeat::{Repeating, packet_words};
 use gw_session::Recorder;
@@ -39,7 +39,7 @@ fn of_opening(fault: OpenFault) -> ProgramFault
 // Opens the socket of `--tell` at a path. The error is the system's, or that memory was refused.
 #[tactic(auto, unfolding(crate::specs::Lacking::SystemRefusesTeller, crate::specs::Telling::SystemAcceptsAt))]
 fn open_teller(
-    rt: &HostRuntime,
+    rt: &impl Machine,
     path: &str,
     config: &Config,
     gateway: &Gateway,
@@ -52,8 +52,8 @@ fn open_teller(
 
 /// What a session or a trunk takes from this system, by the matches of the command line.
 #[derive(Drop)]
-pub struct Local<'m> {
-    rt: &'m HostRuntime,
+pub struct Local<'m, R> {
+    rt: &'m R,
     /// The path of the configuration.
     pub path: &'m str,
     /// Who may send to the circuits.
@@ -76,7 +76,7 @@ pub struct Local<'m> {
     pub tell: Option<&'m str>,
 }
 
-impl System for Local<'_> {
+impl<R: Machine> System for Local<'_, R> {
     ghost use Rattle.std.specs.Prelude.{IsSomeAnd, MatchOption, None, string_bytes, []};
     ghost use Rattle.gw_program.specs.Performing.{IsBegun};
     ghost use Rattle.gw_program.specs.Recording.{IsOpenedFor, LacksRecording};
@@ -203,12 +203,12 @@ impl System for Local<'_> {
 
 /// What the matches say of the session or the trunk that they ask for, with its configuration at the path.
 /// `waits` says whether its recording is waited for: that of a trunk never is.
-pub fn local_of<'m>(
-    rt: &'m HostRuntime,
+pub fn local_of<'m, R: Machine>(
+    rt: &'m R,
     matches: &'m ArgMatches<'_>,
     path: &'m str,
     waits: bool,
-) -> Local<'m>
+) -> Local<'m, R>
     ensures path { result.path.now ≡ path.now }
     ensures senders { AreSenders (subcommand_rows_of matches.now) result.senders }
     ensures repeat { IsRepeat (subcommand_rows_of matches.now) result.repeat }

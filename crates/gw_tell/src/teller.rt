@@ -23,6 +23,8 @@ use gw_trunk::{accept, open_door};
 use mio::net::{UnixListener, UnixStream};
 use std::alloc::Global;
 use std::io;
+use std::net::Net;
+use std::rt::Files;
 
 // How many clients there may be at once.
 const MOST_CLIENTS: usize = 8;
@@ -117,7 +119,12 @@ impl Teller {
 
     /// Listens at a path, with no client yet, and takes the memory of all places. The error is the system's,
     /// or that memory was refused.
-    pub fn open(rt: &HostRuntime, path: &str, law: Law, gateway: &Gateway) -> io::Result<Teller>
+    pub fn open(
+        rt: &(impl Files + Net + AllocGlobal),
+        path: &str,
+        law: Law,
+        gateway: &Gateway,
+    ) -> io::Result<Teller>
         ensures { IfOk result (λ t. HasBegun t law gateway.now) }
     {
         let door = open_door(rt, path)?;

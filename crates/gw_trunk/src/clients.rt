@@ -20,6 +20,7 @@ use crate::readiness::{open_poll, renew, wait_for_events, watch, watch_descripto
 use mio::net::{UnixListener, UnixStream};
 use mio::{Events, Interest, Poll};
 use std::io::{self, ErrorKind};
+use std::net::Net;
 use std::time::Duration;
 
 // How many clients there may be at once.
@@ -233,7 +234,7 @@ impl Clients {
     /// Clients who connect to `door`, with none yet, and what a descriptor waits with them. The answers to
     /// them come from `answers`, which never waits. The error is the system's.
     pub fn open(
-        rt: &HostRuntime,
+        rt: &(impl Net + AllocGlobal),
         descriptor: i32,
         mut door: UnixListener,
         answers: UnixStream,

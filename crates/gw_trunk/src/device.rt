@@ -16,6 +16,7 @@ use crate::waiting::Waiting;
 use gw_records::{AtStart, Log};
 use mio::Interest;
 use std::io;
+use std::net::Net;
 use std::time::Duration;
 use thiserror::Error;
 
@@ -231,7 +232,11 @@ impl NoClients {
 
 impl<R: DeviceReader + Drop> FromDevice<R> {
     /// A trunk's input from a reader with this descriptor, without clients. The error is the system's.
-    pub fn open(rt: &HostRuntime, reader: R, descriptor: i32) -> io::Result<FromDevice<R>>
+    pub fn open(
+        rt: &(impl Net + AllocGlobal),
+        reader: R,
+        descriptor: i32,
+    ) -> io::Result<FromDevice<R>>
         ensures reader { IfOk result (λ d. d.reader.reader ≡ reader) }
         ensures start { IfOk result (λ d. d.reader.start.value ≡ reader) }
         ensures log { IfOk result (λ d. d.reader.log.octets ≡ []) }
@@ -248,7 +253,11 @@ impl<R: DeviceReader + Drop> FromDevice<R> {
 
 impl<W: DeviceWriter + Drop> ToDevice<W> {
     /// A trunk's output to a writer with this descriptor. The error is the system's.
-    pub fn open(rt: &HostRuntime, writer: W, descriptor: i32) -> io::Result<ToDevice<W>>
+    pub fn open(
+        rt: &(impl Net + AllocGlobal),
+        writer: W,
+        descriptor: i32,
+    ) -> io::Result<ToDevice<W>>
         ensures writer { IfOk result (λ d. d.writer ≡ writer) }
         ensures start { IfOk result (λ d. d.start.value ≡ writer) }
         ensures log { IfOk result (λ d. d.log.octets ≡ []) }

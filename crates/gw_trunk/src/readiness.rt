@@ -9,11 +9,12 @@ use mio::event::Source;
 use mio::unix::SourceFd;
 use mio::{Events, Interest, Poll, Token};
 use std::io;
+use std::net::Net;
 use std::time::Duration;
 
 /// What is waited by, for this many events at once. The error is the system's.
 #[tactic(auto, unfolding(crate::specs::System::SystemRefusesStream))]
-pub fn open_poll(rt: &HostRuntime, capacity: usize) -> io::Result<(Poll, Events)>
+pub fn open_poll(rt: &(impl Net + AllocGlobal), capacity: usize) -> io::Result<(Poll, Events)>
     ensures { IfErr result SystemRefusesStream }
 {
     let poll = Poll::new(rt)?;

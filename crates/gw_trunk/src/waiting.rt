@@ -9,6 +9,7 @@ use crate::readiness::{open_poll, renew, wait_for_events, watch_descriptor};
 use mio::unix::SourceFd;
 use mio::{Events, Interest, Poll, Token};
 use std::io;
+use std::net::Net;
 use std::time::Duration;
 
 /// Waits for one descriptor of the system, which the caller keeps open.
@@ -22,7 +23,11 @@ pub struct Waiting {
 
 impl Waiting {
     /// Waits for a descriptor in the way of `interest`. The error is the system's.
-    pub fn open(rt: &HostRuntime, descriptor: i32, interest: Interest) -> io::Result<Waiting>
+    pub fn open(
+        rt: &(impl Net + AllocGlobal),
+        descriptor: i32,
+        interest: Interest,
+    ) -> io::Result<Waiting>
         ensures ok { IfOk result (WaitsFor descriptor interest) }
         ensures err { IfErr result SystemRefusesStream }
     {

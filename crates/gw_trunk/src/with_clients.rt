@@ -20,7 +20,9 @@ use crate::logged_reader::LoggedReader;
 use gw_records::Log;
 use mio::net::{UnixListener, UnixStream};
 use std::io;
+use std::net::Net;
 use std::os::fd::AsRawFd;
+use std::rt::Files;
 
 /// A reader of std over a descriptor, and the clients of a Unix socket. The reader is read only if octets
 /// have come, so one that waits for them keeps no client from being asked.
@@ -50,7 +52,7 @@ impl<R: DeviceReader + Drop> WithClients<R> {
     /// What comes from the reader, whose descriptor this is, and from those who connect to `door`. The
     /// answers to them come from `answers`, which never waits. The error is the system's.
     pub fn open(
-        rt: &HostRuntime,
+        rt: &(impl Net + AllocGlobal),
         reader: R,
         descriptor: i32,
         door: UnixListener,
@@ -87,7 +89,7 @@ impl<R: DeviceReader + Drop> WithClients<R> {
 
 // Two connections, each the other's end. The error is the system's.
 #[tactic(auto, unfolding(crate::specs::System::SystemPairs, crate::specs::System::SystemRefusesStream))]
-fn open_pair(rt: &HostRuntime) -> io::Result<(UnixStream, UnixStream)>
+fn open_pair(rt: &impl Net) -> io::Result<(UnixStream, UnixStream)>
     ensures ok { IfOk result (λ both. SystemPairs both.0 both.1) }
     ensures err { IfErr result SystemRefusesStream }
 {
@@ -98,7 +100,7 @@ fn open_pair(rt: &HostRuntime) -> io::Result<(UnixStream, UnixStream)>
 /// and what takes the answers to them. An old socket there at which nobody listens is replaced. The error is
 /// the system's.
 pub fn open_clients<R: DeviceReader + Drop>(
-    rt: &HostRuntime,
+    rt: &(impl Files + Net + AllocGlobal),
     reader: R,
     descriptor: i32,
     path: &str,

@@ -12,10 +12,11 @@ use crate::asked::{CircuitAsked, circuit_asked};
 use crate::ends::{open_clock, open_far_end, open_receiver, open_stdin, open_stdout, start_of};
 use crate::sealed::{CircuitClock, FarEnd, TrunkDevice, TrunkSource};
 use clap::ArgMatches;
-use gw_program::ProgramFault;
+use gw_program::{Machine, ProgramFault};
 use gw_records::{NO_TOTALS, RunFault, Totals};
 use gw_satop::{Clock, Peer, PlayClock, SatopCircuit, Sender, carry_satop};
 use gw_trunk::{TrunkInput, TrunkOutput};
+use std::rt::{Stdin, Stdout};
 
 // Carries an emulated circuit until no octet comes from the trunk any more.
 fn perform_satop<
@@ -70,7 +71,7 @@ fn emulate_between<
     P: Peer + FarEnd + Drop,
     M: Clock + CircuitClock + Drop,
 >(
-    rt: &HostRuntime,
+    rt: &impl Machine,
     asked: CircuitAsked,
     ends: CircuitEnds<I, O, P, M>,
 ) -> Result<Totals, ProgramFault>
@@ -97,10 +98,12 @@ fn emulate_between<
 
 // Carries an emulated circuit between standard input and output and the far end.
 fn emulate_over<P: Peer + FarEnd + Drop, M: Clock + CircuitClock + Drop>(
-    rt: &HostRuntime,
+    rt: &impl Machine,
     asked: CircuitAsked,
     peer: P,
     clock: M,
+    input: Stdin,
+    output: Stdout,
 ) -> Result<Totals, ProgramFault>
     requires received { P.received peer ≡ [] }
     requires sent { P.sent peer ≡ [] }
@@ -108,8 +111,8 @@ fn emulate_over<P: Peer + FarEnd + Drop, M: Clock + CircuitClock + Drop>(
         → IsAsked command asked.settings asked.timing asked.rtp asked.sequence
         → DoesSatop command result }
 {
-    let incoming = open_stdin(rt)?;
-    let outgoing = open_stdout(rt)?;
+    let incoming = open_stdin(rt, input)?;
+    let outgoing = open_stdout(rt, output)?;
     let ends = CircuitEnds {
         incoming,
         outgoing,
@@ -127,11 +130,16 @@ fn emulate_over<P: Peer + FarEnd + Drop, M: Clock + CircuitClock + Drop>(
 /// is no size of a packet, [`ProgramFault::FarEnd`] if there is no socket, [`ProgramFault::Trunk`] if a
 /// stream can't be waited for, [`ProgramFault::OutOfMemory`], or [`ProgramFault::Session`] if the trunk
 /// fails.
-pub fn emulate(rt: &HostRuntime, matches: &ArgMatches<'_>) -> Result<Totals, ProgramFault>
+pub fn emulate<R: Machine>(
+    rt: &R,
+    matches: &ArgMatches<'_>,
+    input: Stdin,
+    output: Stdout,
+) -> Result<Totals, ProgramFault>
     ensures { DoesSatop (subcommand_rows_of matches.now) result }
 {
     let asked = circuit_asked(matches)?;
     let mut peer = open_far_end(rt, matches)?;
     let clock = open_clock(rt, &mut peer)?;
-    emulate_over(rt, asked, peer, clock)
+    emulate_over(rt, asked, peer, clock, input, output)
 }

@@ -9,7 +9,7 @@ ghost use Rattle.gw_satop.specs.Line.{HasPlayed};
 
 use clap::ArgMatches;
 use gw_command::{satop_local_of, satop_peer_of};
-use gw_program::ProgramFault;
+use gw_program::{Machine, ProgramFault};
 use gw_satop::{
     Receiver, SenderSettings, SystemClock, UdpPeer, WhenReady, open_input, open_output,
 };
@@ -27,14 +27,14 @@ const STDOUT: i32 = 1;
 
 // Draws octets at random.
 #[tactic(auto, unfolding(crate::specs::Satop::SystemFills))]
-fn draw(rt: &HostRuntime, octets: &mut [u8])
+fn draw(rt: &impl Machine, octets: &mut [u8])
     ensures { SystemFills octets.old octets.new }
 {
     let _ = rt.fill_bytes(octets);
 }
 
 // A random number of 16 bits; 0 if the system has none.
-fn draw_16(rt: &HostRuntime) -> u16
+fn draw_16(rt: &impl Machine) -> u16
     ensures { IsDrawn16 result }
 {
     let mut octets = [0u8; 2];
@@ -43,7 +43,7 @@ fn draw_16(rt: &HostRuntime) -> u16
 }
 
 // A random number of 32 bits; 0 if the system has none.
-fn draw_32(rt: &HostRuntime) -> u32
+fn draw_32(rt: &impl Machine) -> u32
     ensures { IsDrawn32 result }
 {
     let mut octets = [0u8; 4];
@@ -52,7 +52,7 @@ fn draw_32(rt: &HostRuntime) -> u32
 }
 
 // The number of the first packet: the one that is asked for, if one is, else a random one.
-fn first_number(rt: &HostRuntime, asked: Option<u16>) -> u16
+fn first_number(rt: &impl Machine, asked: Option<u16>) -> u16
     ensures { MatchOption asked (IsDrawn16 result) (λ n. result ≡ n) }
 {
     match asked {
@@ -64,7 +64,7 @@ fn first_number(rt: &HostRuntime, asked: Option<u16>) -> u16
 // How the packets of an emulated circuit begin: at random numbers (RFC 3550, 5.1), but for one that is asked
 // for.
 pub(crate) fn start_of(
-    rt: &HostRuntime,
+    rt: &impl Machine,
     size: usize,
     rtp: Option<u8>,
     sequence: Option<u16>,
@@ -86,7 +86,7 @@ pub(crate) fn start_of(
 
 // Opens the socket of the SAToP far end that the matches name.
 pub(crate) fn open_far_end(
-    rt: &HostRuntime,
+    rt: &impl Machine,
     matches: &ArgMatches<'_>,
 ) -> Result<UdpPeer<SystemSocket>, ProgramFault>
     ensures received { IfOk result (λ p. p.received.datagrams ≡ []) }
@@ -107,33 +107,37 @@ pub(crate) fn open_far_end(
 
 // Opens the trunk of `satop` at standard input, read only when ready.
 pub(crate) fn open_stdin(
-    rt: &HostRuntime,
+    rt: &impl Machine,
+    input: Stdin,
 ) -> Result<WhenReady<FromDevice<Stdin>, Waiting>, ProgramFault>
     ensures came { IfOk result (λ r. r.incoming.reader.log.octets ≡ []) }
     ensures err { IfErr result LacksStream }
 {
-    match open_input(rt, rt.stdin(), STDIN) {
+    match open_input(rt, input, STDIN) {
         Ok(incoming) => Ok(incoming),
         Err(error) => Err(ProgramFault::of(&error, ProgramFault::Trunk)),
     }
 }
 
 // Opens the trunk of `satop` at standard output.
-pub(crate) fn open_stdout(rt: &HostRuntime) -> Result<ToDevice<Stdout>, ProgramFault>
+pub(crate) fn open_stdout(
+    rt: &impl Machine,
+    output: Stdout,
+) -> Result<ToDevice<Stdout>, ProgramFault>
     ensures went { IfOk result (λ d. d.log.octets ≡ []) }
     ensures err { IfErr result LacksStream }
 {
-    match open_output(rt, rt.stdout(), STDOUT) {
+    match open_output(rt, output, STDOUT) {
         Ok(outgoing) => Ok(outgoing),
         Err(error) => Err(ProgramFault::of(&error, ProgramFault::Trunk)),
     }
 }
 
 // Opens the clock of `satop`, which waits for both of its ends.
-pub(crate) fn open_clock<'r>(
-    rt: &'r HostRuntime,
+pub(crate) fn open_clock<'r, R: Machine>(
+    rt: &'r R,
     peer: &mut UdpPeer<SystemSocket>,
-) -> Result<SystemClock<'r>, ProgramFault>
+) -> Result<SystemClock<'r, R>, ProgramFault>
     ensures received { peer.new.received ≡ peer.old.received }
     ensures sent { peer.new.sent ≡ peer.old.sent }
     ensures err { IfErr result LacksStream }
@@ -157,7 +161,7 @@ fn receiver_of(alloc: Global, settings: Settings, rtp: bool) -> Result<Receiver,
 
 // Takes memory for the received half of a circuit.
 pub(crate) fn open_receiver(
-    rt: &HostRuntime,
+    rt: &impl Machine,
     settings: Settings,
     rtp: bool,
 ) -> Result<Receiver, ProgramFault>

@@ -25,4 +25,4 @@ impl TrunkDevice for ToDevice<Stdout> {}
 
 impl FarEnd for UdpPeer<SystemSocket> {}
 
-impl CircuitClock for SystemClock<'_> {}
+impl<R> CircuitClock for SystemClock<'_, R> {}

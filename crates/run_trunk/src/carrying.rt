@@ -14,7 +14,7 @@ use clap::ArgMatches;
 use g704_bits::BitAligner;
 use gw_command::{asks_align, control_of, end_of, wants_totals};
 use gw_filtered::{FilteredInput, Switch, SwitchedFilter};
-use gw_program::{ProgramFault, System, print_discarded};
+use gw_program::{Machine, ProgramFault, System, print_discarded};
 use gw_session::Totals;
 use gw_trunk::{
     FromDevice, MultiframeDropper, NoClients, ToDevice, TrunkInput, TrunkOutput, TrunkRecordSink,
@@ -30,22 +30,22 @@ const STDIN: i32 = 0;
 const STDOUT: i32 = 1;
 
 // Opens the trunk at standard input, without clients.
-fn open_stdin(rt: &HostRuntime) -> Result<FromDevice<Stdin>, ProgramFault>
+fn open_stdin(rt: &impl Machine, input: Stdin) -> Result<FromDevice<Stdin>, ProgramFault>
     ensures came { IfOk result (λ incoming. incoming.reader.log.octets ≡ []) }
     ensures err { IfErr result LacksStream }
 {
-    match FromDevice::open(rt, rt.stdin(), STDIN) {
+    match FromDevice::open(rt, input, STDIN) {
         Ok(incoming) => Ok(incoming),
         Err(error) => Err(ProgramFault::of(&error, ProgramFault::Trunk)),
     }
 }
 
 // Opens the trunk at standard output.
-fn open_stdout(rt: &HostRuntime) -> Result<ToDevice<Stdout>, ProgramFault>
+fn open_stdout(rt: &impl Machine, output: Stdout) -> Result<ToDevice<Stdout>, ProgramFault>
     ensures went { IfOk result (λ outgoing. outgoing.log.octets ≡ []) }
     ensures err { IfErr result LacksStream }
 {
-    match ToDevice::open(rt, rt.stdout(), STDOUT) {
+    match ToDevice::open(rt, output, STDOUT) {
         Ok(outgoing) => Ok(outgoing),
         Err(error) => Err(ProgramFault::of(&error, ProgramFault::Trunk)),
     }
@@ -54,15 +54,16 @@ fn open_stdout(rt: &HostRuntime) -> Result<ToDevice<Stdout>, ProgramFault>
 // Opens the trunk at standard input with the clients of the Unix socket at a path, and what the answers to
 // them go to.
 fn open_control(
-    rt: &HostRuntime,
+    rt: &impl Machine,
     path: &str,
+    input: Stdin,
 ) -> Result<(WithClients<Stdin>, ToDevice<UnixStream>), ProgramFault>
     ensures came { IfOk result (λ both. both.0.reader.log.octets ≡ []) }
     ensures asked { IfOk result (λ both. both.0.asked.octets ≡ []) }
     ensures told { IfOk result (λ both. both.1.log.octets ≡ []) }
     ensures err { IfErr result (LacksControl path.now) }
 {
-    match open_clients(rt, rt.stdin(), STDIN, path) {
+    match open_clients(rt, input, STDIN, path) {
         Ok(both) => Ok(both),
         Err(error) => Err(ProgramFault::of(&error, ProgramFault::Control)),
     }
@@ -104,13 +105,14 @@ struct TrunkEnds<I: TrunkInput, O: TrunkOutput, A: TrunkOutput> {
 // Serves a trunk between its ends, whose octets come through the aligner if there is one, and go out in time.
 #[inline(never)]
 fn carry<
+    R: Machine,
     Y: System,
     I: TrunkInput + TrunkSource + Drop,
     O: TrunkDevice + Drop,
     A: TrunkOutput + AnswersDevice + Drop,
     K: Switch,
 >(
-    rt: &HostRuntime,
+    rt: &R,
     matches: &ArgMatches<'_>,
     system: &Y,
     ends: TrunkEnds<I, O, A>,
@@ -131,7 +133,7 @@ fn carry<
 {
     let filter = SwitchedFilter::<BitAligner, K>::new(aligner);
     let incoming = FilteredInput::new(ends.incoming, filter);
-    let outgoing = MultiframeDropper::new(ends.outgoing, rt.stderr());
+    let outgoing = MultiframeDropper::new(ends.outgoing, rt.errors());
     let mut trunk = TrunkRecords {
         source: TrunkRecordSource::new(incoming),
         sink: TrunkRecordSink::new(outgoing, ends.answers),
@@ -146,10 +148,12 @@ fn carry<
 }
 
 // Serves the trunk without clients. Then no descriptor asks for its end.
-fn serve_alone<Y: System>(
-    rt: &HostRuntime,
+fn serve_alone<R: Machine, Y: System>(
+    rt: &R,
     matches: &ArgMatches<'_>,
     system: &Y,
+    input: Stdin,
+    output: Stdout,
 ) -> Result<Totals, ProgramFault>
     requires takes { TakesAsked (subcommand_rows_of matches.now) (Y.files system.now) }
     requires alone { text_in (codes "control") (subcommand_rows_of matches.now) ≡ None }
@@ -161,23 +165,24 @@ fn serve_alone<Y: System>(
         return Err(ProgramFault::Nothing);
     }
     let ends = TrunkEnds {
-        incoming: open_stdin(rt)?,
-        outgoing: open_stdout(rt)?,
+        incoming: open_stdin(rt, input)?,
+        outgoing: open_stdout(rt, output)?,
         answers: NoClients::new(),
     };
     let aligner = aligner_as_asked(matches);
-    carry::<Y, FromDevice<Stdin>, ToDevice<Stdout>, NoClients, Brand>(
+    carry::<R, Y, FromDevice<Stdin>, ToDevice<Stdout>, NoClients, Brand>(
         rt, matches, system, ends, aligner,
     )
 }
 
 // Serves the trunk with clients. The descriptor that the matches name asks for the end of this trunk.
-fn serve_clients<Y: System>(
-    rt: &HostRuntime,
+fn serve_clients<R: Machine, Y: System>(
+    rt: &R,
     matches: &ArgMatches<'_>,
     system: &Y,
     incoming: WithClients<Stdin>,
     answers: ToDevice<UnixStream>,
+    output: Stdout,
 ) -> Result<Totals, ProgramFault>
     requires takes { TakesAsked (subcommand_rows_of matches.now) (Y.files system.now) }
     requires ended { IsEndedBy (subcommand_rows_of matches.now) incoming.clients.poll }
@@ -188,14 +193,14 @@ fn serve_clients<Y: System>(
         (LacksSession (files_in (subcommand_rows_of matches.now))
         (λ config. LacksTapeOrPorts (Y.lacks_tape system.now) (Y.lacks_ports system.now config))) result }
 {
-    let outgoing = open_stdout(rt)?;
+    let outgoing = open_stdout(rt, output)?;
     let ends = TrunkEnds {
         incoming,
         outgoing,
         answers,
     };
     let aligner = aligner_as_asked(matches);
-    carry::<Y, WithClients<Stdin>, ToDevice<Stdout>, ToDevice<UnixStream>, Brand>(
+    carry::<R, Y, WithClients<Stdin>, ToDevice<Stdout>, ToDevice<UnixStream>, Brand>(
         rt, matches, system, ends, aligner,
     )
 }
@@ -210,10 +215,12 @@ fn serve_clients<Y: System>(
 /// [`ProgramFault::Control`] if that can't be opened, [`ProgramFault::Trunk`] if a stream of
 /// the trunk or the descriptor can't be waited for, what the system lacks, or [`ProgramFault::Session`] if
 /// the trunk fails.
-pub fn serve<Y: System>(
-    rt: &HostRuntime,
+pub fn serve<R: Machine, Y: System>(
+    rt: &R,
     matches: &ArgMatches<'_>,
     system: &Y,
+    input: Stdin,
+    output: Stdout,
 ) -> Result<Totals, ProgramFault>
     requires { TakesAsked (subcommand_rows_of matches.now) (Y.files system.now) }
     ensures { ServesTrunk (subcommand_rows_of matches.now)
@@ -221,9 +228,9 @@ pub fn serve<Y: System>(
         (λ config. LacksTapeOrPorts (Y.lacks_tape system.now) (Y.lacks_ports system.now config))) result }
 {
     let Some(path) = control_of(matches) else {
-        return serve_alone(rt, matches, system);
+        return serve_alone(rt, matches, system, input, output);
     };
-    let (incoming, answers) = open_control(rt, path)?;
+    let (incoming, answers) = open_control(rt, path, input)?;
     end_as_asked(matches, &incoming)?;
-    serve_clients(rt, matches, system, incoming, answers)
+    serve_clients(rt, matches, system, incoming, answers, output)
 }

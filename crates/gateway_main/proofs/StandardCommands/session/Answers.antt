@@ -1,30 +1,28 @@
 use Rattle.std.proofs.Common.{inl, inr, refl, sym}
 use Rattle.clap.specs.Words.{subcommand_rows_of}
-use Rattle.gw_program.proofs.Streams.{lacks_so, no_session, session_so, takes_asked}
+use Rattle.gw_program.proofs.Streams.{can_begin, lacks_so, no_session, session_done, session_so, takes_asked}
 use Rattle.gw_program.specs.Requests.{files_in}
 use Rattle.gw_system.specs.Lacking.{LacksTeller}
 use Rattle.gw_system.proofs.Lacked.{ends_in, more_in, named_so}
 use Rattle.gateway_main.proofs.StandardCommands.session.Goals as goal
 
 pub returns-in_default : goal.returns-in_default
-returns-in_default c =
+returns-in_default g c =
     let none = sym (rw c.in_default.is at c.path_of.ensures) in
-    no_session (subcommand_rows_of c.args.self.now.matches.now) c.args.session none _ (inl (refl, none))
+    no_session (subcommand_rows_of c.args.self.now.matches.now) c.args.session _ _ _ _ _ (inl (refl, none))
 
-pub run_session-requires : goal.run_session-requires
-run_session-requires c =
-    takes_asked _ _ _ _ _ _ (rw c.local_of-system.ensures.path (sym c.in-Some.ensures))
-    c.local_of-system.ensures.load c.local_of-system.ensures.save c.local_of-system.ensures.place
-    c.local_of-system.ensures.wait
+pub perform_session-requires : goal.perform_session-requires
+perform_session-requires g c = can_begin c.requires.0
 
 pub returns : goal.returns
-returns c =
+returns g c =
     let command = subcommand_rows_of c.args.self.now.matches.now in
     let local = c.local_of-system in
-    session_so command c.args.session _ _ c.run_session.result
-    (λ fault why. inr (lacks_so (files_in command) _ _ (more_in c.args.session _ _ _ _
+    let takes = takes_asked _ _ _ _ _ _ (rw local.ensures.path (sym c.in-Some.ensures)) local.ensures.load
+    local.ensures.save local.ensures.place local.ensures.wait in
+    session_so c.args.session _ _ (λ fault why. inr (lacks_so (files_in command) _ _ (more_in c.args.session _ _ _ _
     (λ fault. named_so (λ path. path.now) local.result.tell _ _ (λ path. LacksTeller path fault) local.ensures.tell
     (λ path why. why))
     (ends_in (λ asked. asked.path.now) (λ asked. asked.over) command local.result.recording local.ensures.recording
     local.result.senders local.ensures.senders)) fault why))
-    c.run_session.ensures
+    (rw c.requires.1 at (session_done takes _ _ _ _ _ _ _ c.perform_session.ensures (λ e. rw e refl)))

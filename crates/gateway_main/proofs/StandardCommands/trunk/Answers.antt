@@ -7,10 +7,10 @@ use Rattle.run_trunk.proofs.Served.{nothing_served, served_so}
 use Rattle.gateway_main.proofs.StandardCommands.trunk.Goals as goal
 
 pub returns-in_default : goal.returns-in_default
-returns-in_default c = nothing_served _ _ _ (inr (inl (refl, sym (rw c.in_default.is at c.path_of.ensures))))
+returns-in_default g c = nothing_served _ _ _ (inr (inl (refl, sym (rw c.in_default.is at c.path_of.ensures))))
 
 pub returns : goal.returns
-returns c =
+returns g c =
     let command = subcommand_rows_of c.args.self.now.matches.now in
     let local = c.local_of-system in
     served_so command _ _ c.serve.result
@@ -19,7 +19,7 @@ returns c =
     c.serve.ensures
 
 pub serve-requires : goal.serve-requires
-serve-requires c =
+serve-requires g c =
     takes_asked _ _ _ _ _ _ (rw c.local_of-system.ensures.path (sym c.in-Some.ensures))
     c.local_of-system.ensures.load c.local_of-system.ensures.save c.local_of-system.ensures.place
     c.local_of-system.ensures.wait

@@ -1,12 +1,9 @@
-use Rattle.std.proofs.Common.{refl}
-use Rattle.gw_program.proofs.Filtering.{has_checked, no_reports_to_check}
+use Rattle.std.proofs.Common.{inl, inr}
+use Rattle.gw_program.proofs.Filtering.{no_reports}
 use Rattle.gw_program.proofs.running.check_reporting.Goals as goal
 
 pub returns-in-Err : goal.returns-in-Err
-returns-in-Err c = no_reports_to_check _ _ c.in-Err.ensures.err
+returns-in-Err g c = inl (no_reports _ _ _ _ c.in-Err.ensures.err)
 
 pub returns : goal.returns
-returns c =
-    has_checked _ _ _ _ _ _ c.perform_crc4_check.ensures.ok c.perform_crc4_check.ensures.fault
-    (rw c.new-source.ensures refl) (rw c.new-source.ensures refl) (rw c.new-source.ensures refl)
-    c.new-sink.ensures.failed
+returns g c = inr (c.perform_crc4_check.ensures.ok, c.perform_crc4_check.ensures.fault)

@@ -1,7 +1,7 @@
 use Rattle.gw_program.proofs.running.run_crc4_check.Goals as goal
 
 pub returns-in-Some : goal.returns-in-Some
-returns-in-Some c = rw (← c.in-Some.ensures) c.check_reporting.ensures
+returns-in-Some g c = rw (← c.in-Some.ensures) c.check_reporting.ensures
 
 pub returns-in-None : goal.returns-in-None
-returns-in-None c = rw (← c.in-None.ensures) c.check_alone.ensures
+returns-in-None g c = rw (← c.in-None.ensures) c.check_alone.ensures

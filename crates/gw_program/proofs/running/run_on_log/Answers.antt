@@ -1,7 +1,6 @@
 use Rattle.std.proofs.Common.{inl, inr, refl}
 use Rattle.gw_program.proofs.Streams.{session_done}
 use Rattle.gw_program.specs.Files.{SystemReads}
-use Rattle.gw_program.specs.Following.{IsLogged}
 use Rattle.gw_program.proofs.running.run_on_log.Goals as goal
 
 pub returns-in-Err : goal.returns-in-Err
@@ -15,17 +14,22 @@ returns g c = inl (record {
   from = c.in-Some.ensures.found;
   done = inr (record {
     place = c.perform_session-ended.new.ends.place;
-    ends =
-        session_done c.requires _ _ _ _ _ _ _ (IsLogged c.args.path.now c.in-Some.from)
-        (record {
-          file = _;
-          open_at = c.in-Ok.ensures.opens;
-          octets = c.perform_session-ended.new.ends.source.log.octets;
-          given = refl;
-          reads = tt;
-        })
-        c.perform_session-ended.ensures (λ e. rw e refl) c.in-Ok.ensures.reads (rw c.in-Ok.ensures.log refl)
-        c.in-Ok.ensures.failed c.new.ensures.failed;
+    before = _;
+    after = _;
+    new = record {
+      unread = c.in-Ok.ensures.reads;
+      no_octet = rw c.in-Ok.ensures.log refl;
+      no_failed_read = c.in-Ok.ensures.failed;
+      no_failed_write = c.new.ensures.failed;
+    };
+    given = record {
+      file = _;
+      open_at = c.in-Ok.ensures.opens;
+      octets = c.perform_session-ended.new.ends.source.log.octets;
+      given = refl;
+      reads = tt;
+    };
+    ends = session_done c.requires _ _ _ _ _ _ _ c.perform_session-ended.ensures (λ e. rw e refl);
     tells = c.tell_end.ensures;
   });
 })

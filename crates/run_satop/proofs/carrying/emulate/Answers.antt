@@ -1,4 +1,4 @@
 use Rattle.run_satop.proofs.carrying.emulate.Goals as goal
 
 pub returns : goal.returns
-returns c = c.emulate_over.ensures _ c.in_ok-asked.ensures.ok
+returns g c = c.emulate_over.ensures _ c.in_ok-asked.ensures.ok

@@ -1,0 +1,9 @@
+use Rattle.gw_program.specs.StandardEnds.{streams_of}
+use Rattle.gateway_main.proofs.perform_asked.Goals as goal
+
+pub returns : goal.returns
+returns g c = record {
+  a' = streams_of c.perform.ensures.0;
+  place = c.perform.ensures.0.session.place;
+  done = c.perform.ensures.1;
+}

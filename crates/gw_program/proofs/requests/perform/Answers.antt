@@ -1,0 +1,22 @@
+use Rattle.std.proofs.Common.{inl}
+use Rattle.gw_program.proofs.requests.perform.Goals as goal
+
+pub returns-in-SpeechJob : goal.returns-in-SpeechJob
+returns-in-SpeechJob g c = (
+  c.job.new.ends,
+  inl (record {
+    request = c.in-Some.request;
+    asked = c.in-Some.ensures.found;
+    done = rw c.in-SpeechJob.is c.job.ensures;
+  }),
+)
+
+pub returns-in-Filter : goal.returns-in-Filter
+returns-in-Filter g c = (
+  c.run_filter.new.ends,
+  inl (record {
+    request = c.in-Some.request;
+    asked = c.in-Some.ensures.found;
+    done = rw c.in-Filter.is c.run_filter.ensures;
+  }),
+)
