@@ -36,7 +36,7 @@ HELD = 12                   # multiframes that a device holds which nobody reads
 NAMELESS = 35               # a signal of real time: the service could not tell it, and no program followed
 SIGNALS = NAMELESS, signal.SIGKILL, signal.SIGSTOP, signal.SIGTERM, signal.SIGSEGV
 NEAR = 8 * MULTIFRAME       # octets of a log before a checkpoint is due
-HANGS = 5.0                 # seconds, which no program takes that does not hang, on a machine that stalls
+HANGS = 15.0                # seconds, which no program takes that does not hang, on a machine that stalls
 
 
 def refusals(right: str) -> list[tuple[str | None, str]]:
@@ -57,11 +57,11 @@ class FollowerCase(RestartedKeeperCase):
         another one. Fewer and fewer are given meanwhile, until it has come."""
         room, pause = self.limits.get('checkpoints_LOG_ROOM', LOG_ROOM), 0.005
         while True:
-            pids, its = children(self.keeper.pid, 'replay'), self.noted().get('program', {})
+            its = self.noted().get('program', {})           # (first: a checkpoint may end meanwhile)
             if its.get('pid') == self.program:
                 if os.path.getsize(self.log_of()) - its['place'] > room - NEAR:
                     self.step()
-                elif len(pids) == 1:
+                elif len(pids := children(self.keeper.pid, 'replay')) == 1:
                     (self.shadow,) = pids
                     return
             time.sleep(pause := min(2 * pause, 1.0))
