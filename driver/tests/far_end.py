@@ -2,10 +2,10 @@
 from __future__ import annotations
 
 import os
-import select
 import socket
 import struct
 import subprocess
+import threading
 from typing import ContextManager
 
 from e1gw.satop import counts_of
@@ -27,7 +27,21 @@ class FarEnd:
         self.program = subprocess.Popen([support.program(), 'satop', *ends, *options], stdin=subprocess.PIPE,
                                         stdout=subprocess.PIPE if plays else subprocess.DEVNULL,
                                         stderr=subprocess.PIPE)
-        self.out = b''       # what it has played, from the first packet on
+        self.out = b''       # what it has played, from the first packet on: ones before that are not among it
+        self._ears = threading.Thread(target=self._hear, daemon=True)
+        if plays:
+            self._ears.start()
+
+    def _hear(self) -> None:
+        """Reads what it plays, whatever a test waits for: where nobody reads it stands still."""
+        assert self.program.stdout
+        while octets := os.read(self.program.stdout.fileno(), 65536):
+            self.out = (self.out + octets).lstrip(b'\xff')
+
+    def _hear_all(self) -> None:
+        """Returns once it has ended."""
+        if self.program.stdout:
+            self._ears.join()
 
     def packets(self, octets: bytes, count: int) -> list[bytes]:
         """The packets of these octets."""
@@ -47,35 +61,25 @@ class FarEnd:
     def send_datagram(self, datagram: bytes) -> None:
         self.line.sendto(datagram, self.near)
 
-    def take(self) -> None:
-        """Reads what it plays, when something is there."""
-        assert self.program.stdout
-        file = self.program.stdout.fileno()
-        if not select.select([file], [], [], SECONDS)[0]:
-            raise TimeoutError(f'nothing comes after {len(self.out)} octets')
-        octets = os.read(file, 65536)
-        if not octets:
-            raise EOFError(f'it ended after {len(self.out)} octets')
-        self.out = (self.out + octets).lstrip(b'\xff')
-
     def played(self, count: int) -> bytes:
-        """The first octets that it plays, this number. (What comes before a packet, ones, is not among them.)"""
-        while len(self.out) < count:
-            self.take()
+        """The first octets that it plays, this number."""
+        support.until(lambda: len(self.out) >= count or not self._ears.is_alive(), 0.001)
+        if len(self.out) < count:
+            raise EOFError(f'it ended after {len(self.out)} octets')
         return self.out[:count]
 
     def counts(self) -> dict[str, int]:
         """Ends the program; returns its last counts."""
         assert self.program.stdin and self.program.stderr
         self.program.stdin.close()
-        while self.program.stdout and os.read(self.program.stdout.fileno(), 65536):
-            pass
+        self._hear_all()
         lines = self.program.stderr.read().decode().splitlines()
         return counts_of(lines[-1]) or {}
 
     def close(self) -> None:
         assert self.program.stdin and self.program.stderr
         self.program.stdin.close()
+        self._hear_all()
         if self.program.stdout:
             self.program.stdout.close()
         self.program.wait(SECONDS)

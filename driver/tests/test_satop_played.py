@@ -119,8 +119,7 @@ class SatopClockTests(SatopPlayedCase):
         with far.at_once():
             for n in range(7, 20):
                 far.send(again + n, 0, octets(n))
-        while octets(15) not in far.out[len(before):]:
-            far.take()
+        support.until(lambda: octets(15) in far.out[len(before):])
         behind = far.out[len(before):].lstrip(b'\xff')
         self.assertEqual(behind[:9 * SIZE].hex(), packets(*range(7, 16)).hex())
         counts = far.counts()
