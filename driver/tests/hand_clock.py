@@ -79,15 +79,13 @@ class HandClock:
 
 
 def threads_of(pid: int) -> list[str]:
-    """The state of each thread of a process, and how often it had a processor; the states of what it has started (that
-    looks now and then by the machine's clock). What scripts/stalls has stopped looks as if it slept, and may go on
-    while it is looked at; what a test has stopped rests."""
+    """The state of each thread of a process, and how often it had a processor; the states of what it has started. What
+    scripts/stalls has stopped looks as if it slept, and may go on meanwhile; what a test has stopped rests."""
     found: list[str] = []
     with suppress(OSError):
         for folder in Path(f'/proc/{pid}/task').iterdir():
-            before, stat, within, again, runs, children = (
-                (folder / name).read_text('ascii', 'replace')
-                for name in ('schedstat', 'stat', 'wchan', 'stat', 'schedstat', 'children'))
+            before, stat, within, again, runs, children = ((folder / name).read_text('ascii', 'replace') for name in (
+                'schedstat', 'stat', 'wchan', 'stat', 'schedstat', 'children'))
             state, its = (each.rpartition(')')[2][1] for each in (stat, again))
             sleeps = within not in STOPPED and (before, state) == (runs, its)
             found.append((state.replace('T', 'S') if sleeps else 'T') + runs)

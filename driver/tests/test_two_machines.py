@@ -273,19 +273,17 @@ class SatopNumberTests(PairCase):
         self.assertEqual({*b''.join(packet[4:] for packet in packets)[ones + -octets % SIGNALS::SIGNALS]}, {SIGNAL})
 
     def test_packets_go_on(self) -> None:
-        a, b = (self.machine(name, chain_LOOK=1000.0) for name in 'ab')     # (what is stopped is not killed)
+        a, b = (self.machine(name, process_LOOK=1000.0) for name in 'ab')     # (what is stopped is not killed)
         pids, promotes = [each.process.pid for each in (a, b)], a.asks('promote')
         self.goes(lambda: len(self.packets) > MANY and b.ask('role') == 'standby, fed')
         self.assertEqual(promotes(), 'promote: done')
-        # moved in order: none is lost
-        self.clock.stops()
+        self.clock.stops()                                  # it is moved in order: none is lost
         octets = self.takes_over(b, a.asks('move'), *pids)
         first = self.numbers(self.packets).index(octets // SIZE)
         self.are_from(0, self.packets[:first])
         self.are_from(octets, self.packets[first:])
-        # the machine dies
         self.goes(lambda: a.ask('role') == 'standby, fed')
-        self.clock.stops()
+        self.clock.stops()                                  # the machine dies
         log, fed = given_file(b.process_of('trunk'), '--record'), given_file(a.process_of('replay'), '--follow')
         os.kill(b.process_of('satop'), signal.SIGSTOP)      # (it sends nothing more)
         self.clock.steps(lambda: octets_in(fed) == octets_in(log), *pids)
