@@ -30,8 +30,7 @@ from e1gw.testing.ports import free_port
 STRANGERS = 200             # connections, of fewer descriptors than a unit may have
 SILENCE = 1.0               # seconds: more than the jitter buffers have room for
 WAITS = 100                 # milliseconds that a takeover takes, besides what its processes have to do
-SIZE = 1248                 # octets of a packet of SAToP, which no 50 to 68 multiframes fill
-MANY = 16                   # packets of SAToP: few
+SIZE, MANY = 1248, 16       # octets of a packet of SAToP, which no 50 to 68 multiframes fill; packets: few
 
 
 class DeathTests(PairCase):
@@ -155,9 +154,10 @@ class PairTests(PairCase):
         while ': it is too far behind' not in a.told():
             self.step(50)
         b.process.send_signal(signal.SIGCONT)
-        self.fed(b)
+        b.awaits(f'program {a.process_of("trunk")} there')
         a.power_off()
         self.promoted(b)
+        self.device.exchange.aligned = False        # (b may have been fed a part of what came last)
         self.step(68)
         self.assertEqual({**self.device.exchange.signals, 7: 0}, {**self.up(), 7: 0})
 
