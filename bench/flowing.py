@@ -18,7 +18,7 @@ LATE, PASSES = 0.01, 0.5            # seconds: a card that is so late is not cou
 
 
 class Card:
-    """The far end of a trunk, which gives so many milliseconds of it at a time. What it is late by above 20 ms, since
+    """The far end of a trunk, which gives some milliseconds of it at a time. What it is late by above 20 ms, since
     this machine stood still, is not made good; octets that are not taken in time are lost, as of a card."""
 
     def __init__(self, world: World, milliseconds: int) -> None:
