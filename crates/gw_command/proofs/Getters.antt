@@ -14,7 +14,7 @@ use Rattle.e1_g711.specs.declared.Law.TheVariants.{A, Mu}
 use Rattle.g726_codec.specs.declared.CodecKind.{CodecKind}
 use Rattle.g726_codec.specs.declared.CodecKind.TheVariants.{G711, G16, G24, G32, G40}
 use Rattle.rtp_pack.specs.PacketTime.{IsPacketTime}
-use Rattle.gw_speech.specs.declared.spec.StreamSpec.{StreamSpec}
+use Rattle.gw_speech.specs.declared.stream_spec.StreamSpec.{StreamSpec}
 use Rattle.gw_command.specs.Command.{law_name, codec_name, usual_payload, IsNumber, SaysNumber, SaysOrUsual, IsStream}
 use Rattle.gw_command.specs.Command.{text_in, SaysNumberIn}
 

@@ -10,7 +10,7 @@ use Rattle.g726_codec.specs.declared.CodecKind.TheVariants.{G711, G16, G24, G32,
 use Rattle.g726_codec.specs.Names.{text_of}
 use Rattle.g726_codec.specs.declared.names.CodecName.TheVariants as names
 use Rattle.gw_circuit.specs.Coding.{static_type}
-use Rattle.gw_speech.specs.declared.spec.StreamSpec.{StreamSpec}
+use Rattle.gw_speech.specs.declared.stream_spec.StreamSpec.{StreamSpec}
 use Rattle.gw_command.specs.declared.command.Filter.{Filter}
 use Rattle.gw_command.specs.declared.command.Filter.TheVariants.{Align, Crc4}
 use Rattle.gw_command.specs.declared.command.Request.{Request}

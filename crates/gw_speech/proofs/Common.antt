@@ -21,9 +21,9 @@ pub use Rattle.gw_speech.specs.Decode.{count_record, decode_totals, DecodesThrou
 pub use Rattle.gw_speech.specs.Decode.{HasDecoded}
 unfoldable pub use Rattle.gw_speech.specs.Decode.{speech_behind}
 pub use Rattle.gw_speech.specs.Encode.{packet_len, word_bits, words_for, packet_record, records_from, full_packets}
-pub use Rattle.gw_speech.specs.Encode.{filled, packets, header_with, HasEncoded, IsPacket, IsDecoding, EncodesUntilRead}
+pub use Rattle.gw_speech.specs.Encode.{filled, packets, header_with, HasEncoded, IsPacket, IsEncoding, EncodesUntilRead}
 unfoldable pub use Rattle.gw_speech.specs.Encode.{records_of, full_records_of, header_at}
-pub use Rattle.gw_speech.specs.declared.spec.StreamSpec.{StreamSpec}
+pub use Rattle.gw_speech.specs.declared.stream_spec.StreamSpec.{StreamSpec}
 pub use Rattle.std.proofs.Common.{◌≡◌, ◌+◌, ◌-◌, ◌≤◌, ◌++◌, ◌∙◌, ℕ, List, length, take, drop, refl, sym, ap, arith}
 pub use Rattle.std.proofs.Common.{length-take, length-take-le, length-drop, ◌*◌, ◌%◌, ◌<◌, ◌^◌, zero, suc, []}
 pub use Rattle.std.proofs.Common.{replicate, append_assoc, append-nil, length-append, take-append-drop, drop-drop, ◌∷◌}

@@ -7,7 +7,7 @@ use Rattle.gw_speech.proofs.Common.{drop_at, All-append, All-drop, All, copy_wit
 use Rattle.gw_speech.proofs.Common.{CodecState, OneWordAnOctet, PrefixesComeFirst, SourceState, SinkState, GivesOctets}
 use Rattle.gw_speech.proofs.Common.{GivesUp, Refills, GivesOctets-end, StreamSpec, packet_len, word_bits, words_for}
 use Rattle.gw_speech.proofs.Common.{packet_record, records_from, full_packets, filled, packets, records_of}
-use Rattle.gw_speech.proofs.Common.{full_records_of, header_with, HasEncoded, IsPacket, IsDecoding, EncodesUntilRead}
+use Rattle.gw_speech.proofs.Common.{full_records_of, header_with, HasEncoded, IsPacket, IsEncoding, EncodesUntilRead}
 use Rattle.std.proofs.Math.Nat.{div-add-mod, mod-lt, mod-eq_of_lt, mod_self, sub-zero}
 use Rattle.gw_records.proofs.Buffers.{moved}
 use Rattle.gw_speech.specs.declared.encode.NextPacket.{NextPacket}
@@ -80,13 +80,13 @@ records_from-behind s sent window count k e =
 
 -- how many octets were given, by the words that are sent and held
 given_len : {s : StreamSpec} {codec : CodecState} {given sent held : List ℕ} {count : ℕ} → OneWordAnOctet
-    → IsDecoding s codec given sent count held → length given ≡ packet_len s * count + length held
+    → IsEncoding s codec given sent count held → length given ≡ packet_len s * count + length held
 given_len {s} {given = given} {sent = sent} {held = held} counted way =
     omega (arith, (counted s.law s.codec).0 given, ap length way.words, way.whole, length-append sent held)
 
 -- the full packets and their records, by those that are sent
 full_behind : {s : StreamSpec} {codec : CodecState} {given sent held : List ℕ} {count : ℕ} → OneWordAnOctet
-    → IsDecoding s codec given sent count held → length held < packet_len s
+    → IsEncoding s codec given sent count held → length held < packet_len s
     → (full_records_of s given ≡ records_from s 0 sent count) × (full_packets s given ≡ count)
 unfolding full_records_of
 full_behind {s} {given = given} {sent = sent} {held = held} {count = count} counted way h =
@@ -114,8 +114,8 @@ filled_up s octets count left end e h none one =
 
 -- after more octets are coded, encoding is under way behind them
 goes_on : {s : StreamSpec} {codec codec' : CodecState} {given sent held : List ℕ} {count : ℕ} (octets coded : List ℕ)
-    → IsDecoding s codec given sent count held → words_for s (given ++ octets) ≡ words_for s given ++ coded
-    → HasEncoded s codec' (given ++ octets) → IsDecoding s codec' (given ++ octets) sent count (held ++ coded)
+    → IsEncoding s codec given sent count held → words_for s (given ++ octets) ≡ words_for s given ++ coded
+    → HasEncoded s codec' (given ++ octets) → IsEncoding s codec' (given ++ octets) sent count (held ++ coded)
 goes_on octets coded way words stands = record {
   stands = stands;
   words = rw (words, way.words, append_assoc) refl;
@@ -129,7 +129,7 @@ pub record Encoding (s : StreamSpec) (source source' : SourceState) (sink sink' 
   pub given : List ℕ
   pub sent : List ℕ
   pub count : ℕ
-  pub way : IsDecoding s codec given sent count (take held speech)
+  pub way : IsEncoding s codec given sent count (take held speech)
   pub fit : All (λ w. w < 2 ^ word_bits s) (take held speech)
   pub open_packet : held < packet_len s
   pub fits : length speech ≡ 33008
@@ -160,7 +160,7 @@ pub coded_way : {s : StreamSpec} {held n : ℕ} {old : List ℕ} {a b b' : Sourc
     → words_for s (w.given ++ take (held + n - held) (drop held new)) ≡ words_for s w.given ++ coded)
     → (HasEncoded s codec w.given → HasEncoded s codec' (w.given ++ take (held + n - held) (drop held new)))
     → length coded ≡ length (take (held + n - held) (drop held new)) → All (λ w. w < 2 ^ word_bits s) coded
-    → IsDecoding s codec' (w.given ++ r.octets) w.sent w.count
+    → IsEncoding s codec' (w.given ++ r.octets) w.sent w.count
     (take (held + n) (put_mid held (held + n - held) new coded))
     × All (λ w. w < 2 ^ word_bits s) (take (held + n) (put_mid held (held + n - held) new coded))
 coded_way {s} {held} {n} {old} new coded w r o words stands l fit =
@@ -175,11 +175,11 @@ coded_way {s} {held} {n} {old} new coded w r o words stands l fit =
 -- sent and held
 pub filled_way : {s : StreamSpec} {held count : ℕ} {given sent : List ℕ} {codec : CodecState}
     (speech : List ℕ) (codec' : CodecState) (end : ℕ) (quiet coded : List ℕ) → OneWordAnOctet
-    → IsDecoding s codec given sent count (take held speech) → held < packet_len s → 240 ≤ length speech
+    → IsEncoding s codec given sent count (take held speech) → held < packet_len s → 240 ≤ length speech
     → held ≤ end → end ≤ 240 → (held ≡ 0 → end ≡ 0) → (0 < held → end ≡ packet_len s)
     → quiet ≡ replicate (end - held) (idle_code s.law) → words_for s (given ++ quiet) ≡ words_for s given ++ coded
     → HasEncoded s codec' (given ++ quiet) → length coded ≡ length quiet
-    → IsDecoding s codec' (filled s given) sent count
+    → IsEncoding s codec' (filled s given) sent count
     (take end (put_mid held (end - held) (put_mid held (end - held) speech quiet) coded))
 filled_way {s} {held} {count} {given} speech codec' end quiet coded counted way few room least most none one idle words
     stands len =
@@ -193,13 +193,13 @@ filled_way {s} {held} {count} {given} speech codec' end quiet coded counted way 
 -- the full packets of a window are sent behind those that were, and the words behind them are held
 pub record MovesOn (s : StreamSpec) (codec : CodecState) (given sent window held : List ℕ) (count : ℕ) : Type 0 where
   pub now_sent : List ℕ
-  pub way : IsDecoding s codec given now_sent (count + full_packets s window) held
+  pub way : IsEncoding s codec given now_sent (count + full_packets s window) held
   pub records : records_from s 0 now_sent (count + full_packets s window) ≡ records_from s 0 sent count
       ++ records_from s count window (full_packets s window)
 
 -- the full packets of a window are sent, and what is left of it is held
 moves_on : {s : StreamSpec} {codec : CodecState} {given sent window : List ℕ} {count : ℕ} (n : ℕ)
-    → IsDecoding s codec given sent count window → n ≡ packet_len s * full_packets s window → n ≤ length window
+    → IsEncoding s codec given sent count window → n ≡ packet_len s * full_packets s window → n ≤ length window
     → MovesOn s codec given sent window (drop n window) count
 moves_on {s} {sent = sent} {window = window} {count = count} n way e h =
     let front = take n window in
@@ -220,7 +220,7 @@ moves_on {s} {sent = sent} {window = window} {count = count} n way e h =
 
 -- the words left of a buffer are at its front, and the full packets before them are sent
 pub words_left : {s : StreamSpec} {codec : CodecState} {given sent : List ℕ} {count : ℕ} (buffer new : List ℕ)
-    (end left : ℕ) → end ≤ length buffer → IsDecoding s codec given sent count (take end buffer)
+    (end left : ℕ) → end ≤ length buffer → IsEncoding s codec given sent count (take end buffer)
     → All (λ w. w < 2 ^ word_bits s) (take end buffer)
     → length (take end buffer) ≡ packet_len s * full_packets s (take end buffer) + left
     → new ≡ copy_within buffer (end - left) end 0
@@ -238,8 +238,8 @@ words_left {s} buffer new end left h way fit w e =
 pub last_written : {s : StreamSpec} {held n : ℕ} {old window : List ℕ} {a b b' : SourceState}
     {c d : SinkState} {codec codec' : CodecState} (new : List ℕ) → OneWordAnOctet
     → (w : Encoding s a b c d codec held old) → Refills (take held old) (take (held + n) new) b b' n
-    → (IsDecoding s codec w.given w.sent w.count (take held new)
-    → IsDecoding s codec' (filled s w.given) w.sent w.count window)
+    → (IsEncoding s codec w.given w.sent w.count (take held new)
+    → IsEncoding s codec' (filled s w.given) w.sent w.count window)
     → (records_of s w.given ≡ records_from s 0 w.sent w.count ++ records_from s w.count window (full_packets s window))
     × (packets s w.given ≡ w.count + full_packets s window)
 unfolding records_of
@@ -254,7 +254,7 @@ last_written {s} {held} {n} {old} {window} new counted w r fills =
 
 -- what is written of a window, behind what is written before, begins the records of all octets
 pub window_begins : {s : StreamSpec} {codec : CodecState} {given sent window : List ℕ} {count : ℕ}
-    → PrefixesComeFirst → OneWordAnOctet → IsDecoding s codec given sent count window
+    → PrefixesComeFirst → OneWordAnOctet → IsEncoding s codec given sent count window
     → (rest : List ℕ) × (records_of s given ≡ (records_from s 0 sent count
     ++ records_from s count window (full_packets s window)) ++ rest)
 unfolding records_of full_records_of

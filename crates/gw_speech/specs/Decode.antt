@@ -8,7 +8,7 @@ use Rattle.rtp_packet.specs.declared.RtpFault.{RtpFault}
 use Rattle.rtp_packet.specs.Rtp.{Parts}
 use Rattle.rtp_packet.specs.Read.{read_of}
 use Rattle.rtp_pack.specs.Payload.{words_of}
-use Rattle.gw_speech.specs.declared.spec.StreamSpec.{StreamSpec}
+use Rattle.gw_speech.specs.declared.stream_spec.StreamSpec.{StreamSpec}
 use Rattle.gw_records.specs.declared.outcome.Totals.{Totals}
 use Rattle.gw_records.specs.declared.outcome.RunFault.{RunFault}
 use Rattle.gw_records.specs.declared.outcome.RunFault.TheVariants as faults

@@ -7,7 +7,7 @@ use Rattle.g726_codec.specs.Kinds.{bits_of, enc, CodecState, codec_after}
 use Rattle.rtp_packet.specs.declared.Header.{Header}
 use Rattle.rtp_packet.specs.Rtp.{plain_datagram}
 use Rattle.rtp_pack.specs.Payload.{octets_of}
-use Rattle.gw_speech.specs.declared.spec.StreamSpec.{StreamSpec}
+use Rattle.gw_speech.specs.declared.stream_spec.StreamSpec.{StreamSpec}
 use Rattle.gw_speech.specs.declared.encode.NextPacket.{NextPacket}
 use Rattle.gw_records.specs.declared.outcome.Totals.{Totals}
 use Rattle.gw_records.specs.declared.outcome.RunFault.{RunFault}
@@ -132,7 +132,7 @@ pub record IsPacket (s : StreamSpec) (progress : NextPacket) (k : ℕ) : Type 0 
 
 -- A codec has encoded the given octets since its reset: the words of the first count packets were sent, and
 -- these are left.
-pub record IsDecoding (s : StreamSpec) (codec : CodecState) (given sent : List ℕ) (count : ℕ) (held : List ℕ)
+pub record IsEncoding (s : StreamSpec) (codec : CodecState) (given sent : List ℕ) (count : ℕ) (held : List ℕ)
     : Type 0 where
   pub stands : HasEncoded s codec given
   pub words : words_for s given ≡ sent ++ held

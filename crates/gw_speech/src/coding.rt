@@ -4,7 +4,7 @@ ghost use Rattle.std.specs.List.{All};
 ghost use Rattle.rtp_pack.specs.Payload.{IsWordSize};
 ghost use Rattle.gw_speech.specs.Encode.{word_bits, words_for, HasEncoded};
 
-use crate::spec::StreamSpec;
+use crate::stream_spec::StreamSpec;
 use g726_codec::AnyCodec;
 
 /// The bits of a code word of the stream.

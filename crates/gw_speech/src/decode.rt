@@ -9,7 +9,7 @@ ghost use Rattle.gw_speech.specs.Decode.{HasDecoded, datagram_words, speech_behi
 ghost use Rattle.gw_speech.specs.Decode.{DecodesAll, DecodesUntil};
 
 use crate::coding::word_bits;
-use crate::spec::StreamSpec;
+use crate::stream_spec::StreamSpec;
 use g726_codec::{AnyCodec, CodecKind};
 use gw_records::{
     AcceptedKinds, FRONT_LEN, NO_TOTALS, OutputBuffer, Reader, RunFault, Sink, Source, Totals,

@@ -6,11 +6,11 @@ ghost use Rattle.rtp_pack.specs.Payload.{IsPayload};
 ghost use Rattle.gw_records.specs.Streams.{CanBegin, CanCount, HadRoom, Puts, Writes};
 ghost use Rattle.gw_speech.specs.Encode.{packet_len, word_bits, header_at, packet_record};
 ghost use Rattle.gw_speech.specs.Encode.{records_from, full_packets, filled, Encodes, EncodesUntil};
-ghost use Rattle.gw_speech.specs.Encode.{header_with, IsPacket, IsDecoding};
-ghost use Rattle.gw_speech.specs.declared.spec.StreamSpec.{StreamSpec};
+ghost use Rattle.gw_speech.specs.Encode.{header_with, IsPacket, IsEncoding};
+ghost use Rattle.gw_speech.specs.declared.stream_spec.StreamSpec.{StreamSpec};
 
 use crate::coding::{encode_all, word_bits};
-use crate::spec::StreamSpec;
+use crate::stream_spec::StreamSpec;
 use arrayvec::ArrayVec;
 use e1_g711::idle;
 use g726_codec::AnyCodec;
@@ -161,8 +161,8 @@ fn fill_last(spec: &StreamSpec, codec: &mut AnyCodec, speech: &mut [u8], held: u
     ensures within { result ≤ length speech.new }
     ensures fit { All (λ w. w < 2 ^ word_bits spec.now) (take result speech.new) }
     ensures filled { (given sent : List ℕ) (count : ℕ)
-        → IsDecoding spec.now codec.old given sent count (take held speech.old)
-        → IsDecoding spec.now codec.new (filled spec.now given) sent count (take result speech.new) }
+        → IsEncoding spec.now codec.old given sent count (take held speech.old)
+        → IsEncoding spec.now codec.new (filled spec.now given) sent count (take result speech.new) }
 {
     g726_codec::laws::words_are_counted();
     let end = filled_len(spec, held);

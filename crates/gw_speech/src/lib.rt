@@ -4,8 +4,8 @@
 mod coding;
 mod decode;
 mod encode;
-mod spec;
+mod stream_spec;
 
 pub use decode::decode_stream;
 pub use encode::encode_stream;
-pub use spec::StreamSpec;
+pub use stream_spec::StreamSpec;
