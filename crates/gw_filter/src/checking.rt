@@ -6,7 +6,7 @@ ghost use Rattle.g704_crc4.specs.ReceiverCounts.{receiver_counts_of};
 ghost use Rattle.g704_crc4.specs.Receivers.{ChecksTrunk};
 ghost use Rattle.gw_records.specs.Streams.{CanBegin};
 ghost use Rattle.gw_filter.specs.Check.{HasReported, ChecksMultiframes, ChecksMultiframesUntil};
-ghost use Rattle.gw_filter.specs.Check.{ReportsUpTo};
+ghost use Rattle.gw_filter.specs.Check.{AreReported, ReportsUpTo};
 
 use crate::reports::{CountsTeller, ReportSink};
 use crate::through::{BufferFilter, octets_through};
@@ -86,6 +86,35 @@ impl<R: ReportSink, T: CountsTeller + Drop> ReportingChecker<R, T> {
         }
     }
 
+    /// The counts now, with the totals of the octets.
+    pub fn checked(&self, totals: Totals) -> Checked
+        ensures totals { result.totals ≡ totals }
+        ensures counts { (octets returned : List ℕ) → HasReported self.now.checker self.now.reported
+            (R.sent self.now.reports) octets returned → (result.receiver_counts ≡ receiver_counts_of octets)
+            × AreReported octets (R.sent self.now.reports) result.unreported }
+    {
+        let receiver_counts = self.checker.receiver_counts();
+        Checked {
+            totals,
+            receiver_counts,
+            unreported: receiver_counts.errored.saturating_sub(self.reported),
+        }
+    }
+
+    /// Writes the counts now.
+    pub fn tell_now(&mut self)
+        ensures checker { self.new.checker ≡ self.old.checker }
+        ensures reported { self.new.reported ≡ self.old.reported }
+        ensures reports { self.new.reports ≡ self.old.reports }
+        ensures told { (history : List ℕ) → ChecksTrunk self.old.checker history
+            → T.has_told self.new.teller (receiver_counts_of history) }
+        ensures untold { self.new.untold ≡ 0 }
+    {
+        let counts = self.checker.receiver_counts();
+        self.teller.tell(&counts);
+        self.untold = 0;
+    }
+
     // Writes the counts if a second has passed with this many octets.
     fn tell(&mut self, len: usize)
         requires { len < 2 ^ 63 }
@@ -97,11 +126,10 @@ impl<R: ReportSink, T: CountsTeller + Drop> ReportingChecker<R, T> {
         ensures untold { self.new.untold ≡ (self.old.untold + len) % 256000 }
     {
         let untold = self.untold + len;
-        self.untold = untold % SECOND;
         if untold >= SECOND {
-            let counts = self.checker.receiver_counts();
-            self.teller.tell(&counts);
+            self.tell_now();
         }
+        self.untold = untold % SECOND;
     }
 }
 
@@ -150,10 +178,5 @@ pub fn crc4_check_stream<R: ReportSink, T: CountsTeller + Drop, S: Source, K: Si
         (K.tells sink.old) (K.tells sink.new) (R.sent checker.new.reports)) }
 {
     let totals = octets_through(checker, source, sink)?;
-    let receiver_counts = checker.checker.receiver_counts();
-    Ok(Checked {
-        totals,
-        receiver_counts,
-        unreported: receiver_counts.errored.saturating_sub(checker.reported),
-    })
+    Ok(checker.checked(totals))
 }
