@@ -163,7 +163,7 @@ pub trait TrunkOutput {
         ensures went { went self.new ≡ went self.old ++ written_of result octets.now }
         ensures waits { waits self.new ≡ waits self.old }
         ensures slow { slow_waits self.new ≡ slow_waits self.old }
-        ensures taken { IfOk result (λ n. IfSome n (λ m. has_taken self.new m × (is_slow self.new ≡ false))) }
+        ensures taken { IfOk result (λ n. IfSome n (has_taken self.new)) }
         ensures full { IfOk result (λ n. IfNone n (is_full self.new)) }
         ensures given { was_given self.new octets.now }
         ensures err { IfErr result (λ _. has_failed self.new) };
@@ -321,7 +321,7 @@ impl<W: DeviceWriter> TrunkOutput for ToDevice<W> {
 
     ghost has_failed = { λ d. HasFailed (λ kind. W.has_written d.writer (Err kind)) };
 
-    ghost has_taken = { λ d n. W.has_written d.writer (Ok n) };
+    ghost has_taken = { λ d n. W.has_written d.writer (Ok n) × (d.is_slow ≡ false) };
 
     ghost was_given = { λ d. W.was_given d.writer };
 
