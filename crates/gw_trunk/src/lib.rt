@@ -23,7 +23,8 @@ pub use device::{
 };
 pub use device_calls::{DeviceReader, DeviceWriter};
 pub use door::open_door;
-pub use multiframe_dropper::MultiframeDropper;
+pub use held::drop_first;
+pub use multiframe_dropper::{MultiframeDropper, give_held};
 pub use sink::TrunkRecordSink;
 pub use source::TrunkRecordSource;
 pub use waiting::Waiting;

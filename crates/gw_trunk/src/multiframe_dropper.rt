@@ -90,8 +90,11 @@ fn give<O: TrunkOutput>(outgoing: &mut O, octets: &[u8]) -> Result<Option<usize>
     }
 }
 
-// Gives a device what is held for it, and returns whether it took all; false if it was slow.
-fn give_held<O: TrunkOutput>(outgoing: &mut O, held: &mut Held) -> Result<bool, DeviceFault>
+/// Gives a device what is held for it, and returns whether it took all; false if it was slow.
+pub fn give_held<O: TrunkOutput>(
+    outgoing: &mut O,
+    held: &mut ArrayVec<u8, 512>,
+) -> Result<bool, DeviceFault>
     ensures all { IfOk result (λ all. all ≡ true → held.new.items ≡ []) }
     ensures went { O.went outgoing.new ++ held.new.items ≡ O.went outgoing.old ++ held.old.items }
     ensures shorter { length held.new.items ≤ length held.old.items }
@@ -263,6 +266,16 @@ impl<O: TrunkOutput, E: Write> MultiframeDropper<O, E> {
             ⊎ O.has_taken self.new.outgoing 0)) }
     {
         let _ = give_held(&mut self.outgoing, &mut self.held);
+    }
+}
+
+impl<O: TrunkOutput, E: Write + Drop> MultiframeDropper<O, E> {
+    /// The device that the octets go to.
+    pub fn into_outgoing(self) -> O
+        ensures { result ≡ self.outgoing }
+    {
+        let MultiframeDropper { outgoing, .. } = self;
+        outgoing
     }
 }
 

@@ -123,6 +123,16 @@ impl<I: TrunkInput> TrunkRecordSource<I> {
     }
 }
 
+impl<I: TrunkInput> TrunkRecordSource<I> {
+    /// What the trunk's octets and the clients' commands come from.
+    pub fn into_incoming(self) -> I
+        ensures { result ≡ self.incoming }
+    {
+        let TrunkRecordSource { incoming, .. } = self;
+        incoming
+    }
+}
+
 impl<I: TrunkInput> Source for TrunkRecordSource<I> {
     ghost tells = { λ s. record {
       failures = s.failed;
