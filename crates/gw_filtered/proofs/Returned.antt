@@ -1,9 +1,11 @@
--- What a filter returns that is used or not.
-use Rattle.std.proofs.Common.{◌≡◌, ◌++◌, ◌∙◌, ◌≤◌, ℕ, Bool, List, Option, Some, None, length, take, drop, sym, ap}
-use Rattle.std.proofs.lemmas.List.{length-take-le}
+-- What a filter returns that is used or not, and what is held of it.
+use Rattle.std.proofs.Common.{◌≡◌, ◌++◌, ◌∙◌, ◌≤◌, ℕ, Bool, List, Option, Some, None, [], length, take, drop, sym, ap}
+use Rattle.std.proofs.Common.{append-nil}
+use Rattle.std.proofs.lemmas.List.{length-take-le, take-append-drop}
 use lib.Seq.{take-append_seam}
 use Rattle.std.specs.Prelude.{MatchOption, is_some}
 use Rattle.gw_filtered.specs.Filters.{ReturnsIf}
+use Rattle.gw_filtered.specs.Outgoing.{WasOffered}
 
 -- By whether it is used, in words that follow from its own.
 pub returned-if : {F : Type 0} (Has : F → List ℕ → List ℕ → Type 0) (Returns : List ℕ → List ℕ → Type 0)
@@ -18,3 +20,25 @@ pub front-is : (n : ℕ) (xs rest room : List ℕ) → length xs ≡ length (tak
     → take n (xs ++ rest) ≡ xs
 front-is n xs rest room long most =
     ap (λ (k : ℕ). take k (xs ++ rest)) (sym (length-take-le n room most) ∙ sym long) ∙ take-append_seam xs rest
+
+-- A device was given octets, and took the first of them.
+pub took-first : (WasGiven : List ℕ → Type 0) (n : ℕ) (octets held left : List ℕ) → left ≡ drop n held
+    → WasGiven octets → octets ≡ held → WasOffered WasGiven left
+took-first WasGiven n octets held left rest given same = (take n held, rw (rest, take-append-drop, ← same) given)
+
+-- What was replaced where it stood, all of it.
+pub refilled : (before after : List ℕ) → length after ≡ length before
+    → take (length before) (after ++ drop (length after) before) ≡ after
+refilled before after long =
+    ap (λ (n : ℕ). take n (after ++ drop (length after) before)) (sym long)
+    ∙ take-append_seam after (drop (length after) before)
+
+-- More octets were filtered when nothing was held any more: what went and is held now is what is returned for all.
+pub filtered-more : (Had Has : List ℕ → List ℕ → Type 0)
+    (log log' returned went held octets room room' left all : List ℕ)
+    → ((taken returned : List ℕ) → Had taken returned → Has (taken ++ room) (returned ++ room'))
+    → went ++ held ≡ returned → held ≡ [] → room ≡ octets → log' ≡ log ++ octets → all ≡ went ++ left → left ≡ room'
+    → Had log returned → Has log' all
+filtered-more Had Has log log' returned went held octets room room' left all stands kept none same more is refill had =
+    let front : went ≡ returned = sym (append-nil went) ∙ ap (λ (xs : List ℕ). went ++ xs) (sym none) ∙ kept in
+    rw (more, is, refill, ← same) (stands log went (rw front had))

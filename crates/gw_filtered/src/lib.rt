@@ -1,8 +1,10 @@
-//! A trunk's device behind a filter, one octet for each octet (`FilteredInput`).
+//! A trunk's device behind filters, one octet for each octet (`FilteredInput`, `FilteredOutput`).
 #![tactic(auto)]
 
 mod incoming;
+mod outgoing;
 mod switches;
 
 pub use incoming::FilteredInput;
+pub use outgoing::FilteredOutput;
 pub use switches::{Switch, SwitchedFilter};

@@ -1,0 +1,14 @@
+-- What a device was given behind a filter (module `outgoing`).
+use Rattle.std.specs.Prelude.{◌≡◌, ◌⊎◌, ◌++◌, ℕ, List, []}
+
+-- the last write was of octets that it took, and all that is still held
+abbrev pub WasOffered : (List ℕ → Type 0) → List ℕ → Type 0
+WasOffered was_given held = (taken : List ℕ) × was_given (taken ++ held)
+
+-- the last write to a device failed, or took none of some octets
+abbrev pub TookNone : {O : Type 0} → (O → Type 0) → (O → ℕ → Type 0) → O → Type 0
+TookNone has_failed has_taken device = has_failed device ⊎ has_taken device 0
+
+-- nothing is held any more, or this is why
+abbrev pub HasGone : List ℕ → Type 0 → Type 0
+HasGone held why = (held ≡ []) ⊎ why

@@ -1,0 +1,145 @@
+//! What is sent to a trunk, as a filter returns it (`FilteredOutput`).
+
+ghost use Rattle.std.specs.Prelude.{◌≡◌, ◌<◌, ◌≤◌, ◌⊎◌, ◌++◌, [], length, min, true, false};
+ghost use Rattle.std.specs.Prelude.{IfOk, IfErr, IfSome, IfNone, OnErr};
+ghost use Rattle.gw_trunk.specs.Device.{written_of};
+ghost use Rattle.gw_filtered.specs.Outgoing.{WasOffered, TookNone, HasGone};
+
+use arrayvec::ArrayVec;
+use gw_filter::BufferFilter;
+use gw_records::Log;
+use gw_trunk::{DeviceFault, TrunkOutput, drop_first, give_held};
+
+// The octets that are taken at once at most: those of a multiframe (ITU-T G.704, 5.1.3.2).
+const MOST_TAKEN: usize = 512;
+
+// Gives a device what is held for it, as far as it takes it without a wait, and returns whether that is all.
+fn give_now<O: TrunkOutput>(
+    outgoing: &mut O,
+    held: &mut ArrayVec<u8, 512>,
+) -> Result<bool, DeviceFault>
+    ensures all { IfOk result (λ all. all ≡ true → held.new.items ≡ []) }
+    ensures went { O.went outgoing.new ++ held.new.items ≡ O.went outgoing.old ++ held.old.items }
+    ensures waits { O.waits outgoing.new ≡ O.waits outgoing.old }
+    ensures slow { O.slow_waits outgoing.new ≡ O.slow_waits outgoing.old }
+    ensures full { IfOk result (λ all. all ≡ false → O.is_full outgoing.new) }
+    ensures given { 0 < length held.old.items → WasOffered (O.was_given outgoing.new) held.new.items }
+    ensures some { IfOk result (λ all. all ≡ false → 0 < length held.old.items) }
+    ensures begun { OnErr result (0 < length held.old.items) }
+    ensures err { OnErr result (TookNone O.has_failed O.has_taken outgoing.new) }
+{
+    for _turn in 0..held.len() {
+        match outgoing.write(held.as_slice()) {
+            Ok(Some(0)) => return Err(DeviceFault),
+            Ok(Some(n)) => drop_first(held, n),
+            Ok(None) => return Ok(false),
+            Err(fault) => return Err(fault),
+        }
+        if held.is_empty() {
+            return Ok(true);
+        }
+    }
+    Ok(true)
+}
+
+/// A trunk to which go the octets that a filter returns, one for each octet that is sent. Of what is sent 512
+/// octets at most are taken at once, and none before the device has taken what the filter returned before.
+/// Waits are the device's own.
+#[derive(Drop)]
+pub struct FilteredOutput<O: TrunkOutput, F: BufferFilter> {
+    outgoing: O,
+    filter: F,
+    // What the filter returned, and the device has not taken.
+    held: ArrayVec<u8, 512>,
+    log: Log,
+    ghost returned: { ∥ F.has_returned filter log.octets (O.went outgoing ++ held.items) ∥₁ },
+}
+
+impl<O: TrunkOutput, F: BufferFilter> FilteredOutput<O, F> {
+    /// A trunk to which nothing went yet, and its filter.
+    pub fn new(outgoing: O, filter: F) -> FilteredOutput<O, F>
+        requires went { O.went outgoing ≡ [] }
+        requires begins { F.has_returned filter [] [] }
+        ensures outgoing { result.outgoing ≡ outgoing }
+        ensures filter { result.filter ≡ filter }
+        ensures log { result.log.octets ≡ [] }
+    {
+        FilteredOutput {
+            outgoing,
+            filter,
+            held: ArrayVec::new(),
+            log: Log::new(),
+        }
+    }
+
+    /// Gives the device what is still held for it, and waits for it a while. Something is held then only if
+    /// the device was slow now, or its last write failed, found no room or took nothing.
+    pub fn finish(&mut self)
+        ensures sent { self.new.log.octets ≡ self.old.log.octets }
+        ensures filter { self.new.filter ≡ self.old.filter }
+        ensures slow { O.slow_waits self.old.outgoing ≤ O.slow_waits self.new.outgoing }
+        ensures given { (self.new.held.items ≡ [])
+            ⊎ ((O.slow_waits self.old.outgoing < O.slow_waits self.new.outgoing)
+            ⊎ ((O.has_failed self.new.outgoing ⊎ O.is_full self.new.outgoing)
+            ⊎ O.has_taken self.new.outgoing 0)) }
+    {
+        let _ = give_held(&mut self.outgoing, &mut self.held);
+    }
+}
+
+impl<O: TrunkOutput, F: BufferFilter> TrunkOutput for FilteredOutput<O, F> {
+    ghost went = { λ d. d.log.octets };
+
+    ghost is_full = { λ d. O.is_full d.outgoing };
+
+    ghost has_failed = { λ d. TookNone O.has_failed O.has_taken d.outgoing };
+
+    ghost has_taken = { λ d _. HasGone d.held.items
+        (O.is_full d.outgoing ⊎ TookNone O.has_failed O.has_taken d.outgoing) };
+
+    ghost was_given = { λ d octets. 0 < length octets → WasOffered (O.was_given d.outgoing) d.held.items };
+
+    ghost waits = { λ d. O.waits d.outgoing };
+
+    ghost sleeps = { λ d d'. O.sleeps d.outgoing d'.outgoing };
+
+    ghost slow_waits = { λ d. O.slow_waits d.outgoing };
+
+    ghost is_slow = { λ d. O.is_slow d.outgoing };
+
+    ghost has_waited = { λ d. O.has_waited d.outgoing };
+
+    ghost may_have_room = { λ d. O.may_have_room d.outgoing };
+
+    fn write(&mut self, octets: &[u8]) -> Result<Option<usize>, DeviceFault>
+        ensures bound { IfOk result (λ n. IfSome n (λ m. m ≤ length octets.now)) }
+        ensures went { self.new.log.octets ≡ self.old.log.octets ++ written_of result octets.now }
+        ensures waits { O.waits self.new.outgoing ≡ O.waits self.old.outgoing }
+        ensures slow { O.slow_waits self.new.outgoing ≡ O.slow_waits self.old.outgoing }
+        ensures most { IfOk result (λ n. IfSome n (λ m. m ≡ min 512 (length octets.now))) }
+        ensures taken { IfOk result (λ n. IfSome n (λ _. HasGone self.new.held.items
+            (O.is_full self.new.outgoing ⊎ TookNone O.has_failed O.has_taken self.new.outgoing))) }
+        ensures full { IfOk result (λ n. IfNone n (O.is_full self.new.outgoing)) }
+        ensures given { 0 < length octets.now
+            → WasOffered (O.was_given self.new.outgoing) self.new.held.items }
+        ensures err { IfErr result (λ _. TookNone O.has_failed O.has_taken self.new.outgoing) }
+    {
+        if !give_now(&mut self.outgoing, &mut self.held)? {
+            return Ok(None);
+        }
+        let n = octets.len().min(MOST_TAKEN);
+        let _ = self.held.try_extend_from_slice(&octets[..n]);
+        self.filter.filter_buffer(self.held.as_mut_slice());
+        self.log.append(octets, n);
+        let _ = give_now(&mut self.outgoing, &mut self.held);
+        Ok(Some(n))
+    }
+
+    fn wait(&mut self) {
+        self.outgoing.wait();
+    }
+
+    fn wait_a_while(&mut self) -> bool {
+        self.outgoing.wait_a_while()
+    }
+}
