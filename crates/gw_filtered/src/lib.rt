@@ -3,8 +3,10 @@
 
 mod incoming;
 mod outgoing;
+mod phased;
 mod switches;
 
 pub use incoming::FilteredInput;
 pub use outgoing::FilteredOutput;
+pub use phased::PhasedFilter;
 pub use switches::{Switch, SwitchedFilter};
