@@ -33,6 +33,16 @@ impl<I: TrunkInput, F: BufferFilter> FilteredInput<I, F> {
     }
 }
 
+impl<I: TrunkInput + Drop, F: BufferFilter> FilteredInput<I, F> {
+    /// The filter.
+    pub fn into_filter(self) -> F
+        ensures { result ≡ self.filter }
+    {
+        let FilteredInput { filter, .. } = self;
+        filter
+    }
+}
+
 impl<I: TrunkInput, F: BufferFilter> TrunkInput for FilteredInput<I, F> {
     ghost came = { λ d. d.log.octets };
 

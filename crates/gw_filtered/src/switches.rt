@@ -39,6 +39,16 @@ impl<F, K: Switch> SwitchedFilter<F, K> {
     }
 }
 
+impl<F, K: Switch> SwitchedFilter<F, K> {
+    /// The filter, if there is one.
+    pub fn into_filter(self) -> Option<F>
+        ensures { result ≡ self.filter }
+    {
+        let SwitchedFilter { filter, .. } = self;
+        filter
+    }
+}
+
 impl<F: BufferFilter, K: Switch> BufferFilter for SwitchedFilter<F, K> {
     ghost has_returned = { λ s octets returned. MatchOption s.filter (returned ≡ octets)
         (λ f. F.has_returned f octets returned) };
