@@ -13,7 +13,7 @@ use Rattle.g704_crc4.specs.Multiframe.{sent_octet, sent_octets}
 use Rattle.g704_crc4.specs.Reporting.{SenderInput, Octet, Errored, ReportsAfter, octet_with_e}
 use Rattle.g704_crc4.specs.States.{SendsAfter}
 use Rattle.gw_filter.specs.declared.sending.Crc4Sender.{Crc4Sender}
-use Rattle.gw_filter.specs.Crc4.{with_e_bits, sent_for, trunk_octets_in, reports_in, SendsCrc4, HasSent, IsSent}
+use Rattle.gw_filter.specs.Crc4.{with_e_bits, sent_for, trunk_octets_in, reports_in, SendsCrc4, HasSent, IsFramed}
 use Rattle.gw_filter.proofs.Arrivals.{with-e-octet, with-e-report, sent-more, arrives-next, arrives-more, given-after}
 use Rattle.gw_filter.proofs.Arrivals.{with-e-append, without-bits}
 use Rattle.gw_filter.proofs.Arrivals.{octets-append, reports-append, octets-of-octets, reports-of-octets}
@@ -185,7 +185,7 @@ more_sent a b given given' reports taken returned old new s came sends =
 
 -- What is known of the octets and the reports alone.
 pub is_sent : (sender : Crc4Sender) (given : Option (List ℕ)) (octets sent : List ℕ) → HasSent sender given octets sent
-    → IsSent given octets sent
+    → IsFramed given octets sent
 is_sent sender given octets sent s = record {
   arrivals = s.arrivals;
   octets_are = s.octets_are;

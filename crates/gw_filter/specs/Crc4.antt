@@ -40,7 +40,7 @@ pub record SendsCrc4 (sender : Crc4Sender) (arrivals : List SenderInput) (sent :
   pub sent_is : sent ≡ sent_for arrivals
 
 -- Octets as they came and as they were sent. The reports given so far came between them.
-pub record IsSent (reports : Option (List ℕ)) (octets sent : List ℕ) : Type 0 where
+pub record IsFramed (reports : Option (List ℕ)) (octets sent : List ℕ) : Type 0 where
   pub arrivals : List SenderInput
   pub octets_are : octets ≡ trunk_octets_in arrivals
   pub reports_are : reports ≡ Some (reports_in arrivals)
@@ -58,10 +58,10 @@ pub record HasSent (sender : Crc4Sender) (reports : Option (List ℕ)) (octets s
 abbrev pub SendsMultiframes : Option (List ℕ) → SourceState → SourceState → SinkState → SinkState → Totals
     → Type 0
 SendsMultiframes reports source source' sink sink' totals =
-    Filters (IsSent reports) source source' sink sink' totals
+    Filters (IsFramed reports) source source' sink sink' totals
 
 -- Sending ends before the end of the source.
 abbrev pub SendsMultiframesUntil : Option (List ℕ) → SourceState → SourceState → SinkState → SinkState
     → RunFault → Type 0
 SendsMultiframesUntil reports source source' sink sink' fault =
-    FiltersUntil (IsSent reports) source source' sink sink' fault
+    FiltersUntil (IsFramed reports) source source' sink sink' fault

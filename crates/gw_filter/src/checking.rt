@@ -50,7 +50,8 @@ impl<R: ReportSink, T: CountsTeller + Drop> ReportingChecker<R, T> {
     /// A checker at the start of a stream.
     pub fn new(reports: R, teller: T) -> Self
         requires { R.sent reports ≡ [] }
-        ensures { HasReported result.checker result.reported (R.sent result.reports) [] [] }
+        ensures reports { result.reports ≡ reports }
+        ensures begins { HasReported result.checker result.reported (R.sent result.reports) [] [] }
     {
         ReportingChecker {
             checker: TrunkChecker::new(),

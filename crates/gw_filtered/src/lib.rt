@@ -8,5 +8,5 @@ mod switches;
 
 pub use incoming::FilteredInput;
 pub use outgoing::FilteredOutput;
-pub use phased::PhasedFilter;
+pub use phased::{Phase, PhasedFilter};
 pub use switches::{Switch, SwitchedFilter};
