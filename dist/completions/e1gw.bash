@@ -23,8 +23,8 @@ _e1gw_options() {
     serve)
       echo '--config --load --save --record --record-over --repeat --seizure-wait --senders --totals --help' ;;
     trunk)
-      echo '--config --load --save --align --control --end --record --record-over --repeat --seizure-wait' \
-        '--senders --totals --help' ;;
+      echo '--config --load --save --align --control --crc4 --end --live --record --record-over --repeat' \
+        '--seizure-wait --senders --totals --help' ;;
     satop) echo '--size --jitter --rtp --sequence --fill --clock --help' ;;
     '') echo '--help --version' ;;
   esac

@@ -406,6 +406,13 @@ pub fn asks_align(matches: &ArgMatches<'_>) -> bool
     asks(matches, "align")
 }
 
+/// Whether CRC-4 multiframes are to be checked in what comes of a trunk and sent in what goes.
+pub fn asks_crc4(matches: &ArgMatches<'_>) -> bool
+    ensures { HasFlag (codes "crc4") (subcommand_rows_of matches.now) result }
+{
+    asks(matches, "crc4")
+}
+
 /// Whether CRC-4 multiframes are to be checked instead of sent.
 pub fn asks_check(matches: &ArgMatches<'_>) -> bool
     ensures { HasFlag (codes "check") (subcommand_rows_of matches.now) result }

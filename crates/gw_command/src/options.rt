@@ -97,7 +97,8 @@ const CRC4_CHECK_TEXT: &str = "Pass octets as they come, and count errored submu
 const REPORTS_TEXT: &str =
     "FIFO through which errored submultiframes are reported to the\nfar end, by E bits";
 
-const LIVE_TEXT: &str = "With --check: tell the counts after each second of the trunk";
+const LIVE_TEXT: &str =
+    "Where CRC-4 multiframes are checked: tell the counts after each\nsecond of the trunk";
 
 const CODEC_TEXT: &str =
     "Coding of the datagrams [possible values: g711, g726-16,\ng726-24, g726-32, g726-40]";
@@ -140,6 +141,8 @@ const CHECKPOINT_TEXT: &str =
 
 const ALIGN_TEXT: &str = "Take octets whose bits stand at any offset, as e1gw align";
 
+const CRC4_TEXT: &str = "Check what comes as e1gw crc4 --check, and send as e1gw crc4";
+
 const SIZE_TEXT: &str = "Octets in a packet, 32 to 1280, a multiple of 32";
 
 const JITTER_TEXT: &str = "Packets waited for after one that is due, 0 to 500";
@@ -177,6 +180,7 @@ enum OptionName {
     Control,
     End,
     Align,
+    Crc4,
     Tell,
     Checkpoint,
     Follow,
@@ -262,6 +266,8 @@ const OF_TRUNK: &[OptionName] = &[
     OptionName::Control,
     OptionName::End,
     OptionName::Align,
+    OptionName::Crc4,
+    OptionName::Live,
 ];
 
 // The options of an emulated circuit.
@@ -585,6 +591,7 @@ fn declared<'a>(alloc: Global, option: OptionName) -> Arg<'a> {
         OptionName::Control => control_option(alloc),
         OptionName::End => end_option(alloc),
         OptionName::Align => flag(alloc, "align", ALIGN_TEXT),
+        OptionName::Crc4 => flag(alloc, "crc4", CRC4_TEXT),
         OptionName::Tell => tell_option(alloc),
         OptionName::Checkpoint => checkpoint_option(alloc),
         OptionName::Follow => follow_option(alloc),

@@ -30,7 +30,10 @@ pub use performing::{SessionEnds, System, end_session, perform_job, perform_sess
 pub use program_fault::{DONE, NO_MEMORY, ProgramFault, REFUSED};
 pub use recording::{Recording, Tape, begin};
 pub use recording_file::RecordingFile;
-pub use report::{Skipped, passed_over, print_discarded, print_fault, print_totals};
+pub use report::{
+    LiveCounts, Skipped, passed_over, print_discarded, print_fault, print_receiver_counts,
+    print_totals, print_unreported,
+};
 pub use requests::{Commands, perform};
 pub use running::{run_crc4_check, run_filter, run_on_log};
 pub use sessions::{check, replay, replay_watched, serve_through};

@@ -88,8 +88,10 @@ pub fn print_receiver_counts(rt: &impl Eprint, checked: &Checked)
 }
 
 /// Prints how many errored submultiframes were not reported on standard error, in the form of the counts.
-pub fn print_unreported(rt: &impl Eprint, unreported: u64) {
-    let _ = eprintln!(rt; "unreported {}", unreported);
+pub fn print_unreported(rt: &impl Eprint, unreported: u64)
+    ensures { SystemPrints (codes "unreported") unreported }
+{
+    print_row(rt, "unreported", unreported);
 }
 
 /// What a check of CRC-4 multiframes prints beside its counts at the end.

@@ -28,4 +28,4 @@ pub use multiframe_dropper::{MultiframeDropper, give_held};
 pub use sink::TrunkRecordSink;
 pub use source::TrunkRecordSource;
 pub use waiting::Waiting;
-pub use with_clients::{WithClients, open_clients};
+pub use with_clients::{WithClients, open_clients, open_pair};

@@ -87,9 +87,9 @@ impl<R: DeviceReader + Drop> WithClients<R> {
     }
 }
 
-// Two connections, each the other's end. The error is the system's.
+/// Two connections, each the other's end, whose calls never wait. The error is the system's.
 #[tactic(auto, unfolding(crate::specs::System::SystemPairs, crate::specs::System::SystemRefusesStream))]
-fn open_pair(rt: &impl Net) -> io::Result<(UnixStream, UnixStream)>
+pub fn open_pair(rt: &impl Net) -> io::Result<(UnixStream, UnixStream)>
     ensures ok { IfOk result (λ both. SystemPairs both.0 both.1) }
     ensures err { IfErr result SystemRefusesStream }
 {

@@ -1,3 +1,4 @@
 mod Written
 mod Carried
+mod Filtered
 pub mod Served

@@ -9,19 +9,17 @@ use Rattle.gw_records.specs.Streams.{SourceState, SinkState}
 use Rattle.gw_session.specs.PacketPorts.{no_ports}
 use Rattle.gw_session.specs.Serve.{around, around_log}
 use Rattle.gw_session.specs.Tape.{TapeState, no_tape}
-use Rattle.gw_trunk.specs.Multiframes.{GoesInTime}
 use Rattle.run_trunk.specs.Serving.{Traffic}
 use Rattle.gw_command.specs.Command.{SaysNumberIn, text_in}
 use Rattle.gw_program.proofs.Streams.{lacks_asked, on_new, performed_so, saved_told, told_why}
 use Rattle.gw_program.specs.declared.program_fault.ProgramFault.{ProgramFault}
 use Rattle.gw_program.specs.declared.program_fault.ProgramFault.TheVariants as program_faults
-use Rattle.gw_program.specs.Performing.{EndedSaved, HasServed, LacksSession, Performed, SystemFiles}
+use Rattle.gw_switch.specs.declared.gateway.Gateway.{Gateway}
+use Rattle.gw_program.specs.Performing.{EndedSaved, HasServed, LacksSession, NotBegun, SystemFiles}
 use Rattle.gw_program.specs.Performing.Performed.{Lacked, Done}
 use Rattle.gw_program.specs.Requests.{CommandLine, TakesAsked, files_in}
-use Rattle.gw_filter.specs.Align.{align_reply}
-use Rattle.gw_filter.specs.Filter.{RepliesTo}
-use Rattle.run_trunk.specs.Trunks.{AsksEnd, CarriesTrunk, FiltersIf, IsEndedBy, LacksControl, LacksEnds}
-use Rattle.run_trunk.specs.Trunks.{LacksStream, ServesTrunk}
+use Rattle.run_trunk.specs.Trunks.{AsksEnd, CarriesTrunk, HasTrunk, IsEndedBy, LacksControl, LacksEnds}
+use Rattle.run_trunk.specs.Trunks.{LacksStream, ServesBy, ServesTrunk}
 
 -- a fault is returned for a reason, and nothing was done with the streams
 pub nothing_served : (command : CommandLine) (lacks : ProgramFault → Type 0) (fault : ProgramFault)
@@ -62,41 +60,71 @@ none_asked command none n named = absurd (none n named)
 pub asked_of : (command : CommandLine) (poll : Poll) → IsEndedBy command poll → AsksEnd command
 asked_of command poll ended n named = (poll, ended n named)
 
-module _ (s s' : SourceState) (k k' : SinkState) {X P T : Type 0} {x x' : X} {files : SystemFiles}
-    {command : CommandLine} (takes : TakesAsked command files) {lacks_more : Config → ProgramFault → Type 0}
-    (opens : Config → P → Type 0) (begins : T → Type 0) (ports_tell : P → PortsState) (tape_tells : T → TapeState)
-    {told : Result Totals ProgramFault}
+module _ (s s' : SourceState) (k k' : SinkState) {X P T : Type 0} {x x' : X} {command : CommandLine}
+    {lacks : ProgramFault → Type 0} {saves : Result (Unit {0}) ProgramFault → Type 0}
+    (opens : P → Type 0) (begins : T → Type 0) (ports_tell : P → PortsState) (tape_tells : T → TapeState)
+    {gateway gateway' : Gateway} {told : Result Totals ProgramFault}
   where
-    -- a trunk that was served on new streams, and what was sent went in time
-    pub trunk_served : AsksEnd command → (passed : Traffic) (received went : List ℕ) (discarded slow_waits : ℕ)
-        → ∥ FiltersIf command (codes "align") (RepliesTo align_reply) received passed.came ∥₁
-        → ∥ GoesInTime passed.went went discarded slow_waits ∥₁
-        → Performed x x' files (LacksSession files lacks_more) (λ config gateway gateway'.
-        HasServed (opens config) begins (λ ports ports' tape tape'. EndedSaved (CarriesTrunk
+    -- a trunk that was served on new streams by a gateway
+    pub served_by : (passed : Traffic)
+        → NotBegun x x' lacks told ⊎ HasServed opens begins (λ ports ports' tape tape'. EndedSaved (CarriesTrunk
         (around_log s k (ports_tell ports) (tape_tells tape)) (around_log s' k' (ports_tell ports') (tape_tells tape'))
-        passed gateway gateway') (files.saves config gateway') told)) told
+        passed gateway gateway') saves told)
+        → ((does : Traffic → Type 0) → does passed → HasTrunk command gateway does told)
         → (x' ≡ x → around s' k' no_ports no_tape ≡ around s k no_ports no_tape)
         → s.reads ≡ 0 → s.given ≡ Some [] → s.failures ≡ 0 → k.failures ≡ 0
-        → ServesTrunk command (LacksSession (files_in command) lacks_more) told
-    trunk_served asks passed received went discarded slow_waits aligned goes (Lacked n) f a b c d =
-        on_new s s' k k' (Lacked (told_why (λ fault why. inr (lacks_asked takes lacks_more fault why)) f n)) a b c d
-    trunk_served asks passed received went discarded slow_waits aligned goes (Done config read g g' begun v) f a b c d =
-        record {
-          before = around_log s k (ports_tell v.ports) (tape_tells v.tape);
-          after = around_log s' k' (ports_tell v.ports') (tape_tells v.tape');
-          new = record { unread = a; no_octet = b; no_failed_read = c; no_failed_write = d };
-          done = Done config (takes.read config read) g g' (takes.begun config g begun) (record {
-            asked = asks;
-            passed = passed;
-            done = saved_told takes config g' v.done;
-            received = received;
-            aligned = aligned;
-            went = went;
-            discarded = discarded;
-            slow_waits = slow_waits;
-            goes = goes;
-          });
-        }
+        → ServesBy command lacks saves gateway gateway' told
+    served_by passed (inl n) trunk same a b c d =
+        on_new s s' k k' (inl (told_why (λ fault why. why) same n)) a b c d
+    served_by passed (inr v) trunk same a b c d = record {
+      before = around_log s k (ports_tell v.ports) (tape_tells v.tape);
+      after = around_log s' k' (ports_tell v.ports') (tape_tells v.tape');
+      new = record { unread = a; no_octet = b; no_failed_read = c; no_failed_write = d };
+      done = inr (trunk _ v.done);
+    }
+
+-- What was done of what passed, told by less.
+trunk_so : {command : CommandLine} {gateway : Gateway} {does does' : Traffic → Type 0}
+    {told : Result Totals ProgramFault} → ((passed : Traffic) → does passed → does' passed)
+    → HasTrunk command gateway does told → HasTrunk command gateway does' told
+trunk_so is t = record {
+  asked = t.asked;
+  passed = t.passed;
+  done = is t.passed t.done;
+  received = t.received;
+  comes = t.comes;
+  place = t.place;
+  place_is = t.place_is;
+  discarded = t.discarded;
+  goes = t.goes;
+  tells = t.tells;
+}
+
+-- A trunk that was served by a gateway that was begun as the command asks.
+pub served_as : {command : CommandLine} {files : SystemFiles} → TakesAsked command files
+    → {lacks_more : Config → ProgramFault → Type 0} {told : Result Totals ProgramFault} (config : Config)
+    (gateway gateway' : Gateway) → files.reads config → files.starts config gateway
+    → ServesBy command (lacks_more config) (files.saves config gateway') gateway gateway' told
+    → ServesTrunk command (LacksSession (files_in command) lacks_more) told
+served_as {command = command} takes {lacks_more = lacks_more} config gateway gateway' read begun s = record {
+  before = s.before;
+  after = s.after;
+  new = s.new;
+  done = elim s.done [
+    | inl n ↦ Lacked (told_why (λ fault why. inr (lacks_asked takes lacks_more fault
+        (inr (config, read, inr (gateway, begun, why))))) (λ e. e) n)
+    | inr t ↦ Done config (takes.read config read) gateway gateway' (takes.begun config gateway begun)
+        (trunk_so (λ passed done. saved_told takes config gateway' done) t)
+  ];
+}
+
+-- A trunk that was not served for want of a configuration or a gateway.
+pub not_begun : {command : CommandLine} {files : SystemFiles} → TakesAsked command files
+    → (lacks_more : Config → ProgramFault → Type 0) (fault : ProgramFault) (told : Result Totals ProgramFault)
+    → LacksSession files lacks_more fault → told ≡ Err fault
+    → ServesTrunk command (LacksSession (files_in command) lacks_more) told
+not_begun {command = command} takes lacks_more fault told why is =
+    rw is (nothing_served command _ fault (inr (lacks_asked takes lacks_more fault why)))
 
 -- A trunk that was served so was, or was not for one of more reasons.
 pub served_so : (command : CommandLine) (lacks lacks' : ProgramFault → Type 0) (told : Result Totals ProgramFault)

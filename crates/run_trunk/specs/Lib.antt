@@ -1,2 +1,3 @@
 pub mod Serving
+pub mod Filters
 pub mod Trunks

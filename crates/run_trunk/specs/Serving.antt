@@ -1,5 +1,5 @@
 -- A trunk that is served by a gateway: what comes and what goes (module `serving`).
-use Rattle.std.specs.Prelude.{◌≡◌, ◌++◌, ◌∷◌, ℕ, List, [], flat_map, Result, MatchResult}
+use Rattle.std.specs.Prelude.{◌≡◌, ◌++◌, ◌∷◌, ℕ, List, [], flat_map, Some, Result, MatchResult}
 use Rattle.gw_switch.specs.declared.GatewayConfig.{GatewayConfig}
 use Rattle.gw_switch.specs.declared.gateway.Gateway.{Gateway}
 use Rattle.gw_switch.specs.Events.{CircuitEvent, Event, octets}
@@ -10,11 +10,19 @@ use Rattle.gw_records.specs.declared.outcome.RunFault.{RunFault}
 use Rattle.gw_records.specs.declared.outcome.RunFault.TheVariants.{Read, Write, OutOfMemory}
 use Rattle.gw_records.specs.Octets.{octet_of_command, octet_of_codec}
 use Rattle.gw_records.specs.Records.{Record}
+use Rattle.gw_records.specs.Streams.{SourceState, SinkState}
 use Rattle.gw_session.specs.Answers.{written_out, answers, events}
 use Rattle.gw_session.specs.Serve.{octets_for}
 use Rattle.gw_session.specs.ServeLaws.{without_datagrams}
 use Rattle.gw_session.specs.Tape.{TapeState, Recorded}
 use Rattle.gw_trunk.specs.Pieces.{Woven, from_clients}
+
+-- nothing was read of a source, and nothing written to a sink
+abbrev pub IsUnread : SourceState → Type 0
+IsUnread source = (source.failures ≡ 0) × (source.reads ≡ 0) × (source.given ≡ Some [])
+
+abbrev pub IsUntaken : SinkState → Type 0
+IsUntaken sink = (sink.failures ≡ 0) × (sink.taken ≡ Some [])
 
 -- events but for octets and datagrams
 abbrev pub commands_in : List Event → List Event

@@ -1,5 +1,5 @@
 -- What it means that the trunk that the command line names is served.
-use Rattle.std.specs.Prelude.{◌≡◌, ◌⊎◌, ℕ, Bool, pos, List, true, Some, None, Result, codes}
+use Rattle.std.specs.Prelude.{◌≡◌, ◌⊎◌, ℕ, pos, List, true, Some, None, OnOk, Result, codes}
 use Rattle.mio.specs.declared.poll.Poll.{Poll}
 use Rattle.gw_switch.specs.declared.GatewayConfig.{GatewayConfig}
 use Rattle.gw_switch.specs.declared.gateway.Gateway.{Gateway}
@@ -8,14 +8,11 @@ use Rattle.gw_records.specs.declared.outcome.RunFault.{RunFault}
 use Rattle.gw_switch.specs.Events.{Event}
 use Rattle.gw_switch.specs.Standing.{HasHistory}
 use Rattle.gw_session.specs.Serve.{SessionStreams}
-use Rattle.gw_command.specs.Command.{HasFlag, SaysNumberIn, text_in}
-use Rattle.gw_filter.specs.Align.{align_reply}
-use Rattle.gw_filter.specs.Filter.{RepliesTo}
-use Rattle.gw_filtered.specs.Filters.{ReturnsIf}
-use Rattle.gw_trunk.specs.Multiframes.{GoesInTime}
+use Rattle.gw_command.specs.Command.{SaysNumberIn, text_in}
 use Rattle.gw_trunk.specs.System.{SystemRefusesDoor, SystemRefusesStream, SystemWatches}
+use Rattle.run_trunk.specs.Filters.{Comes, EndIsTold, Goes, IsPlaceOf}
 use Rattle.run_trunk.specs.Serving.{Carried, Traffic}
-use Rattle.gw_program.specs.Performing.{EndedSaved}
+use Rattle.gw_program.specs.Performing.{EndedSaved, NotBegun}
 use Rattle.gw_program.specs.Requests.{ByGateway, CommandLine, OnNewStreams, save_in}
 use Rattle.gw_program.specs.Sessions.{Serves}
 use Rattle.gw_program.specs.State.{IsSaved}
@@ -50,26 +47,21 @@ abbrev pub AsksEnd : CommandLine → Type 0
 AsksEnd command = (descriptor : ℕ) → SaysNumberIn 16 (codes "end") command descriptor
     → (poll : Poll) × SystemWatches poll (pos descriptor) 10 true
 
--- A filter is used if the command has a flag. It returned this for octets, or these pass as they came.
-pub record FiltersIf (command : CommandLine) (flag : List ℕ) (Returns : List ℕ → List ℕ → Type 0)
-    (octets returned : List ℕ) : Type 0 where
-  pub is_on : Bool
-  pub asked : HasFlag flag command is_on
-  pub returns : ReturnsIf is_on Returns octets returned
-
 -- What the command names for the end was seen to. Octets came from a trunk and were sent to it, clients
--- asked and were answered, and this was done of it. What came was aligned, if the command asks for it. What
--- was sent went to the device in time: all of it, except for whole multiframes if the device was slow.
-pub record HasTrunk (command : CommandLine) (does : Traffic → Type 0) : Type 0 where
+-- asked and were answered, and this was done of it by the gateway. What came and what was sent passed the
+-- filters that the command asks for. What the command asks to be told at the end was told, if it ended well.
+pub record HasTrunk (command : CommandLine) (gateway : Gateway) (does : Traffic → Type 0)
+    (told : Result Totals ProgramFault) : Type 0 where
   pub asked : AsksEnd command
   pub passed : Traffic
   pub done : does passed
   pub received : List ℕ
-  pub aligned : ∥ FiltersIf command (codes "align") (RepliesTo align_reply) received passed.came ∥₁
-  pub went : List ℕ
+  pub comes : ∥ Comes command received passed.came ∥₁
+  pub place : ℕ
+  pub place_is : IsPlaceOf gateway place
   pub discarded : ℕ
-  pub slow_waits : ℕ
-  pub goes : ∥ GoesInTime passed.went went discarded slow_waits ∥₁
+  pub goes : ∥ Goes command place passed.went discarded ∥₁
+  pub tells : OnOk told (EndIsTold command passed.came discarded)
 
 -- the command names a descriptor for the end, and no socket of clients
 abbrev pub NamesEndAlone : CommandLine → Type 0
@@ -83,11 +75,19 @@ LacksEnds command fault = LacksStream fault
     ⊎ ((path : List ℕ) × (text_in (codes "control") command ≡ Some path) × LacksControl path fault)
     ⊎ ((fault ≡ program_faults.Nothing) × NamesEndAlone command)
 
+-- The trunk that the command names was served by a gateway and the state of this saved; or it was not begun
+-- for such a reason, and nothing was read or written.
+abbrev pub ServesBy : CommandLine → (ProgramFault → Type 0) → (Result (Unit {0}) ProgramFault → Type 0)
+    → Gateway → Gateway → Result Totals ProgramFault → Type 0
+ServesBy command lacks saves gateway gateway' told = OnNewStreams (λ a a'. NotBegun a a' lacks told
+    ⊎ HasTrunk command gateway (λ passed.
+    EndedSaved (CarriesTrunk a a' passed gateway gateway') saves told) told)
+
 -- The trunk that the command names was served with this result: it has no ends, or its session was not begun
 -- for such a reason, and nothing was read or written; or it was served by a gateway that was begun by the
 -- configuration in the file that is named.
 abbrev pub ServesTrunk : CommandLine → (ProgramFault → Type 0) → Result Totals ProgramFault → Type 0
 ServesTrunk command lacks told = OnNewStreams (λ a a'.
     ByGateway a a' command (λ fault. LacksEnds command fault ⊎ lacks fault) told (λ config gateway gateway'.
-    HasTrunk command (λ passed. EndedSaved (CarriesTrunk a a' passed gateway gateway')
-    (IsSaved (save_in command) config.gateway gateway') told)))
+    HasTrunk command gateway (λ passed. EndedSaved (CarriesTrunk a a' passed gateway gateway')
+    (IsSaved (save_in command) config.gateway gateway') told) told))

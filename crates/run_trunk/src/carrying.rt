@@ -1,24 +1,30 @@
 //! How the trunk that the command line asks for is opened and served (`serve`).
 
-ghost use Rattle.std.specs.Prelude.{◌≡◌, [], IfOk, IfErr, IfSome, None, OnOk, codes, is_some};
+ghost use Rattle.std.specs.Prelude.{◌≡◌, ◌%◌, [], IfOk, IfErr, None, OnOk, codes, is_some};
 ghost use Rattle.clap.specs.Words.{subcommand_rows_of};
-ghost use Rattle.g704_bits.specs.Standing.{StandsAfter};
 ghost use Rattle.gw_command.specs.Command.{HasFlag, text_in};
 ghost use Rattle.gw_program.specs.Performing.{LacksSession, LacksTapeOrPorts};
 ghost use Rattle.gw_program.specs.Requests.{TakesAsked, files_in};
+ghost use Rattle.run_trunk.specs.Filters.{AreAsked, EndIsTold};
 ghost use Rattle.run_trunk.specs.Trunks.{AsksEnd, IsEndedBy, LacksControl, LacksStream, ServesTrunk};
+ghost use Rattle.run_trunk.specs.Trunks.{ServesBy};
 
+use crate::filters::{
+    Incoming, TrunkFilters, filtered_input, filtered_output, filters_as_asked, finish_input,
+    finish_output, parted,
+};
 use crate::performing::{TrunkRecords, perform_trunk};
 use crate::sealed::{AnswersDevice, TrunkDevice, TrunkSource};
 use clap::ArgMatches;
-use g704_bits::BitAligner;
-use gw_command::{asks_align, control_of, end_of, wants_totals};
-use gw_filtered::{FilteredInput, Switch, SwitchedFilter};
+use gw_command::{control_of, end_of, wants_totals};
+use gw_config::Config;
+use gw_filtered::{Phase, Switch};
 use gw_program::{Machine, ProgramFault, System, print_discarded};
 use gw_session::Totals;
+use gw_switch::Gateway;
 use gw_trunk::{
-    FromDevice, MultiframeDropper, NoClients, ToDevice, TrunkInput, TrunkOutput, TrunkRecordSink,
-    TrunkRecordSource, WithClients, open_clients,
+    FromDevice, NoClients, ToDevice, TrunkInput, TrunkOutput, TrunkRecordSink, TrunkRecordSource,
+    WithClients, open_clients,
 };
 use mio::net::UnixStream;
 use std::marker::Brand;
@@ -83,40 +89,102 @@ fn end_as_asked(matches: &ArgMatches<'_>, incoming: &WithClients<Stdin>) -> Resu
     }
 }
 
-// The aligner of what comes, if the matches ask for one.
-fn aligner_as_asked(matches: &ArgMatches<'_>) -> Option<BitAligner>
-    ensures asked { HasFlag (codes "align") (subcommand_rows_of matches.now) (is_some result) }
-    ensures new { IfSome result (λ aligner. StandsAfter aligner []) }
-{
-    if asks_align(matches) {
-        return Some(BitAligner::new());
-    }
-    None
-}
-
-// The ends of a trunk in service.
+// The ends of a trunk in service, and the filters that are asked for.
 #[derive(Drop)]
-struct TrunkEnds<I: TrunkInput, O: TrunkOutput, A: TrunkOutput> {
+struct TrunkEnds<'r, R, I: TrunkInput, O: TrunkOutput, A: TrunkOutput> {
     incoming: I,
     outgoing: O,
     answers: A,
+    filters: TrunkFilters<'r, R>,
 }
 
-// Serves a trunk between its ends, whose octets come through the aligner if there is one, and go out in time.
+// Tells the end of a trunk: the counts of what came, and then how many multiframes were discarded.
+fn tell_end<'r, R: Machine, I: TrunkInput + Drop, K: Switch, L: Switch>(
+    rt: &'r R,
+    matches: &ArgMatches<'_>,
+    told: &Result<Totals, ProgramFault>,
+    incoming: Incoming<'r, R, I, K, L>,
+    discarded: u64,
+)
+    requires { HasFlag (codes "crc4") (subcommand_rows_of matches.now) L.is_on }
+    ensures { OnOk told.now (EndIsTold (subcommand_rows_of matches.now) incoming.entry.log.octets discarded) }
+{
+    let totals = match told {
+        Ok(totals) if wants_totals(matches) => Some(*totals),
+        _ => None,
+    };
+    finish_input(rt, incoming, totals);
+    if totals.is_some() {
+        print_discarded(rt, discarded);
+    }
+}
+
+// Serves a trunk between its ends by a gateway, from its place in a multiframe on.
 #[inline(never)]
-fn carry<
+fn carry_from<
+    'r,
     R: Machine,
     Y: System,
     I: TrunkInput + TrunkSource + Drop,
     O: TrunkDevice + Drop,
     A: TrunkOutput + AnswersDevice + Drop,
     K: Switch,
+    L: Switch,
+    P: Phase,
 >(
-    rt: &R,
+    rt: &'r R,
     matches: &ArgMatches<'_>,
     system: &Y,
-    ends: TrunkEnds<I, O, A>,
-    aligner: Option<BitAligner>,
+    config: &Config,
+    gateway: &mut Gateway,
+    ends: TrunkEnds<'r, R, I, O, A>,
+) -> Result<Totals, ProgramFault>
+    requires asks { AsksEnd (subcommand_rows_of matches.now) }
+    requires came { I.came ends.incoming ≡ [] }
+    requires asked { I.asked ends.incoming ≡ [] }
+    requires went { O.went ends.outgoing ≡ [] }
+    requires told { A.went ends.answers ≡ [] }
+    requires filters { AreAsked (subcommand_rows_of matches.now) ends.filters }
+    requires align { is_some ends.filters.aligner ≡ K.is_on }
+    requires crc4 { is_some ends.filters.crc4 ≡ L.is_on }
+    requires place { gateway.old.trunk.position % 512 ≡ P.place }
+    ensures { ServesBy (subcommand_rows_of matches.now)
+        (LacksTapeOrPorts (Y.lacks_tape system.now) (Y.lacks_ports system.now config.now))
+        ((Y.files system.now).saves config.now gateway.new) gateway.old gateway.new result }
+{
+    let TrunkEnds {
+        incoming,
+        outgoing,
+        answers,
+        filters: TrunkFilters { aligner, crc4 },
+    } = ends;
+    let (checker, reports) = parted(crc4);
+    let incoming = filtered_input::<R, I, K, L>(incoming, aligner, checker);
+    let outgoing = filtered_output::<R, O, L, P>(rt, outgoing, reports, gateway.place());
+    let mut trunk = TrunkRecords {
+        source: TrunkRecordSource::new(incoming),
+        sink: TrunkRecordSink::new(outgoing, answers),
+    };
+    let told = perform_trunk(system, rt.alloc(), config, gateway, &mut trunk);
+    let TrunkRecords { source, sink } = trunk;
+    let discarded = finish_output(sink.into_outgoing());
+    tell_end(rt, matches, &told, source.into_incoming(), discarded);
+    told
+}
+
+// Serves a trunk between its ends with the configuration and the gateway of the system.
+fn carry<
+    'r,
+    R: Machine,
+    Y: System,
+    I: TrunkInput + TrunkSource + Drop,
+    O: TrunkDevice + Drop,
+    A: TrunkOutput + AnswersDevice + Drop,
+>(
+    rt: &'r R,
+    matches: &ArgMatches<'_>,
+    system: &Y,
+    ends: TrunkEnds<'r, R, I, O, A>,
 ) -> Result<Totals, ProgramFault>
     requires takes { TakesAsked (subcommand_rows_of matches.now) (Y.files system.now) }
     requires asks { AsksEnd (subcommand_rows_of matches.now) }
@@ -124,27 +192,21 @@ fn carry<
     requires asked { I.asked ends.incoming ≡ [] }
     requires went { O.went ends.outgoing ≡ [] }
     requires told { A.went ends.answers ≡ [] }
-    requires aligns { HasFlag (codes "align") (subcommand_rows_of matches.now) (is_some aligner) }
-    requires picked { is_some aligner ≡ K.is_on }
-    requires new { IfSome aligner (λ a. StandsAfter a []) }
+    requires filters { AreAsked (subcommand_rows_of matches.now) ends.filters }
     ensures { ServesTrunk (subcommand_rows_of matches.now)
         (LacksSession (files_in (subcommand_rows_of matches.now))
         (λ config. LacksTapeOrPorts (Y.lacks_tape system.now) (Y.lacks_ports system.now config))) result }
 {
-    let filter = SwitchedFilter::<BitAligner, K>::new(aligner);
-    let incoming = FilteredInput::new(ends.incoming, filter);
-    let outgoing = MultiframeDropper::new(ends.outgoing, rt.errors());
-    let mut trunk = TrunkRecords {
-        source: TrunkRecordSource::new(incoming),
-        sink: TrunkRecordSink::new(outgoing, ends.answers),
-    };
-    let told = perform_trunk(system, rt.alloc(), &mut trunk);
-    let mut device = trunk.sink.into_outgoing();
-    device.finish();
-    if told.is_ok() && wants_totals(matches) {
-        print_discarded(rt, device.discarded());
-    }
-    told
+    let config = system.read_config()?;
+    let mut gateway = system.begin_gateway(&config)?;
+    carry_from::<R, Y, I, O, A, Brand, Brand, Brand>(
+        rt,
+        matches,
+        system,
+        &config,
+        &mut gateway,
+        ends,
+    )
 }
 
 // Serves the trunk without clients. Then no descriptor asks for its end.
@@ -168,11 +230,9 @@ fn serve_alone<R: Machine, Y: System>(
         incoming: open_stdin(rt, input)?,
         outgoing: open_stdout(rt, output)?,
         answers: NoClients::new(),
+        filters: filters_as_asked(rt, matches)?,
     };
-    let aligner = aligner_as_asked(matches);
-    carry::<R, Y, FromDevice<Stdin>, ToDevice<Stdout>, NoClients, Brand>(
-        rt, matches, system, ends, aligner,
-    )
+    carry(rt, matches, system, ends)
 }
 
 // Serves the trunk with clients. The descriptor that the matches name asks for the end of this trunk.
@@ -194,15 +254,14 @@ fn serve_clients<R: Machine, Y: System>(
         (λ config. LacksTapeOrPorts (Y.lacks_tape system.now) (Y.lacks_ports system.now config))) result }
 {
     let outgoing = open_stdout(rt, output)?;
+    let filters = filters_as_asked(rt, matches)?;
     let ends = TrunkEnds {
         incoming,
         outgoing,
         answers,
+        filters,
     };
-    let aligner = aligner_as_asked(matches);
-    carry::<R, Y, WithClients<Stdin>, ToDevice<Stdout>, ToDevice<UnixStream>, Brand>(
-        rt, matches, system, ends, aligner,
-    )
+    carry(rt, matches, system, ends)
 }
 
 /// Serves the trunk whose octets come from standard input and go to standard output, with what the system

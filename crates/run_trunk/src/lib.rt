@@ -2,6 +2,7 @@
 #![tactic(auto)]
 
 mod carrying;
+mod filters;
 mod performing;
 mod sealed;
 mod serving;

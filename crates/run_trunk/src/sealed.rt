@@ -2,21 +2,23 @@
 //!
 //! What passes octets on to one of these, or puts others in their place, is refused by its type.
 
-use g704_bits::BitAligner;
-use gw_filtered::{FilteredInput, Switch, SwitchedFilter};
-use gw_trunk::{
-    FromDevice, MultiframeDropper, NoClients, ToDevice, TrunkInput, TrunkOutput, WithClients,
-};
+use crate::filters::{Incoming, Outgoing};
+use gw_filtered::{Phase, Switch};
+use gw_program::Machine;
+use gw_trunk::{FromDevice, NoClients, ToDevice, TrunkInput, TrunkOutput, WithClients};
 use mio::net::UnixStream;
-use std::rt::{Stderr, Stdin, Stdout};
+use std::rt::{Stdin, Stdout};
 
-/// Standard input, with clients or without, also aligned.
+/// Standard input, with clients or without.
 pub(crate) trait TrunkSource {}
+
+/// The same, aligned and then checked.
+pub(crate) trait FilteredSource {}
 
 /// Standard output.
 pub(crate) trait TrunkDevice: TrunkOutput {}
 
-/// Standard output by whole multiframes.
+/// Standard output by whole multiframes, with those of CRC-4.
 pub(crate) trait MultiframeDevice {}
 
 /// The clients of the trunk, or none.
@@ -26,12 +28,12 @@ impl TrunkSource for FromDevice<Stdin> {}
 
 impl TrunkSource for WithClients<Stdin> {}
 
-impl<I: TrunkInput + TrunkSource, K: Switch> TrunkSource
-    for FilteredInput<I, SwitchedFilter<BitAligner, K>> {}
+impl<R: Machine, I: TrunkInput + TrunkSource, K: Switch, L: Switch> FilteredSource
+    for Incoming<'_, R, I, K, L> {}
 
 impl TrunkDevice for ToDevice<Stdout> {}
 
-impl<O: TrunkDevice> MultiframeDevice for MultiframeDropper<O, Stderr> {}
+impl<O: TrunkDevice, L: Switch, P: Phase> MultiframeDevice for Outgoing<O, L, P> {}
 
 impl AnswersDevice for ToDevice<UnixStream> {}
 

@@ -1,11 +1,8 @@
 //! Serves a trunk and its clients by a gateway, until no octet comes any more (`serve_trunk`).
 
-ghost use Rattle.std.specs.Prelude.{◌≡◌, List, [], IfOk, IfErr};
-ghost use Rattle.gw_switch.specs.declared.GatewayConfig.{GatewayConfig};
-ghost use Rattle.gw_switch.specs.Events.{Event};
-ghost use Rattle.gw_switch.specs.Standing.{HasHistory};
-ghost use Rattle.gw_session.specs.Serve.{ServesAll, ServesUntil, around_log};
-ghost use Rattle.run_trunk.specs.Serving.{Carried, traffic};
+ghost use Rattle.gw_session.specs.Serve.{around_log};
+ghost use Rattle.run_trunk.specs.Serving.{IsUnread, IsUntaken, traffic};
+ghost use Rattle.run_trunk.specs.Trunks.{CarriesTrunk};
 
 use gw_session::{Ports, RunFault, Sink, Source, Tape, Totals, serve_logged};
 use gw_switch::Gateway;
@@ -22,6 +19,7 @@ use std::alloc::Global;
 // [`RunFault::Read`] where the device that octets come from fails: all that came is answered.
 // [`RunFault::Write`] where the other fails. [`RunFault::OutOfMemory`] where memory was refused: nothing
 // comes, is asked or goes.
+#[inline(never)]
 pub(crate) fn serve_trunk<I: TrunkInput, O: TrunkOutput, A: TrunkOutput, P: Ports, T: Tape>(
     alloc: Global,
     gateway: &mut Gateway,
@@ -30,28 +28,15 @@ pub(crate) fn serve_trunk<I: TrunkInput, O: TrunkOutput, A: TrunkOutput, P: Port
     sink: &mut TrunkRecordSink<O, A>,
     tape: &mut T,
 ) -> Result<Totals, RunFault>
-    requires source { (source.old.failed ≡ 0) × (source.old.reads ≡ 0) × (source.old.log.octets ≡ []) }
-    requires sink { (sink.old.failed ≡ 0) × (sink.old.log.octets ≡ []) }
-    ensures ok { IfOk result (ServesAll
+    requires source { IsUnread (⟦<TrunkRecordSource<I> as Source>⟧.tells source.old) }
+    requires sink { IsUntaken (⟦<TrunkRecordSink<O, A> as Sink>⟧.tells sink.old) }
+    ensures { CarriesTrunk
         (around_log (⟦<TrunkRecordSource<I> as Source>⟧.tells source.old)
-        (⟦<TrunkRecordSink<O, A> as Sink>⟧.tells sink.old)
-        (P.tells ports.old) (T.tells tape.old))
+        (⟦<TrunkRecordSink<O, A> as Sink>⟧.tells sink.old) (P.tells ports.old) (T.tells tape.old))
         (around_log (⟦<TrunkRecordSource<I> as Source>⟧.tells source.new)
-        (⟦<TrunkRecordSink<O, A> as Sink>⟧.tells sink.new)
-        (P.tells ports.new) (T.tells tape.new))
-        gateway.old gateway.new) }
-    ensures fault { IfErr result (ServesUntil
-        (around_log (⟦<TrunkRecordSource<I> as Source>⟧.tells source.old)
-        (⟦<TrunkRecordSink<O, A> as Sink>⟧.tells sink.old)
-        (P.tells ports.old) (T.tells tape.old))
-        (around_log (⟦<TrunkRecordSource<I> as Source>⟧.tells source.new)
-        (⟦<TrunkRecordSink<O, A> as Sink>⟧.tells sink.new)
-        (P.tells ports.new) (T.tells tape.new))
-        gateway.old gateway.new) }
-    ensures carries { (config : GatewayConfig) (before : List Event) → HasHistory config gateway.old before
-        → ∥ Carried config before gateway.new (T.tells tape.old) (T.tells tape.new)
+        (⟦<TrunkRecordSink<O, A> as Sink>⟧.tells sink.new) (P.tells ports.new) (T.tells tape.new))
         (traffic (I.came source.new.incoming) (I.asked source.new.incoming)
-        (O.went sink.new.outgoing) (A.went sink.new.answers)) result ∥₁ }
+        (O.went sink.new.outgoing) (A.went sink.new.answers)) gateway.old gateway.new result }
 {
     serve_logged(alloc, gateway, ports, source, sink, tape)
 }

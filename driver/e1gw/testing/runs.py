@@ -196,6 +196,31 @@ def reported(program: str, room: str) -> Wrongs:
         yield f'E bits {bits}'
 
 
+def in_phase(program: str, room: str) -> Wrongs:
+    """`trunk --crc4` sends what crc4 makes of what trunk sends, also from a state on, once a multiframe is whole: its
+    frames 1, 3 .. 11 have the signal (ITU-T G.704, table 5B)."""
+    config, state = (os.path.join(room, name) for name in ('trunk.toml', 'trunk.state'))
+    with open(config, 'w', encoding='utf-8') as text:
+        text.write('law = "A"\n')
+    given, cut = of_trunk(IDLE, 0, 512) * 4, 700
+
+    def sent(given: bytes, *words: str) -> bytes:
+        ran = subprocess.run([program, *words], input=given, stdout=subprocess.PIPE, timeout=SECONDS, check=True)
+        return ran.stdout
+
+    trunk = ('trunk', '--config', config)
+    whole = sent(given, *trunk, '--crc4')
+    if whole != sent(sent(given, *trunk), 'crc4'):
+        yield 'other octets than those of crc4'
+    sent(given[:cut], *trunk, '--save', state)
+    behind = bytes(cut) + sent(given[cut:], *trunk, '--load', state, '--crc4')
+    signal = [behind[32 * frame] >> 7 for frame in range(33, 45, 2)]
+    if signal != [0, 0, 1, 0, 1, 1]:
+        yield f'the signal {signal}'
+    if behind[1024:] != whole[1024:]:
+        yield 'other octets behind a state'
+
+
 def state_rows() -> Iterator[tuple[Any, ...]]:
     """What a state has: a name, the session, the place, the octets, options and configuration."""
     waits, incoming = ('--seizure-wait', '2000'), {'role': 'incoming', 'ptime': 10}
@@ -284,3 +309,4 @@ def run_looks() -> Iterator[tuple[str, Callable[[str, str], Wrongs]]]:
         for codec in ('g726-16', 'g726-24', 'g726-32', 'g726-40'):
             yield f'words_stay_in_tandem at {codec}, law {law}', partial(words_stay_in_tandem, law, codec)
     yield 'crc4: reports become E bits', reported
+    yield 'trunk --crc4: its multiframe keeps its phase', in_phase

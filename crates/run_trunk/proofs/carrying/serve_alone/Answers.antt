@@ -12,5 +12,8 @@ returns-in_err-open_stdin g c = no_stream _ _ c.from_residual.result (search rul
 pub returns-in_err-open_stdout : goal.returns-in_err-open_stdout
 returns-in_err-open_stdout g c = no_stream _ _ c.from_residual-in_err-open_stdout.result (search rules)
 
+pub returns-in_err-filters_as_asked : goal.returns-in_err-filters_as_asked
+returns-in_err-filters_as_asked g c = no_stream _ _ c.from_residual-in_err-filters_as_asked.result (search rules)
+
 pub carry-requires-clause-asks : goal.carry-requires-clause-asks
 carry-requires-clause-asks g c = none_asked (subcommand_rows_of c.args.matches.now) c.in_default.ensures.none

@@ -1,15 +1,15 @@
-use Rattle.std.proofs.Common.{ap, refl, Some}
+use Rattle.std.proofs.Common.{refl}
 use Rattle.std.proofs.Math.Logic.{∥∥₁_map}
+use Rattle.gw_session.proofs.Ends.{either_way}
 use Rattle.run_trunk.proofs.Carried.{carried}
 use Rattle.run_trunk.proofs.serving.serve_trunk.Goals as goal
 
 pub returns : goal.returns
 returns g c = record {
-  ok = c.serve_logged.ensures.ok;
-  fault = c.serve_logged.ensures.fault;
-  carries = λ config before new. ∥∥₁_map c.serve_logged.new.source.woven (λ w.
+  served = (refl, either_way _ _ c.serve_logged.result c.serve_logged.ensures.ok c.serve_logged.ensures.fault);
+  carried = λ config before new. ∥∥₁_map c.serve_logged.new.source.woven (λ w.
       carried _ _ config before c.serve_logged.result _ _ _ _ _ _
-      (record { unread = ap Some c.requires.source.2; read = refl; untaken = ap Some c.requires.sink.1; took = refl })
+      (record { unread = c.requires.source.2; read = refl; untaken = c.requires.sink.1; took = refl })
       (record {
         gives = w;
         went_are = c.serve_logged.new.sink.passed.went_are;

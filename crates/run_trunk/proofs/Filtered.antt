@@ -1,0 +1,61 @@
+-- What has passed the filters of a trunk.
+use Rattle.std.proofs.Common.{◌≡◌, ℕ, Bool, List, [], Option, Some, None, refl}
+use Rattle.std.proofs.Math.Logic.{∥∥₁_map}
+use Rattle.std.specs.Prelude.{IfSome, MatchOption, codes, is_some}
+use Rattle.g704_bits.specs.Standing.{StandsAfter}
+use Rattle.g704_bits.specs.declared.bits.BitAligner.{BitAligner}
+use Rattle.g704_crc4.specs.declared.counting.TrunkChecker.{TrunkChecker}
+use Rattle.g704_framing.specs.Replies.{replies_after}
+use Rattle.gw_command.specs.Command.{HasFlag}
+use Rattle.gw_filter.specs.Align.{align_reply}
+use Rattle.gw_filter.specs.Check.{HasReported, IsChecked}
+use Rattle.gw_filter.specs.Crc4.{HasSent, IsFramed}
+use Rattle.gw_filter.specs.Filter.{RepliesTo}
+use Rattle.gw_filter.specs.declared.sending.Crc4Sender.{Crc4Sender}
+use Rattle.gw_filter.proofs.Sends.{is_sent}
+use Rattle.gw_filtered.specs.Filters.{ReturnsBehind}
+use Rattle.gw_filtered.proofs.Returned.{returned-if}
+use Rattle.gw_program.specs.Requests.{CommandLine}
+use Rattle.run_trunk.specs.Filters.{Checks, FiltersIf, SendsFrom}
+
+-- What an aligner has returned for octets.
+abbrev pub Aligned : BitAligner → List ℕ → List ℕ → Type 0
+Aligned aligner octets returned = StandsAfter aligner octets × RepliesTo align_reply octets returned
+
+-- A new aligner has returned nothing for no octets.
+pub aligner-begins : (filter aligner : Option BitAligner) → filter ≡ aligner → IfSome aligner (λ a. StandsAfter a [])
+    → MatchOption filter (◌≡◌ {A = List ℕ} [] []) (λ f. Aligned f [] [])
+unfolding replies_after
+aligner-begins filter None e new = rw e refl
+aligner-begins filter (Some a) e new = rw e (new, refl)
+
+-- What a checker has checked.
+pub checked : (checker : TrunkChecker) (reported : ℕ) (reports octets returned : List ℕ)
+    → HasReported checker reported reports octets returned → Checks octets returned
+checked checker reported reports octets returned s =
+    (reports, record { same = s.same; unreported = s.unreported; reported = rw (← s.total) at s.others })
+
+-- What a sender has sent from a place on.
+pub sent : (place : ℕ) (sender : Crc4Sender) (reports : Option (List ℕ)) (octets returned : List ℕ)
+    → ReturnsBehind place (HasSent sender reports) octets returned → SendsFrom place octets returned
+sent place sender reports octets returned s =
+    (reports, (s.0, s.1, is_sent sender reports _ _ s.2))
+
+-- A filter that is used if the command asks for it has returned this.
+pub filtered : {F : Type 0} (Has : F → List ℕ → List ℕ → Type 0) (Returns : List ℕ → List ℕ → Type 0)
+    (command : CommandLine) (flag : List ℕ) (is_on : Bool) (filter : Option F) (octets returned : List ℕ)
+    → HasFlag flag command is_on → is_some filter ≡ is_on → ((f : F) → Has f octets returned → Returns octets returned)
+    → MatchOption filter (returned ≡ octets) (λ f. Has f octets returned)
+    → FiltersIf command flag Returns octets returned
+filtered Has Returns command flag is_on filter octets returned asked is said r = record {
+  is_on = is_on;
+  asked = asked;
+  returns = returned-if Has Returns filter is_on octets returned is said r;
+}
+
+-- What a checker that is there tells of what it has checked is told.
+pub told-of : {F T : Type 0} (Has : F → Type 0) (None-is Told : Type 0) (totals : Option T) (filter : Option F) (f : F)
+    → filter ≡ Some f → ∥ MatchOption filter None-is Has ∥₁ → (Has f → IfSome totals (λ _. Told))
+    → IfSome totals (λ _. ∥ Told ∥₁)
+told-of Has None-is Told None filter f is has tells = tt
+told-of Has None-is Told (Some totals) filter f is has tells = ∥∥₁_map has (λ h. tells (rw is at h))

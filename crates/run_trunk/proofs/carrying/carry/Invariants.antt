@@ -1,0 +1,13 @@
+use Rattle.std.proofs.Common.{◌%◌, is_some}
+use Rattle.run_trunk.proofs.carrying.carry.Given as goal
+
+-- The trunk is aligned, or has CRC-4 multiframes, if the filter for it is there.
+abbrev pub ghosts-carry_from-K-Switch : goal.ghosts-carry_from-K-Switch
+ghosts-carry_from-K-Switch g a = record { is_on = is_some a.ends.filters.aligner }
+
+abbrev pub ghosts-carry_from-L-Switch : goal.ghosts-carry_from-L-Switch
+ghosts-carry_from-L-Switch g a = record { is_on = is_some a.ends.filters.crc4 }
+
+-- .. and these begin at the gateway's place.
+abbrev pub ghosts-carry_from-P-Phase : goal.ghosts-carry_from-P-Phase
+ghosts-carry_from-P-Phase g a = record { place = a.gateway.now.trunk.position % 512 }

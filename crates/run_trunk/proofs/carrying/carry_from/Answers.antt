@@ -1,0 +1,42 @@
+use Rattle.std.proofs.Common.{◌≡◌, ◌∙◌, Some, refl, sym, ap}
+use Rattle.std.proofs.Math.Logic.{∥∥₁_map₂}
+use Rattle.std.specs.Prelude.{codes}
+use Rattle.clap.specs.Words.{subcommand_rows_of}
+use Rattle.gw_command.specs.Command.{HasFlag}
+use Rattle.gw_filter.specs.Align.{align_reply}
+use Rattle.gw_filter.specs.Check.{HasReported}
+use Rattle.gw_filter.specs.Filter.{RepliesTo}
+use Rattle.run_trunk.proofs.Filtered.{Aligned, checked, filtered}
+use Rattle.run_trunk.proofs.Served.{served_by}
+use Rattle.run_trunk.specs.Filters.{Checks}
+use Rattle.run_trunk.proofs.carrying.carry_from.Goals as goal
+
+pub returns : goal.returns
+returns g c =
+    let incoming = c.perform_trunk-told.new.trunk.source.incoming in
+    let aligned = incoming.incoming in
+    let command = subcommand_rows_of c.args.matches.now in
+    let align : HasFlag (codes "align") command g.K.Switch.is_on = rw c.requires.align at c.requires.filters.align in
+    let crc4 : HasFlag (codes "crc4") command g.L.Switch.is_on = rw c.requires.crc4 at c.requires.filters.asks_crc4 in
+    served_by _ _ _ _ _ _ _ _ _ c.perform_trunk-told.ensures (λ does done. record {
+      asked = c.requires.asks;
+      passed = _;
+      done = done;
+      received = g.I.TrunkInput.came aligned.incoming;
+      comes = ∥∥₁_map₂ incoming.filtered aligned.filtered (λ checks aligns. record {
+        aligned = aligned.log.octets;
+        aligns = filtered Aligned (RepliesTo align_reply) command (codes "align") g.K.Switch.is_on aligned.filter.filter
+            _ _ align aligned.filter.is (λ f s. s.1) aligns;
+        checks = filtered (λ f octets returned. HasReported f.checker f.reported f.reports.log.octets octets returned)
+            Checks command (codes "crc4") g.L.Switch.is_on incoming.filter.filter _ _ crc4
+            incoming.filter.is (λ f s. checked _ _ _ _ _ s) checks;
+      });
+      place = g.P.Phase.place;
+      place_is = λ config before stands. sym c.requires.place ∙ sym c.place.ensures.position
+          ∙ c.place.ensures.value config before stands;
+      discarded = c.finish_output-discarded.result;
+      goes = rw c.into_outgoing.ensures at (c.finish_output-discarded.ensures command crc4);
+      tells = rw c.into_incoming.ensures at c.tell_end.ensures;
+    })
+    (λ e. rw e refl) c.new.ensures.reads (ap Some c.new.ensures.log)
+    c.new.ensures.failed c.new-2.ensures.failed

@@ -1,0 +1,100 @@
+-- The filters of a trunk that the command line asks for (module `filters`).
+use Rattle.std.specs.Prelude.{◌≡◌, ◌++◌, ℕ, Bool, List, [], IfSome, Option, codes, is_some, ◌%◌, length, Some}
+use Rattle.g704_bits.specs.Standing.{StandsAfter}
+use Rattle.gw_switch.specs.declared.GatewayConfig.{GatewayConfig}
+use Rattle.gw_switch.specs.declared.gateway.Gateway.{Gateway}
+use Rattle.gw_switch.specs.Events.{Event, octets}
+use Rattle.gw_switch.specs.Standing.{HasHistory}
+use Rattle.g704_crc4.specs.ReceiverCounts.{receiver_counts_of}
+use Rattle.gw_command.specs.Command.{HasFlag, text_in}
+use Rattle.gw_filter.specs.Align.{align_reply}
+use Rattle.gw_filter.specs.Check.{AreReported, HasReported, IsChecked}
+use Rattle.gw_filter.specs.Crc4.{IsFramed}
+use Rattle.gw_filter.specs.Filter.{RepliesTo}
+use Rattle.gw_filter.specs.declared.checking.Checked.{Checked}
+use Rattle.gw_filtered.specs.Filters.{ReturnsBehind, ReturnsIf}
+use Rattle.gw_trunk.specs.Multiframes.{GoesInTime}
+use Rattle.gw_trunk.specs.System.{SystemPairs}
+use Rattle.gw_program.specs.Report.{CountsArePrinted, SystemPrints}
+use Rattle.gw_program.specs.Requests.{CommandLine}
+use Rattle.run_trunk.specs.declared.filters.Crc4.{Crc4}
+use Rattle.run_trunk.specs.declared.filters.TrunkFilters.{TrunkFilters}
+
+-- A checker that has checked nothing, and its reports, of which none has come. They go by one connection and
+-- come by another, which the system has joined.
+pub record AreJoined {R : Type 0} (crc4 : Crc4 R) : Type 0 where
+  pub begins : HasReported crc4.checker.checker crc4.checker.reported crc4.checker.reports.log.octets [] []
+  pub unread : crc4.reports.log.octets ≡ []
+  pub joined : SystemPairs crc4.checker.reports.start.value crc4.reports.reader
+
+-- the filters that the command asks for, through which nothing has passed
+pub record AreAsked {R : Type 0} (command : CommandLine) (filters : TrunkFilters R) : Type 0 where
+  pub align : HasFlag (codes "align") command (is_some filters.aligner)
+  pub aligner : IfSome filters.aligner (λ aligner. StandsAfter aligner [])
+  pub asks_crc4 : HasFlag (codes "crc4") command (is_some filters.crc4)
+  pub crc4 : IfSome filters.crc4 AreJoined
+
+-- A filter is used if the command has a flag. It returned this for octets, or these pass as they came.
+pub record FiltersIf (command : CommandLine) (flag : List ℕ) (Returns : List ℕ → List ℕ → Type 0)
+    (octets returned : List ℕ) : Type 0 where
+  pub is_on : Bool
+  pub asked : HasFlag flag command is_on
+  pub returns : ReturnsIf is_on Returns octets returned
+
+-- octets were checked and came unchanged, and all but some of their errored submultiframes were reported
+abbrev pub Checks : List ℕ → List ℕ → Type 0
+Checks octets returned = (reports : List ℕ) × IsChecked reports octets returned
+
+-- octets went with CRC-4 multiframes, from a place in the first one on, and with E bits for the reports that
+-- came
+abbrev pub SendsFrom : ℕ → List ℕ → List ℕ → Type 0
+SendsFrom place octets sent = (reports : Option (List ℕ)) × ReturnsBehind place (IsFramed reports) octets sent
+
+-- Octets that came of a trunk were aligned, if the command asks for it, and what came of that was checked, if
+-- it asks for CRC-4.
+pub record Comes (command : CommandLine) (received came : List ℕ) : Type 0 where
+  pub aligned : List ℕ
+  pub aligns : FiltersIf command (codes "align") (RepliesTo align_reply) received aligned
+  pub checks : FiltersIf command (codes "crc4") Checks aligned came
+
+-- the place of the next octet in its multiframe: how many came, modulo those of a multiframe (ITU-T G.704,
+-- 5.1.3.2), by each history of the gateway
+abbrev pub IsPlaceOf : Gateway → ℕ → Type 0
+IsPlaceOf gateway place = (config : GatewayConfig) (before : List Event) → HasHistory config gateway before
+    → place ≡ length (octets before) % 512
+
+-- What was sent went in time, except for whole multiframes if the device was slow, and with CRC-4
+-- multiframes, if the command asks for it. The device took all of that but for what it had not taken in the
+-- end.
+pub record Goes (command : CommandLine) (place : ℕ) (sent : List ℕ) (discarded : ℕ) : Type 0 where
+  pub left : List ℕ
+  pub slow_waits : ℕ
+  pub in_time : GoesInTime sent left discarded slow_waits
+  pub framed : List ℕ
+  pub frames : FiltersIf command (codes "crc4") (SendsFrom place) left framed
+  pub went : List ℕ
+  pub untaken : List ℕ
+  pub framed_are : framed ≡ went ++ untaken
+
+-- what the command asks for by a flag
+abbrev pub AsksFlag : List ℕ → CommandLine → Type 0
+AsksFlag flag command = text_in flag command ≡ Some (codes "true")
+
+-- the counts of the multiframes of octets were printed, and how many errored ones are not reported
+pub record CountsAreTold (octets : List ℕ) : Type 0 where
+  pub checked : Checked
+  pub counts_are : checked.receiver_counts ≡ receiver_counts_of octets
+  pub reports : List ℕ
+  pub reported : AreReported octets reports checked.unreported
+  pub printed : CountsArePrinted checked
+  pub unreported : SystemPrints (codes "unreported") checked.unreported
+
+-- .. if the command asks for CRC-4
+abbrev pub CountsAreToldIf : CommandLine → List ℕ → Type 0
+CountsAreToldIf command octets = AsksFlag (codes "crc4") command → ∥ CountsAreTold octets ∥₁
+
+-- What the command asks to be told at the end of a trunk of which octets came and multiframes were discarded:
+-- if it asks for totals, the counts, and how many were discarded.
+pub record EndIsTold (command : CommandLine) (came : List ℕ) (discarded : ℕ) : Type 0 where
+  pub counts : AsksFlag (codes "totals") command → CountsAreToldIf command came
+  pub dropped : AsksFlag (codes "totals") command → SystemPrints (codes "discarded_multiframes") discarded

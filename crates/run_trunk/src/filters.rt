@@ -1,0 +1,228 @@
+//! What passes the filters that the command line asks for, at both ends of a trunk (`TrunkFilters`).
+
+ghost use Rattle.std.specs.Prelude.{◌≡◌, ◌<◌, ℕ, List, [], true, IfOk, IfErr, IfSome, is_some, option_map};
+ghost use Rattle.std.specs.Prelude.{codes};
+ghost use Rattle.clap.specs.Words.{subcommand_rows_of};
+ghost use Rattle.g704_bits.specs.Standing.{StandsAfter};
+ghost use Rattle.gw_command.specs.Command.{HasFlag};
+ghost use Rattle.gw_filter.specs.Check.{HasReported};
+ghost use Rattle.gw_program.specs.Requests.{CommandLine};
+ghost use Rattle.run_trunk.specs.Filters.{AreAsked, AreJoined, CountsAreTold, Goes};
+ghost use Rattle.run_trunk.specs.Trunks.{LacksStream};
+
+use clap::ArgMatches;
+use g704_bits::BitAligner;
+use gw_command::{asks_align, asks_crc4, asks_live};
+use gw_filter::{BufferFilter, ReportingChecker, ReportingSender, ToReports};
+use gw_filtered::{FilteredInput, FilteredOutput, Phase, PhasedFilter, Switch, SwitchedFilter};
+use gw_program::{LiveCounts, Machine, ProgramFault, print_receiver_counts, print_unreported};
+use gw_session::{FromRead, Totals};
+use gw_trunk::{MultiframeDropper, TrunkInput, TrunkOutput, open_pair};
+use mio::net::UnixStream;
+use std::rt::Stderr;
+
+/// Checks the CRC-4 multiframes of what comes, and reports errored ones to the sender.
+pub(crate) type Checker<'r, R> = ReportingChecker<ToReports<UnixStream>, LiveCounts<'r, R>>;
+
+/// Puts CRC-4 multiframes into what goes, from a place in a multiframe on.
+pub(crate) type Sender<P> = PhasedFilter<ReportingSender<FromRead<UnixStream>>, P>;
+
+/// What comes of a trunk, aligned and then checked.
+pub(crate) type Incoming<'r, R, I, K, L> = FilteredInput<
+    FilteredInput<I, SwitchedFilter<BitAligner, K>>,
+    SwitchedFilter<Checker<'r, R>, L>,
+>;
+
+/// Where what is sent goes, by multiframes and then with CRC-4.
+pub(crate) type Outgoing<O, L, P> = MultiframeDropper<
+    FilteredOutput<O, SwitchedFilter<Sender<P>, L>>,
+    Stderr,
+>;
+
+/// The checker of a trunk, and its reports for the sender.
+#[derive(Drop)]
+pub(crate) struct Crc4<'r, R> {
+    pub(crate) checker: Checker<'r, R>,
+    pub(crate) reports: FromRead<UnixStream>,
+}
+
+/// The filters of a trunk that are asked for, through which nothing has passed.
+#[derive(Drop)]
+pub(crate) struct TrunkFilters<'r, R> {
+    pub(crate) aligner: Option<BitAligner>,
+    pub(crate) crc4: Option<Crc4<'r, R>>,
+}
+
+// The aligner of what comes, if the matches ask for one.
+fn aligner_as_asked(matches: &ArgMatches<'_>) -> Option<BitAligner>
+    ensures asked { HasFlag (codes "align") (subcommand_rows_of matches.now) (is_some result) }
+    ensures new { IfSome result (λ aligner. StandsAfter aligner []) }
+{
+    if asks_align(matches) {
+        return Some(BitAligner::new());
+    }
+    None
+}
+
+// A checker whose reports come by a connection that the system has joined to it.
+fn open_crc4<'r, R: Machine>(rt: &'r R, live: bool) -> Result<Crc4<'r, R>, ProgramFault>
+    ensures ok { IfOk result AreJoined }
+    ensures err { IfErr result LacksStream }
+{
+    match open_pair(rt) {
+        Ok((near, far)) => Ok(Crc4 {
+            checker: ReportingChecker::new(ToReports::new(near), LiveCounts { rt, live }),
+            reports: FromRead::new(far),
+        }),
+        Err(error) => Err(ProgramFault::of(&error, ProgramFault::Trunk)),
+    }
+}
+
+// The checker of what comes and its reports, if the matches ask for CRC-4.
+fn crc4_as_asked<'r, R: Machine>(
+    rt: &'r R,
+    matches: &ArgMatches<'_>,
+) -> Result<Option<Crc4<'r, R>>, ProgramFault>
+    ensures asked { IfOk result (λ c. HasFlag (codes "crc4") (subcommand_rows_of matches.now) (is_some c)) }
+    ensures joined { IfOk result (λ c. IfSome c AreJoined) }
+    ensures err { IfErr result LacksStream }
+{
+    if !asks_crc4(matches) {
+        return Ok(None);
+    }
+    match open_crc4(rt, asks_live(matches)) {
+        Ok(crc4) => Ok(Some(crc4)),
+        Err(fault) => Err(fault),
+    }
+}
+
+/// The filters that the matches ask for.
+pub(crate) fn filters_as_asked<'r, R: Machine>(
+    rt: &'r R,
+    matches: &ArgMatches<'_>,
+) -> Result<TrunkFilters<'r, R>, ProgramFault>
+    ensures ok { IfOk result (AreAsked (subcommand_rows_of matches.now)) }
+    ensures err { IfErr result LacksStream }
+{
+    match crc4_as_asked(rt, matches) {
+        Ok(crc4) => Ok(TrunkFilters {
+            aligner: aligner_as_asked(matches),
+            crc4,
+        }),
+        Err(fault) => Err(fault),
+    }
+}
+
+/// A checker and its reports, if they are there.
+pub(crate) fn parted<'r, R>(
+    crc4: Option<Crc4<'r, R>>,
+) -> (Option<Checker<'r, R>>, Option<FromRead<UnixStream>>)
+    ensures checker { result.0 ≡ option_map (λ c. c.checker) crc4.entry }
+    ensures reports { result.1 ≡ option_map (λ c. c.reports) crc4.entry }
+{
+    match crc4 {
+        Some(Crc4 { checker, reports }) => (Some(checker), Some(reports)),
+        None => (None, None),
+    }
+}
+
+/// What comes of a trunk, as these filters return it.
+pub(crate) fn filtered_input<'r, R: Machine, I: TrunkInput, K: Switch, L: Switch>(
+    incoming: I,
+    aligner: Option<BitAligner>,
+    checker: Option<Checker<'r, R>>,
+) -> Incoming<'r, R, I, K, L>
+    requires came { I.came incoming ≡ [] }
+    requires aligner { IfSome aligner (λ a. StandsAfter a []) }
+    requires checker { IfSome checker (λ c. HasReported c.checker c.reported c.reports.log.octets [] []) }
+    requires picked { (is_some aligner ≡ K.is_on) × (is_some checker ≡ L.is_on) }
+    ensures came { result.log.octets ≡ [] }
+    ensures asked { I.asked result.incoming.incoming ≡ I.asked incoming }
+{
+    let aligned = FilteredInput::new(incoming, SwitchedFilter::<BitAligner, K>::new(aligner));
+    FilteredInput::new(aligned, SwitchedFilter::<Checker<'r, R>, L>::new(checker))
+}
+
+// The sender of what goes, from a place in a multiframe on.
+fn sender_from<P: Phase>(reports: Option<FromRead<UnixStream>>, place: u16) -> Option<Sender<P>>
+    requires below { place < 512 }
+    requires place { place ≡ P.place }
+    requires unread { IfSome reports (λ r. r.log.octets ≡ []) }
+    ensures is { is_some result ≡ is_some reports }
+    ensures begins { IfSome result (λ s. ⟦<Sender<P> as BufferFilter>⟧.has_returned s [] []) }
+{
+    match reports {
+        Some(reports) => Some(PhasedFilter::new(ReportingSender::new(reports), usize::from(place))),
+        None => None,
+    }
+}
+
+/// Where what is sent goes, by multiframes, and with CRC-4 from a place on if there are reports.
+pub(crate) fn filtered_output<R: Machine, O: TrunkOutput, L: Switch, P: Phase>(
+    rt: &R,
+    outgoing: O,
+    reports: Option<FromRead<UnixStream>>,
+    place: u16,
+) -> Outgoing<O, L, P>
+    requires went { O.went outgoing ≡ [] }
+    requires below { place < 512 }
+    requires place { place ≡ P.place }
+    requires unread { IfSome reports (λ r. r.log.octets ≡ []) }
+    requires picked { is_some reports ≡ L.is_on }
+    ensures { result.log.octets ≡ [] }
+{
+    let sender = sender_from(reports, place);
+    let framed = FilteredOutput::new(outgoing, SwitchedFilter::<Sender<P>, L>::new(sender));
+    MultiframeDropper::new(framed, rt.errors())
+}
+
+/// Gives the device what is still held for it, and returns how many multiframes were discarded.
+pub(crate) fn finish_output<O: TrunkOutput + Drop, L: Switch, P: Phase>(
+    outgoing: Outgoing<O, L, P>,
+) -> u64
+    ensures { (command : CommandLine) → HasFlag (codes "crc4") command L.is_on
+        → ∥ Goes command P.place outgoing.log.octets result ∥₁ }
+{
+    let mut dropper = outgoing;
+    dropper.finish();
+    let discarded = dropper.discarded();
+    let mut framed = dropper.into_outgoing();
+    framed.finish();
+    discarded
+}
+
+// Tells the counts of a checker, and how many errored submultiframes are not reported.
+fn tell_counts<R: Machine>(rt: &R, checker: &Checker<'_, R>, totals: &Totals)
+    ensures { (octets returned : List ℕ) → HasReported checker.now.checker checker.now.reported
+        checker.now.reports.log.octets octets returned → CountsAreTold octets }
+{
+    let checked = checker.checked(*totals);
+    print_receiver_counts(rt, &checked);
+    print_unreported(rt, checked.unreported);
+}
+
+// Tells the counts of a checker as a line, and as those of the end if the totals are asked for.
+fn tell_checked<R: Machine>(rt: &R, checker: &mut Checker<'_, R>, totals: Option<Totals>)
+    ensures { (octets returned : List ℕ) → HasReported checker.old.checker checker.old.reported
+        checker.old.reports.log.octets octets returned → IfSome totals (λ _. CountsAreTold octets) }
+{
+    checker.tell_now();
+    if let Some(totals) = totals {
+        tell_counts(rt, checker, &totals);
+    }
+}
+
+/// Tells the counts of what came, if it was checked: as a line, and as those of the end if the totals are
+/// asked for.
+pub(crate) fn finish_input<'r, R: Machine, I: TrunkInput + Drop, K: Switch, L: Switch>(
+    rt: &'r R,
+    incoming: Incoming<'r, R, I, K, L>,
+    totals: Option<Totals>,
+)
+    ensures { L.is_on ≡ true → IfSome totals (λ _. ∥ CountsAreTold incoming.entry.log.octets ∥₁) }
+{
+    if let Some(checker) = incoming.into_filter().into_filter() {
+        let mut checker = checker;
+        tell_checked(rt, &mut checker, totals);
+    }
+}
