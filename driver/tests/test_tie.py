@@ -254,12 +254,25 @@ class TieCallTests(TieCase):
         await self.until(self.at(3, State.IDLE, State.IDLE))
 
     async def test_driver_anew(self) -> None:
-        """A driver that ends and comes again: nobody can call meanwhile, and then all is as before."""
+        """A driver that is killed and comes again: nobody can call meanwhile, and then all is as before. Calls stay,
+        and no other call takes the place of one that ended meanwhile."""
+        def passed() -> list[str]:
+            return [each for each in self.east.asked if each.startswith(('seize', 'clear'))]
         await self.both()
-        await self.east.stop()
-        await self.until(lambda: self.west.states[1] is State.BLOCKED)
-        await self.east.start()
-        await self.until(lambda: self.west.states[1] is State.IDLE)
+        await self.sends(self.west, 3, SEIZED, State.ACKED)
+        await self.named(3)
+        for driver, other, number in ((self.west, self.east, 2), (self.east, self.west, 1)):
+            await driver.stop()
+            await self.until(lambda: other.states[number] is State.BLOCKED)
+            await driver.start()
+            await self.until(lambda: other.states[number] is State.IDLE)
+        self.assertEqual(passed(), ['seize 3'])
+        await self.west.stop()
+        for pair in (IDLE, SEIZED):
+            self.west.send(3, pair)
+        await self.west.start()
+        await self.until(lambda: passed() == ['seize 3', 'clear 3', 'seize 3'])
+        await self.until(self.at(3, State.ACKED, State.ACKED))
 
     async def test_map(self) -> None:
         """One site's map suffices; circuits that it does not name are left alone."""
