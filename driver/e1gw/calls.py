@@ -122,9 +122,7 @@ class CallLog:
         """The trunk is no longer carried: writes all."""
         for call in list(self._calls.values()):
             self._end(call, 'stop')
-        for call in self._ended:
-            self._write(call)
-        self._ended = []
+        self.look()
 
     def _now(self, circuit: int) -> dict[str, int]:
         counts = self._counts.circuits[circuit]

@@ -1,28 +1,31 @@
 """Records of a session, e1gw-session(5): their words and numbers, reading and spelling them, and RTP headers."""
 from __future__ import annotations
 
-import io
 import struct
 from dataclasses import dataclass
 from enum import IntEnum
-from typing import BinaryIO, Iterator, NamedTuple, Protocol
+from typing import Iterable, Iterator, NamedTuple
 
 CIRCUITS = range(1, 31)
 OCTETS_A_SECOND = 256_000       # of the trunk
 SAMPLES_A_SECOND = 8_000        # of a circuit
 FRAME, MULTIFRAME = 32, 512     # octets
 HEAD = struct.Struct('>BBH')
-PIECE = 65_536
+
+
+def circuit_of(word: str) -> int:
+    """The circuit that a word names; 0 if it names none."""
+    number = int(word) if word.isascii() and word.isdecimal() and len(word) < 4 else 0
+    return number if number in CIRCUITS else 0
 
 
 def circuits_of(word: str) -> range:
     """A circuit, or a range such as 3-9. ValueError for others."""
     first, dash, last = word.partition('-')
-    numbers = [int(each) if each.isascii() and each.isdecimal() and len(each) < 4 else 0
-               for each in (first, last if dash else first)]
-    if any(number not in CIRCUITS for number in numbers) or numbers[0] > numbers[1]:
+    found = range(circuit_of(first), circuit_of(last if dash else first) + 1)
+    if not (found and found[0]):
         raise ValueError(f'{word[:40]} is neither a circuit from 1 to 30 nor a range such as 3-9')
-    return range(numbers[0], numbers[1] + 1)
+    return found
 
 
 class Kind(IntEnum):
@@ -286,18 +289,11 @@ class Reader:
             raise BadSession(Fault.TRUNCATED, self.place)
 
 
-class Readable(Protocol):
-    """What octets are read from."""
-
-    def read(self, size: int = -1, /) -> bytes:
-        ...
-
-
-def records(stream: Readable | BinaryIO) -> Iterator[Record]:
-    """The records of a stream, one by one. BadSession where it is no session, behind the records before the fault."""
+def records(pieces: Iterable[bytes]) -> Iterator[Record]:
+    """The records of octets that come in pieces. BadSession where they are no session, behind the records before the
+    fault."""
     reader = Reader()
-    read = getattr(stream, 'read1', stream.read)
-    while octets := read(PIECE):
+    for octets in pieces:
         reader.push(octets)
         yield from reader.whole()
     reader.end()
@@ -305,12 +301,13 @@ def records(stream: Readable | BinaryIO) -> Iterator[Record]:
 
 def records_in(octets: bytes) -> Iterator[Record]:
     """The records that octets are."""
-    return records(io.BytesIO(octets))
+    return records([octets])
 
 
 # ---- RTP ----
 
 _RTP = struct.Struct('>BBHII')
+HELD = 32                   # datagrams: the 8 of --repeat, and some that overtake others
 
 
 class BadPacket(Exception):
@@ -372,3 +369,22 @@ def packet_of(datagram: bytes) -> Packet:
     sources = struct.unpack_from(f'>{first & 15}I', datagram, 12)
     return Packet(second & 0x7F, sequence, timestamp, ssrc, datagram[at:len(datagram) - padding], bool(second & 0x80),
                   sources, bool(first & 0x10), padding)
+
+
+class Repetitions:
+    """The last datagrams of one circuit, HELD at least: a sender may send each of them again, as `e1gw serve --repeat`
+    does. One with the SSRC, the sequence number and the octets of one before it is a repetition, and no fault."""
+
+    def __init__(self) -> None:
+        self._held, self._older = dict[bytes, bytes](), dict[bytes, bytes]()
+
+    def is_one(self, datagram: bytes) -> bool:
+        """Whether a datagram that comes now is a repetition."""
+        if len(datagram) < _RTP.size or datagram[0] >> 6 != 2:
+            return False
+        key = datagram[2:4] + datagram[8:12]
+        before = self._held.get(key) or self._older.get(key)
+        if len(self._held) == HELD:
+            self._held, self._older = {}, self._held
+        self._held[key] = datagram
+        return before == datagram

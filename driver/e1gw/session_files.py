@@ -182,13 +182,3 @@ def octets_of(path: str) -> Iterator[bytes]:
             ['zstd', '-dcq'], stdin=packed, stdout=subprocess.PIPE, stderr=subprocess.DEVNULL) as process:
         assert process.stdout
         yield from pieces(process.stdout)
-
-
-class Source:
-    """Octets that come in pieces, read as from a file."""
-
-    def __init__(self, octets: Iterator[bytes]) -> None:
-        self.octets = octets
-
-    def read(self, size: int = -1, /) -> bytes:
-        return next(self.octets, b'')

@@ -1,5 +1,4 @@
 """Records: the figures are those of the manual, e1gw-session(5)."""
-import io
 import re
 import struct
 import unittest
@@ -52,7 +51,7 @@ class SessionNameTests(unittest.TestCase):
 class RecordReaderTests(unittest.TestCase):
     def test_the_manuals_session(self) -> None:
         given = SEIZE + DATAGRAM + CODEC + EMPTY + ANSWER
-        read = list(session.records(io.BytesIO(given)))
+        read = list(session.records_in(given))
         self.assertEqual(read, [Record(Kind.COMMAND, 1, b'\1'), Record(Kind.DATAGRAM, 1, b'\0'),
                                 Record(Kind.CODEC, 1, b'\4\10'), Record(Kind.TRUNK, 0, b''),
                                 Record(Kind.ANSWER, 1, b'\x43\2')])

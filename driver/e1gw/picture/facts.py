@@ -15,8 +15,7 @@ from typing import Any
 
 from ..session_files import Break
 from ..lines import SEIZURE_WAIT
-from ..repetitions import Repetitions
-from ..session import FRAME, MULTIFRAME, OCTETS_A_SECOND, DatagramRefusal
+from ..session import FRAME, MULTIFRAME, OCTETS_A_SECOND, DatagramRefusal, Repetitions
 from .sound import HeardSamples, ListeningTimes
 
 SECOND = OCTETS_A_SECOND

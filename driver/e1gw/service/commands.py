@@ -31,7 +31,7 @@ from dataclasses import dataclass, field
 from typing import TYPE_CHECKING
 
 from ..metrics import circuit_table
-from ..session import CIRCUITS, Codec, Command, codec_record, command_record
+from ..session import Codec, Command, circuit_of, codec_record, command_record
 
 if TYPE_CHECKING:
     from .watch import TrunkWatch
@@ -127,7 +127,7 @@ class CommandServer:
         if len(words) != (3 if name == 'codec' else 1):
             return f'{name}: wants ' + ('a circuit, a codec and a payload type' if name == 'codec' else 'a circuit')
         circuit = circuit_of(words[0])
-        if circuit is None:
+        if not circuit:
             return f'{name} {words[0][:40]}: circuits are 1 to 30'
         front = f'{name} {circuit}: '
         if name == 'codec':
@@ -141,11 +141,6 @@ class CommandServer:
                 return front + fault
             record = command_record(circuit, COMMANDS[name])
         return front + await trunk.command(record, circuit, ' '.join([name, *words[1:]]))
-
-
-def circuit_of(word: str) -> int | None:
-    number = int(word) if word.isascii() and word.isdecimal() and len(word) < 4 else 0
-    return number if number in CIRCUITS else None
 
 
 def codec_fault(words: list[str], law: str) -> str | None:

@@ -9,7 +9,7 @@ from dataclasses import asdict, dataclass
 from typing import Any
 
 from ..lines import Role, State
-from ..session import CIRCUITS
+from ..session import circuit_of
 from .circuit import CircuitEnd
 from .pairs import Pairs
 
@@ -92,9 +92,7 @@ def _name(value: Any) -> str:
 
 
 def _circuit(value: Any) -> int:
-    text = str(value)           # (a key of an object is a text)
-    number = int(text) if text.isascii() and text.isdecimal() and len(text) < 4 else 0
-    if number not in CIRCUITS:
+    if not (number := circuit_of(str(value))):      # (a key of an object is a text)
         raise BadMessage('no circuit')
     return number
 

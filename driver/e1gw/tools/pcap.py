@@ -26,9 +26,9 @@ from typing import BinaryIO, Iterable, Iterator
 
 from ..faults import words_of_fault
 from ..packets import BadCapture, packets
-from ..repetitions import Repetitions
-from ..session import (CIRCUITS, FRAME, SAMPLES_A_SECOND, BadPacket, BadSession, Kind, datagram_record, packet_of,
-                       records)
+from ..session import (CIRCUITS, FRAME, SAMPLES_A_SECOND, BadPacket, BadSession, Kind, Repetitions, datagram_record,
+                       packet_of, records)
+from ..session_files import pieces
 
 NAME = os.path.basename(sys.argv[0])    # in the package e1gw-pcap
 GATEWAY, PEER = bytes([192, 0, 2, 1]), bytes([192, 0, 2, 2])  # RFC 5737, addresses for examples
@@ -89,7 +89,7 @@ class StreamClock:
 def packets_of(source: BinaryIO, asked: int | None, ends: tuple[bytes, bytes]) -> Iterator[tuple[int, bytes]]:
     """The time and the octets of a packet for each datagram of a session."""
     clock = StreamClock()
-    for kind, circuit, body in records(source):
+    for kind, circuit, body in records(pieces(source)):
         if kind is Kind.TRUNK:
             clock.octets += len(body)
         elif kind is Kind.DATAGRAM and asked in (None, circuit):

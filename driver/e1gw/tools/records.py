@@ -25,11 +25,11 @@ import struct
 import sys
 from typing import BinaryIO, Iterable, Iterator
 
-from ..faults import words_of_fault
-from ..session_files import InputError, Source, note_of, octets_of
+from ..faults import number, words_of_fault
+from ..session_files import InputError, note_of, octets_of, pieces
 from ..frames import DOUBLE, FAS, REVERSED, SIGNALS, is_frame, raw_words_of
-from ..session import (CIRCUITS, FRAME, OCTETS_A_SECOND, BadPacket, BadSession, Kind, Readable, Record, packet_of,
-                       records, trunk_record)
+from ..session import (CIRCUITS, FRAME, OCTETS_A_SECOND, BadPacket, BadSession, Kind, Record, packet_of, records,
+                       trunk_record)
 
 NAME = os.path.basename(sys.argv[0])    # in the package e1gw-records
 MOST_WRONG = 3
@@ -76,14 +76,14 @@ def shown(record: Record, place: int) -> str:
     return front + shown_answer(record)
 
 
-def print_records(source: Readable, place: int) -> None:
+def print_records(source: Iterator[bytes], place: int) -> None:
     """Prints records, the first of them at this place of the trunk."""
     for record in records(source):
         print(shown(record, place))
         place += len(record.body) if record.kind is Kind.TRUNK else 0
 
 
-def write_records(source: Readable, begin: int, end: int | None, sink: BinaryIO) -> None:
+def write_records(source: Iterator[bytes], begin: int, end: int | None, sink: BinaryIO) -> None:
     """Writes the records behind a number of octets of the trunk: at least the first one, and below the second."""
     place = 0
     for record in records(source):
@@ -136,7 +136,7 @@ def raw_pieces(source: BinaryIO, reverse: bool, size: int = PIECE) -> Iterator[b
         yield octets.translate(REVERSED) if reverse else octets
 
 
-def kept_pieces(source: Readable) -> Iterator[bytes]:
+def kept_pieces(source: Iterator[bytes]) -> Iterator[bytes]:
     """The octets of a session's T records."""
     return (record.body for record in records(source) if record.kind is Kind.TRUNK)
 
@@ -149,12 +149,6 @@ def hear(pieces: Iterator[bytes], circuit: int, law: str, sink: BinaryIO) -> Non
         raise InputError('no frame was found in the octets of the trunk; for reversed bits use --from-raw --reverse, '
                          'for unaligned octets e1gw align')
     write_wave(heard, law, sink)
-
-
-def sizes(text: str) -> int:
-    if not text.isdecimal() or not 1 <= int(text) <= 65535:
-        raise argparse.ArgumentTypeError('a record has 1 to 65535 octets')
-    return int(text)
 
 
 def times(text: str) -> int:
@@ -175,7 +169,7 @@ def asked_for() -> argparse.Namespace:
     what.add_argument('--until', metavar='MS', type=times)
     what.add_argument('--from', metavar='MS', type=times, dest='begin')
     words.add_argument('--reverse', action='store_true')
-    words.add_argument('--size', metavar='N', type=sizes, default=256)
+    words.add_argument('--size', metavar='N', type=number(1, 65_535), default=256)
     words.add_argument('--law', choices=('A', 'mu'), default='A')
     words.add_argument('file', nargs='?')
     asked = words.parse_args()
@@ -188,18 +182,16 @@ def asked_for() -> argparse.Namespace:
 
 def work(asked: argparse.Namespace) -> None:
     """Does what was asked for."""
-    if asked.file and not asked.from_raw:
-        return read_session(asked, Source(octets_of(asked.file)))
+    if not asked.from_raw:
+        return read_session(asked, octets_of(asked.file) if asked.file else pieces(sys.stdin.buffer))
     with open(asked.file, 'rb') if asked.file else sys.stdin.buffer as source:
-        if not asked.from_raw:
-            read_session(asked, source)
-        elif asked.circuit:
+        if asked.circuit:
             hear(raw_pieces(source, asked.reverse), asked.circuit, asked.law, sys.stdout.buffer)
         else:
             sys.stdout.buffer.writelines(map(trunk_record, raw_pieces(source, asked.reverse, asked.size)))
 
 
-def read_session(asked: argparse.Namespace, source: Readable) -> None:
+def read_session(asked: argparse.Namespace, source: Iterator[bytes]) -> None:
     """Does it with a session."""
     if asked.circuit:
         hear(kept_pieces(source), asked.circuit, asked.law, sys.stdout.buffer)
