@@ -4,7 +4,7 @@ import subprocess
 from typing import Any, NoReturn, Sequence
 
 from .g711 import VALUES
-from .session import FRAME, HEAD, MULTIFRAME, Command, command_record, trunk_record
+from .session import FRAME, HEAD, MULTIFRAME, Command, Kind, command_record, trunk_record
 
 FAS, NFAS = 0x9B, 0xDF      # slot 0: the frame alignment signal, and the octet between two of them
 REMOTE_ALARM = 0x20         # bit A of the octet between two signals
@@ -18,17 +18,20 @@ COMMANDS = {command.word: command for command in Command}
 
 
 class ServeProcess:
-    """A running `e1gw serve`. What it was given and what it answered is kept, record by record."""
+    """A running `e1gw serve`, or another subcommand that answers records. What it was given and what it has written is
+    kept, record by record."""
 
-    def __init__(self, program: str, config: str, *options: str, **streams: Any) -> None:
+    def __init__(self, program: str, config: str, *options: str, subcommand: str = 'serve', **streams: Any) -> None:
         self.process: subprocess.Popen[bytes] = subprocess.Popen(
-            [program, 'serve', '--config', config, *options], stdin=subprocess.PIPE, stdout=subprocess.PIPE, **streams)
+            [program, subcommand, '--config', config, *options], stdin=subprocess.PIPE, stdout=subprocess.PIPE,
+            **streams)
         assert self.process.stdin and self.process.stdout
         self.input, self.output = self.process.stdin, self.process.stdout
         self.given: list[bytes] = []
         self.answered: list[bytes] = []
 
-    def _give(self, given: bytes) -> None:
+    def give(self, given: bytes) -> None:
+        """Gives it a record."""
         self.given.append(given)
         try:
             self.input.write(given)
@@ -36,31 +39,43 @@ class ServeProcess:
         except BrokenPipeError:
             self._gone()
 
-    def _answer(self) -> bytes:
-        head = self.output.read(4)
-        if len(head) < 4:
-            self._gone()
-        body: bytes = self.output.read(HEAD.unpack(head)[2])
-        self.answered.append(head + body)
-        return body
+    def answer(self) -> bytes:
+        """The body of the next answer, behind what is sent before it."""
+        while len(head := self.output.read(4)) == 4:
+            body: bytes = self.output.read(HEAD.unpack(head)[2])
+            self.answered.append(head + body)
+            if head[0] != Kind.DATAGRAM:
+                return body
+        self._gone()
+
+    def passes(self, record: bytes) -> bytes:
+        """Gives it a record; returns the body of the answer."""
+        self.give(record)
+        return self.answer()
 
     def _gone(self) -> NoReturn:
         raise SystemExit(f'e1gw serve has ended with status {self.process.wait()}')
 
     def trunk(self, octets: bytes) -> bytes:
         """Gives it octets of the trunk; returns as many that it sends."""
-        self._give(trunk_record(octets))
-        return self._answer()
+        return self.passes(trunk_record(octets))
 
     def command(self, circuit: int, name: str) -> int:
         """An operator's command; returns 0, or the number of the fault."""
-        self._give(command_record(circuit, COMMANDS[name]))
-        return self._answer()[1]
+        return self.passes(command_record(circuit, COMMANDS[name]))[1]
 
     def end(self) -> int:
         """Ends its input and returns its status."""
         self.input.close()
+        self.answered.append(self.output.read())
         return self.process.wait()
+
+    def close(self) -> None:
+        """Ends what is left."""
+        self.process.kill()
+        self.process.wait()
+        self.input.close()
+        self.output.close()
 
 
 class Exchange:

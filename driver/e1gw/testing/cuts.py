@@ -20,8 +20,7 @@ from dataclasses import dataclass, field
 from typing import Iterator, NamedTuple
 
 from ..session import Codec, codec_record
-from .datagrams import PACKET, UdpCalls, bound
-from .recordings import hostile
+from .datagrams import PACKET, UdpCalls, bound, hostile
 
 CIRCUITS = tuple(range(1, 31))
 EACH = 5000                     # ms of the trunk from one checkpoint to the next
@@ -132,8 +131,7 @@ class CutSession:
     def _codec(self, call: UdpCalls, circuit: int) -> None:
         """Another codec of a circuit."""
         codec = self._coding[circuit] = self.dice.choice(self.codecs)
-        call.serve._give(codec_record(circuit, codec, payload_of(codec)))
-        call.serve._answer()
+        call.serve.passes(codec_record(circuit, codec, payload_of(codec)))
 
     def _turn(self, call: UdpCalls, sender: socket.socket, turn: int) -> None:
         """10 ms of thirty calls: a datagram for each, five multiframes; now and then another codec and a command."""

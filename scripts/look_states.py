@@ -12,8 +12,9 @@ from collections.abc import Callable, Iterator
 from functools import partial
 from typing import Any
 
-from ..session import Codec, Command, codec_record, command_record, datagram_record, trunk_record
-from .datagrams import SECONDS, Wrongs
+import paths    # noqa: F401 (makes e1gw known)
+from e1gw.session import Codec, Command, codec_record, command_record, datagram_record, trunk_record
+from e1gw.testing.datagrams import SECONDS, Wrongs
 
 CONFIG = '''law = "A"
 [[circuit]]
@@ -294,7 +295,7 @@ def file_rows() -> Iterator[tuple[str, Callable[[bytes], bytes], str]]:
     yield 'an octet more', summed(lambda state: state + b'\0'), '7 Left at 0'
 
 
-def run_looks() -> Iterator[tuple[str, Callable[[str, str], Wrongs]]]:
+def state_looks() -> Iterator[tuple[str, Callable[[str, str], Wrongs]]]:
     """The looks: a name, and what yields what is wrong, given the program and a folder to work in."""
     for name, *row in state_rows():
         yield f'state: {name}', partial(has, *row)

@@ -13,8 +13,10 @@ import threading
 from collections.abc import Callable, Iterator
 from typing import Any
 
-from ..session import Codec, Kind, codec_record, records_in
-from .datagrams import CIRCUITS, PACKET, SECONDS, UdpCalls, Wrongs, bound, packets, speech
+import paths    # noqa: F401 (makes e1gw known)
+from e1gw.session import Codec, Kind, codec_record, records_in
+from e1gw.testing.datagrams import PACKET, SECONDS, UdpCalls, Wrongs, bound, hostile, packets, speech
+from look_datagrams import CIRCUITS
 
 ENDED = 'recording ended: a write failed\n'
 ROUNDS = 12                 # of datagrams and multiframes in a live session
@@ -46,16 +48,10 @@ def live(call: UdpCalls) -> Wrongs:
             call.serve.command(dice.choice(call.circuits), dice.choice(('seize', 'answer', 'unblock')))
             for c, peer in call.peers.items():
                 call.packets[c] += [packet for packet, _ in packets(peer)]
-        call.serve._give(codec_record(1, Codec.G726_32, 96))
-        call.serve._answer()
+        call.serve.passes(codec_record(1, Codec.G726_32, 96))
         call.multiframes(8)
     for c, peer in call.peers.items():
         call.packets[c] += [packet for packet, _ in packets(peer)]
-
-
-def hostile(dice: random.Random) -> bytes:
-    """A datagram that is none of a call."""
-    return dice.choice((b'', bytes(12), dice.randbytes(172), b'\x80\x08' + bytes(170), dice.randbytes(1400)))
 
 
 def replay(program: str, room: str, recording: str) -> tuple[bytes, dict[int, list[bytes]], list[Answer], str]:
