@@ -4,10 +4,9 @@ from __future__ import annotations
 from dataclasses import dataclass, field
 from typing import Any, Callable
 
-from .session import CIRCUITS, DatagramRefusal
+from .session import CIRCUITS, name_of
 
 SAMPLE = 32                     # octets of the trunk
-_WORDS = {int(refusal): refusal.label for refusal in DatagramRefusal}
 
 
 @dataclass(slots=True)
@@ -70,7 +69,7 @@ class DatagramCounts:
             row.admitted += 1
             row.stream.take(sequence, timestamp, ssrc, place // SAMPLE)
         else:
-            word = _WORDS.get(code, str(code))
+            word = name_of(code)
             row.refused[word] = row.refused.get(word, 0) + 1
         self._counted(circuit, code, place)
 

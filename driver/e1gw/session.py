@@ -130,8 +130,14 @@ class CodecRefusal(_Refusal):
 Refusal = CommandRefusal | DatagramRefusal | CodecRefusal
 _WORDS: dict[object, str] = {CommandRefusal.NOT_IN_CALL: 'not in a call',
                              CodecRefusal.PAYLOAD_TYPE: 'no payload type of the codec'}
+_NAMES = {int(code): code.label for code in DatagramRefusal}
 REFUSALS: dict[int, type[CommandRefusal] | type[DatagramRefusal] | type[CodecRefusal]] = {
     Kind.COMMAND: CommandRefusal, Kind.DATAGRAM: DatagramRefusal, Kind.CODEC: CodecRefusal}
+
+
+def name_of(code: int) -> str:
+    """The manual's name of why a datagram was refused."""
+    return _NAMES.get(code, f'code {code}')
 
 
 def refusal_of(asked: int, code: int) -> Refusal | None:

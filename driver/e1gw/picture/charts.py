@@ -6,7 +6,9 @@ from collections.abc import Callable
 from functools import partial
 from typing import NamedTuple, TypeVar
 
-from .facts import NOT_OPEN, OPEN, SECOND, WINDOW, Answer, Cell, Facts, Row, joined, name_of
+from ..lines import OPEN
+from ..session import name_of
+from .facts import NOT_OPEN, SECOND, WINDOW, Answer, Cell, Facts, Row, joined
 from .svg import LEFT, WIDE, Scale, Sheet, apart, duration, runs
 
 ROW = 30                    # of the circuits

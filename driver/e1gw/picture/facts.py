@@ -14,15 +14,14 @@ from dataclasses import dataclass, field
 from typing import Any
 
 from ..session_files import Break
-from ..lines import SEIZURE_WAIT
-from ..session import FRAME, MULTIFRAME, OCTETS_A_SECOND, DatagramRefusal, Repetitions
+from ..lines import OPEN, SEIZURE_WAIT
+from ..session import FRAME, MULTIFRAME, OCTETS_A_SECOND, Repetitions
 from .sound import HeardSamples, ListeningTimes
 
 SECOND = OCTETS_A_SECOND
 MOST = 2400                 # columns
 MOST_CALLS = 200            # of a circuit whose wrong sources are kept, the last ones
 WINDOW = 3200               # samples in the playout
-OPEN = ('acked', 'answered', 'clearedback')
 NOT_OPEN = 20
 # Refusals of a datagram of the call's stream, whose timestamp shows how early it was.
 TIMED = (13, 14, 15, 16)
@@ -31,12 +30,6 @@ BITS = {'g726-16': 2, 'g726-24': 3, 'g726-32': 4, 'g726-40': 5}
 RANK = ('fault', 'blocked', 'releasing', 'seized', 'clearedback', 'answered', 'acked', 'idle')
 # What is counted, by the states of a line before and after, or by the one after.
 COUNTED = {('acked', 'answered'): 'answers', ('seized', 'releasing'): 'unacknowledged', ('', 'fault'): 'faults'}
-NAMES = {int(code): code.label for code in DatagramRefusal}
-
-
-def name_of(code: int) -> str:
-    """The name of a refusal in the manual."""
-    return NAMES.get(code, f'code {code}')
 
 
 class Cell:

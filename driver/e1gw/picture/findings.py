@@ -8,7 +8,9 @@ from statistics import median
 
 from ..events import REMOTE
 from ..g711 import NAMES, OTHER
-from .facts import NOT_OPEN, OPEN, SECOND, Answer, Cell, Facts, Row, name_of
+from ..lines import OPEN
+from ..session import name_of
+from .facts import NOT_OPEN, SECOND, Answer, Cell, Facts, Row
 from .slopes import Points, Step, points, slope, steps
 from .svg import Scale, duration
 

@@ -9,8 +9,9 @@ import string
 import time
 from collections.abc import Iterable, Mapping, Sequence
 
+from ..lines import OPEN
 from . import charts
-from .facts import OPEN, SECOND, Cell, Facts, Row
+from .facts import SECOND, Cell, Facts, Row
 from .findings import Anomaly, findings
 from .sound import HeardSamples
 from .svg import Scale, duration

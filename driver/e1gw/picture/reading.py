@@ -7,8 +7,8 @@ from collections.abc import Callable, Iterable, Iterator, Mapping
 from typing import Any
 
 from ..session_files import InputError
-from ..lines import SEIZURE_WAIT, WAIT, law_of
-from ..session import CIRCUITS, MULTIFRAME, Codec, Command, Kind, refusal_of, trunk_record
+from ..lines import SEIZURE_WAIT, WAIT, lines_of
+from ..session import MULTIFRAME, Codec, Command, Kind, refusal_of, trunk_record
 from .facts import Facts, Row
 from .listening import SpeechListener
 from .replay import Replay
@@ -25,12 +25,12 @@ TELLS = ['e1gw', 'tell', '1']       # how the reports begin
 
 def rows_of(config: Mapping[str, Any]) -> dict[int, Row]:
     """The circuits of a configuration."""
-    law, wait = law_of(config), config.get(WAIT, SEIZURE_WAIT)
-    rows = {n: Row(n, codec=Codec.G711.word(law), payload=8 if law == 'A' else 0, wait=wait) for n in CIRCUITS}
+    wait = config.get(WAIT, SEIZURE_WAIT)
+    rows = {n: Row(n, str(line.role), line.codec, line.payload, line.prefill, wait=wait)
+            for n, line in lines_of(config).items()}
     for table in config.get('circuit', []):
         row = rows[table['number']]
-        for name in ('role', 'codec', 'payload', 'ptime', 'prefill'):
-            setattr(row, name, table.get(name, getattr(row, name)))
+        row.ptime = table.get('ptime', row.ptime)
         if 'local_port' in table:
             row.local = f'{config.get("host", "127.0.0.1")}:{table["local_port"]}'
             row.peer = f'{table.get("peer_host", "127.0.0.1")}:{table.get("peer_port", "")}'
