@@ -4,7 +4,7 @@ from collections import deque
 from dataclasses import dataclass, replace
 from itertools import product
 from random import Random
-from typing import Any, Iterator, NamedTuple, TypeVar
+from typing import Iterator, NamedTuple, TypeVar
 
 from e1gw.lines import Role, State
 from e1gw.session import Command
@@ -318,69 +318,26 @@ class TieAgreementTests(unittest.TestCase):
             self.assertIn(world.near.state, (BLOCKED, FAULT, CLEAREDBACK))
 
 
-def incoming(state: State, far: CircuitEnd | None, call: str = 'call 2', **fields: Any) -> TieCircuit:
-    return TieCircuit(Role.INCOMING, state, call, far=far, **fields)
-
-
-def outgoing(state: State, far: CircuitEnd | None, call: str | None = 'call 1', **fields: Any) -> TieCircuit:
-    return TieCircuit(Role.OUTGOING, state, call, far=far, **fields)
-
-
-def caller(state: State, over: bool = False, passed: str = NO_CALL) -> CircuitEnd:
-    return CircuitEnd(Role.INCOMING, state, 'call 2', over, passed)
-
-
-def called(state: State, call: str | None = 'call 2') -> CircuitEnd:
-    return CircuitEnd(Role.OUTGOING, state, call)
-
-
 class TieCommandTests(unittest.TestCase):
-    ROWS = [
-        # A call goes on, in its order.
-        (outgoing(IDLE, caller(ACKED)), GOOD, Command.SEIZE),
-        (incoming(ACKED, called(SEIZED)), GOOD, None),
-        (incoming(ACKED, called(ANSWERED)), GOOD, Command.ANSWER),
-        (incoming(ANSWERED, called(CLEAREDBACK)), GOOD, Command.CLEAR_BACK),
-        (incoming(CLEAREDBACK, called(ANSWERED)), GOOD, Command.ANSWER),
-        (outgoing(ANSWERED, caller(IDLE), 'call 2'), GOOD, Command.CLEAR),
-        # One call is not another one.
-        (outgoing(ANSWERED, caller(ACKED), 'call 1'), GOOD, Command.CLEAR),
-        (incoming(ACKED, called(ANSWERED, 'call 1')), GOOD, None),
-        # What is over is not passed on, nor what was answered by somebody else.
-        (outgoing(IDLE, caller(ACKED, over=True)), GOOD, None),
-        (outgoing(IDLE, caller(ANSWERED)), GOOD, None),
-        (outgoing(IDLE, caller(ACKED), 'call 2'), GOOD, None),
-        # Congestion: an answer, and the clear-back that can only follow it.
-        (incoming(ACKED, called(IDLE)), GOOD, Command.ANSWER),
-        (incoming(ACKED, called(BLOCKED, 'call 1')), GOOD, Command.ANSWER),
-        (incoming(ANSWERED, called(IDLE)), GOOD, Command.CLEAR_BACK),
-        (incoming(ACKED, called(RELEASING, 'call 1')), GOOD, None),
-        # Without the other end calls wait and nobody can call.
-        (incoming(IDLE, called(IDLE)), LOST, Command.BLOCK),
-        (incoming(ANSWERED, called(IDLE)), LOST, None),
-        (outgoing(ANSWERED, caller(IDLE), 'call 2'), LOST, None),
-        (outgoing(ANSWERED, caller(ANSWERED), 'call 2'), GIVEN_UP, Command.CLEAR),
-        (incoming(ANSWERED, called(ANSWERED)), GIVEN_UP, Command.CLEAR_BACK),
-        # A block of the operator is his.
-        (incoming(BLOCKED, called(IDLE)), GOOD, Command.UNBLOCK),
-        (incoming(BLOCKED, called(IDLE), kept=True), GOOD, None),
-        (incoming(IDLE, called(FAULT)), GOOD, Command.BLOCK),
-    ]
+    """What no agreement shows."""
 
-    def test_rows(self) -> None:
-        for circuit, link, command in self.ROWS:
-            with self.subTest(circuit=circuit, link=link):
-                self.assertIs(circuit.wants(link), command)
-
-    def test_caller_who_waits(self) -> None:
-        """If no answer may be feigned, nothing is reported before the answer; a call that was answered is ended."""
-        self.assertIsNone(incoming(ACKED, called(IDLE)).wants(GOOD, waits=True))
-        self.assertIs(incoming(ACKED, called(ANSWERED)).wants(GOOD, waits=True), Command.ANSWER)
-        self.assertIs(incoming(ANSWERED, called(IDLE)).wants(GOOD, waits=True), Command.CLEAR_BACK)
+    def test_what_an_end_wants(self) -> None:
+        """A call that somebody else has answered is not passed on, and one waits for a lost connection. If no answer
+        may be feigned, nothing is reported before the answer; a call that was answered is ended."""
+        incoming, outgoing = Role.INCOMING, Role.OUTGOING
+        rows: list[tuple[Role, State, str, State, LinkState, bool, Command | None]] = [
+            (outgoing, IDLE, 'call 1', ANSWERED, GOOD, False, None),
+            (outgoing, ANSWERED, 'call 2', IDLE, LOST, False, None),
+            (incoming, ACKED, 'call 2', IDLE, GOOD, True, None),
+            (incoming, ACKED, 'call 2', ANSWERED, GOOD, True, Command.ANSWER),
+            (incoming, ANSWERED, 'call 2', IDLE, GOOD, True, Command.CLEAR_BACK)]
+        for role, state, call, far, link, waits, command in rows:
+            end = CircuitEnd(outgoing if role is incoming else incoming, far, 'call 2')
+            self.assertIs(TieCircuit(role, state, call, far=end).wants(link, waits), command, (role, state))
 
     def test_given_up_stays_so(self) -> None:
         """A call that was given up is not passed on when the other end comes back; the next one is."""
-        circuit = incoming(ACKED, called(IDLE, 'call 1')).marked_over(GIVEN_UP)
+        circuit = TieCircuit(Role.INCOMING, ACKED, 'call 2', far=CircuitEnd(Role.OUTGOING, IDLE, 'call 1'))
+        circuit = circuit.marked_over(GIVEN_UP)
         self.assertTrue(circuit.end().over)
-        self.assertIs(circuit.wants(GOOD), Command.ANSWER)
         self.assertFalse(circuit.moved(IDLE).moved(ACKED, 'call 3').end().over)
