@@ -24,7 +24,7 @@ from e1gw import ctl
 from e1gw.service import trunk
 from e1gw.service.events import EventFile
 from e1gw.service.options import wants_of
-from e1gw.service.pages import MOST_VISITORS, StatusTexts, WebServer
+from e1gw.service.pages import MOST_VISITORS
 from e1gw.service.recovery import CannotBegin
 from e1gw.service.service import make_own, parser
 from e1gw.testing.service import ask
@@ -32,25 +32,6 @@ from e1gw.tie.site import STRANGERS
 from e1gw.trunks import Stream
 
 OWN = 20                    # descriptors of a tie itself
-
-
-class RequestTests(unittest.IsolatedAsyncioTestCase):
-    async def test_requests_that_are_none(self) -> None:
-        """One without a target kept its descriptor for ever (by Python 3.11.2). When all were used up no program could
-        follow a dead one."""
-        async def fresh() -> StatusTexts:
-            return StatusTexts({}, lambda status: '', lambda status: '')
-        faults: list[object] = []
-        asyncio.get_running_loop().set_exception_handler(lambda loop, about: faults.append(about))
-        listener = await asyncio.start_server(WebServer(fresh).came, '127.0.0.1', 0, limit=8192)
-        for request in b'\r\n\r\n', b'GET\r\n\r\n', b'\xff\r\n\r\n', b'GET ' + b'/' * 20_000 + b'\r\n\r\n':
-            reader, writer = await asyncio.open_connection(*listener.sockets[0].getsockname())
-            writer.write(request)
-            with contextlib.suppress(ConnectionResetError):
-                self.assertEqual(await reader.read(), b'')
-            writer.close()
-        listener.close()
-        self.assertEqual(faults, [])
 
 
 class StartFaultTests(KeeperCase):

@@ -156,12 +156,17 @@ class WebTests(unittest.TestCase):
         self.assertLessEqual(named, declared)
 
     def test_visitors_that_are_slow_or_mad(self) -> None:
+        """A request without a target kept its descriptor for ever (by Python 3.11.2): at last there was none for the
+        next program."""
         lines = []
-        for request in (b'', b'GET', b'\xff' * 20_000, b'GET /metrics HTTP/1.0\r\n\r\n', b'\r\n\r\n',
+        for request in (b'', b'GET', b'GET /metrics HTTP/1.0\r\n\r\n', b'\r\n\r\n', b'GET\r\n\r\n',
+                        b'\xff\r\n\r\n', b'\xff' * 20_000, b'GET ' + b'/' * 20_000 + b'\r\n\r\n',
                         b'DELETE / HTTP/1.0\r\n\r\n'):
-            line = socket.create_connection(('127.0.0.1', self.port))
+            lines.append(line := socket.create_connection(('127.0.0.1', self.port)))
             line.sendall(request)
-            lines.append(line)
+            with contextlib.suppress(ConnectionResetError):
+                while len(lines) > 2 and line.recv(65_536):
+                    pass
         aligned(self.world)
         for _ in range(200):
             lines.append(socket.create_connection(('127.0.0.1', self.port)))
@@ -170,3 +175,4 @@ class WebTests(unittest.TestCase):
         for line in lines:
             line.close()
         self.assertIn('answered', self.get('/table', TABLE))
+        self.assertNotIn('exception', self.world.quit()[1])
