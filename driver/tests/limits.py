@@ -1,7 +1,7 @@
 """Limits of time of the programs in Python, so long that a stall of the machine reaches none of them.
 
-They hold in the process of the tests, and in the commands that `start` and `watch` start. E1GW_LIMITS gives those that
-one test wants otherwise."""
+They hold in the process of the tests, and in the commands that `start` starts. E1GW_LIMITS gives those that one test
+wants otherwise."""
 from __future__ import annotations
 
 import importlib
@@ -23,6 +23,7 @@ LIMITS: dict[str, Any] = {
     'service.version.CHECK': LONG, 'service.version.LOOK_UP': LONG, 'service.status.FIRST': LONG,
     'service.status.QUIET': LONG, 'service.pages.DRAWN': LONG, 'service.reload.PATIENCE': LONG,
     'service.feed.PATIENCE': LONG, 'service.standby.PATIENCE': LONG, 'service.pair.PATIENCE': LONG,
+    'service.feed.FRESH': LONG, 'service.standby.FRESH': LONG, 'service.pair.FRESH': LONG,
     'service.standby.MOST_AGE': LONG, 'service.recordings.FLUSH': LONG, 'service.chain.GRACE': LONG,
     'service.connection.NEXT': LONG, 'service.trunk.MOST_PAUSE': 0.01, 'service.pages.SECONDS': LONG,
     'service.pages.EVERY': 0.0,

@@ -17,12 +17,11 @@ import tempfile
 import termios
 import time
 import unittest
-from typing import Callable, Iterator, Mapping, Sequence, TypeVar
+from typing import Any, Callable, Iterator, Mapping, TypeVar
 
 from . import limits
 from e1gw.__main__ import COMMANDS
 from e1gw.exchange import Exchange
-from e1gw.session import Kind, Reader, Record
 from e1gw.testing import service
 from e1gw.testing.limited import SECONDS
 from e1gw.testing.service import Service
@@ -30,9 +29,9 @@ from e1gw.testing.service import Service
 TOP = os.path.dirname(os.path.dirname(os.path.dirname(os.path.abspath(__file__))))
 sys.dont_write_bytecode = True
 
-__all__ = ['Exchange', 'FolderCase', 'ReplayInSteps', 'SECONDS', 'Service', 'TOP', 'all_read', 'chance_of',
+__all__ = ['Exchange', 'FolderCase', 'SECONDS', 'Service', 'TOP', 'all_read', 'chance_of',
            'config_text', 'connected', 'in_memory', 'launcher', 'listening', 'octets_of', 'program', 'read_from',
-           'run', 'said_by', 'state_of', 'stopped', 'text_of', 'until', 'without']
+           'ran', 'run', 'said_by', 'state_of', 'stopped', 'text_of', 'until', 'without']
 
 T = TypeVar('T')
 
@@ -158,48 +157,6 @@ def all_read(line: socket.socket) -> None:
     until(lambda: not int.from_bytes(fcntl.ioctl(line, termios.TIOCOUTQ, bytes(4)), sys.byteorder), 0.001)
 
 
-class ReplayInSteps:
-    """`e1gw replay`, record by record."""
-
-    def __init__(self, *words: str) -> None:
-        self.process = subprocess.Popen([program(), 'replay', *words], stdin=subprocess.PIPE, stdout=subprocess.PIPE)
-        assert self.process.stdin and self.process.stdout
-        self._input, self._output, self._reader = self.process.stdin, self.process.stdout, Reader()
-        self.given, self.written = bytearray(), bytearray()
-
-    def passes(self, record: bytes) -> Record:
-        """The answer to a record."""
-        return self.passes_all([record])[0]
-
-    def passes_all(self, records: Sequence[bytes]) -> list[Record]:
-        """The answers to records, which two pipes hold."""
-        octets, answers = b''.join(records), list[Record]()
-        self.given += octets
-        self._input.write(octets)
-        self._input.flush()
-        while True:
-            answers += [each for each in self._reader.whole() if each.kind in (Kind.TRUNK, Kind.ANSWER)]
-            if len(answers) == len(records):
-                return answers
-            more = os.read(self._output.fileno(), 65_536)
-            assert more, 'the replay has ended'
-            self.written += more
-            self._reader.push(more)
-
-    def ends(self) -> int:
-        """The status, once the records end."""
-        self._input.close()
-        self.written += self._output.read()
-        return self.process.wait(SECONDS)
-
-    def close(self) -> None:
-        """Ends what a test leaves."""
-        self.process.kill()
-        self.process.wait(SECONDS)
-        self._input.close()
-        self._output.close()
-
-
 @contextlib.contextmanager
 def stopped(*pids: int) -> Iterator[None]:
     """These processes stand still meanwhile."""
@@ -229,6 +186,14 @@ def without(sent: bytes, circuit: int) -> bytes:
     for at in range(32 * ((circuit - 1) % 15 + 1) + 16, len(sent), 512):
         others[at] &= 0xf0 if circuit > 15 else 0x0f
     return bytes(others)
+
+
+def ran(*words: str, **more: Any) -> tuple[int, str, str]:
+    """The status of a command, what it writes, and what it says."""
+    done = subprocess.run(words, capture_output=True, text=True, check=False, stdin=subprocess.DEVNULL, timeout=SECONDS,
+                          **more)
+    assert 'Traceback' not in done.stderr, done.stderr
+    return done.returncode, done.stdout, done.stderr
 
 
 def run(*words: str, given: bytes = b'') -> bytes:

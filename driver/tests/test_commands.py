@@ -2,20 +2,15 @@
 from __future__ import annotations
 
 import os
-import subprocess
 import sys
 import tomllib
 
 from . import support
+from .support import ran
 from e1gw.__main__ import COMMANDS
 
 DRIVER = os.path.join(support.TOP, 'driver')
-
-
-def ran(*words: str, **around: str) -> tuple[int, str, str]:
-    done = subprocess.run(words, capture_output=True, text=True, check=False, stdin=subprocess.DEVNULL,
-                          env=os.environ | around)
-    return done.returncode, done.stdout, done.stderr
+AROUND = os.environ | {'PYTHONPATH': DRIVER}
 
 
 class CommandNameTests(support.FolderCase):
@@ -51,7 +46,7 @@ class CommandNameTests(support.FolderCase):
             with self.subTest(name):
                 status, said, _ = ran(path, '--help')
                 self.assertEqual((status, name in said), (0, True))
-                self.assertEqual(ran(sys.executable, '-m', 'e1gw', name, '--help', PYTHONPATH=DRIVER), (0, said, ''))
+                self.assertEqual(ran(sys.executable, '-m', 'e1gw', name, '--help', env=AROUND), (0, said, ''))
 
     def test_a_link_of_another_name_to_a_link(self) -> None:
         os.symlink(os.path.join(DRIVER, 'e1gw-ctl'), self.path('west'))
@@ -60,7 +55,7 @@ class CommandNameTests(support.FolderCase):
     def test_another_name(self) -> None:
         os.symlink(os.path.join(DRIVER, 'launch'), self.path('e1gw-dance'))
         for words in ([self.path('e1gw-dance')], [sys.executable, '-m', 'e1gw', 'dance']):
-            status, said, fault = ran(*words, PYTHONPATH=DRIVER)
+            status, said, fault = ran(*words, env=AROUND)
             self.assertEqual((status, said, fault.count('\n'), 'records, tie, trunk' in fault), (2, '', 1, True))
 
 
@@ -72,7 +67,7 @@ class ProgramBuiltTests(support.FolderCase):
         os.chmod(self.write('scripts/build', f'#!/bin/sh\necho "e1gw: proving gw_switch" >&2\necho /program\n'
                             f'exit {status}\n'), 0o755)
         code = f'from e1gw import programs; programs.TOP = {self.folder!r}; print(programs.program_of(None))'
-        return ran(sys.executable, '-c', code, PYTHONPATH=DRIVER, E1GW='')
+        return ran(sys.executable, '-c', code, env=AROUND | {'E1GW': ''})
 
     def test_the_progress_is_shown(self) -> None:
         self.assertEqual(self.built(0), (0, '/program\n', 'e1gw: proving gw_switch\n'))

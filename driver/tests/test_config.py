@@ -3,8 +3,6 @@ from __future__ import annotations
 
 import os
 import re
-import subprocess
-import sys
 import tomllib
 from typing import Any
 
@@ -16,15 +14,12 @@ LAUNCHER = os.path.join(support.TOP, 'driver', 'e1gw-config')
 
 class ConfigTests(support.FolderCase):
     def made(self, *words: str) -> tuple[int, str, str]:
-        done = subprocess.run([sys.executable, '-B', LAUNCHER, *words], capture_output=True, text=True, check=False,
-                              cwd=self.folder)
-        return done.returncode, done.stdout, done.stderr
+        return support.ran(LAUNCHER, *words, cwd=self.folder)
 
     def table(self, name: str) -> dict[str, Any]:
         """A file that was written, which the program takes, with a line for each of thirty circuits."""
-        done = subprocess.run([support.program(), 'check', '--config', self.path(name)], stdin=subprocess.DEVNULL,
-                              capture_output=True, text=True, check=False)
-        self.assertEqual((done.returncode, len(done.stdout.splitlines()), done.stderr), (0, 30, ''))
+        status, listed, said = support.ran(support.program(), 'check', '--config', self.path(name))
+        self.assertEqual((status, len(listed.splitlines()), said), (0, 30, ''))
         return tomllib.loads(support.text_of(self.path(name)))
 
     def test_the_example_of_the_package(self) -> None:

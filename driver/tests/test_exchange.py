@@ -5,13 +5,13 @@ import contextlib
 import os
 import socket
 import sys
-from subprocess import PIPE, Popen, run
+from subprocess import PIPE, Popen
 from typing import Iterator
 
 from . import support
 from .support import SECONDS
+from e1gw.exchange import IDLE, SEIZED
 
-IDLE, SEIZED = 2, 0
 EXCHANGE = [sys.executable, '-B', os.path.join(support.TOP, 'examples', 'exchange')]
 
 
@@ -52,10 +52,8 @@ class TypedCommandTests(support.FolderCase):
     def test_a_socket_that_is_there(self) -> None:
         """What is in the way is named, with what takes it away."""
         path = self.write('card', '')
-        done = run([*EXCHANGE, path], capture_output=True, text=True, check=False, timeout=SECONDS)
-        self.assertEqual((done.returncode, done.stderr),
-                         (1, f'exchange: {path}: Address already in use: another exchange waits there, or one left it '
-                             f'(rm {path})\n'))
+        self.assertEqual(support.ran(*EXCHANGE, path), (1, '', f'exchange: {path}: Address already in use: another '
+                                                       f'exchange waits there, or one left it (rm {path})\n'))
 
     def until_seized(self, line: socket.socket, circuits: set[int]) -> None:
         support.until(lambda: {n for n, pair in pairs(line).items() if pair == SEIZED} == circuits, 0.0)

@@ -5,7 +5,6 @@ import argparse
 import os
 import re
 import shutil
-import subprocess
 import unittest
 
 from . import support
@@ -64,9 +63,9 @@ class PagesTests(unittest.TestCase):
 class CompletionTests(unittest.TestCase):
     def offered(self, line: str, path: str = DEBIAN) -> tuple[list[str], str]:
         """The words that are offered for a line, and standard error."""
-        ran = subprocess.run(['/bin/bash', '-c', ASKS, COMPLETION, os.path.join(support.TOP, 'driver'), line],
-                             capture_output=True, text=True, env={'PATH': path}, timeout=support.SECONDS)
-        return sorted(each.strip() for each in ran.stdout.splitlines()), ran.stderr
+        _, found, said = support.ran('/bin/bash', '-c', ASKS, COMPLETION, os.path.join(support.TOP, 'driver'), line,
+                                     env={'PATH': path})
+        return sorted(each.strip() for each in found.splitlines()), said
 
     @unittest.skipUnless(shutil.which('register-python-argcomplete', path=DEBIAN), 'python3-argcomplete')
     def test_words(self) -> None:

@@ -11,10 +11,7 @@ import re
 import signal
 import socket
 import subprocess
-import unittest
-from types import SimpleNamespace
 from typing import Any, Callable
-from unittest import mock
 
 from . import limits, support
 from .support import SECONDS
@@ -68,12 +65,10 @@ class RtpPeers:
 
     def config(self, **of_seven: int) -> str:
         """Odd circuits are incoming, even ones outgoing. Circuit 7 has these keys too."""
-        text, peer = 'law = "A"\n', self.socket.getsockname()[1]
-        for port, circuit in self.circuits.items():
-            keys = {'number': circuit, 'role': f'"{"incoming" if circuit % 2 else "outgoing"}"', 'local_port': port,
-                    'peer_port': peer, **(of_seven if circuit == 7 else {})}
-            text += '[[circuit]]\n' + ''.join(f'{key} = {value}\n' for key, value in keys.items())
-        return text
+        return support.config_text({circuit: {
+            'role': 'incoming' if circuit % 2 else 'outgoing', 'local_port': port,
+            'peer_port': self.socket.getsockname()[1], **(of_seven if circuit == 7 else {})}
+            for port, circuit in self.circuits.items()})
 
     def take(self) -> None:
         while True:
@@ -356,32 +351,3 @@ class KeeperLateTests(KeeperCase):
         self.step(300)
         self.assertEqual(self.peers_heard(300), {*CIRCUITS})
         self.assertIn('resynchronised, datagrams are refused for their time: circuits ', self.told())
-
-
-class KeeperFifoTests(KeeperCase):
-    def test_goes_on(self) -> None:
-        """A trunk that is a pair of FIFOs, without a control socket."""
-        pair = [self.path(name) for name in ('in', 'out')]
-        for path in pair:
-            os.mkfifo(path)
-        self.command = trunk_command('--config', self.config, '--in', pair[0], '--out', pair[1])
-
-        def opens() -> None:
-            into, out = open(pair[0], 'wb', buffering=0), open(pair[1], 'rb', buffering=0)
-            self.addCleanup(out.close)
-            self.device.line = SimpleNamespace(sendall=into.write, recv=out.read, close=into.close)
-        with mock.patch.object(self.device, 'accept', opens):
-            self.starts()
-        self.step(30)
-        self.dies()
-        self.step(30)
-        self.keeper.send_signal(signal.SIGHUP)
-        self.goes_on_behind()
-        self.step(30)
-        self.assertEqual(self.heard, self.uncut()[0])
-        self.device.line.close()
-        self.assertEqual(self.keeper.wait(SECONDS), 0)
-
-
-if __name__ == '__main__':
-    unittest.main()

@@ -7,12 +7,18 @@ from typing import Any
 from unittest import mock
 
 from . import support
-from .stand_ins import IDLE, row
 from e1gw.counts import DatagramCounts
 from e1gw.reports import BadTelling, TrunkState
 from e1gw.service import status
 
+IDLE = [f'{n:2} outgoing idle        10 10          0          0          0 pcma      8' for n in range(1, 31)]
 BEGIN = ['e1gw tell 1 A', 'at 512', 'alarms 0 0 0 0', *(f'line {each}' for each in IDLE)]
+
+
+def row(circuit: int, state: str, bits: str = '10 10', counts: tuple[int, int, int] = (0, 0, 0),
+        role: str = 'outgoing', codec: str = 'pcma      8') -> str:
+    sent, admitted, refused = counts
+    return f'line {circuit:2} {role:8} {state:11} {bits} {sent:10} {admitted:10} {refused:10} {codec}'
 
 
 class ToldTests(unittest.TestCase):
@@ -183,10 +189,10 @@ class ToldTests(unittest.TestCase):
         self.assertEqual(self.events, [])
 
 
-class ReadInOrderTests(support.FolderCase, unittest.IsolatedAsyncioTestCase):
+class ReportReadingTests(support.FolderCase, unittest.IsolatedAsyncioTestCase):
     async def test_a_change_while_the_state_is_asked_for(self) -> None:
         """It was taken before the one that the loop had read and not taken yet: a line was in a state of long ago, or
-        two halves of lines were none."""
+        two halves of lines were none. What is not understood ends the connection."""
         events, config = list[dict[str, Any]](), self.write('trunk.toml', 'law = "A"\n[[circuit]]\nnumber = 1\n')
         tell = self.path('tell')
         trunk = mock.Mock(tell=tell, **{'config_path.return_value': config, 'facts.return_value': {},
@@ -207,6 +213,11 @@ class ReadInOrderTests(support.FolderCase, unittest.IsolatedAsyncioTestCase):
                 its.take_now()
                 while its.lines.lines[1].state != 'acked':
                     await asyncio.sleep(0.001)
+                line.sendall(b'alarms perhaps\n')
+                while its.lines.live:
+                    await asyncio.sleep(0.001)
             follows.cancel()
             await asyncio.wait([follows])
         self.assertEqual([each['state'] for each in events if each['event'] == 'state'], ['seized', 'acked'])
+        self.assertEqual(events[-1], {'event': 'disconnected', 'from': 'shadow',
+                                      'why': f'{tell}: not understood: alarms perhaps'})

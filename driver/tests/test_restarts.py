@@ -9,6 +9,7 @@ from typing import Any
 from . import support
 from e1gw.clock import TICK, Clock
 from e1gw.events import words_of
+from e1gw.exchange import ACKNOWLEDGED, ANSWERED, IDLE, ServeProcess
 from e1gw.lines import Event
 from e1gw.restarts import REFUSED, Restarts
 from e1gw.session import (FRAME, MULTIFRAME, Codec, Command, DatagramRefusal, Kind, Packet, codec_record,
@@ -109,7 +110,6 @@ STEP = 0.002                # a multiframe
 MOST = 50                   # records that are given at once
 PACKET = 0.02
 SPOKEN = 0x55
-IDLE, ACKNOWLEDGED, ANSWERED = 2, 3, 1
 
 
 class SimulatedCall:
@@ -119,7 +119,7 @@ class SimulatedCall:
 
     def __init__(self, config: str, gap: float = 0.1, counts: bool = True) -> None:
         self._counts = counts
-        self._replay = support.ReplayInSteps('--config', config)
+        self._replay = ServeProcess(support.program(), config, subcommand='replay')
         self.events: list[Event] = []
         self.restarts: list[float] = []         # when
         self._place, self._record = 0, b''      # (the exchange sends this multiframe each time)
@@ -224,12 +224,14 @@ class SimulatedCall:
     def _give(self) -> None:
         """The gateway is given what was read. (Only a look, each TICK, depends on its answers.)"""
         waiting, self._waiting = self._waiting, []
-        for answer in self._replay.passes_all(waiting):
-            if answer.kind is Kind.TRUNK:
-                self.heard += answer.body[(1 - self._place) % FRAME::FRAME].count(SPOKEN)
+        for record in waiting:
+            self._replay.give(record)
+        for kind, answer in ((record[0], self._replay.answer()) for record in waiting):
+            if kind == Kind.TRUNK:
+                self.heard += answer[(1 - self._place) % FRAME::FRAME].count(SPOKEN)
                 self._place += MULTIFRAME
-            elif answer.body[0] == Kind.DATAGRAM:
-                self._restarts.counted(1, answer.body[1], self._place)
+            elif kind == Kind.DATAGRAM:
+                self._restarts.counted(1, answer[1], self._place)
 
 
 # What happens to a call, for how many seconds each; the seconds of speech that may be lost, and with each restart; the

@@ -25,7 +25,8 @@ from .test_service_killed import RestartedKeeperCase
 from .test_recorder import RecorderCase
 from .support import SECONDS
 from .test_trunk import catches, is_there
-from .world import IDLE, SEIZED, children, words_of
+from .world import children, words_of
+from e1gw.exchange import IDLE, SEIZED
 from e1gw.service.checkpoints import LOG_ROOM
 from e1gw.service.version import with_addresses
 from e1gw.session import MULTIFRAME, Codec, Kind, codec_record, records_in
@@ -413,10 +414,13 @@ class ServiceNameTests(RestartedKeeperCase):
         status = self.known(lambda circuits: circuits[circuit - 1]['state'] == state)
         return str(status['life']), [row['seizures'] for row in status['circuits']]
 
+    @mock.patch.dict(os.environ)
     def test_calls_keep_their_names(self) -> None:
         """The next follower and the next service count seizures as those before them, and one in between, also if both
-        die with the program."""
-        self.begins('--control', self.path('its-control'))
+        die with the program. One that begins with a state has its calls, which have two lines then."""
+        os.environ['RUNTIME_DIRECTORY'] = self.folder       # (where a unit's note stays)
+        self.begins('--control', self.path('its-control'), '--state', self.path('its-state'), '--calls',
+                    self.path('its-calls'))
         before = self.names(30, 'answered')
         self.assertEqual(before[1], [1] * 30)
         os.kill(self.shadow, signal.SIGKILL)
@@ -437,7 +441,15 @@ class ServiceNameTests(RestartedKeeperCase):
         self.again()
         self.goes_on()
         self.assertEqual(self.names(1, 'acked'), after)
+        self.leaves_nothing()
+        self.device.line.close()
+        self.again()
+        self.device.accept()
+        self.goes_on()
+        self.assertEqual(self.names(1, 'acked'), after)
         self.ends()
+        rows = list(csv.DictReader(support.text_of(self.path('its-calls')).splitlines()))
+        self.assertEqual((len(rows), len({row['call'] for row in rows})), (60, 30))
 
 
 class ServiceFaultTests(KeeperCase):

@@ -15,6 +15,7 @@ from unittest import mock
 from . import support, world
 from .support import SECONDS
 from .test_trunk import aligned
+from e1gw.exchange import ACKNOWLEDGED
 from e1gw.testing.datagrams import PACKET, packets, speech
 from e1gw.testing.ports import free_ports
 
@@ -109,7 +110,7 @@ class SipFrontEndTests(FrontEndCase):
     def test_the_exchange_clears(self) -> None:
         self.is_up('first')
         self.world.answers = False
-        self.world.exchange.pairs[1] = world.ACKNOWLEDGED         # clear-back, in an answered call (Q.421)
+        self.world.exchange.pairs[1] = ACKNOWLEDGED         # clear-back, in an answered call (Q.421)
         self.assertIn('Call-ID: first\r\n', self.hears('BYE sip:a@127.0.0.1 SIP/2.0'))
 
     @mock.patch.object(world, 'ANSWERS_AFTER', math.inf)

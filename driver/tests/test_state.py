@@ -9,10 +9,10 @@ from typing import Iterator, NamedTuple
 
 from . import support
 from e1gw import session
+from e1gw.exchange import ACKNOWLEDGED, ANSWERED, IDLE, SEIZED
 from e1gw.session import Codec, Command
 
 CODECS = ('', 'g726-16', 'g726-24', 'g726-32', 'g726-40')
-SEIZED, ANSWERED, IDLE, ACKNOWLEDGED = 0b00, 0b01, 0b10, 0b11
 
 
 class PlayedCoding(NamedTuple):

@@ -7,8 +7,8 @@ import socket
 
 from . import support
 from .support import SECONDS
-from e1gw.exchange import ACKNOWLEDGED, ANSWERED
-from e1gw.session import Command, command_record, datagram_record, trunk_record
+from e1gw.exchange import ACKNOWLEDGED, ANSWERED, ServeProcess
+from e1gw.session import datagram_record
 
 CONFIG = support.config_text({circuit: {'role': 'outgoing'} for circuit in range(1, 31)})
 LOOK = 4                    # multiframes from one look at clients to the next, where there are some
@@ -54,15 +54,11 @@ class TellTests(support.FolderCase):
     def setUp(self) -> None:
         super().setUp()
         self.config = self.write('trunk.toml', CONFIG)
-        self.exchange = support.Exchange()
-        self.replay = self.replays('tell')
+        self.exchange, self.tell = support.Exchange(), self.path('tell')
+        self.replay = ServeProcess(support.program(), self.config, '--tell', self.tell, subcommand='replay')
+        self.addCleanup(self.replay.close)
+        self.assertEqual(len(self.replay.trunk(bytes(32))), 32)
 
-    def replays(self, name: str) -> support.ReplayInSteps:
-        self.tell = self.path(name)
-        replay = support.ReplayInSteps('--config', self.config, '--tell', self.tell)
-        self.addCleanup(replay.close)
-        self.assertEqual(len(replay.passes(trunk_record(bytes(32))).body), 32)
-        return replay
 
     def client(self) -> TellClient:
         """A client that is let in with the next record of the trunk."""
@@ -72,20 +68,20 @@ class TellTests(support.FolderCase):
 
     def multiframes(self, count: int) -> None:
         for _ in range(count):
-            self.exchange.hear(self.replay.passes(trunk_record(self.exchange.multiframe())).body)
+            self.exchange.hear(self.replay.trunk(self.exchange.multiframe()))
 
     def test_a_call_and_datagrams(self) -> None:
         """The whole state first, then what changes, in order; counts when the place passes a multiple of 65,536."""
         client = self.client()
-        self.replay.passes(trunk_record(bytes(32)))
+        self.replay.trunk(bytes(32))
         whole = ['e1gw tell 1 A', 'at 64', 'alarms 1 1 0 0', *(row(c, 'fault', '10 --') for c in range(1, 31)),
                  seizures(), 'now']
         self.assertEqual(client.lines(), whole)
-        self.replay.passes(trunk_record(bytes(32)))
+        self.replay.trunk(bytes(32))
         self.assertEqual(client.lines(), [])
         self.multiframes(60)
         self.assertIn('alarms 0 0 0 0', client.lines())
-        self.replay.passes(command_record(1, Command.SEIZE))
+        self.replay.command(1, 'seize')
         place = f'at {96 + 60 * 512}'
         self.assertEqual(client.lines(), [place, 'command 1 1 0', row(1, 'seized', '00 10')])
         self.replay.passes(datagram_record(2, RTP))
@@ -100,16 +96,16 @@ class TellTests(support.FolderCase):
             self.assertEqual(told[1][:SIGNALS], row(1, state, f'00 {pair:02b}')[:SIGNALS])
         self.multiframes(8)
         self.assertEqual(client.lines()[-2:], [row(circuit, 'idle', '10 10', 1) for circuit in (2, 3)])
-        self.replay.passes(command_record(1, Command.CLEAR))
+        self.replay.command(1, 'clear')
         self.assertEqual([line.split()[3] for line in client.lines() if line.startswith('line')], ['releasing'])
         second = self.client()
         self.multiframes(LOOK)
         whole = second.lines()
         self.assertEqual((whole[0], whole[-2:]), ('e1gw tell 1 A', [seizures(c1=1), 'now']))
-        self.replay.passes(command_record(9, Command.SEIZE))
+        self.replay.command(9, 'seize')
         change = ['command 9 1 0', row(9, 'seized', '00 10')]
         self.assertEqual((client.lines()[-2:], second.lines()), (change, change))
-        self.assertEqual(self.replay.ends(), 0)
+        self.assertEqual(self.replay.end(), 0)
         self.assertEqual(client.lines(), ['end'])
         self.assertTrue(client.has_gone())
 
@@ -126,15 +122,15 @@ class TellTests(support.FolderCase):
         again = self.client()
         self.multiframes(LOOK)
         self.assertEqual(again.lines()[-1], 'now')
-        self.assertEqual(self.replay.ends(), 0)
-        plain = support.run('replay', '--config', self.config, given=bytes(self.replay.given))
-        self.assertEqual(self.replay.written, plain)
+        self.assertEqual(self.replay.end(), 0)
+        plain = support.run('replay', '--config', self.config, given=b''.join(self.replay.given))
+        self.assertEqual(b''.join(self.replay.answered), plain)
 
     def test_more_clients_than_there_are_places(self) -> None:
         """Those who leave before they are let in cost none."""
         for _ in range(8):
             self.client().socket.close()
-        self.replay.passes(trunk_record(bytes(32)))
+        self.replay.trunk(bytes(32))
         clients = [self.client() for _ in range(9)]
         clients[0].socket.sendall(b'what is this\n' * 1000)
         self.multiframes(LOOK)

@@ -16,8 +16,9 @@ from typing import Any, TypeVar
 from . import support
 from .manager import Manager
 from .support import SECONDS
-from .world import IDLE, SEIZED, World, config_of, trunk_command
+from .world import World, config_of, trunk_command
 from e1gw.clearing import DisconnectPolicy, DisconnectWatch, OutageWatch
+from e1gw.exchange import IDLE, SEIZED
 from e1gw.service.options import DIGITS, wants_of
 from e1gw.service.program import MOST_PATH
 from e1gw.service.service import parser
@@ -33,7 +34,7 @@ def aligned(world: W) -> W:
     """Steps until the lines are idle."""
     world.until(lambda: world.exchange.aligned and not world.exchange.remote_alarms)
     world.step(15)
-    world.wait_for_watcher()
+    world.wait_for_service()
     return world
 
 
@@ -215,10 +216,8 @@ class RefusedOptionsTests(support.FolderCase):
         self.good = self.write('good.toml', 'law = "A"\n')
 
     def run_driver(self, *words: str) -> tuple[int, str]:
-        done = subprocess.run(trunk_command(*words), stdin=subprocess.DEVNULL, capture_output=True, timeout=SECONDS,
-                              check=False)
-        self.assertNotIn(b'Traceback', done.stderr)
-        return done.returncode, done.stderr.decode()
+        status, _, said = support.ran(*trunk_command(*words))
+        return status, said
 
     def test_the_configuration_is_checked_first(self) -> None:
         out = self.write('out', 'precious')

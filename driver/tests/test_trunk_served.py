@@ -19,12 +19,12 @@ from typing import Iterator, Sequence
 from . import support
 from .support import SECONDS
 from e1gw.exchange import ACKNOWLEDGED, IDLE, SEIZED
-from e1gw.session import Codec, Command, CommandRefusal, Kind, codec_record, command_record, records_in, trunk_record
+from e1gw.session import (MULTIFRAME, Codec, Command, CommandRefusal, Kind, codec_record, command_record, records_in,
+                          trunk_record)
 from e1gw.testing.ports import free_port
 
 CONFIG = support.config_text({circuit: {'role': 'incoming'} for circuit in range(1, 31)})
 SLOW = 'output slow: discarding whole multiframes'
-MULTIFRAME = 512
 PIPE = 65_536               # the octets that a pipe of Linux holds
 ANSWER_LENGTH = 6
 

@@ -3,14 +3,16 @@ from __future__ import annotations
 
 import os
 import pty
+import signal
 import socket
 import subprocess
 import unittest
+from typing import Callable
 
 from . import support
 from .test_trunk import FOUR, aligned
 from .test_trunk_served import octets_in
-from .world import World, config_of, trunk_command
+from .world import World, children, config_of, trunk_command
 from e1gw.session import trunk_record
 from e1gw.trunks import Stream, host_and_port
 
@@ -45,30 +47,45 @@ class StreamTests(unittest.TestCase):
 
 
 class TrunkKindServiceTests(support.FolderCase):
-    def test_terminals_and_tcp(self) -> None:
-        """Octets go both ways, whatever they are. (Other tests have Unix sockets, FIFOs and files.)"""
+    def test_each_kind(self) -> None:
+        """Octets go both ways, whatever they are, and on behind a program that is killed; FIFOs and TCP end the trunk.
+        (Other tests have Unix sockets and files.)"""
         config, listener = self.write('trunk.toml', 'law = "A"\n'), socket.create_server(('127.0.0.1', 0))
         self.addCleanup(listener.close)
-        ours, theirs = pty.openpty()
-        name = os.ttyname(theirs)
-        for words in ('--in', name, '--out', name), ('--tcp', f'127.0.0.1:{listener.getsockname()[1]}'):
+        terminal, theirs = pty.openpty()
+        name, fifos = os.ttyname(theirs), [self.path(name) for name in ('in', 'out')]
+        for path in fifos:
+            os.mkfifo(path)
+        wanted = octets_in(support.run('replay', '--config', config, given=trunk_record(OCTETS * 2)))
+        kinds: list[tuple[list[str], Callable[[], tuple[int, int]]]] = [
+            (['--in', name, '--out', name], lambda: (terminal, terminal)),
+            (['--tcp', f'127.0.0.1:{listener.getsockname()[1]}'], lambda: (listener.accept()[0].detach(),) * 2),
+            (['--in', fifos[0], '--out', fifos[1]], lambda: (os.open(fifos[0], os.O_WRONLY), os.open(fifos[1], 0)))]
+        for words, opens in kinds:
             with self.subTest(words), subprocess.Popen(trunk_command('--config', config, *words),
                                                        stdin=subprocess.DEVNULL, stderr=subprocess.PIPE) as process:
                 self.addCleanup(process.kill)
                 assert process.stderr
-                file = ours if words[0] == '--in' else listener.accept()[0].detach()
-                while b'carries' not in process.stderr.readline():      # (a terminal is raw from then on)
-                    pass
-                self.assertEqual(self.sent(file), octets_in(support.run(
-                    'replay', '--config', config, given=trunk_record(OCTETS))))
-                os.close(file)
-                process.terminate()
+                into, out = opens()
+                back = b''
+                for says in b'carries', b'goes on':
+                    while says not in process.stderr.readline():        # (a terminal is raw from then on)
+                        pass
+                    os.write(into, OCTETS)
+                    back += self.read(out)
+                    for program in children(process.pid, 'trunk') if says == b'carries' else ():
+                        os.kill(program, signal.SIGKILL)
+                self.assertEqual(back, wanted)
+                if into == terminal:
+                    process.terminate()
+                for file in {into, out}:
+                    os.close(file)
                 process.stderr.read()
+            self.assertEqual(process.returncode, 0)
         os.close(theirs)
 
-    def sent(self, file: int) -> bytes:
-        """What is sent for octets that come."""
-        os.write(file, OCTETS)
+    def read(self, file: int) -> bytes:
+        """What is sent for octets that have come."""
         back = b''
         while len(back) < len(OCTETS):
             back += os.read(file, 1000)

@@ -16,10 +16,10 @@ from typing import Any, Callable, Mapping, Self
 
 from . import limits, support
 from .support import SECONDS
+from e1gw.exchange import ACKNOWLEDGED, ANSWERED, IDLE, SEIZED
 from e1gw.testing.ports import free_ports
 from e1gw.testing.service import ask
 
-IDLE, SEIZED, ACKNOWLEDGED, ANSWERED = 2, 0, 3, 1
 LAUNCHER = support.launcher('trunk')
 ANSWERS_AFTER = 20          # multiframes
 
@@ -63,27 +63,60 @@ def config_of(circuits: range, codec: str = 'pcma', payload: int = 8, prefill: i
         'local_port': ports[n], 'peer_port': ports.get(n + 1 if n % 2 else n - 1, ports[n])} for n in circuits})
 
 
-class ServedProgram:
-    """A program in service whose control socket is `ctl` of a folder of its own."""
+NO_EFFECT = 'codec 30 g726-16 95'     # a command that is refused and changes nothing
+NO_EFFECT_ANSWER = 'codec 30: no payload type of the codec'
 
-    process: subprocess.Popen[bytes]
 
-    def __init__(self, config: str) -> None:
+class World:
+    """An e1gw-trunk at a Unix socket, with a folder of its own, in which its control socket is `ctl`. The exchange
+    acknowledges and answers what is seized.
+
+    It gives octets when a test does, and not by a clock. What it is asked it knows all of that was given before: each
+    question comes behind a command that the gateway refuses, whose answer comes behind all of that."""
+
+    def __init__(self, config: str, *options: str, answers: bool = True, front: tuple[str, ...] = (),
+                 within: Mapping[str, Any] = {}, **streams: Any) -> None:
         self._folder = tempfile.TemporaryDirectory()
         self.folder = self._folder.name
         self.config = self.path('trunk.toml')
         self.configure(config)
+        self.exchange = support.Exchange()
+        self.answers = answers
+        self.ones = b'\xff' * (496 if '--clear' in options else 512)     # a carrier gives whole multiframes
+        self.sent, self.heard = bytearray(), bytearray()
+        self._ages: dict[int, int] = {}
+        os.mkdir(self.path('run'))
+        with support.listening(self.path('card')) as listener:
+            streams = {'stdin': subprocess.DEVNULL, 'stdout': subprocess.DEVNULL, 'stderr': subprocess.PIPE} | streams
+            self.process = subprocess.Popen(
+                [*front, *trunk_command('--config', self.config, '--unix', self.path('card'), '--control',
+                                        self.path('ctl'), *(word.replace('@', self.folder) for word in options))],
+                env={**os.environ, 'RUNTIME_DIRECTORY': self.path('run'), **limits.around(limits.TELLS | within)},
+                **streams)
+            try:
+                self.take(listener)
+                self.connected()
+            except BaseException:
+                self.__exit__()
+                raise
 
-    def configure(self, text: str) -> None:
-        """Writes its configuration."""
-        with open(self.config, 'w', encoding='utf-8') as file:
-            file.write(text)
+    def connected(self) -> None:
+        """Waits until the service knows the state of the trunk, which it learns at the first octets that come."""
+        while self.process.poll() is None:
+            try:
+                if self.ask_at_once(NO_EFFECT) == NO_EFFECT_ANSWER and self.known()['shadow']:
+                    return
+            except (FileNotFoundError, ConnectionRefusedError, EOFError):
+                time.sleep(0.01)
+            else:
+                self.give(self.ones)
+        raise AssertionError(f'the service does not come to know the trunk: {self.wait()}')
 
-    def close(self) -> None:
-        """Ends what the program is connected with."""
+    def __enter__(self) -> Self:
+        return self
 
     def __exit__(self, *_: object) -> None:
-        self.close()
+        self.line.close()
         if self.process.poll() is None:
             self.process.terminate()
         self.process.wait(SECONDS)
@@ -94,14 +127,35 @@ class ServedProgram:
     def path(self, name: str) -> str:
         return os.path.join(self.folder, name)
 
+    def configure(self, text: str) -> None:
+        """Writes its configuration."""
+        with open(self.config, 'w', encoding='utf-8') as file:
+            file.write(text)
+
+    # ---- what it is asked ----
+
     def ask(self, command: str | bytes) -> str:
         """The answer to a command."""
+        self.wait_for_service()
+        return self.ask_at_once(command)
+
+    def ask_at_once(self, command: str | bytes) -> str:
+        """The answer of a service that may not know what was given before."""
         return ask(self.path('ctl'), command.encode() if isinstance(command, str) else command)
+
+    def wait_for_service(self) -> None:
+        """Returns once the service knows what was given. (It connects to another program a moment after its start.)"""
+        support.until(lambda: self.ask_at_once(NO_EFFECT) == NO_EFFECT_ANSWER)
+
+    def known(self) -> dict[str, Any]:
+        """The status of a service that may not know what was given before."""
+        found: dict[str, Any] = json.loads(self.ask_at_once('status json'))
+        return found
 
     def told(self) -> dict[str, Any]:
         """The status, which may be a moment old; every change that was told is in it."""
-        found: dict[str, Any] = json.loads(self.ask('status json'))
-        return found
+        self.wait_for_service()
+        return self.known()
 
     def status(self) -> dict[str, Any]:
         """The status of now."""
@@ -131,90 +185,17 @@ class ServedProgram:
         said = self.process.stderr.read() if self.process.stderr else b''
         return self.process.wait(SECONDS), said.decode()
 
-
-NO_EFFECT = 'codec 30 g726-16 95'     # a command that is refused and changes nothing
-NO_EFFECT_ANSWER = 'codec 30: no payload type of the codec'
-
-
-class World(ServedProgram):
-    """An e1gw-trunk at a Unix socket, with a folder of its own. The exchange acknowledges and answers what is seized.
-
-    It gives octets when a test does, and not by a clock. What it is asked it knows all of that was given before: each
-    question comes behind a command that the gateway refuses, whose answer comes behind all of that."""
-
-    def __init__(self, config: str, *options: str, answers: bool = True, front: tuple[str, ...] = (),
-                 within: Mapping[str, Any] = {}, **streams: Any) -> None:
-        super().__init__(config)
-        self.exchange = support.Exchange()
-        self.answers = answers
-        self.ones = b'\xff' * (496 if '--clear' in options else 512)     # a carrier gives whole multiframes
-        self.sent, self.heard = bytearray(), bytearray()
-        self._ages: dict[int, int] = {}
-        os.mkdir(self.path('run'))
-        with support.listening(self.path('card')) as listener:
-            streams = {'stdin': subprocess.DEVNULL, 'stdout': subprocess.DEVNULL, 'stderr': subprocess.PIPE} | streams
-            self.process = subprocess.Popen(
-                [*front, *trunk_command('--config', self.config, '--unix', self.path('card'), '--control',
-                                        self.path('ctl'), *(word.replace('@', self.folder) for word in options))],
-                env={**os.environ, 'RUNTIME_DIRECTORY': self.path('run'), **limits.around(limits.TELLS | within)},
-                **streams)
-            try:
-                self.take(listener)
-                self.connected()
-            except BaseException:
-                self.__exit__()
-                raise
-
-    def connected(self) -> None:
-        """Waits until the watcher knows the state of the trunk, which it learns at the first octets that come."""
-        while self.process.poll() is None:
-            try:
-                if self.ask_at_once(NO_EFFECT) == NO_EFFECT_ANSWER and self.known()['shadow']:
-                    return
-            except (FileNotFoundError, ConnectionRefusedError, EOFError):
-                time.sleep(0.01)
-            else:
-                self.give(self.ones)
-        raise AssertionError(f'the watcher does not come to know the trunk: {self.wait()}')
-
-    def ask(self, command: str | bytes) -> str:
-        self.wait_for_watcher()
-        return self.ask_at_once(command)
-
-    def ask_at_once(self, command: str | bytes) -> str:
-        """The answer of a watcher that may not know what was given before."""
-        return super().ask(command)
-
-    def known(self) -> dict[str, Any]:
-        """What such a watcher knows."""
-        found: dict[str, Any] = json.loads(self.ask_at_once('status json'))
-        return found
-
-    def wait_for_watcher(self) -> None:
-        """Returns once the watcher knows what was given. (It connects to another program a moment after its start.)"""
-        support.until(lambda: self.ask_at_once(NO_EFFECT) == NO_EFFECT_ANSWER)
+    # ---- the trunk ----
 
     def new_listener(self) -> socket.socket:
-        """Another socket, for a driver that opens its trunk again."""
+        """Another socket, for a service that opens its trunk again."""
         os.unlink(self.path('card'))
         return support.listening(self.path('card'))
 
-    def comes_again(self) -> None:
-        """Takes whoever opens the trunk again, and waits until the watcher knows it."""
-        with self.new_listener() as listener:
-            self.take(listener)
-        self.connected()
-
     def take(self, listener: socket.socket) -> None:
-        """Takes the driver that comes there."""
+        """Takes the service that comes there."""
         self.line = listener.accept()[0]
         self.line.settimeout(SECONDS)
-
-    def __enter__(self) -> Self:
-        return self
-
-    def close(self) -> None:
-        self.line.close()
 
     def kill(self, *words: str, number: int = signal.SIGKILL) -> None:
         """Sends a signal to the process that was started with these words, and waits until there is another one."""
@@ -230,7 +211,7 @@ class World(ServedProgram):
                 self._answer()
 
     def give(self, octets: bytes) -> bytes:
-        """Octets to the driver; as many that come back."""
+        """Octets to the service; as many that come back."""
         self.line.sendall(octets)
         back = support.read_from(self.line, len(octets))
         self.sent += octets
