@@ -1,4 +1,4 @@
-"""What a shadow tells (`e1gw replay --tell`, e1gw(1)): the whole state of a trunk, then each change, line by line."""
+"""What a follower tells (`e1gw replay --tell`, e1gw(1)): the whole state of a trunk, then each change, line by line."""
 from __future__ import annotations
 
 import time
@@ -19,7 +19,7 @@ class BadTelling(Exception):
 
 
 class TrunkState:
-    """The lines and the alarms of a trunk, as a shadow tells them. Its clock is this machine's. `tell` is called with
+    """The lines and the alarms of a trunk, as a follower tells them. Its clock is this machine's. `tell` is called with
     each change, `began` with each whole state."""
 
     def __init__(self, config: Mapping[str, Any], tell: Tell, counts: DatagramCounts,
@@ -63,7 +63,7 @@ class TrunkState:
             'circuits': [line.status(now) for line in self.lines.values()]}
 
     def begin(self, place: int | None = None) -> None:
-        """A shadow is there that will tell the whole state; its session has begun at this place, by default that of
+        """A follower is there that will tell the whole state; its session has begun at this place, by default that of
         now."""
         self._before = self.place if place is None else place
         self._held, self.live, self._words = '', False, self._greeting
@@ -74,7 +74,7 @@ class TrunkState:
 
     def lost(self) -> None:
         """Nobody tells any more."""
-        self.live, self.counts.ended = False, 'no shadow tells'
+        self.live, self.counts.ended = False, 'no follower tells'
 
     def take(self, octets: bytes) -> None:
         """Octets of reports. BadTelling if they are not understood; what comes before that was done."""

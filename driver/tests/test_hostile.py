@@ -78,7 +78,7 @@ class FolderTests(KeeperCase):
         self.dies()
         self.step(20)
         self.assertEqual(self.told().count('cannot be made again'), 1)
-        self.assertNotIn('the keeper goes on', self.told())
+        self.assertNotIn('the service goes on', self.told())
         self.as_uncut()
         os.unlink(self.memory)
         os.rename(away, self.memory)

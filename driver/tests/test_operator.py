@@ -148,4 +148,4 @@ class ConnectionTests(support.FolderCase, unittest.IsolatedAsyncioTestCase):
         runs.cancel()
         self.assertEqual(given, records)
         self.assertEqual([on for _, on, _ in stands], [True, False] * 3)
-        self.assertIn('it answers what is no answer', stands[1][2])
+        self.assertIn('it sent an unexpected record', stands[1][2])

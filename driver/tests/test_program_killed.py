@@ -1,6 +1,6 @@
 """A trunk in service: its program and its follower are killed, stopped and replaced with calls up.
 
-It goes in lock step, in records of one multiframe: the exchange waits for what comes back, or for the keeper to say
+It goes in lock step, in records of one multiframe: the exchange waits for what comes back, or for the service to say
 that another program goes on. What it hears is what one uncut replay of all records gives."""
 from __future__ import annotations
 
@@ -22,13 +22,13 @@ from e1gw.session import (FRAME, MULTIFRAME, Codec, Command, Kind, Packet, codec
 from e1gw.testing.ports import free_ports
 
 NO_EFFECT = codec_record(1, Codec.G726_16, 1)    # no payload type of the codec: it is refused
-LOOK = 4                    # multiframes from one look of the shadow at its clients to the next
+LOOK = 4                    # multiframes from one look of the follower at its clients to the next
 CIRCUITS = range(1, 31)
-GOES_ON = re.compile(r'program (\d+) (?:goes on|carries)(.*?); shadow (\d+)')
+GOES_ON = re.compile(r'program (\d+) (?:goes on|carries)(.*?); follower (\d+)')
 
 
 class KeeperDevice:
-    """A Unix socket that the keeper opens as its trunk, and the exchange at the other end of it."""
+    """A Unix socket that the service opens as its trunk, and the exchange at the other end of it."""
 
     def __init__(self, folder: str) -> None:
         self.path = os.path.join(folder, 'card')
@@ -86,7 +86,7 @@ class RtpPeers:
 
 
 class KeeperCase(support.FolderCase):
-    """A keeper with a device, thirty calls, and what was given and heard."""
+    """A service with a device, thirty calls, and what was given and heard."""
 
     def setUp(self) -> None:
         support.program()
@@ -99,8 +99,8 @@ class KeeperCase(support.FolderCase):
         self.given: list[bytes] = []            # what the gateway was given, in the order in which it took it
         self.unknown = 0                        # how many records a killed program had in hand, which nobody knows of
         self.heard: list[bytes | None] = []     # the answer to each record of the trunk, or None where it is lost
-        self.told_from = self.first = 0         # what was heard before the keeper of now counted octets
-        self.program = self.shadow = 0
+        self.told_from = self.first = 0         # what was heard before the service of now counted octets
+        self.program = self.follower = 0
         self.speech_to, self.now, self._spoken = '', 0, -1  # where peers speak, by the trunk's time: 2 ms, and packets
         memory = support.in_memory()
         self.addCleanup(memory.cleanup)
@@ -109,7 +109,7 @@ class KeeperCase(support.FolderCase):
                                    self.path('control'), '--folder', self.memory)
 
     def starts(self, *options: str, **around: str) -> None:
-        """Starts a keeper, which opens the device."""
+        """Starts a service, which opens the device."""
         with open(self.path('told'), 'ab') as told:
             self.keeper = subprocess.Popen([*self.command, *options], stderr=told, stdin=subprocess.DEVNULL,
                                            env={**os.environ, **around})
@@ -126,17 +126,17 @@ class KeeperCase(support.FolderCase):
             except subprocess.TimeoutExpired:
                 self.keeper.kill()
                 self.keeper.wait()
-                for pid in (self.program, self.shadow):
+                for pid in (self.program, self.follower):
                     with contextlib.suppress(ProcessLookupError):
                         os.kill(pid, signal.SIGKILL)
 
-    # ---- what the keeper says ----
+    # ---- what the service says ----
 
     def told(self) -> str:
         return support.text_of(self.path('told'))
 
     def awaits(self, pattern: str | re.Pattern[str]) -> re.Match[str]:
-        """What the keeper says next that is so."""
+        """What the service says next that is so."""
         found = support.said_by(self.keeper, self.path('told'), pattern, self.told_from)
         self.told_from = found.end()
         return found
@@ -144,7 +144,7 @@ class KeeperCase(support.FolderCase):
     def goes_on(self) -> str:
         """Waits for the next program. What is said of it."""
         found = self.awaits(GOES_ON)
-        self.program, self.shadow = int(found[1]), int(found[3])
+        self.program, self.follower = int(found[1]), int(found[3])
         return found[2]
 
     # ---- the trunk ----

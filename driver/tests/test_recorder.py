@@ -79,7 +79,7 @@ class RecordedRingTests(RecorderCase):
         self.calls()
 
     def test_what_a_crash_lost(self) -> None:
-        """It is noted where the next file begins, which has the state of the shadow. Those who read a ring read it."""
+        """It is noted where the next file begins, which has the state of the follower. Who reads a ring reads it."""
         self.starts_ring()
         os.kill(self.program, signal.SIGKILL)
         self.goes_on()
@@ -125,7 +125,7 @@ class RecordedRingTests(RecorderCase):
         self.starts('--session', self.path('ring'), '--keep', '1m', '--name', 'west',
                     **self.within(checkpoints_LOG_ROOM=65_536, recordings_FILES=600, reader_TICK=3600.0))
         self.calls()
-        while os.path.exists(f'/proc/{self.shadow}'):   # (it ends when it has saved)
+        while os.path.exists(f'/proc/{self.follower}'):   # (it ends when it has saved)
             self.step(10)
         self.ends()
         self.assertEqual(len(self.each_file_replays()), 1)

@@ -1,4 +1,4 @@
-"""What a shadow tells, in the words of the manual, and what is known by it."""
+"""What a follower tells, in the words of the manual, and what is known by it."""
 from __future__ import annotations
 
 import asyncio
@@ -150,7 +150,7 @@ class ToldTests(unittest.TestCase):
         self.again()
         self.assertEqual(self.told.place, 4096 + 512)
         self.take('at 1024')
-        self.again(place=2048, begun=4096)      # the same shadow as before
+        self.again(place=2048, begun=4096)      # the same follower as before
         self.assertEqual(self.told.place, 4096 + 2048)
 
     def test_counts_are_stale_while_nobody_tells(self) -> None:

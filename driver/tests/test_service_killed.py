@@ -21,7 +21,7 @@ from e1gw.testing.service import ask
 
 
 class RestartedKeeperCase(KeeperCase):
-    """A keeper that is started again."""
+    """A service that is started again."""
 
     def setUp(self) -> None:
         super().setUp()
@@ -30,7 +30,7 @@ class RestartedKeeperCase(KeeperCase):
         self.addCleanup(self._end_all)
 
     def _end_all(self) -> None:
-        for pid in (self.program, self.shadow):
+        for pid in (self.program, self.follower):
             with contextlib.suppress(ProcessLookupError):
                 if pid:
                     os.kill(pid, signal.SIGKILL)
@@ -83,7 +83,7 @@ class RestartedKeeperCase(KeeperCase):
     def comes_back(self) -> None:
         """The service is begun again, and goes on with the program that is there."""
         self.again()
-        self.awaits('the keeper was killed[;:] (?=program)')
+        self.awaits('the service was killed[;:] (?=program)')
         self.goes_on()
         self.settles()
 
@@ -172,4 +172,4 @@ class ChildTests(unittest.IsolatedAsyncioTestCase):
         self.assertEqual(start_of(pid), when)
         os.kill(pid, signal.SIGSTOP)
         await its.over.wait()
-        self.assertEqual((its.status, its.words()), (UNKNOWN, 'ended while no keeper was there'))
+        self.assertEqual((its.status, its.words()), (UNKNOWN, 'ended while no service was there'))

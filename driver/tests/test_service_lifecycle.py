@@ -63,7 +63,7 @@ class FollowerCase(RestartedKeeperCase):
                 if os.path.getsize(self.log_of()) - its['place'] > room - NEAR:
                     self.step()
                 elif len(pids := children(self.keeper.pid, 'replay')) == 1:
-                    (self.shadow,) = pids
+                    (self.follower,) = pids
                     return
             time.sleep(pause := min(2 * pause, 1.0))
 
@@ -112,15 +112,15 @@ class ServiceEventsCase(FollowerCase, RecorderCase):
 
     def follower_dies(self) -> None:
         number = next(self.signals['follower'])
-        self.under_way(lambda: os.kill(self.shadow, number))
+        self.under_way(lambda: os.kill(self.follower, number))
         self.goes_on()
 
     def both_die(self) -> None:
         before = self.program
-        for pid in self.chance.sample((self.program, self.shadow), 2):
-            with contextlib.suppress(ProcessLookupError):       # (a shadow ends behind its program)
+        for pid in self.chance.sample((self.program, self.follower), 2):
+            with contextlib.suppress(ProcessLookupError):       # (a follower ends behind its program)
                 os.kill(pid, signal.SIGKILL)
-        while self.program == before:       # (another shadow of it may be reported first)
+        while self.program == before:       # (another follower of it may be reported first)
             self.goes_on()
 
     def dies_inside_an_append(self) -> None:
@@ -131,11 +131,11 @@ class ServiceEventsCase(FollowerCase, RecorderCase):
 
     def service_and_follower_stand_still(self) -> None:
         """For more of the trunk than any pipe holds."""
-        with support.stopped(self.keeper.pid, self.shadow):
+        with support.stopped(self.keeper.pid, self.follower):
             self.step(400)
 
     def machine_stands_still(self) -> None:
-        with support.stopped(self.keeper.pid, self.program, self.shadow):
+        with support.stopped(self.keeper.pid, self.program, self.follower):
             waiting = self.send(HELD)
         self.take(waiting)
 
@@ -181,7 +181,7 @@ class ServiceEventsCase(FollowerCase, RecorderCase):
     def replaced(self) -> None:
         before, since = self.program, self.since()
         self.under_way(lambda: self.keeper.send_signal(signal.SIGUSR2))
-        self.awaits('the keeper was replaced; (?=program)')
+        self.awaits('the service was replaced; (?=program)')
         self.goes_on()
         self.assertEqual(self.program, before)
         self.assertAlmostEqual(self.since(), since, delta=0.01)
@@ -190,13 +190,13 @@ class ServiceEventsCase(FollowerCase, RecorderCase):
         """They ended it, in systemd's view in order. A reload is done behind that, if this test asked in time."""
         is_asked = False
         self.keeper.send_signal(signal.SIGUSR2)
-        while 'the keeper was replaced' not in self.told()[self.told_from:] and self.keeper.poll() is None:
+        while 'the service was replaced' not in self.told()[self.told_from:] and self.keeper.poll() is None:
             self.keeper.send_signal(signal.SIGUSR1)
             time.sleep(0.01)            # (a fork begins again with each signal, so more of them would let none be made)
             if not (is_asked or catches(self.keeper.pid, signal.SIGHUP)):
                 self.keeper.send_signal(signal.SIGHUP)
                 is_asked = True
-        self.awaits('the keeper was replaced; (?=program)')
+        self.awaits('the service was replaced; (?=program)')
         self.goes_on()
         if is_asked:
             self.awaits('reload: (?=program)')
@@ -204,7 +204,7 @@ class ServiceEventsCase(FollowerCase, RecorderCase):
 
     def service_dies(self) -> None:
         """It comes back alone, or with a follower or a program that died meanwhile."""
-        before, dead, since = self.program, self.chance.choice((None, None, self.shadow, self.program)), self.since()
+        before, dead, since = self.program, self.chance.choice((None, None, self.follower, self.program)), self.since()
         self.settles()
         self.under_way(self.kill_keeper)
         self.step(self.chance.randrange(20))
@@ -216,7 +216,7 @@ class ServiceEventsCase(FollowerCase, RecorderCase):
             self.assertAlmostEqual(self.since(), since, delta=0.01)
             return self.assertEqual(self.program, before)
         self.again()
-        self.awaits('the keeper was killed')
+        self.awaits('the service was killed')
         self.goes_on_behind()
 
     def service_dies_unkept(self) -> None:
@@ -239,7 +239,7 @@ class ServiceEventsCase(FollowerCase, RecorderCase):
         self.step(self.chance.randrange(40))
         self.kill_keeper()
         self.again()
-        self.awaits('the keeper was killed')        # (its program may have ended, as it was asked to)
+        self.awaits('the service was killed')        # (its program may have ended, as it was asked to)
         self.goes_on()
         self.settles()
 
@@ -344,9 +344,9 @@ class ServiceSequenceTests(ServiceEventsCase):
                 self.finds_follower()       # (it is another one behind a checkpoint)
                 event()
                 self.step(self.chance.randrange(1, 30))
-            for words in 'no state is known', 'the keeper goes on', 'the calls go on':
+            for words in 'no state is known', 'the service goes on', 'the calls go on':
                 self.assertNotIn(words, self.told())
-            self.assertIn(f'the shadow ended by signal {NAMELESS}: program', self.told())
+            self.assertIn(f'the follower ended by signal {NAMELESS}: program', self.told())
             self.as_uncut()
             self.assertLessEqual(len(glob.glob(f'{self.memory}/*/state-*')), 3)     # (rooms for states are in memory)
             self.leaves_nothing()
@@ -423,7 +423,7 @@ class ServiceNameTests(RestartedKeeperCase):
                     self.path('its-calls'))
         before = self.names(30, 'answered')
         self.assertEqual(before[1], [1] * 30)
-        os.kill(self.shadow, signal.SIGKILL)
+        os.kill(self.follower, signal.SIGKILL)
         self.goes_on()
         self.assertEqual(self.names(30, 'answered'), before)
         self.settles()
@@ -457,7 +457,7 @@ class ServiceFaultTests(KeeperCase):
 
     def test_an_exception_in_each_look(self) -> None:
         self.starts(**self.within(checkpoints_LOG_ROOM='none'))
-        self.awaits(r'the keeper goes on: TypeError: .* \(checkpoints.py:\d+ in is_due\)')
+        self.awaits(r'the service goes on: TypeError: .* \(checkpoints.py:\d+ in is_due\)')
         self.calls()
         self.survives()
 

@@ -64,7 +64,7 @@ class LineKilledTests(RestartedKeeperCase):
         self.keeper.send_signal(signal.SIGHUP)
         self.goes_on()
         self.keeper.send_signal(signal.SIGUSR2)
-        self.awaits('the keeper was replaced')
+        self.awaits('the service was replaced')
         self.step(20)
         self.settles()
         self.assertEqual(self.process(name), process)

@@ -191,7 +191,7 @@ class PairTests(PairCase):
                     b.awaits(f'not fed by {ADDRESSES["a"]}:{self.ports["a"]}: {words}')
             b.awaits('the feed has ended')
             self.assertEqual(b.ask('role'), 'standby, not fed')
-            self.assertNotIn('the keeper goes on', b.told())
+            self.assertNotIn('the service goes on', b.told())
 
     def words(self, name: str) -> list[str]:
         """The options of a certificate that is its own authority."""

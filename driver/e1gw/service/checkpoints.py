@@ -32,7 +32,7 @@ class Checkpoints:
         self._folder, self._tell, self._words = folder, tell, words
         self._lock, self._has_folder = asyncio.Lock(), True
         self._pause, self._due, self._number = Pause(), 0.0, 0
-        self._why = 'there was no shadow'
+        self._why = 'there was no follower'
         self.tells = ''                         # where the follower tells that clients find
 
     # ---- followers ----
@@ -90,7 +90,7 @@ class Checkpoints:
             program.unfollow()
         if not program.follower and now >= self._due:
             its = self.follow(program).process.pid
-            logger.warning('%s: program %d goes on; shadow %d', self._why, program.pid, its)
+            logger.warning('%s: program %d goes on; follower %d', self._why, program.pid, its)
         if program.follower:
             self._name(program.follower)
 
@@ -118,7 +118,7 @@ class Checkpoints:
             if found:
                 program.reach(found)
             elif follower:
-                logger.warning('no checkpoint: the shadow %s', follower.process.last_words())
+                logger.warning('no checkpoint: the follower %s', follower.process.last_words())
             program.unfollow()
             self.follow(program)
 
@@ -137,7 +137,7 @@ class Checkpoints:
                         program, before if number and before else program.version, None)
                 if found := await follower.finish():
                     return found
-                logger.warning('the shadow %s; another one reads the log', follower.process.last_words())
+                logger.warning('the follower %s; another one reads the log', follower.process.last_words())
                 await asyncio.sleep(AGAIN * number)
             return None
 

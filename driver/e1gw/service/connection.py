@@ -54,7 +54,7 @@ class ProgramConnection:
             except asyncio.IncompleteReadError:
                 why = 'it has closed the connection'
             except (ValueError, IndexError):
-                why = 'it answers what is no answer'
+                why = 'it sent an unexpected record'
             except OSError as fault:
                 why = words_of_fault(fault)
             finally:

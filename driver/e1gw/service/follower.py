@@ -86,11 +86,11 @@ class LogFollower:
     def fault(self, now: float) -> str:
         """What is wrong with it, if something is. To be called now and then."""
         if self.process.over.is_set():
-            return f'the shadow {self.process.last_words()}'
+            return f'the follower {self.process.last_words()}'
         if now < self._seen[0] + PATIENCE:
             return ''
         before, self._seen = self._seen[1], (now, None if self.has_all(0) else self._done())
-        return 'the shadow does nothing' if before and before == self._seen[1] else ''
+        return 'the follower does nothing' if before and before == self._seen[1] else ''
 
     def has_all(self, most: int = NEAR) -> bool:
         """Whether it has read what the log has, but for this number of octets at most."""

@@ -93,7 +93,7 @@ class TrunkKeeper:
 
     async def serve(self) -> int:
         """Carries the trunk until its end; returns the status."""
-        await again(self._serve, 'the keeper')
+        await again(self._serve, 'the service')
         await self.trunk.finish()
         if self._finishing:
             await asyncio.wait(self._finishing, timeout=GRACE)
@@ -138,18 +138,18 @@ class TrunkKeeper:
     def _follow(self, program: TrunkProgram) -> None:
         """A program is up: its follower, and what is reported of it."""
         now, pid = time.monotonic(), program.process.pid
-        shadow = self.checkpoints.follow(program).process.pid
+        follower = self.checkpoints.follow(program).process.pid
         point(self.wants.control, program.control)
         if self.wants.state and not self.was_up:
             remove_stored(self.wants.state)
         after = f' goes on after {(now - self.silent) * 1000:.0f} ms' if self.was_up else ' carries the trunk'
-        logger.log(logging.WARNING if self.lost else NOTICE, '%s%s; shadow %d', self.why,
-                   begun_words(program, after, self.lost), shadow)
+        logger.log(logging.WARNING if self.lost else NOTICE, '%s%s; follower %d', self.why,
+                   begun_words(program, after, self.lost), follower)
         self.was_up, self.lost = True, ''
         if program.version is self.versions.now:
             self.versions.is_up(now)
         self.note()
-        self.notifier.tell('READY=1', f'STATUS=program {pid}, shadow {shadow}')
+        self.notifier.tell('READY=1', f'STATUS=program {pid}, follower {follower}')
 
     async def _reason(self, program: TrunkProgram) -> str:
         """Waits until another program has to follow, and returns why; nothing if this one has ended."""

@@ -156,7 +156,7 @@ class Child:
     def words(self) -> str:
         """How it ended."""
         if self.status == UNKNOWN:
-            return 'ended while no keeper was there'
+            return 'ended while no service was there'
         if self.status is not None and self.status < 0:
             return f'ended by signal {signal_words(-self.status)}'
         return f'ended with status {self.status}'

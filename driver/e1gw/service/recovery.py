@@ -220,7 +220,7 @@ async def next_keeper(wants: TrunkWants, handover: Handover, notifier: Notifier,
     trunk, left = trunk_of(wants.line, files, note.get('trunk')), note['program']
     how = 'replaced' if os.environ.pop(REPLACED, '') else 'killed'
     for pid in unnoted_programs(wants.control, int(left['pid']) if left else 0):
-        logger.warning('program %d, which the keeper had begun and not noted, is killed', pid)
+        logger.warning('program %d, which the service had begun and not noted, is killed', pid)
         await Child(pid).kill()
     try:
         program = TrunkProgram.of_note(left, files) if left and trunk.is_open() else None
@@ -234,14 +234,14 @@ async def next_keeper(wants: TrunkWants, handover: Handover, notifier: Notifier,
         files |= memory_of(int(left['pid']), int(left['started']), [name for name in names if name not in files])
         state = await state_left(left)
     keeper = TrunkKeeper(wants, version, trunk, handover, notifier)
-    keeper.number, keeper.was_up, keeper.why = int(note['number']), True, f'the keeper was {how}'
+    keeper.number, keeper.was_up, keeper.why = int(note['number']), True, f'the service was {how}'
     keeper.program = program
     if trunk.is_open():
         trunk.since = float(note.get('since', trunk.since))
     if not program:
         keeper.state, keeper.lost = state or keeper.state, '' if state else ANEW
     elif program.process.over.is_set():
-        logger.log(NOTICE, 'the keeper was %s', how)
+        logger.log(NOTICE, 'the service was %s', how)
     drop_states(wants.folder, str(left['saves']) if program else '')
     return keeper
 

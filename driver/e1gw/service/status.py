@@ -121,7 +121,7 @@ class TrunkStatus:
     # ---- connections ----
 
     def stands(self, what: str, on: bool, why: str = '') -> None:
-        """Whether there is a connection to the shadow or the program. At first they may still be to come."""
+        """Whether there is a connection to the follower (`shadow`) or the program. At first it may be to come."""
         if not on and what not in self._connected and time.monotonic() < self.start + FIRST:
             return
         if self._connected.get(what) is not on:

@@ -133,7 +133,7 @@ class TieCircuit(CircuitEnd):
 
 
 def begun(known: TieCircuit | None, fresh: TieCircuit, is_kept: bool) -> TieCircuit:
-    """A circuit as the driver has it, with what is known of the same call; `is_kept`: the operator has blocked it."""
+    """A circuit as the trunk has it, with what is known of the same call; `is_kept`: the operator has blocked it."""
     if known is not None and known.role is fresh.role and known.call == fresh.call:
         fresh = replace(known, state=fresh.state, stuck=False)
     blocked = fresh.state is State.BLOCKED and fresh.role is Role.INCOMING

@@ -35,7 +35,7 @@ MOST_MAP = 100_000          # characters at most of the map's file
 def parser() -> argparse.ArgumentParser:
     place = checked(host_and_port)
     made = Parser('e1gw-tie', description=ABOUT, epilog=MORE)
-    made.add_argument('--control', required=True, metavar='SOCKET', help='the control socket of the local driver')
+    made.add_argument('--control', required=True, metavar='SOCKET', help='the control socket of e1gw-trunk here')
     ways = made.add_mutually_exclusive_group(required=True)
     ways.add_argument('--listen', type=place, metavar='HOST:PORT', help='the address to listen at for the other site')
     ways.add_argument('--connect', type=place, metavar='HOST:PORT', help='the address at which the other site listens')
