@@ -42,12 +42,12 @@ def options_words() -> str:
 
 def number(least: float, most: float, kind: type = int) -> Callable[[str], Any]:
     """A reader of a number for an option; a number outside is refused with the range."""
-    def read(text: str) -> Any:
+    def numeric(text: str) -> Any:      # (by its name argparse says what it refuses)
         value = kind(text)
         if not least <= value <= most:
             raise argparse.ArgumentTypeError(f'{least} to {most}')
         return value
-    return read
+    return numeric
 
 
 def checked(read: Callable[[str], Any], what: str = '') -> Callable[[str], Any]:
