@@ -78,6 +78,7 @@ class TrunkKindServiceTests(support.FolderCase):
                 self.assertEqual(back, wanted)
                 if into == terminal:
                     process.terminate()
+                    process.wait(support.SECONDS)
                 for file in {into, out}:
                     os.close(file)
                 process.stderr.read()
