@@ -17,7 +17,7 @@ TELLS = {'service.connection.PATIENCE': LONG}
 # Octets come when a test gives them, and by no clock: a flow that is never steady has no gap, behind which calls are
 # restarted. (A test that had taken ten seconds longer than its trunk found one.) Nor is a version tried for a minute.
 # Files of a ring are of a second there, and of each program: more of them are kept than of hours.
-STARTED = {'clock.STEADY': 0.0, 'service.version.TRIED': LONG, 'ring.MOST_OWN': 1000}
+STARTED = {'clock.STEADY': 0.0, 'service.version.TRIED': LONG, 'recording_ring.MOST_OWN': 1000}
 LIMITS: dict[str, Any] = {
     'service.lifecycle.START': LONG, 'service.lifecycle.GRACE': LONG, 'service.follower.PATIENCE': LONG,
     'service.version.CHECK': LONG, 'service.version.LOOK_UP': LONG, 'service.status.FIRST': LONG,
@@ -30,7 +30,7 @@ LIMITS: dict[str, Any] = {
     'ctl_all.PATIENCE': LONG,
     'programs.PATIENCE': LONG, 'tie.trunk.PATIENCE': LONG, 'writers.OPENS': LONG,
     'service.slot_trunk.TAKES': LONG, 'service.crc4_trunk.GRACE': LONG,
-    'service.pair.GRACE': LONG, 'service.service.GRACE': LONG, 'service.recovery.GRACE': LONG,
+    'service.pair.GRACE': LONG, 'service.service.GRACE': LONG, 'service.handover.GRACE': LONG,
     'service.events.FLUSH': LONG, 'service.journal.FLUSH': LONG,
     # (A process that gets what others leave gets next to nothing on a loaded machine.)
     'priority.put_last': lambda process: None}

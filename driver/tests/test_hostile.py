@@ -25,7 +25,7 @@ from e1gw.service import trunk
 from e1gw.service.events import EventFile
 from e1gw.service.options import wants_of
 from e1gw.service.pages import MOST_VISITORS
-from e1gw.service.recovery import CannotBegin
+from e1gw.service.handover import CannotBegin
 from e1gw.service.service import make_own, parser
 from e1gw.testing.service import ask
 from e1gw.tie.site import STRANGERS

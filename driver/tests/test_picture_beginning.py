@@ -9,7 +9,7 @@ from typing import Iterator
 
 from . import support
 from .picture_made import MadeSession, PictureSender, coded, packets, page_of
-from e1gw.ring import Ring
+from e1gw.recording_ring import Ring
 from e1gw.session_files import kept
 from e1gw.picture.beginning import begin
 from e1gw.picture.facts import Facts

@@ -16,7 +16,7 @@ from .support import SECONDS
 from .test_program_killed import KeeperCase
 from .world import LAUNCHER
 from e1gw.service.process import UNKNOWN, Child, start_of
-from e1gw.service.recovery import note_in
+from e1gw.service.handover import note_in
 from e1gw.testing.service import ask
 
 

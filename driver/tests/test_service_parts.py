@@ -21,7 +21,7 @@ from e1gw.service.log import Checkpoint, TrunkLog
 from e1gw.service.journal import MINUTE, MOST, LineLimit
 from e1gw.service.lifecycle import DEATHS, MOST_PAUSE, DeathCount
 from e1gw.service.program import LoggedProgram
-from e1gw.service.recovery import NOTE, Handover, Notifier, given_files, note_of, unnoted_programs
+from e1gw.service.handover import NOTE, Handover, Notifier, given_files, note_of, unnoted_programs
 from e1gw.service.version import TRIED, ProgramVersion, VersionHistory
 
 

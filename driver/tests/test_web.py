@@ -22,7 +22,7 @@ from e1gw.crc4 import Crc4
 from e1gw.lines import Line
 from e1gw.metrics import exposition, family
 from e1gw.service import pages as service_pages
-from e1gw.sockets import sockets_of
+from e1gw.udp_tables import sockets_of
 from e1gw.testing.ports import free_port
 from e1gw.tie import status as tie_status
 from e1gw.tie.blocked import BlockedCircuits

@@ -24,7 +24,7 @@ from .version import ProgramVersion, VersionHistory
 
 if TYPE_CHECKING:
     from .pair import TrunkPair
-    from .recovery import Handover, Notifier
+    from .handover import Handover, Notifier
 
 START, GRACE = 10.0, 5.0    # seconds for a program to carry the trunk, and to end in order
 TICK = 0.25                 # seconds between two looks while nothing happens

@@ -13,7 +13,7 @@ from ..clearing import on_loss_of
 from ..faults import checked, named, number
 from ..lines import SEIZURE_WAIT, law_of, read_config, wait_words
 from ..programs import SENDERS, program_of
-from ..ring import seconds_of
+from ..recording_ring import seconds_of
 from ..trunks import Stream, host_and_port, open_files, open_tcp, open_unix
 from .lifecycle import TrunkWants
 from .pair import add_pair, feeding_of

@@ -11,7 +11,7 @@ from typing import Any, Awaitable, Callable
 from ..lines import Line
 from ..metrics import exposition, table
 from ..priority import put_behind
-from ..sockets import sockets_of, with_sockets
+from ..udp_tables import sockets_of, with_sockets
 from .process import Child, python_words, ran
 
 EVERY = 0.25                        # seconds between two statuses

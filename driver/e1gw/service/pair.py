@@ -16,7 +16,7 @@ from ..trunks import host_and_port
 from .chain import CarriedTrunk
 from .feed import FRESH, FeedServer
 from .lifecycle import ANEW, DEMOTED, GRACE, TICK, TrunkKeeper
-from .recovery import CannotBegin
+from .handover import CannotBegin
 from .slot_trunk import before_signal
 from .standby import START, FedProgram, TrunkStandby
 from .trunk import either

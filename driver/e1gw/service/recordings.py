@@ -19,7 +19,7 @@ from typing import Any, Callable, Iterable, Mapping, Sequence
 
 from ..lines import WAIT
 from ..priority import put_behind
-from ..ring import FILES, RECORDS, Ring
+from ..recording_ring import FILES, RECORDS, Ring
 from ..session import OCTETS_A_SECOND
 from ..writers import open_to_append, write_all
 from .log import PIECE, Checkpoint, octets_in, whole_records

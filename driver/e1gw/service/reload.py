@@ -11,7 +11,7 @@ from ..faults import words_of_fault
 from .lifecycle import TrunkKeeper, followed, refused
 from .log import Checkpoint
 from .program import TrunkProgram
-from .recovery import Handover, Notifier
+from .handover import Handover, Notifier
 from .version import NotYet, VersionRefused, version_of_now
 
 MOST_ENDED = 3              # calls that a reload may end without force

@@ -29,7 +29,7 @@ from .options import add_options, opens_of, recording_of, wants_of, watched_of
 from .pair import open_pair
 from .program import TrunkProgram
 from .reader import LogReader
-from .recovery import (CAUGHT, CannotBegin, Handover, Notifier, first_keeper, given_files, next_keeper, note_of,
+from .handover import (CAUGHT, CannotBegin, Handover, Notifier, first_keeper, given_files, next_keeper, note_of,
                        open_first)
 from .reload import ReloadRequests
 from .status import OperatedTrunk

@@ -18,7 +18,7 @@ from ..clock import ClockFinding
 from ..counts import DatagramCounts
 from ..faults import named, words_of_refusal
 from ..lines import OPEN, Event, Role, State
-from ..restarts import Restarts
+from ..resyncs import Resyncs
 from ..session import Codec, Command, codec_record, command_record
 from .commands import MOST_LINE, CannotListen, CommandServer, unix_listener
 from .connection import NoAnswer, ProgramConnection
@@ -54,7 +54,7 @@ class TrunkWatch:
     def __init__(self, wants: WatchWants, trunk: OperatedTrunk) -> None:
         self.wants, self.trunk, self._loop = wants, trunk, asyncio.get_running_loop()
         self.ended: dict[str, str | None] = dict.fromkeys(BESIDE)
-        self._restarts = Restarts(self.restart, self.tell)
+        self._restarts = Resyncs(self.restart, self.tell)
         self._counts = DatagramCounts(self._restarts.counted)
         self.status = TrunkStatus(trunk, wants.name, self.tell, self._counts, self._put_call)
         self._lines = self.status.lines

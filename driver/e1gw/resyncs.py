@@ -1,4 +1,4 @@
-"""Which open calls have their playout restarted, and when.
+"""Which open calls have their jitter buffer resynchronised, by a restart of their playout, and when.
 
 The playout counts the trunk's time from a call's first datagram. Octets of the trunk that are lost move all later
 datagrams against it: the calls are restarted. A call most of whose datagrams are refused for their time, as Late or as
@@ -76,8 +76,8 @@ class OpenCall:
         self.since, self.why = place, None
 
 
-class Restarts:
-    """Restarts the playout of calls, by `restart(circuits)`."""
+class Resyncs:
+    """Restarts the playout of calls that need it, by `restart(circuits)`."""
 
     def __init__(self, restart: Callable[[list[int]], None], tell: Callable[[Event], None]) -> None:
         self._restart, self._tell = restart, tell

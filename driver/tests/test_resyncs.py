@@ -11,7 +11,7 @@ from e1gw.clock import TICK, Clock
 from e1gw.events import words_of
 from e1gw.exchange import ACKNOWLEDGED, ANSWERED, IDLE, ServeProcess
 from e1gw.lines import Event
-from e1gw.restarts import REFUSED, Restarts
+from e1gw.resyncs import REFUSED, Resyncs
 from e1gw.session import (FRAME, MULTIFRAME, Codec, Command, DatagramRefusal, Kind, Packet, codec_record,
                           command_record, datagram_record, trunk_record)
 
@@ -20,11 +20,11 @@ SECOND = 256_000
 LESS = 0.3          # seconds of speech in which a restart's cause is found: half of 0.5 s, and a look
 
 
-class RestartRuleTests(unittest.TestCase):
+class ResyncRuleTests(unittest.TestCase):
     def setUp(self) -> None:
         self.restarted: list[tuple[float, int]] = []
         self.told: list[dict[str, Any]] = []
-        self.rule = Restarts(lambda circuits: self.restarted.extend((self.now, n) for n in circuits), self.told.append)
+        self.rule = Resyncs(lambda circuits: self.restarted.extend((self.now, n) for n in circuits), self.told.append)
         self.now, self.counts = 0.0, True
 
     def go(self, seconds: float, *codes: int, every: float = 0.02, circuits: tuple[int, ...] = (1,)) -> None:
@@ -124,7 +124,7 @@ class SimulatedCall:
         self.restarts: list[float] = []         # when
         self._place, self._record = 0, b''      # (the exchange sends this multiframe each time)
         self.clock = Clock(0.0, gap)
-        self._restarts = Restarts(self._restart, self.events.append)
+        self._restarts = Resyncs(self._restart, self.events.append)
         self.now, self._tick = 0.0, TICK
         self.sent, self.heard, self._speaks = 0, 0, False
         self._waiting = list[bytes]()           # records that were not given to the gateway yet
@@ -250,7 +250,7 @@ SCENES: dict[str, tuple[list[tuple[str, float]], float, float, int]] = {
                                5 * 0.15 + LESS, 0.4, 3)}
 
 
-class RestartSimulationTests(support.FolderCase):
+class ResyncSimulationTests(support.FolderCase):
     """Speech that is lost, by the playout of the program."""
 
     def call(self, prefill: int, **more: Any) -> SimulatedCall:

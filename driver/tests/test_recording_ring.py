@@ -10,7 +10,7 @@ from collections import deque
 from unittest import mock
 
 from . import support
-from e1gw.ring import MOST_EARLIER, MOST_OWN, MOST_SLIPS, Ring
+from e1gw.recording_ring import MOST_EARLIER, MOST_OWN, MOST_SLIPS, Ring
 from e1gw.session import OCTETS_A_SECOND
 from e1gw.session_files import kept, note_of
 
@@ -24,7 +24,7 @@ class RingTests(support.FolderCase):
         super().setUp()
         self.ring, self.day = self.path('ring'), 1_800_000_000.0
         clock = types.SimpleNamespace(strftime=time.strftime, gmtime=lambda: time.gmtime(self.day))
-        patched = mock.patch('e1gw.ring.time', clock)
+        patched = mock.patch('e1gw.recording_ring.time', clock)
         patched.start()
         self.addCleanup(patched.stop)
         self.zstd = ''
@@ -114,7 +114,7 @@ class RingTests(support.FolderCase):
             self.day -= 1
         files = kept(self.ring).files
         self.assertEqual([note_of(file)['place'] // OCTETS_A_SECOND for file in files], [*range(12)])
-        with mock.patch('e1gw.ring.MOST_EARLIER', 3):
+        with mock.patch('e1gw.recording_ring.MOST_EARLIER', 3):
             self.play(1, first=12, state=b'state')
         self.assertEqual(self.kept(), [9, 10, 11, 12])
         self.assertEqual([name.replace('.state', '.json') for name in self.files('.state')], self.files('.json'))
