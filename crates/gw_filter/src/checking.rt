@@ -155,6 +155,10 @@ impl<R: ReportSink, T: CountsTeller + Drop> BufferFilter for ReportingChecker<R,
         self.report();
         self.tell(octets.len());
     }
+
+    fn is_off(&self) -> bool {
+        false
+    }
 }
 
 /// Writes a trunk's octets unchanged, counts its CRC-4 multiframes and reports the errored ones.

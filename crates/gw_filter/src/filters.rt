@@ -27,6 +27,10 @@ impl BufferFilter for BitAligner {
     fn filter_buffer(&mut self, octets: &mut [u8]) {
         filter_all(self, octets);
     }
+
+    fn is_off(&self) -> bool {
+        false
+    }
 }
 
 /// Writes the octets of the time slots of an unaligned trunk.

@@ -119,6 +119,10 @@ impl<R: Source> BufferFilter for ReportingSender<R> {
         self.sender.report_all(&room[..n]);
         self.sender.send_all(octets);
     }
+
+    fn is_off(&self) -> bool {
+        false
+    }
 }
 
 /// Writes a trunk's octets with CRC-4 multiframes.

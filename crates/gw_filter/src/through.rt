@@ -1,6 +1,6 @@
 //! The traits of filters, and their one loop from a source to a sink (`octets_through`).
 
-ghost use Rattle.std.specs.Prelude.{◌≡◌, ◌-◌, ◌^◌, ◌<◌, ◌∷◌, ◌++◌, ℕ, List, [], length, IfOk, IfErr};
+ghost use Rattle.std.specs.Prelude.{◌≡◌, ◌-◌, ◌^◌, ◌<◌, ◌∷◌, ◌++◌, ℕ, List, [], length, true, IfOk, IfErr};
 ghost use Rattle.g704_framing.specs.Replies.{replies_after};
 ghost use Rattle.gw_records.specs.Streams.{CanBegin, HadRoom};
 ghost use Rattle.gw_filter.specs.Filter.{Filters, FiltersUntil};
@@ -49,6 +49,11 @@ pub trait BufferFilter {
         ensures len { length octets.new ≡ length octets.old }
         ensures stands { (taken returned : List ℕ) → has_returned self.old taken returned
             → has_returned self.new (taken ++ octets.old) (returned ++ octets.new) };
+
+    /// Whether it returns octets as they come.
+    fn is_off(&self) -> bool
+        ensures { result ≡ true → (taken returned octets : List ℕ) → has_returned self.now taken returned
+            → has_returned self.now (taken ++ octets) (returned ++ octets) };
 }
 
 /// Writes what the filter returns for the octets of the source.

@@ -42,3 +42,10 @@ pub filtered-more : (Had Has : List ℕ → List ℕ → Type 0)
 filtered-more Had Has log log' returned went held octets room room' left all stands kept none same more is refill had =
     let front : went ≡ returned = sym (append-nil went) ∙ ap (λ (xs : List ℕ). went ++ xs) (sym none) ∙ kept in
     rw (more, is, refill, ← same) (stands log went (rw front had))
+
+-- A filter that is off has returned more octets as they came, where nothing is held.
+pub passed-on : (Has : List ℕ → List ℕ → Type 0) (log log' went went' held octets : List ℕ)
+    → ((taken returned octets : List ℕ) → Has taken returned → Has (taken ++ octets) (returned ++ octets))
+    → held ≡ [] → log' ≡ log ++ octets → went' ≡ went ++ octets → Has log (went ++ held) → Has log' (went' ++ held)
+passed-on Has log log' went went' held octets off none log-is went-is h =
+    rw (none, log-is, went-is, append-nil (went ++ octets)) (off log went octets (rw (none, append-nil went) at h))

@@ -1,6 +1,6 @@
 //! What is sent to a trunk, as a filter returns it (`FilteredOutput`).
 
-ghost use Rattle.std.specs.Prelude.{◌≡◌, ◌<◌, ◌≤◌, ◌⊎◌, ◌++◌, [], length, min, true, false};
+ghost use Rattle.std.specs.Prelude.{◌≡◌, ◌<◌, ◌≤◌, ◌⊎◌, ◌++◌, ℕ, List, [], length, min, true, false};
 ghost use Rattle.std.specs.Prelude.{IfOk, IfErr, IfSome, IfNone, OnErr};
 ghost use Rattle.gw_trunk.specs.Device.{written_of};
 ghost use Rattle.gw_filtered.specs.Outgoing.{WasOffered, TookNone, HasGone};
@@ -72,18 +72,48 @@ impl<O: TrunkOutput, F: BufferFilter> FilteredOutput<O, F> {
         }
     }
 
-    /// Gives the device what is still held for it, and waits for it a while. Something is held then only if
-    /// the device was slow now, or its last write failed, found no room or took nothing.
-    pub fn finish(&mut self)
+    // Gives the device octets as they are, where nothing is held and the filter is off.
+    fn pass_on(&mut self, octets: &[u8]) -> Result<Option<usize>, DeviceFault>
+        requires none { self.old.held.items ≡ [] }
+        requires off { (taken returned octets : List ℕ) → F.has_returned self.old.filter taken returned
+            → F.has_returned self.old.filter (taken ++ octets) (returned ++ octets) }
+        ensures bound { IfOk result (λ n. IfSome n (λ m. m ≤ length octets.now)) }
+        ensures went { self.new.log.octets ≡ self.old.log.octets ++ written_of result octets.now }
+        ensures none { self.new.held.items ≡ [] }
+        ensures waits { O.waits self.new.outgoing ≡ O.waits self.old.outgoing }
+        ensures slow { O.slow_waits self.new.outgoing ≡ O.slow_waits self.old.outgoing }
+        ensures taken { IfOk result (λ n. IfSome n (O.has_taken self.new.outgoing)) }
+        ensures full { IfOk result (λ n. IfNone n (O.is_full self.new.outgoing)) }
+        ensures given { O.was_given self.new.outgoing octets.now }
+        ensures err { OnErr result (O.has_failed self.new.outgoing) }
+    {
+        match self.outgoing.write(octets) {
+            Ok(Some(n)) => {
+                self.log.append(octets, n);
+                Ok(Some(n))
+            }
+            Ok(None) => Ok(None),
+            Err(fault) => Err(fault),
+        }
+    }
+
+    /// Gives the device what is still held for it, and waits for it a while. Returns whether it took all;
+    /// false if it was slow.
+    ///
+    /// # Errors
+    ///
+    /// [`DeviceFault`] if its last write failed, found no room or took nothing.
+    pub fn finish(&mut self) -> Result<bool, DeviceFault>
         ensures sent { self.new.log.octets ≡ self.old.log.octets }
         ensures filter { self.new.filter ≡ self.old.filter }
-        ensures slow { O.slow_waits self.old.outgoing ≤ O.slow_waits self.new.outgoing }
-        ensures given { (self.new.held.items ≡ [])
-            ⊎ ((O.slow_waits self.old.outgoing < O.slow_waits self.new.outgoing)
-            ⊎ ((O.has_failed self.new.outgoing ⊎ O.is_full self.new.outgoing)
-            ⊎ O.has_taken self.new.outgoing 0)) }
+        ensures all { IfOk result (λ all. all ≡ true → self.new.held.items ≡ []) }
+        ensures slow { IfOk result (λ all. all ≡ false
+            → O.slow_waits self.old.outgoing < O.slow_waits self.new.outgoing) }
+        ensures waits { O.slow_waits self.old.outgoing ≤ O.slow_waits self.new.outgoing }
+        ensures err { OnErr result ((O.has_failed self.new.outgoing ⊎ O.is_full self.new.outgoing)
+            ⊎ O.has_taken self.new.outgoing 0) }
     {
-        let _ = give_held(&mut self.outgoing, &mut self.held);
+        give_held(&mut self.outgoing, &mut self.held)
     }
 }
 
@@ -116,7 +146,8 @@ impl<O: TrunkOutput, F: BufferFilter> TrunkOutput for FilteredOutput<O, F> {
         ensures went { self.new.log.octets ≡ self.old.log.octets ++ written_of result octets.now }
         ensures waits { O.waits self.new.outgoing ≡ O.waits self.old.outgoing }
         ensures slow { O.slow_waits self.new.outgoing ≡ O.slow_waits self.old.outgoing }
-        ensures most { IfOk result (λ n. IfSome n (λ m. m ≡ min 512 (length octets.now))) }
+        ensures most { IfOk result (λ n. IfSome n (λ m. (m ≡ min 512 (length octets.now))
+            ⊎ (O.was_given self.new.outgoing octets.now × O.has_taken self.new.outgoing m))) }
         ensures taken { IfOk result (λ n. IfSome n (λ _. HasGone self.new.held.items
             (O.is_full self.new.outgoing ⊎ TookNone O.has_failed O.has_taken self.new.outgoing))) }
         ensures full { IfOk result (λ n. IfNone n (O.is_full self.new.outgoing)) }
@@ -126,6 +157,9 @@ impl<O: TrunkOutput, F: BufferFilter> TrunkOutput for FilteredOutput<O, F> {
     {
         if !give_now(&mut self.outgoing, &mut self.held)? {
             return Ok(None);
+        }
+        if self.filter.is_off() {
+            return self.pass_on(octets);
         }
         let n = octets.len().min(MOST_TAKEN);
         let _ = self.held.try_extend_from_slice(&octets[..n]);

@@ -47,4 +47,8 @@ impl<F: BufferFilter, P: Phase> BufferFilter for PhasedFilter<F, P> {
     fn filter_buffer(&mut self, octets: &mut [u8]) {
         self.filter.filter_buffer(octets);
     }
+
+    fn is_off(&self) -> bool {
+        false
+    }
 }

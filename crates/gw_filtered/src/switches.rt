@@ -58,4 +58,8 @@ impl<F: BufferFilter, K: Switch> BufferFilter for SwitchedFilter<F, K> {
             filter.filter_buffer(octets);
         }
     }
+
+    fn is_off(&self) -> bool {
+        self.filter.is_none()
+    }
 }

@@ -1,4 +1,4 @@
-use Rattle.std.proofs.Common.{rules, ◌≡◌, ◌∙◌, [], length, take, ap}
+use Rattle.std.proofs.Common.{rules, append-nil, ◌≡◌, ◌∙◌, [], length, take, ap}
 use Rattle.std.proofs.Math.Logic.{∥∥₁_map}
 use Rattle.gw_filtered.proofs.Returned.{filtered-more, refilled}
 use Rattle.gw_filtered.proofs.outgoing.FilteredOutputTrunkOutput.write.Goals as goal
@@ -21,3 +21,7 @@ invariant_of-self-2 g c =
           c.give_now-2.ensures.went
           (refilled _ _ (c.filter_buffer.ensures.len ∙ ap length c.as_mut_slice.ensures.value)));
     }
+
+pub returns-then-is_off-clause-given : goal.returns-then-is_off-clause-given
+returns-then-is_off-clause-given g c = λ more.
+    (c.args.octets.now, rw (c.pass_on.ensures.none, append-nil c.args.octets.now) c.pass_on.ensures.given)
