@@ -1,5 +1,8 @@
 -- What has passed the filters of a trunk.
-use Rattle.std.proofs.Common.{◌≡◌, ℕ, Bool, List, [], Option, Some, None, refl}
+use Rattle.std.proofs.Common.{◌≡◌, ◌<◌, ℕ, Bool, true, false, List, [], Option, Some, None, Result, Ok, Err, refl}
+use Rattle.std.proofs.Common.{arith}
+use Rattle.std.specs.Prelude.{IfOk}
+use Rattle.gw_trunk.specs.declared.device.DeviceFault.{DeviceFault}
 use Rattle.std.proofs.Math.Logic.{∥∥₁_map}
 use Rattle.std.specs.Prelude.{IfSome, MatchOption, codes, is_some}
 use Rattle.g704_bits.specs.Standing.{StandsAfter}
@@ -59,3 +62,11 @@ pub told-of : {F T : Type 0} (Has : F → Type 0) (None-is Told : Type 0) (total
     → IfSome totals (λ _. ∥ Told ∥₁)
 told-of Has None-is Told None filter f is has tells = tt
 told-of Has None-is Told (Some totals) filter f is has tells = ∥∥₁_map has (λ h. tells (rw is at h))
+
+-- A device that did not fail in the end took all, if no wait for it has ended without room.
+pub taken-whole : (A : Type 0) (output : Result Bool DeviceFault) (before behind : ℕ)
+    → IfOk output (λ all. all ≡ true → A) → IfOk output (λ all. all ≡ false → before < behind)
+    → IfOk output (λ _. behind ≡ 0 → A)
+taken-whole A (Ok true) before behind all slow = λ none. all refl
+taken-whole A (Ok false) before behind all slow = λ none. absurd (omega (arith, none, slow refl))
+taken-whole A (Err fault) before behind all slow = tt

@@ -1,5 +1,5 @@
 -- A trunk that was served with what the command line names.
-use Rattle.std.proofs.Common.{◌≡◌, ◌⊎◌, inl, inr, ℕ, List, [], Some, None, Result, Ok, Err, refl}
+use Rattle.std.proofs.Common.{◌≡◌, ◌∙◌, ◌⊎◌, inl, inr, ℕ, Bool, List, [], Some, None, Result, Ok, Err, refl, ap}
 use Rattle.std.specs.Prelude.{IsErrAnd, codes}
 use Rattle.mio.specs.declared.poll.Poll.{Poll}
 use Rattle.gw_config.specs.declared.config.Config.{Config}
@@ -19,7 +19,8 @@ use Rattle.gw_program.specs.Performing.{EndedSaved, HasServed, LacksSession, Not
 use Rattle.gw_program.specs.Performing.Performed.{Lacked, Done}
 use Rattle.gw_program.specs.Requests.{CommandLine, TakesAsked, files_in}
 use Rattle.run_trunk.specs.Trunks.{AsksEnd, CarriesTrunk, HasTrunk, IsEndedBy, LacksControl, LacksEnds}
-use Rattle.run_trunk.specs.Trunks.{LacksStream, ServesBy, ServesTrunk}
+use Rattle.run_trunk.specs.Trunks.{LacksStream, ServesBy, ServesTrunk, told_behind}
+use Rattle.gw_trunk.specs.declared.device.DeviceFault.{DeviceFault}
 
 -- a fault is returned for a reason, and nothing was done with the streams
 pub nothing_served : (command : CommandLine) (lacks : ProgramFault → Type 0) (fault : ProgramFault)
@@ -63,20 +64,24 @@ asked_of command poll ended n named = (poll, ended n named)
 module _ (s s' : SourceState) (k k' : SinkState) {X P T : Type 0} {x x' : X} {command : CommandLine}
     {lacks : ProgramFault → Type 0} {saves : Result (Unit {0}) ProgramFault → Type 0}
     (opens : P → Type 0) (begins : T → Type 0) (ports_tell : P → PortsState) (tape_tells : T → TapeState)
-    {gateway gateway' : Gateway} {told : Result Totals ProgramFault}
+    {gateway gateway' : Gateway} {ended told : Result Totals ProgramFault} (output : Result Bool DeviceFault)
   where
     -- a trunk that was served on new streams by a gateway
     pub served_by : (passed : Traffic)
-        → NotBegun x x' lacks told ⊎ HasServed opens begins (λ ports ports' tape tape'. EndedSaved (CarriesTrunk
+        → NotBegun x x' lacks ended ⊎ HasServed opens begins (λ ports ports' tape tape'. EndedSaved (CarriesTrunk
         (around_log s k (ports_tell ports) (tape_tells tape)) (around_log s' k' (ports_tell ports') (tape_tells tape'))
-        passed gateway gateway') saves told)
-        → ((does : Traffic → Type 0) → does passed → HasTrunk command gateway does told)
+        passed gateway gateway') saves ended)
+        → ((does : Traffic → Result Totals ProgramFault → Type 0) → does passed ended
+        → HasTrunk command gateway does told) → told ≡ told_behind ended output
         → (x' ≡ x → around s' k' no_ports no_tape ≡ around s k no_ports no_tape)
         → s.reads ≡ 0 → s.given ≡ Some [] → s.failures ≡ 0 → k.failures ≡ 0
         → ServesBy command lacks saves gateway gateway' told
-    served_by passed (inl n) trunk same a b c d =
-        on_new s s' k k' (inl (told_why (λ fault why. why) same n)) a b c d
-    served_by passed (inr v) trunk same a b c d = record {
+    served_by passed (inl n) trunk behind same a b c d =
+        let told-is : told ≡ Err n.program_fault = behind ∙ ap (λ e. told_behind e output) n.told_is in
+        on_new s s' k k' (inl (told_why (λ fault why. why) same
+        (record { program_fault = n.program_fault; why = n.why; told_is = told-is; untouched = n.untouched })))
+        a b c d
+    served_by passed (inr v) trunk behind same a b c d = record {
       before = around_log s k (ports_tell v.ports) (tape_tells v.tape);
       after = around_log s' k' (ports_tell v.ports') (tape_tells v.tape');
       new = record { unread = a; no_octet = b; no_failed_read = c; no_failed_write = d };
@@ -84,19 +89,23 @@ module _ (s s' : SourceState) (k k' : SinkState) {X P T : Type 0} {x x' : X} {co
     }
 
 -- What was done of what passed, told by less.
-trunk_so : {command : CommandLine} {gateway : Gateway} {does does' : Traffic → Type 0}
-    {told : Result Totals ProgramFault} → ((passed : Traffic) → does passed → does' passed)
+trunk_so : {command : CommandLine} {gateway : Gateway} {does does' : Traffic → Result Totals ProgramFault → Type 0}
+    {told : Result Totals ProgramFault} → ((passed : Traffic) (ended : Result Totals ProgramFault)
+    → does passed ended → does' passed ended)
     → HasTrunk command gateway does told → HasTrunk command gateway does' told
 trunk_so is t = record {
   asked = t.asked;
   passed = t.passed;
-  done = is t.passed t.done;
+  ended = t.ended;
+  done = is t.passed t.ended t.done;
   received = t.received;
   comes = t.comes;
   place = t.place;
   place_is = t.place_is;
   discarded = t.discarded;
+  output = t.output;
   goes = t.goes;
+  told_is = t.told_is;
   tells = t.tells;
 }
 
@@ -114,7 +123,7 @@ served_as {command = command} takes {lacks_more = lacks_more} config gateway gat
     | inl n ↦ Lacked (told_why (λ fault why. inr (lacks_asked takes lacks_more fault
         (inr (config, read, inr (gateway, begun, why))))) (λ e. e) n)
     | inr t ↦ Done config (takes.read config read) gateway gateway' (takes.begun config gateway begun)
-        (trunk_so (λ passed done. saved_told takes config gateway' done) t)
+        (trunk_so (λ passed ended done. saved_told takes config gateway' done) t)
   ];
 }
 

@@ -14,6 +14,8 @@ use Rattle.gw_filter.specs.Filter.{RepliesTo}
 use Rattle.gw_filter.specs.declared.checking.Checked.{Checked}
 use Rattle.gw_filtered.specs.Filters.{ReturnsBehind, ReturnsIf}
 use Rattle.gw_trunk.specs.Multiframes.{GoesInTime}
+use Rattle.gw_trunk.specs.declared.device.DeviceFault.{DeviceFault}
+use Rattle.std.specs.Prelude.{◌≤◌, IfOk, Result}
 use Rattle.gw_trunk.specs.System.{SystemPairs}
 use Rattle.gw_program.specs.Report.{CountsArePrinted, SystemPrints}
 use Rattle.gw_program.specs.Requests.{CommandLine}
@@ -65,8 +67,9 @@ IsPlaceOf gateway place = (config : GatewayConfig) (before : List Event) → Has
 
 -- What was sent went in time, except for whole multiframes if the device was slow, and with CRC-4
 -- multiframes, if the command asks for it. The device took all of that but for what it had not taken in the
--- end.
-pub record Goes (command : CommandLine) (place : ℕ) (sent : List ℕ) (discarded : ℕ) : Type 0 where
+-- end: nothing, if it did not fail then and no wait for it has ended without room.
+pub record Goes (command : CommandLine) (place : ℕ) (sent : List ℕ) (discarded : ℕ)
+    (output : Result Bool DeviceFault) : Type 0 where
   pub left : List ℕ
   pub slow_waits : ℕ
   pub in_time : GoesInTime sent left discarded slow_waits
@@ -75,6 +78,9 @@ pub record Goes (command : CommandLine) (place : ℕ) (sent : List ℕ) (discard
   pub went : List ℕ
   pub untaken : List ℕ
   pub framed_are : framed ≡ went ++ untaken
+  pub last_waits : ℕ
+  pub more_waits : slow_waits ≤ last_waits
+  pub whole : IfOk output (λ all. last_waits ≡ 0 → untaken ≡ [])
 
 -- what the command asks for by a flag
 abbrev pub AsksFlag : List ℕ → CommandLine → Type 0

@@ -1,14 +1,16 @@
 -- What it means that the trunk that the command line names is served.
-use Rattle.std.specs.Prelude.{◌≡◌, ◌⊎◌, ℕ, pos, List, true, Some, None, OnOk, Result, codes}
+use Rattle.std.specs.Prelude.{◌≡◌, ◌⊎◌, ℕ, Bool, pos, List, true, Some, None, Ok, Err, OnOk, Result, codes}
 use Rattle.mio.specs.declared.poll.Poll.{Poll}
 use Rattle.gw_switch.specs.declared.GatewayConfig.{GatewayConfig}
 use Rattle.gw_switch.specs.declared.gateway.Gateway.{Gateway}
 use Rattle.gw_records.specs.declared.outcome.Totals.{Totals}
 use Rattle.gw_records.specs.declared.outcome.RunFault.{RunFault}
+use Rattle.gw_records.specs.declared.outcome.RunFault.TheVariants as run_faults
 use Rattle.gw_switch.specs.Events.{Event}
 use Rattle.gw_switch.specs.Standing.{HasHistory}
 use Rattle.gw_session.specs.Serve.{SessionStreams}
 use Rattle.gw_command.specs.Command.{SaysNumberIn, text_in}
+use Rattle.gw_trunk.specs.declared.device.DeviceFault.{DeviceFault}
 use Rattle.gw_trunk.specs.System.{SystemRefusesDoor, SystemRefusesStream, SystemWatches}
 use Rattle.run_trunk.specs.Filters.{Comes, EndIsTold, Goes, IsPlaceOf}
 use Rattle.run_trunk.specs.Serving.{Carried, Traffic}
@@ -47,20 +49,29 @@ abbrev pub AsksEnd : CommandLine → Type 0
 AsksEnd command = (descriptor : ℕ) → SaysNumberIn 16 (codes "end") command descriptor
     → (poll : Poll) × SystemWatches poll (pos descriptor) 10 true
 
+-- the result of a trunk whose session ended so: that a write failed, if its device did at the very end
+abbrev pub told_behind : Result Totals ProgramFault → Result Bool DeviceFault → Result Totals ProgramFault
+told_behind (Ok totals) (Ok all) = Ok totals
+told_behind (Ok totals) (Err fault) = Err (program_faults.Session run_faults.Write)
+told_behind (Err fault) output = Err fault
+
 -- What the command names for the end was seen to. Octets came from a trunk and were sent to it, clients
 -- asked and were answered, and this was done of it by the gateway. What came and what was sent passed the
 -- filters that the command asks for. What the command asks to be told at the end was told, if it ended well.
-pub record HasTrunk (command : CommandLine) (gateway : Gateway) (does : Traffic → Type 0)
-    (told : Result Totals ProgramFault) : Type 0 where
+pub record HasTrunk (command : CommandLine) (gateway : Gateway)
+    (does : Traffic → Result Totals ProgramFault → Type 0) (told : Result Totals ProgramFault) : Type 0 where
   pub asked : AsksEnd command
   pub passed : Traffic
-  pub done : does passed
+  pub ended : Result Totals ProgramFault
+  pub done : does passed ended
   pub received : List ℕ
   pub comes : ∥ Comes command received passed.came ∥₁
   pub place : ℕ
   pub place_is : IsPlaceOf gateway place
   pub discarded : ℕ
-  pub goes : ∥ Goes command place passed.went discarded ∥₁
+  pub output : Result Bool DeviceFault
+  pub goes : ∥ Goes command place passed.went discarded output ∥₁
+  pub told_is : told ≡ told_behind ended output
   pub tells : OnOk told (EndIsTold command passed.came discarded)
 
 -- the command names a descriptor for the end, and no socket of clients
@@ -80,8 +91,8 @@ LacksEnds command fault = LacksStream fault
 abbrev pub ServesBy : CommandLine → (ProgramFault → Type 0) → (Result (Unit {0}) ProgramFault → Type 0)
     → Gateway → Gateway → Result Totals ProgramFault → Type 0
 ServesBy command lacks saves gateway gateway' told = OnNewStreams (λ a a'. NotBegun a a' lacks told
-    ⊎ HasTrunk command gateway (λ passed.
-    EndedSaved (CarriesTrunk a a' passed gateway gateway') saves told) told)
+    ⊎ HasTrunk command gateway (λ passed ended.
+    EndedSaved (CarriesTrunk a a' passed gateway gateway') saves ended) told)
 
 -- The trunk that the command names was served with this result: it has no ends, or its session was not begun
 -- for such a reason, and nothing was read or written; or it was served by a gateway that was begun by the
@@ -89,5 +100,5 @@ ServesBy command lacks saves gateway gateway' told = OnNewStreams (λ a a'. NotB
 abbrev pub ServesTrunk : CommandLine → (ProgramFault → Type 0) → Result Totals ProgramFault → Type 0
 ServesTrunk command lacks told = OnNewStreams (λ a a'.
     ByGateway a a' command (λ fault. LacksEnds command fault ⊎ lacks fault) told (λ config gateway gateway'.
-    HasTrunk command gateway (λ passed. EndedSaved (CarriesTrunk a a' passed gateway gateway')
-    (IsSaved (save_in command) config.gateway gateway') told) told))
+    HasTrunk command gateway (λ passed ended. EndedSaved (CarriesTrunk a a' passed gateway gateway')
+    (IsSaved (save_in command) config.gateway gateway') ended) told))

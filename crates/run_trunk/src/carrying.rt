@@ -7,7 +7,7 @@ ghost use Rattle.gw_program.specs.Performing.{LacksSession, LacksTapeOrPorts};
 ghost use Rattle.gw_program.specs.Requests.{TakesAsked, files_in};
 ghost use Rattle.run_trunk.specs.Filters.{AreAsked, EndIsTold};
 ghost use Rattle.run_trunk.specs.Trunks.{AsksEnd, IsEndedBy, LacksControl, LacksStream, ServesTrunk};
-ghost use Rattle.run_trunk.specs.Trunks.{ServesBy};
+ghost use Rattle.run_trunk.specs.Trunks.{ServesBy, told_behind};
 
 use crate::filters::{
     Incoming, TrunkFilters, filtered_input, filtered_output, filters_as_asked, finish_input,
@@ -20,11 +20,11 @@ use gw_command::{control_of, end_of, wants_totals};
 use gw_config::Config;
 use gw_filtered::{Phase, Switch};
 use gw_program::{Machine, ProgramFault, System, print_discarded};
-use gw_session::Totals;
+use gw_session::{RunFault, Totals};
 use gw_switch::Gateway;
 use gw_trunk::{
-    FromDevice, NoClients, ToDevice, TrunkInput, TrunkOutput, TrunkRecordSink, TrunkRecordSource,
-    WithClients, open_clients,
+    DeviceFault, FromDevice, NoClients, ToDevice, TrunkInput, TrunkOutput, TrunkRecordSink,
+    TrunkRecordSource, WithClients, open_clients,
 };
 use mio::net::UnixStream;
 use std::marker::Brand;
@@ -119,6 +119,19 @@ fn tell_end<'r, R: Machine, I: TrunkInput + Drop, K: Switch, L: Switch>(
     }
 }
 
+// The result of a trunk whose session ended so, and its output so.
+fn told_behind(
+    ended: Result<Totals, ProgramFault>,
+    output: &Result<bool, DeviceFault>,
+) -> Result<Totals, ProgramFault>
+    ensures { result ≡ told_behind ended output.now }
+{
+    match (ended, output) {
+        (Ok(_), Err(_)) => Err(ProgramFault::Session(RunFault::Write)),
+        (ended, _) => ended,
+    }
+}
+
 // Serves a trunk between its ends by a gateway, from its place in a multiframe on.
 #[inline(never)]
 fn carry_from<
@@ -165,9 +178,10 @@ fn carry_from<
         source: TrunkRecordSource::new(incoming),
         sink: TrunkRecordSink::new(outgoing, answers),
     };
-    let told = perform_trunk(system, rt.alloc(), config, gateway, &mut trunk);
+    let ended = perform_trunk(system, rt.alloc(), config, gateway, &mut trunk);
     let TrunkRecords { source, sink } = trunk;
-    let discarded = finish_output(sink.into_outgoing());
+    let (discarded, output) = finish_output(sink.into_outgoing());
+    let told = told_behind(ended, &output);
     tell_end(rt, matches, &told, source.into_incoming(), discarded);
     told
 }

@@ -17,7 +17,7 @@ use gw_filter::{BufferFilter, ReportingChecker, ReportingSender, ToReports};
 use gw_filtered::{FilteredInput, FilteredOutput, Phase, PhasedFilter, Switch, SwitchedFilter};
 use gw_program::{LiveCounts, Machine, ProgramFault, print_receiver_counts, print_unreported};
 use gw_session::{FromRead, Totals};
-use gw_trunk::{MultiframeDropper, TrunkInput, TrunkOutput, open_pair};
+use gw_trunk::{DeviceFault, MultiframeDropper, TrunkInput, TrunkOutput, open_pair};
 use mio::net::UnixStream;
 use std::rt::Stderr;
 
@@ -176,19 +176,20 @@ pub(crate) fn filtered_output<R: Machine, O: TrunkOutput, L: Switch, P: Phase>(
     MultiframeDropper::new(framed, rt.errors())
 }
 
-/// Gives the device what is still held for it, and returns how many multiframes were discarded.
+/// Gives the device what is still held for it, and returns how many multiframes were discarded, and whether
+/// the device took all in the end.
 pub(crate) fn finish_output<O: TrunkOutput + Drop, L: Switch, P: Phase>(
     outgoing: Outgoing<O, L, P>,
-) -> u64
+) -> (u64, Result<bool, DeviceFault>)
     ensures { (command : CommandLine) → HasFlag (codes "crc4") command L.is_on
-        → ∥ Goes command P.place outgoing.log.octets result ∥₁ }
+        → ∥ Goes command P.place outgoing.log.octets result.0 result.1 ∥₁ }
 {
     let mut dropper = outgoing;
     dropper.finish();
     let discarded = dropper.discarded();
     let mut framed = dropper.into_outgoing();
-    framed.finish();
-    discarded
+    let output = framed.finish();
+    (discarded, output)
 }
 
 // Tells the counts of a checker, and how many errored submultiframes are not reported.

@@ -13,14 +13,15 @@ use Rattle.run_trunk.proofs.carrying.carry_from.Goals as goal
 
 pub returns : goal.returns
 returns g c =
-    let incoming = c.perform_trunk-told.new.trunk.source.incoming in
+    let incoming = c.perform_trunk-ended.new.trunk.source.incoming in
     let aligned = incoming.incoming in
     let command = subcommand_rows_of c.args.matches.now in
     let align : HasFlag (codes "align") command g.K.Switch.is_on = rw c.requires.align at c.requires.filters.align in
     let crc4 : HasFlag (codes "crc4") command g.L.Switch.is_on = rw c.requires.crc4 at c.requires.filters.asks_crc4 in
-    served_by _ _ _ _ _ _ _ _ _ c.perform_trunk-told.ensures (λ does done. record {
+    served_by _ _ _ _ _ _ _ _ _ _ c.perform_trunk-ended.ensures (λ does done. record {
       asked = c.requires.asks;
       passed = _;
+      ended = _;
       done = done;
       received = g.I.TrunkInput.came aligned.incoming;
       comes = ∥∥₁_map₂ incoming.filtered aligned.filtered (λ checks aligns. record {
@@ -34,9 +35,11 @@ returns g c =
       place = g.P.Phase.place;
       place_is = λ config before stands. sym c.requires.place ∙ sym c.place.ensures.position
           ∙ c.place.ensures.value config before stands;
-      discarded = c.finish_output-discarded.result;
+      discarded = c.finish_output-discarded.result.0;
+      output = c.finish_output-discarded.result.1;
       goes = rw c.into_outgoing.ensures at (c.finish_output-discarded.ensures command crc4);
+      told_is = c.told_behind-told.ensures;
       tells = rw c.into_incoming.ensures at c.tell_end.ensures;
     })
-    (λ e. rw e refl) c.new.ensures.reads (ap Some c.new.ensures.log)
+    c.told_behind-told.ensures (λ e. rw e refl) c.new.ensures.reads (ap Some c.new.ensures.log)
     c.new.ensures.failed c.new-2.ensures.failed
