@@ -10,7 +10,7 @@ import signal
 from . import support
 from .test_program_killed import KeeperCase
 from e1gw.priority import run_last
-from e1gw.session_files import by_time, kept, note_of, octets_of
+from e1gw.session_files import by_time, front_of, kept, note_of, octets_of
 from e1gw.session import MULTIFRAME, Kind, records_in
 
 LONG = '96h'                # of a ring whose files have to be of one program each: they are of eight hours
@@ -112,9 +112,9 @@ class RecordedRingTests(RecorderCase):
         self.step(40)
         self.ends()
         self.assertEqual(self.told().count('begins as new'), 1)
-        session, files = kept(self.path('ring')), [f'{front}.e1gw' for front in self.files()]
-        self.assertEqual((session.files, session.state, session.middle),
-                         (files[2:], f'{self.files()[2]}.state', True))
+        session, files = kept(self.path('ring')), self.files()[2:]
+        self.assertEqual(([*map(front_of, session.files)], session.state, session.middle),      # (packed, or not yet)
+                         (files, f'{files[0]}.state', True))
         self.assertEqual(self.answers(self.kept_of(self.path('ring')), '--load', session.state),
                          self.heard_all()[session.place:])
         self.write('trunk.toml', self.peers.config())
