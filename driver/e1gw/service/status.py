@@ -35,8 +35,9 @@ class OperatedTrunk:
         self.tell, self.program = keeper.wants.tell or '', keeper.wants.control
 
     def config_path(self) -> str:
-        """Of the configuration of now."""
-        return self._keeper.versions.now.config_path()
+        """Of the configuration of the program whose follower tells; of the one of now before there is any."""
+        program = followed(self._keeper)
+        return (program.version if program else self._keeper.versions.now).config_path()
 
     def facts(self) -> dict[str, Any]:
         """Since when it is open, why it is not or not recorded, its version and its pair, as plain values."""
