@@ -5,6 +5,8 @@ from __future__ import annotations
 
 import argparse
 import socket
+from contextlib import suppress
+from typing import Sequence
 
 from .faults import number
 from .session import FRAME
@@ -27,6 +29,17 @@ def addresses_of(local: tuple[str, int], peer: tuple[str, int]) -> list[str]:
     family, _, _, _, far = socket.getaddrinfo(*peer, type=socket.SOCK_DGRAM)[0]
     near = socket.getaddrinfo(*local, family=family, type=socket.SOCK_DGRAM)[0][4]
     return [_text_of(str(near[0]), int(near[1])), _text_of(str(far[0]), int(far[1]))]
+
+
+def can_send(ends: Sequence[str]) -> bool:
+    """Whether this machine has the address of the one end, from which it sends to the other one."""
+    (near, _), far = map(host_and_port, ends[:2])
+    with socket.socket(socket.AF_INET6 if ':' in near else socket.AF_INET, socket.SOCK_DGRAM) as line:
+        with suppress(OSError):
+            line.bind((near, 0))
+            line.connect(far)
+            return True
+    return False
 
 
 def ends_of(text: str) -> tuple[tuple[str, int], tuple[str, int]]:

@@ -57,6 +57,10 @@ class SatopOpeningTests(unittest.TestCase):
         with self.assertRaises(socket.gaierror):
             satop.addresses_of(('127.0.0.1', 5000), ('::1', 5001))
 
+    def test_an_address_that_is_not_here(self) -> None:
+        for near, can in ('127.0.0.9', True), ('192.0.2.9', False):
+            self.assertEqual(satop.can_send([f'{near}:5000', '127.0.0.1:5001', '--size']), can, near)
+
 
 class SatopCountLineTests(unittest.TestCase):
     def test_counts(self) -> None:

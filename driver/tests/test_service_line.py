@@ -20,7 +20,7 @@ from .test_service_killed import RestartedKeeperCase
 from .test_trunk import is_there
 from .world import words_of
 from e1gw.lines import Event
-from e1gw.service import chain
+from e1gw.service import chain, trunk
 from e1gw.service.chain import BROKEN, CarriedTrunk
 from e1gw.service.crc4_trunk import Crc4Trunk
 from e1gw.service.line_process import LineFiles, waiting
@@ -126,7 +126,8 @@ class LineProcessTests(support.FolderCase, unittest.IsolatedAsyncioTestCase):
         path = self.write('e1gw', f'#!{sys.executable}{script}')
         os.chmod(path, stat.S_IRWXU)
         self.told: list[Event] = []
-        line = LineOptions(satop=lambda: ['--size', '256'], crc4=crc4, reopens=reopens, program=path)
+        words = ['127.0.0.1:5000', '127.0.0.1:5001', '--size', '256']
+        line = LineOptions(satop=lambda: words, crc4=crc4, reopens=reopens, program=path)
         trunk = (Crc4Trunk if crc4 else CarriedTrunk)(line, {}, None)
         trunk.tell = self.told.append
         await trunk.open()
@@ -187,6 +188,18 @@ class LineProcessTests(support.FolderCase, unittest.IsolatedAsyncioTestCase):
         trunk = await self.opened(ENDS, reopens=True)
         await self.until(lambda: self.told.count({'event': 'trunk lost', 'why': why}) > 1)
         self.assertFalse(trunk.has_ended(0))
+
+    async def test_an_address_that_comes_later(self) -> None:
+        """Of two machines the one that takes over may have it a moment later. It was tried again later and later."""
+        place, ends = self.path('address'), f'{ENDS}\n'.replace('\n', '\n    ')
+        script = f'\nimport os\nif not os.path.exists({place!r}):{ends}pass\n{SCRIPT}'
+        with (mock.patch.object(chain, 'can_send', lambda ends: os.path.exists(place)),
+              mock.patch.multiple(trunk, QUICK=limits.LONG, PAUSE=limits.LONG, MOST_PAUSE=limits.LONG)):
+            line = await self.opened(script, reopens=True)
+            await self.until(lambda: len(self.told) == 2)
+            self.write('address', '')
+            await self.goes_round(line)
+        self.assertEqual([event['event'] for event in self.told], ['trunk', 'trunk lost', 'trunk'])
 
     async def test_what_it_was_given_last_goes_out(self) -> None:
         trunk = await self.opened(f"""{SCRIPT}open('{self.path('over')}', 'w')\n""")

@@ -14,6 +14,7 @@ import socket
 import time
 from typing import Any, Awaitable, Callable
 
+from ..satop import can_send
 from ..session import MULTIFRAME
 from .line_process import LineCounts, LineFiles, LineProcess, unsent, waiting
 from .process import Child, end_of, held_pipe
@@ -97,8 +98,9 @@ class CarriedTrunk(TrunkFiles):
         return os.dup(self.files.writes())
 
     def _process(self, name: str) -> LineProcess:
-        """One of the processes, which may not be begun yet."""
-        process = LineProcess(TITLES.get(name, f'e1gw {PROCESSES[name]}'), functools.partial(self._start, name))
+        """One of the processes, which may not be begun yet. (One of two machines has the address a moment later.)"""
+        process = LineProcess(TITLES.get(name, f'e1gw {PROCESSES[name]}'), functools.partial(self._start, name),
+                              lambda: name == 'satop' and not can_send(self._satop))
         return self._processes.setdefault(name, process)
 
     def _start(self, name: str) -> Child:

@@ -9,6 +9,7 @@ import os
 import socket
 import sys
 import termios
+import time
 from contextlib import suppress
 from typing import Any, Callable, Sequence
 
@@ -19,7 +20,7 @@ from .log import TrunkLog
 from .process import UNKNOWN, Child
 from .trunk import Pause
 
-SOON = 0.001                # seconds between two looks
+SOON, LOOK = 0.001, 0.01    # seconds between two looks; the latter in a pause
 
 logger = logging.getLogger(__name__)
 
@@ -64,10 +65,11 @@ class LineFiles(dict[str, int]):
 
 
 class LineProcess:
-    """A process that is begun again if it dies. `starts` starts it, or OSError."""
+    """A process that is begun again if it dies. `starts` starts it, or OSError; `lacks` is whether something that it
+    needs is not there."""
 
-    def __init__(self, name: str, starts: Callable[[], Child]) -> None:
-        self.name, self._starts = name, starts
+    def __init__(self, name: str, starts: Callable[[], Child], lacks: Callable[[], bool]) -> None:
+        self.name, self._starts, self._lacks, self._lacked = name, starts, lacks, False
         self.child: Child | None = None
         self.last = ''                  # what it said last that has no counts
         self._place = 0                 # up to where what it says was taken
@@ -75,6 +77,7 @@ class LineProcess:
 
     def start(self) -> None:
         """OSError if it can't be started."""
+        self._lacked = self._lacks()
         child = self._starts()
         self.close()
         self.child, self._place = child, 0
@@ -84,9 +87,11 @@ class LineProcess:
         return self.child is not None and not self.child.over.is_set()
 
     async def begin_again(self) -> None:
-        """Starts it at once, unless it has died soon after its start before."""
+        """Starts it at once. If it has died soon after its start before, later, or when what it lacked has come."""
         while True:
-            await asyncio.sleep(self._pause.ends())
+            until = time.monotonic() + self._pause.ends()
+            while time.monotonic() < until and not (self._lacked and not self._lacks()):
+                await asyncio.sleep(LOOK)
             try:
                 return self.start()
             except OSError as fault:
