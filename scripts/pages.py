@@ -255,10 +255,10 @@ def main() -> None:
     compare_feet()
     lines = page('e1gw.1')
     compare_options(lines)
+    flags = {item[1] for line in lines if (item := re.fullmatch(r'\.It Fl (?:\w , )?-([\w-]+)', line))}
     for option, about in described(lines).items():
-        if option not in {'check', 'checkpoint', 'config', 'control', 'follow', 'from', 'live', 'load', 'record',
-                          'record-over', 'reports', 'save', 'seizure-wait', 'senders', 'tell', 'totals', 'help',
-                          'version'}:
+        if option not in flags | {'checkpoint', 'config', 'control', 'follow', 'from', 'load', 'record', 'reports',
+                                  'save', 'seizure-wait', 'senders', 'tell'}:
             compare_values(option, about)
     compare_payloads()
     compare_options_passed_over(lines)
