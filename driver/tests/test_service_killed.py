@@ -15,8 +15,9 @@ from .manager import Manager
 from .support import SECONDS
 from .test_program_killed import KeeperCase
 from .world import LAUNCHER
-from e1gw.service.process import UNKNOWN, Child, start_of
 from e1gw.service.handover import note_in
+from e1gw.service.log import in_memory
+from e1gw.service.process import UNKNOWN, Child, start_of
 from e1gw.testing.service import ask
 
 
@@ -173,3 +174,18 @@ class ChildTests(unittest.IsolatedAsyncioTestCase):
         os.kill(pid, signal.SIGSTOP)
         await its.over.wait()
         self.assertEqual((its.status, its.words()), (UNKNOWN, 'ended while no service was there'))
+
+    async def test_what_it_says(self) -> None:
+        """Each line is told once, also to the next service. What comes each second is not held for long."""
+        said = in_memory(b'circuit 3 begins as new\nsatop rece')
+        its = Child(os.getpid(), said=said)
+        self.addCleanup(its.close)
+        self.assertEqual(its.news(), ['circuit 3 begins as new'])
+        os.write(said, b'ived=1\noctets 512\n' + 5000 * b'satop 2\n')
+        self.assertEqual(its.news(), ['satop received=1'] + 5000 * ['satop 2'])
+        self.assertEqual((its.lines, its.totals()), (['circuit 3 begins as new'], {'octets': 512}))
+        later = Child(os.getpid(), said=said, heard=its.noted())
+        os.write(said, b'fault 5 Read\n')
+        self.assertEqual(later.news(), ['fault 5 Read'])
+        self.assertEqual(later.noted(), os.fstat(said).st_size)
+        self.assertLess(512 * os.fstat(said).st_blocks, 5000)

@@ -279,7 +279,7 @@ def memory_of(pid: int, started: int, names: list[str]) -> dict[str, int]:
 
 async def state_left(note: dict[str, Any]) -> Checkpoint | None:
     """Has a program end in order whose descriptors nobody has kept, and returns its state; None if none is known."""
-    process = Child(int(note['pid']), int(note['started']))
+    process = Child(int(note['pid']), int(note['started']), heard=int(note.get('heard', 0)))
     if not process.over.is_set():
         with suppress(OSError):
             process.said = os.open(f'/proc/{process.pid}/fd/2', os.O_RDONLY)

@@ -344,7 +344,7 @@ def cause_of(words: str, config: str) -> str | None:
 
 def pass_on(program: TrunkProgram) -> None:
     """Tells what the program says."""
-    for line in program.news():
+    for line in program.process.news():
         logger.info('program: %s', line)
 
 

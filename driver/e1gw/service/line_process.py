@@ -16,7 +16,6 @@ from typing import Any, Callable, Sequence
 from ..crc4 import COUNTS, Crc4, counts_in
 from ..lines import Event
 from ..satop import CONDITIONS, SatopCondition, counts_of as satop_counts
-from .log import TrunkLog
 from .process import UNKNOWN, Child
 from .trunk import Pause
 
@@ -72,7 +71,6 @@ class LineProcess:
         self.name, self._starts, self._lacks, self._lacked = name, starts, lacks, False
         self.child: Child | None = None
         self.last = ''                  # what it said last that has no counts
-        self._place = 0                 # up to where what it says was taken
         self._pause = Pause()
 
     def start(self) -> None:
@@ -80,7 +78,7 @@ class LineProcess:
         self._lacked = self._lacks()
         child = self._starts()
         self.close()
-        self.child, self._place = child, 0
+        self.child = child
         self._pause.begins()
 
     def is_there(self) -> bool:
@@ -109,27 +107,18 @@ class LineProcess:
         return f'{self.name} {how}' + (f': {self.last}' if self.last and self.ended_itself() else '')
 
     def lines(self) -> list[str]:
-        """The lines that it has said since this was last asked. Their memory is given back."""
-        if not self.child or self.child.said < 0:
-            return []
-        said = TrunkLog(self.child.said)
-        octets = said.read(self._place, said.place() - self._place)
-        whole = octets[:octets.rfind(b'\n') + 1]
-        self._place += len(whole)
-        if whole:
-            with suppress(OSError):
-                said.free(self._place)
-        return whole.decode(errors='replace').splitlines()
+        """The lines that it has said since this was last asked."""
+        return self.child.news() if self.child else []
 
     def take_up(self, note: Sequence[int], said: int) -> None:
         """Goes on with the process of a service before this one, and what it says."""
         if note:
-            pid, started, self._place = note
-            self.child = Child(pid, started, said)
+            pid, started, heard = note
+            self.child = Child(pid, started, said, heard)
 
     def note(self) -> Sequence[int]:
         """What the next service has to know of it; nothing if it is not there."""
-        return [self.child.pid, self.child.started, self._place] if self.child else []
+        return [self.child.pid, self.child.started, self.child.noted()] if self.child else []
 
     async def end(self, seconds: float) -> None:
         """Waits for its end, so long at most, and kills it."""

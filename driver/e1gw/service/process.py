@@ -13,11 +13,12 @@ from collections import Counter
 from contextlib import suppress
 from typing import Callable, Iterable, Sequence
 
-from .log import in_memory, octets_in
+from .log import TrunkLog, in_memory, octets_in
 
 LOOK = 0.25                 # seconds between two looks whether a signal has stopped it
 UNKNOWN = 255               # the status of a process that ended while nobody waited for it
 TOTALS, PLACE = ('records', 'octets', 'datagrams', 'dropped', 'port_faults', 'discarded_multiframes'), 'place'
+EACH_SECOND = 'satop ', '{'     # how lines begin that come again and again
 PYTHON = 'import sys; sys.path[:0] = [sys.argv.pop(1)]; from e1gw.{} import main; sys.exit(main())'
 TOP = os.path.dirname(os.path.dirname(os.path.dirname(os.path.abspath(__file__))))
 
@@ -39,11 +40,15 @@ def start_of(pid: int) -> int:
 
 class Child:
     """A process, known by its number and when it was started. `over` is set once it has ended; one that a signal has
-    stopped is killed. What it says is held in memory, so it waits for nobody who reads that."""
+    stopped is killed. What it says is held in memory, so it waits for nobody who reads that. `lines` are what it has
+    said up to now, but for counts."""
 
-    def __init__(self, pid: int, started: int = 0, said: int = -1) -> None:
-        """`started` is 0 for one that was started here a moment ago; `said` has what it says, if that is held here."""
+    def __init__(self, pid: int, started: int = 0, said: int = -1, heard: int = 0) -> None:
+        """`started` is 0 for one that was started here a moment ago; `said` has what it says, if that is held here, of
+        which so many octets were heard before."""
         self.pid, self.started, self.said = pid, started or start_of(pid), said
+        self._heard = self._noted = heard
+        self.lines, self._news, self._counted = list[str](), list[str](), Counter[str]()
         self.status: int | None = None      # negative for a signal
         self.over = asyncio.Event()
         self._file = -1
@@ -76,19 +81,44 @@ class Child:
         """All that it has said."""
         return octets_in(self.said).decode(errors='replace')
 
+    def _hear(self) -> None:
+        """Takes the whole lines that it has said since this was last done."""
+        said = TrunkLog(self.said)
+        octets = said.read(self._heard, said.place() - self._heard) if self.said >= 0 else b''
+        octets = octets if self.over.is_set() else octets[:octets.rfind(b'\n') + 1]
+        self._heard += len(octets)
+        for line in filter(str.strip, octets.decode(errors='replace').splitlines()):
+            word, _, count = line.partition(' ')
+            if word in (*TOTALS, PLACE) and count.isdecimal():
+                self._counted[word] = int(count)
+                continue
+            self._news.append(line)
+            if not line.startswith(EACH_SECOND):
+                self.lines.append(line)
+
+    def news(self) -> list[str]:
+        """What it has said since this was last asked, but for what it counts at its end."""
+        self._hear()
+        news, self._news = self._news, []
+        return news
+
+    def noted(self) -> int:
+        """How much was heard, for the note of this moment. The memory of what was noted before is given back."""
+        if self._heard > self._noted:
+            with suppress(OSError):
+                TrunkLog(self.said).free(self._noted)
+        self._noted = self._heard
+        return self._heard
+
     def totals(self) -> Counter[str]:
         """The totals that it has said at its end; with those of a follower, the octet of the log up to which it is."""
-        pairs = [line.split() for line in self.text().splitlines()]
-        return Counter({pair[0]: int(pair[1]) for pair in pairs if len(pair) == 2 and pair[0] in (*TOTALS, PLACE)})
-
-    def lines(self) -> list[str]:
-        """What it has said besides its totals."""
-        lines = [line for line in self.text().splitlines() if line.strip()]
-        return [line for line in lines if line.split()[0] not in (*TOTALS, PLACE)]
+        self._hear()
+        return self._counted.copy()
 
     def last_words(self) -> str:
         """How it ended: what it has said of that, or its status."""
-        lines = [line for line in self.lines() if not line.endswith(' begins as new')]
+        self._hear()
+        lines = [line for line in self.lines if not line.endswith(' begins as new')]
         return f'says: {"; ".join(lines)}' if lines and (self.status or 0) > 0 else self.words()
 
     def close(self) -> None:

@@ -82,7 +82,6 @@ class TrunkProgram(LoggedProgram):
         self.process, self.control, self._saves = process, control, saves
         self._end, self._end_there = end, end_there
         self.is_up = self.is_adopted = False
-        self._told = 0                          # lines that were told
 
     @classmethod
     def started(cls, number: int, version: ProgramVersion, begun: Checkpoint, control: str, saves: str,
@@ -144,15 +143,9 @@ class TrunkProgram(LoggedProgram):
             return Checkpoint(take_file(self._saves), 0, self.begun.counted + self.process.totals())
         return None
 
-    def news(self) -> list[str]:
-        """What it has said since this was last asked, but for its totals."""
-        lines = self.process.lines()
-        new, self._told = lines[self._told:], len(lines)
-        return new
-
     def lacks(self) -> str:
         """Why another one is to follow from a state of its own: its log or its control socket is gone."""
-        if LOG_ENDED in self.process.lines():
+        if LOG_ENDED in self.process.lines:
             return 'the log has ended'
         return '' if os.path.lexists(self.control) else 'the control socket is gone'
 
@@ -172,7 +165,8 @@ class TrunkProgram(LoggedProgram):
         return {'files': files, 'number': self.number, 'pid': self.process.pid, 'started': self.process.started,
                 'program': self.version.program, 'senders': self.version.senders, 'version': self.version.name,
                 'control': self.control, 'saves': self._saves, 'place': its.place, 'counted': its.counted,
-                'begun': self.begun.counted, 'end': self._end_there, 'up': self.is_up, 'told': self._told}
+                'begun': self.begun.counted, 'end': self._end_there, 'up': self.is_up,
+                'heard': self.process.noted(), 'lines': self.process.lines}
 
     @classmethod
     def of_note(cls, note: dict[str, Any], files: dict[str, int]) -> TrunkProgram:
@@ -181,10 +175,12 @@ class TrunkProgram(LoggedProgram):
         version = ProgramVersion(str(note['program']), its['program'], its['config'], str(note['senders']),
                                  str(note['version']))
         found = cls(int(note['number']), version, Checkpoint(-1, 0, Counter(note['begun'])), TrunkLog(its['log']),
-                    Child(int(note['pid']), int(note['started']), its['words']), str(note['control']),
+                    Child(int(note['pid']), int(note['started']), its['words'],
+                          int(note.get('heard', os.fstat(its['words']).st_size))), str(note['control']),
                     str(note['saves']), its['end'], int(note['end']))
+        found.process.lines += note.get('lines', [])
         found.checkpoint = Checkpoint(its.get('state', -1), int(note['place']), Counter(note['counted']))
-        found.is_up, found._told, found.is_adopted = bool(note['up']), int(note['told']), True
+        found.is_up, found.is_adopted = bool(note['up']), True
         return found
 
 
