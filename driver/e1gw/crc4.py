@@ -1,22 +1,22 @@
-"""What is known of the CRC-4 of a trunk (ITU-T G.704, 2.3.3), by what `e1gw crc4 --check` tells: counts after each
-second of the trunk, and at its end."""
+"""What is known of the CRC-4 of a trunk (ITU-T G.704, 2.3.3), by what `e1gw trunk --crc4 --live` tells: counts after
+each second of the trunk, and at its end."""
 from __future__ import annotations
 
 from typing import Any
 
 from .lines import Event
 
-# What `e1gw crc4 --check` counts, by the names that it prints.
+# What is counted, by the names that the program prints.
 COUNTS = ('submultiframes', 'errored', 'far_end_errored', 'multiframes_found', 'multiframes_lost', 'given_up')
 QUIET = 10                      # counts without an error after which errors are over
 
 
 def counts_in(line: str) -> dict[str, int]:
-    """The counts in a line that a check prints: after a second all of them behind `live`, at its end one; none in
-    another line."""
-    words = line.removeprefix('live ').split()
-    return {name: int(digits) for name, digits in zip(words[::2], words[1::2])
-            if name in COUNTS and digits.isascii() and digits.isdecimal()}
+    """The counts in a line that the program says: all of them behind `live`; none in another line."""
+    live, *words = line.split() or ['']
+    counts = {name: int(digits) for name, digits in zip(words[::2], words[1::2])
+              if name in COUNTS and digits.isascii() and digits.isdecimal()}
+    return counts if live == 'live' and len(counts) == len(COUNTS) else {}
 
 
 class ErroredSubmultiframes:
@@ -41,21 +41,23 @@ class ErroredSubmultiframes:
 
 
 class Crc4:
-    """What is known of a trunk's CRC-4, over all devices that are opened one after another for one gateway."""
+    """What is known of a trunk's CRC-4, over all devices that are opened, and all programs on them, one after another.
+    A program that has found nothing yet says nothing of the alignment that stood: it has just begun."""
 
     def __init__(self) -> None:
         self.counts = dict.fromkeys(COUNTS, 0)
         self.aligned: bool | None = None        # whether alignment stood at the last count of this device
         self._errors = {'errored': ErroredSubmultiframes(), 'far_end_errored': ErroredSubmultiframes()}
-        self._last = dict.fromkeys(COUNTS, 0)   # of this device, at the last count
+        self._last = dict[str, int]()           # of this program, at the last count
 
     def take(self, counts: dict[str, int]) -> list[Event]:
-        """The counts of a check up to now; returns what is to be reported."""
-        more = {name: counts[name] - self._last[name] for name in COUNTS}
-        self._last = counts
+        """The counts of a program up to now; returns what is to be reported."""
+        more = {name: counts[name] - self._last.get(name, 0) for name in COUNTS}
         for name, count in more.items():
             self.counts[name] += count
-        stood, self.aligned = self.aligned, counts['multiframes_found'] > counts['multiframes_lost']
+        stood, begins = self.aligned, not self._last and not counts['multiframes_found']
+        self.aligned = counts['multiframes_found'] > counts['multiframes_lost'] or bool(stood and begins)
+        self._last = counts
         return [{'event': 'crc4', **each} for each in (*self._alignment(stood, more), *self._errored(more))]
 
     def _alignment(self, stood: bool | None, more: dict[str, int]) -> list[Event]:
@@ -72,10 +74,13 @@ class Crc4:
         return [{'what': name.replace('_', ' '), **change} for name, errors in self._errors.items()
                 if (change := errors.add(more[name], more['submultiframes']))]
 
+    def follows(self) -> None:
+        """Another program follows on this device, whose counts begin at 0."""
+        self._last = {}
+
     def ended(self) -> None:
-        """A device has ended: another one may have no CRC-4."""
-        self.aligned = None
-        self._last = dict.fromkeys(COUNTS, 0)
+        """The device has ended: another one may have no CRC-4."""
+        self.aligned, self._last = None, {}
 
     def note(self) -> list[Any]:
         """All of it but for errors that were reported, as plain values."""

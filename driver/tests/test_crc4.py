@@ -98,11 +98,10 @@ class Crc4CountTests(unittest.TestCase):
     def counts(self, *numbers: int) -> dict[str, int]:
         return dict(zip(crc4.COUNTS, numbers))
 
-    def test_what_a_check_prints(self) -> None:
+    def test_what_the_program_says(self) -> None:
         live = 'live submultiframes 19 errored 1 far_end_errored 2 multiframes_found 3 multiframes_lost 4 given_up 5'
         self.assertEqual(counts_in(live), self.counts(19, 1, 2, 3, 4, 5))
-        self.assertEqual(counts_in('submultiframes 19'), {'submultiframes': 19})
-        for other in ('', 'live', 'submultiframes x', 'unreported 0', 'fault 5 Read', 'submultiframes'):
+        for other in '', 'live', live[5:], live[:-1] + 'x', live[:-10], 'fault 5 Read':
             self.assertEqual(counts_in(other), {})
 
     def test_what_is_told(self) -> None:
@@ -130,6 +129,18 @@ class Crc4CountTests(unittest.TestCase):
         known.ended()
         known.take(self.counts(100, 0, 0, 1, 0, 0))
         self.assertEqual(known.counts, self.counts(6003, 919, 2, 6, 5, 1))
+
+    def test_programs_that_follow(self) -> None:
+        """One that has found nothing yet has just begun, or ends as soon; at the second count of it nothing comes."""
+        known, nothing = Crc4(), self.counts(0, 0, 0, 0, 0, 0)
+        known.take(self.counts(988, 0, 0, 1, 0, 0))
+        rows = ((self.counts(988, 0, 0, 1, 0, 0),), (nothing,), (nothing, self.counts(988, 0, 0, 1, 0, 0)), (nothing,))
+        for counts in rows:
+            known.follows()
+            self.assertEqual([event for its in counts for event in known.take(its)], [])
+        (lost,) = known.take(nothing)
+        self.assertEqual(words_of(lost), 'CRC multiframe alignment lost')
+        self.assertEqual(known.counts, self.counts(3 * 988, 0, 0, 3, 0, 0))
 
     def test_metrics(self) -> None:
         known, status = Crc4(), dict[str, Any](crc4=None)

@@ -7,13 +7,12 @@ import contextlib
 import os
 import signal
 import subprocess
-from itertools import product
 from typing import Any
 
 from . import support
 from .support import SECONDS
 from .test_crc4 import HALF, MULTIFRAME, Crc4Sender, checked, e_bits, frame_alignment, multiframe_in
-from .test_trunk import FOUR, aligned, call, is_there
+from .test_trunk import FOUR, aligned, call
 from .test_trunk_served import octets_in
 from .world import World, children, config_of, trunk_command
 from e1gw.session import trunk_record
@@ -121,32 +120,38 @@ class FilterServiceTests(support.FolderCase):
         status = world.status()
         self.assertTrue(status['crc4']['aligned'])
         self.assertEqual((status['crc4']['errored'], status['crc4']['multiframes_found']), (0, 1))
-        self.assertEqual({status['transport'][name] for name in ('aligning', 'crc4_checking', 'crc4_sending')}, {0})
+        self.assertEqual(status['transport']['aligning'], 0)
         self.is_right(world.heard)
 
-    def test_who_dies_inside_a_multiframe(self) -> None:
-        """The exchange keeps the alignment of frames and multiframes, whichever process dies."""
-        program, sender, check = ('trunk',), ('crc4', '--reports'), ('crc4', '--check')
+    def test_the_program_dies_inside_a_multiframe(self) -> None:
+        """The exchange keeps the alignment of frames and multiframes."""
         world = aligned(self.world('--crc4', within={'service.lifecycle.WITHIN': 0.0}))
         call(world, 1)
-        for words, count in (*product(((program,), (sender,), (sender, program)), (0, 77, 500)), ((check,), 0)):
-            with self.subTest(words=words, count=count):
+        for count in 0, 77, 500:
+            with self.subTest(count):
                 octets = world.sender.multiframe(world.exchange.multiframe())
                 world.line.sendall(octets[:count])
                 back = support.read_from(world.line, count)
-                processes = [pid for each in words for pid in children(world.process.pid, *each)]
-                for pid in processes:
-                    with contextlib.suppress(ProcessLookupError):       # (a program ends behind its e1gw crc4)
-                        os.kill(pid, signal.SIGKILL)
-                support.until(lambda: not any(map(is_there, processes)))
+                world.kill('trunk')
                 world.line.sendall(octets[count:])
                 world.exchange.hear(back + support.read_from(world.line, MULTIFRAME - count))
                 self.goes_on(world)
 
+    def test_another_program_follows(self) -> None:
+        """Counts go on, also where it follows at once, and nothing has happened to the line."""
+        world = self.world('--crc4')
+        world.step(2 * SECOND)
+        for _ in range(3):
+            self.assertEqual(world.ask('reload'), 'reload: done')
+        world.step(2 * SECOND)
+        world.until(lambda: world.told()['crc4']['multiframes_found'] > 1)
+        status, said = world.quit()
+        self.assertEqual((status, said.count('CRC'), said.count('CRC multiframe alignment found')), (0, 1, 1), said)
+
     def test_it_comes_again(self) -> None:
         """The trunk, inside a frame, and perhaps what is on its line ends meanwhile."""
         rows: tuple[tuple[str, tuple[str, ...]], ...] = (
-            ('--align', ('align',)), ('--crc4', ('crc4', '--reports')), ('--crc4', ()))
+            ('--align', ('align',)), ('--crc4', ()))
         for option, words in rows:
             with self.subTest(words), FilteredWorld(option, '--reopen') as world:
                 aligned(world)

@@ -149,11 +149,11 @@ class OpeningTests(unittest.IsolatedAsyncioTestCase):
         def opens() -> Stream:
             file = os.open(os.devnull, os.O_RDWR)
             return Stream(file, file, os.devnull)
-        files = trunk.TrunkFiles(opens, {})
+        files = trunk.TrunkFiles(trunk.LineOptions(opens))
         with mock.patch.multiple(trunk, either=either, QUICK=limits.LONG, MOST_PAUSE=30.0):
             for _ in range(10):
                 await files.reopen(asyncio.Event())
-                files.close()
+                await files.finish()
         self.assertEqual(waits, [0.0, 0.25, 0.5, 1.0, 2.0, 4.0, 8.0, 16.0, 30.0, 30.0])
 
     async def test_one_that_is_opened_too_late(self) -> None:
@@ -167,7 +167,7 @@ class OpeningTests(unittest.IsolatedAsyncioTestCase):
         def opens() -> Stream:
             goes_on.wait()
             return Stream(file, file, 'line')
-        opening = asyncio.create_task(trunk.TrunkFiles(opens, {}).open_until(ending))
+        opening = asyncio.create_task(trunk.TrunkFiles(trunk.LineOptions(opens)).open_until(ending))
         await asyncio.sleep(0)
         ending.set()
         await opening

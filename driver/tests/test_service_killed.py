@@ -55,7 +55,7 @@ class RestartedKeeperCase(KeeperCase):
         """Until systemd has the descriptors of the trunk, the program and the logs of now, and no others."""
         def settled() -> bool:
             note = self.noted()
-            noted = [note.get('program'), note.get('trunk') or {'files': {'': 'trunk-in'}},
+            noted = [note.get('program'), note.get('trunk') or {'files': {'': 'line-in'}},
                      *(note.get('read') or {}).get('logs', ())]
             names = {name for each in noted if each for name in each['files'].values()}
             return bool(note) and {'kept', *names} == {*self.manager.files}
@@ -114,7 +114,7 @@ class KilledKeeperTests(RestartedKeeperCase):
 
     def test_what_systemd_keeps_and_is_told(self) -> None:
         """Descriptors of a program of which nothing is noted are forgotten."""
-        self.manager.files['trunk-in'] = os.open(os.devnull, os.O_RDONLY)
+        self.manager.files['line-in'] = os.open(os.devnull, os.O_RDONLY)
         self.begins()
         self.keeper.send_signal(signal.SIGHUP)
         self.goes_on()
@@ -177,12 +177,12 @@ class ChildTests(unittest.IsolatedAsyncioTestCase):
 
     async def test_what_it_says(self) -> None:
         """Each line is told once, also to the next service. What comes each second is not held for long."""
-        said = in_memory(b'circuit 3 begins as new\nsatop rece')
+        said = in_memory(b'circuit 3 begins as new\nlive submulti')
         its = Child(os.getpid(), said=said)
         self.addCleanup(its.close)
         self.assertEqual(its.news(), ['circuit 3 begins as new'])
-        os.write(said, b'ived=1\noctets 512\n' + 5000 * b'satop 2\n')
-        self.assertEqual(its.news(), ['satop received=1'] + 5000 * ['satop 2'])
+        os.write(said, b'frames 1\noctets 512\n' + 5000 * b'live 2\n')
+        self.assertEqual(its.news(), ['live submultiframes 1'] + 5000 * ['live 2'])
         self.assertEqual((its.lines, its.totals()), (['circuit 3 begins as new'], {'octets': 512}))
         later = Child(os.getpid(), said=said, heard=its.noted())
         os.write(said, b'fault 5 Read\n')

@@ -258,15 +258,16 @@ class UnnotedProgramTests(support.FolderCase):
         self.assertEqual(unnoted_programs(self.path('none'), noted), [])
 
 
-class TrunkEndTests(support.FolderCase):
-    def test_ends(self) -> None:
+class TrunkEndTests(support.FolderCase, unittest.IsolatedAsyncioTestCase):
+    async def test_ends(self) -> None:
         """A socket, a FIFO and a file tell that they have ended; a device has if nothing was taken of it."""
         mine, its = socket.socketpair()
         reads, writes = os.pipe()
         short = os.open(self.write('short', b'octets'), os.O_RDONLY)
         device = os.open(os.devnull, os.O_RDONLY)
-        opened = {name: trunk.TrunkFiles(mock.Mock(), {'trunk-in': file}) for name, file in (
-            ('socket', mine.detach()), ('fifo', reads), ('file', short), ('device', device))}
+        opened = {name: trunk.TrunkFiles(trunk.LineOptions()) for name in ('socket', 'fifo', 'file', 'device')}
+        for each, file in zip(opened.values(), (mine.detach(), reads, short, device)):
+            each.take_up({'line-in': file}, {'files': {'line-in': ''}})
         self.assertEqual([each.has_ended(7) for each in opened.values()], [False] * 4)
         its.close()
         os.close(writes)
@@ -274,5 +275,5 @@ class TrunkEndTests(support.FolderCase):
         self.assertEqual([each.has_ended(7) for each in opened.values()], [True, True, True, False])
         self.assertTrue(opened['device'].has_ended(0))
         for each in opened.values():
-            each.close()
+            await each.finish()
             self.assertFalse(each.is_open())

@@ -22,13 +22,12 @@ from typing import Any, Mapping, NoReturn
 from ..faults import words_of_fault
 from ..programs import SENDERS
 from ..writers import put_file
-from .chain import CarriedTrunk
 from .journal import NOTICE
 from .lifecycle import ANEW, GRACE, TrunkKeeper, TrunkWants, loaded
 from .log import Checkpoint, octets_in, take_file
 from .process import Child, start_of
 from .program import TrunkProgram, connected
-from .slot_trunk import before_signal, trunk_of
+from .slot_trunk import trunk_of
 from .version import version_of_now
 
 NOTE = 'kept'               # the file of the note, in the folder of the service; also the name of its descriptor
@@ -188,8 +187,7 @@ async def first_keeper(wants: TrunkWants, handover: Handover, notifier: Notifier
     keeper.state = loaded(wants.state)
     if keeper.state.state >= 0:
         keeper.why = 'begins with what was saved'
-        if isinstance(keeper.trunk, CarriedTrunk):
-            keeper.trunk.origin = await before_signal(version, keeper.state)
+        await keeper.trunk.loads(version, keeper.state)
     return keeper
 
 

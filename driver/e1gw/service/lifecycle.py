@@ -79,7 +79,7 @@ class TrunkKeeper:
         self.program: TrunkProgram | None = None
         self.state, self.why, self.lost = Checkpoint(), 'begins', ''      # of the next program
         self.number, self.status = 0, None      # type: int, int | None
-        self.was_up, self.is_whole = False, True        # (whether all that was taken up to the state was sent)
+        self.was_up = False
         self.reader: LogReader      # (it is there before the first program)
         self.pair: TrunkPair | None = None      # of a trunk that two machines have
         self.ending, self.wanted = '', ''       # why no other program is to follow, or why one is
@@ -125,7 +125,7 @@ class TrunkKeeper:
 
     async def _start(self) -> TrunkProgram:
         """Starts a program from the state of now, and remembers it before anything else happens."""
-        await self.trunk.join(self.state.counted['octets'], self.state.state < 0, self.is_whole)
+        await self.trunk.join(self.state.counted['octets'], self.state.state < 0)
         self.number += 1
         self.program = program = TrunkProgram.started(
             self.number, self.versions.now, self.state, f'{self.wants.control}.{self.number}',
@@ -170,7 +170,7 @@ class TrunkKeeper:
         if self.checkpoints.is_due(program):
             await self.checkpoints.take(program)
         self.checkpoints.make_folder()
-        pass_on(program)
+        self._pass_on(program)
         if (lacks := program.lacks()) and now >= self._due:
             self._due = now + APART     # (another program has one, once a minute at most)
             self.ask(lacks)
@@ -188,9 +188,8 @@ class TrunkKeeper:
         if not state:
             logger.error('the program %s: no state is known', words)
         self.begins_with(state or Checkpoint(counted=program.checkpoint.counted))
-        pass_on(program)
+        self._pass_on(program)
         self.lost = ANEW if not state else '' if is_well else LOST
-        self.is_whole = is_well
         self.silent, self.wanted, failure = silent, '', self.trunk.failure()
         if self.ending or is_over and not self.wants.line.reopens:
             is_good = bool(self.ending or is_well and not failure)
@@ -198,6 +197,7 @@ class TrunkKeeper:
         if is_over:
             self.why = failure or trunk_words(program, words)
             logger.warning('%s, behind octet %d; it is opened again', self.why, self.state.counted['octets'])
+            self.trunk.tell({'event': 'trunk lost', 'why': self.why})
             await self.trunk.finish()
             self.trunk.fault = self.why
             self.note()             # (the next one has the same names)
@@ -206,6 +206,12 @@ class TrunkKeeper:
         self._retire(program)
         if not (is_over or why and is_well):
             await self._died()
+
+    def _pass_on(self, program: TrunkProgram) -> None:
+        """Tells what the program says."""
+        for line in program.process.news():
+            if not self.trunk.takes(line):
+                logger.info('program: %s', line)
 
     async def _ask_end(self, program: TrunkProgram, why: str) -> bool:
         """Has a program end behind what it has read. Not asked if there is no room for its state: it goes on then."""
@@ -238,7 +244,7 @@ class TrunkKeeper:
         """A program does not come up: it has ended, or hangs."""
         hangs = not program.process.over.is_set()
         await program.process.kill()
-        words, self.is_whole = f'does not begin within {START:g} s' if hangs else program.process.last_words(), False
+        words = f'does not begin within {START:g} s' if hangs else program.process.last_words()
         if self.ending or not (self.was_up or self.state.state >= 0):
             if why := cause_of(words, self.wants.config):
                 logger.error('%s', why)
@@ -340,12 +346,6 @@ def cause_of(words: str, config: str) -> str | None:
         return config_words(config)
     lines = words.rpartition('says: ')[2].split('; ')
     return next((why for line in lines if (why := gateway_words(line, config))), None)
-
-
-def pass_on(program: TrunkProgram) -> None:
-    """Tells what the program says."""
-    for line in program.process.news():
-        logger.info('program: %s', line)
 
 
 def trunk_words(program: TrunkProgram, words: str) -> str:

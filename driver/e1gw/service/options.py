@@ -70,7 +70,7 @@ def add_trunk(words: argparse._ArgumentGroup) -> None:
     words.add_argument('--align', action='store_true',
                        help='octets of the trunk may begin at any bit; e1gw align runs between it and the gateway')
     words.add_argument('--crc4', action='store_true',
-                       help='CRC-4: e1gw crc4 sends it and e1gw crc4 --check counts it, between trunk and gateway')
+                       help='CRC-4: it is sent, and counted each second in what comes')
 
 
 def add_reports(words: argparse._ArgumentGroup) -> None:
@@ -192,5 +192,5 @@ def wants_of(asked: argparse.Namespace) -> TrunkWants:
     state = None if asked.standby else asked.state      # (the other machine may have gone on from it)
     return TrunkWants(program, asked.config, asked.senders, replace(line, program=program), folder, control,
                       asked.tell or os.path.join(folder, 'tell'), state,
-                      ['--repeat', str(asked.repeat)] * (asked.repeat > 0), wait_words(asked.seizure_wait),
-                      asked.totals)
+                      [*['--repeat', str(asked.repeat)] * (asked.repeat > 0), *['--crc4', '--live'] * asked.crc4],
+                      wait_words(asked.seizure_wait), asked.totals)

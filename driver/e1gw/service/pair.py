@@ -13,11 +13,9 @@ from typing import Any
 from ..faults import words_of_fault
 from ..tls import add_tls, context_of, is_exposed
 from ..trunks import host_and_port
-from .chain import CarriedTrunk
 from .feed import FRESH, FeedServer
 from .lifecycle import ANEW, DEMOTED, GRACE, TICK, TrunkKeeper
 from .handover import CannotBegin
-from .slot_trunk import before_signal
 from .standby import START, FedProgram, TrunkStandby
 from .trunk import either
 
@@ -83,15 +81,14 @@ class TrunkPair:
         """The next program begins with the state that this standby has."""
         keeper, fed = self._keeper, self.standby.fed
         trunk, keeper.silent = keeper.trunk, fed.came if fed else time.monotonic()
-        has_packets = isinstance(trunk, CarriedTrunk) and bool(trunk.line.satop)
-        state, words = await self.standby.state(has_packets)
+        state, words = await self.standby.state(bool(trunk.line.satop))
         keeper.begins_with(state)
         keeper.lost, keeper.why = words if state else f', {words}{ANEW}', 'promoted'
-        if state and isinstance(trunk, CarriedTrunk) and (trunk.line.crc4 or trunk.line.law):
-            trunk.origin = await before_signal(keeper.versions.now, state)
+        if state:
+            await trunk.loads(keeper.versions.now, state)
         if state and fed:
             trunk.zero, trunk.ones = fed.zero, functools.partial(fed.ones, START)
-        keeper.was_up, keeper.is_whole = True, False
+        keeper.was_up = True
 
     def goes(self, is_active: bool, hands_over: bool = False) -> None:
         """This machine is to carry the trunk from now on, or the other one; at `hands_over` its feed says so."""

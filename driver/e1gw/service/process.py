@@ -2,7 +2,6 @@
 from __future__ import annotations
 
 import asyncio
-import fcntl
 import logging
 import os
 import select
@@ -13,12 +12,14 @@ from collections import Counter
 from contextlib import suppress
 from typing import Callable, Iterable, Sequence
 
+from ..crc4 import COUNTS
 from .log import TrunkLog, in_memory, octets_in
 
 LOOK = 0.25                 # seconds between two looks whether a signal has stopped it
 UNKNOWN = 255               # the status of a process that ended while nobody waited for it
 TOTALS, PLACE = ('records', 'octets', 'datagrams', 'dropped', 'port_faults', 'discarded_multiframes'), 'place'
-EACH_SECOND = 'satop ', '{'     # how lines begin that come again and again
+AT_END = {*TOTALS, PLACE, *COUNTS, 'unreported'}        # what it counts at its end
+EACH_SECOND = 'live ', 'satop ', '{'    # how lines begin that come again and again
 PYTHON = 'import sys; sys.path[:0] = [sys.argv.pop(1)]; from e1gw.{} import main; sys.exit(main())'
 TOP = os.path.dirname(os.path.dirname(os.path.dirname(os.path.abspath(__file__))))
 
@@ -89,7 +90,7 @@ class Child:
         self._heard += len(octets)
         for line in filter(str.strip, octets.decode(errors='replace').splitlines()):
             word, _, count = line.partition(' ')
-            if word in (*TOTALS, PLACE) and count.isdecimal():
+            if word in AT_END and count.isdecimal():
                 self._counted[word] = int(count)
                 continue
             self._news.append(line)
@@ -113,7 +114,7 @@ class Child:
     def totals(self) -> Counter[str]:
         """The totals that it has said at its end; with those of a follower, the octet of the log up to which it is."""
         self._hear()
-        return self._counted.copy()
+        return Counter({word: count for word, count in self._counted.items() if word in (*TOTALS, PLACE)})
 
     def last_words(self) -> str:
         """How it ended: what it has said of that, or its status."""
@@ -163,10 +164,6 @@ class Child:
     def is_stopped(self) -> bool:
         """Whether a signal has stopped it."""
         return not self.over.is_set() and fields_of(self.pid)[:1] == ['T']
-
-    def rests(self) -> bool:
-        """Whether it waits for something."""
-        return fields_of(self.pid)[:1] == ['S']
 
     def ticks(self) -> int:
         """How much of a processor it has had."""
@@ -221,19 +218,11 @@ def signal_words(number: int) -> str:
     return str(number)
 
 
-def held_pipe(room: int = 0) -> int:
+def held_pipe() -> int:
     """A pipe, as one descriptor that is read and written: who has an end of it sees no end while this one is open."""
     ends = os.pipe()
     try:
-        file = os.open(f'/dev/fd/{ends[0]}', os.O_RDWR | os.O_CLOEXEC)
+        return os.open(f'/dev/fd/{ends[0]}', os.O_RDWR | os.O_CLOEXEC)
     finally:
         for end in ends:
             os.close(end)
-    if room:
-        fcntl.fcntl(file, fcntl.F_SETPIPE_SZ, room)
-    return file
-
-
-def end_of(pipe: int, flags: int) -> int:
-    """A descriptor of its own for an end of such a pipe."""
-    return os.open(f'/dev/fd/{pipe}', flags | os.O_CLOEXEC)

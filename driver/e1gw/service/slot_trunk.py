@@ -2,79 +2,112 @@
 from __future__ import annotations
 
 import asyncio
+import contextlib
+import json
 import os
 import time
 from typing import Any
 
 from ..session import FRAME, Kind, records_in, trunk_record
-from .chain import ENDED, CarriedTrunk, shut
-from .crc4_trunk import Crc4Trunk
-from .line_process import SOON, unsent, waiting
+from .carried import ENDED, AlignedTrunk, CarriedTrunk
 from .log import Checkpoint
-from .process import Child, held_pipe, python_words
-from .trunk import LineOptions, TrunkFiles
+from .process import held_pipe, python_words
+from .program import SOON
+from .satop_trunk import SatopTrunk
+from .trunk import LineOptions, TrunkFiles, unsent, waiting
 from .version import ProgramVersion
 
+AGAIN = 1.0                 # seconds after which another program is asked for again
 SIGNAL, SIGNALS = 0x9B, 2 * FRAME       # the octet with the frame alignment signal, and how many from one to the next
 MANY = 64 * SIGNALS                     # octets in which no other slot has it each time
 STATUS = 'silent', 'slots_lost', 'slots_moved'
 TAKES = 1.0                 # seconds for the pump to take a number
+PLACES = 'joint-places'     # the pipe by which it does
 
 
 class SlotTrunk(CarriedTrunk):
-    """The trunk of a device that keeps slot 0. The pump counts the octets of the gateway both ways; it gets the
-    number that a dead program has read. `_first` is the octet of the trunk with which it begins."""
+    """The trunk of a device that keeps slot 0. The pump counts the octets of the gateway both ways, so it begins with a
+    program; it gets the number that a dead program has read. `_origin` is the octet of the trunk with which the gateway
+    has begun, `_first` that with which the pump begins."""
 
-    counting = 'pump'
-    _first = 0
+    kind, title = 'pump', 'the pump of slots'
+    _origin = _first = 0
+
+    def __init__(self, line: LineOptions) -> None:
+        super().__init__(line)
+        self._slots = dict[str, Any]()
 
     def _lay(self) -> None:
-        self.files['joint-places'] = held_pipe()
-        self.files.pair()
-        self._set_ends()
+        self.files[PLACES] = held_pipe()
+        self._join()
 
-    def _start(self, name: str) -> Child:
+    def _command(self) -> tuple[list[str], int, int, list[int]]:
         assert self.line.law
-        files = [self.files['far'], self.files.joint('places')]
-        place = [self.line.law(), self.counts.slots.get('found', False), self._first - self.origin, *files, self._first]
-        words = python_words('service.slot_pump', *map(str, place))
-        return Child.start(words[0], words, self.files['line-in'], self.files.device_out(), files)
+        files = [self.files['far'], self.files[PLACES]]
+        place = [self.line.law(), self._slots.get('found', False), self._first - self._origin, *files, self._first]
+        return python_words('service.slot_pump', *map(str, place)), self.files['line-in'], self.line_out(), files
 
-    async def join(self, octets: int, is_new: bool, is_well: bool) -> None:
-        await super().join(octets, is_new, is_well)
-        if not (self._is_there('pump') and await self._takes(octets)):
-            await self._end_process('pump', 0.0)
-            self.files.pair()
-            self._set_ends()
+    async def loads(self, version: ProgramVersion, state: Checkpoint) -> None:
+        self._origin = await before_signal(version, state)
+
+    async def join(self, octets: int, is_new: bool) -> None:
+        self._origin = octets if is_new else self._origin
+        if not (self.child and not self.child.over.is_set() and await self._takes(octets)):
+            await self._end_process(0.0)
+            self._join()
             self._first = octets
-            self._begin('pump')
+            self._begin()
 
     async def _takes(self, octets: int) -> bool:
         """Whether the pump has taken how many octets were read. It has all answers up to there then, and none of the
         next program."""
-        places, until = self.files.joint('places'), time.monotonic() + TAKES
+        places, until = self.files[PLACES], time.monotonic() + TAKES
         os.write(places, f'{octets}\n'.encode())
-        while waiting(places) and self._is_there('pump') and time.monotonic() < until:
+        while waiting(places) and self.child and not self.child.over.is_set() and time.monotonic() < until:
             await asyncio.sleep(SOON)
         return not waiting(places)
 
-    def _hear(self) -> None:
-        super()._hear()
-        if self.counts.has_ended and not self._why:
+    async def _begin_again(self, words: str) -> None:
+        """It is begun with another program."""
+        while True:
+            self.ask(words)
+            await asyncio.sleep(AGAIN)
+
+    def _take(self, line: str) -> None:
+        told = dict[str, Any]()
+        with contextlib.suppress(ValueError):       # (it was killed while it said so, or says why it fails)
+            told = json.loads(line)
+        if 'event' in told:
+            self.tell(told)
+        self._slots = told.get('slots', self._slots)
+        if told.get('ended'):
             self._end_line(ENDED)
-            shut(self.files['far'])
+
+    def note(self) -> dict[str, Any]:
+        return super().note() | {'origin': self._origin, 'slots': self._slots}
+
+    def take_up(self, files: dict[str, int], note: dict[str, Any]) -> None:
+        self._origin, self._slots = int(note['origin']), note['slots']
+        super().take_up(files, note)
 
     def status(self) -> dict[str, Any]:
-        return {'trunk': self.name, 'waiting': unsent(self.files.device_out()), 'slots': 'clear',
-                **{name: self.counts.slots.get(name, 0) for name in STATUS}}
+        return {'trunk': self.name, 'waiting': unsent(self.line_out()), 'slots': 'clear',
+                **{name: self._slots.get(name, 0) for name in STATUS}}
 
 
 def trunk_of(line: LineOptions, files: dict[str, int], note: dict[str, Any] | None) -> TrunkFiles:
     """A trunk that is to be opened, or that of the service before this one, of which `files` and `note` are."""
-    if line.is_plain():
-        its = note['files'].items() if note else ()
-        return TrunkFiles(line.opens, {what: files[name] for what, name in its if name in files})
-    return (SlotTrunk if line.law else Crc4Trunk if line.crc4 else CarriedTrunk)(line, files, note)
+    kind = SatopTrunk if line.satop else AlignedTrunk if line.align else SlotTrunk if line.law else TrunkFiles
+    trunk = kind(line)
+    if not note:
+        return trunk
+    if 'counts' in note:                # (of a version before this one)
+        note['slots'], _, note['crc4'] = note['counts']
+    try:
+        trunk.take_up({what: files[name] for what, name in note['files'].items() if name in files}, note)
+        return trunk
+    except (KeyError, TypeError, ValueError, OSError):      # (then it is opened again)
+        return kind(line)
 
 
 async def before_signal(version: ProgramVersion, state: Checkpoint) -> int:

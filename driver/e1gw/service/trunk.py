@@ -2,24 +2,35 @@
 from __future__ import annotations
 
 import asyncio
+import fcntl
 import logging
 import os
 import select
 import stat
+import sys
+import termios
 import time
 import traceback
+from contextlib import suppress
 from dataclasses import dataclass
 from math import inf
-from typing import Any, Awaitable, Callable, Coroutine
+from typing import TYPE_CHECKING, Any, Awaitable, Callable, Coroutine
 
+from ..crc4 import Crc4, counts_in
 from ..faults import words_of_fault
 from ..lines import Event
 from ..trunks import Stream
 from .events import tell_journal
+from .process import Child
+
+if TYPE_CHECKING:
+    from .log import Checkpoint
+    from .version import ProgramVersion
 
 QUICK = 1.0                 # seconds: what ends within them is begun again later
 PAUSE, MOST_PAUSE = 0.25, 30.0          # seconds up to then, at first and at most
 AGAIN = 0.1                 # seconds before what has failed is begun again
+LINE = 'line-in', 'line-out'            # descriptors of a device or a socket
 
 logger = logging.getLogger(__name__)
 
@@ -36,10 +47,6 @@ class LineOptions:
     law: Callable[[], str] | None = None
     reopens: bool = False
     program: str = ''           # for the processes between the line and the gateway
-
-    def is_plain(self) -> bool:
-        """Whether its octets come from a device as they are."""
-        return not (self.satop or self.align or self.crc4 or self.law)
 
 
 class Pause:
@@ -60,30 +67,52 @@ class Pause:
 
 
 class TrunkFiles:
-    """The trunk's descriptors, if it is open."""
+    """The trunk's descriptors, `both` of them for a program if it is open."""
 
-    def __init__(self, opens: Callable[[], Stream] | None, files: dict[str, int]) -> None:
-        """`files` are descriptors that were kept. Of two that are one the first was kept."""
-        self._opens = opens
+    def __init__(self, line: LineOptions) -> None:
+        self.line, self.name, self.files = line, '', dict[str, int]()
         self.tell: Callable[[Event], None] = tell_journal
         self.ask: Callable[[str], None] = lambda why: None      # asks for another program
         self.place: Callable[[], int] = lambda: 0       # the octet of the trunk behind all that was taken
         self.zero = int.from_bytes(os.urandom(2))       # (SAToP) the number of the packet with the first octet of all
         self.ones: Callable[[], int] = lambda: 0        # octets of ones that are given to the next program
         self.since, self.fault = time.time(), ''         # when it was opened, and why it is not
-        self._pause = Pause()
-        reads = files.get('trunk-in', -1)
-        self.both = reads, files.get('trunk-out', reads)
+        self.crc4 = Crc4() if line.crc4 else None
+        self._pause, self._left = Pause(), list[Child]()        # (processes of the service before this one)
+        self.both = -1, -1
 
     def is_open(self) -> bool:
         return self.both[0] >= 0
 
     async def open(self) -> None:
         """OSError if it can't be opened."""
-        assert self._opens
-        stream = await opened(self._opens)
-        self.both = stream.reads, stream.writes
+        await self._hold_line()
+        self._set_ends()
+        self._tell_open()
+
+    async def _hold_line(self) -> None:
+        """Opens the line, unless it is held."""
+        while self._left:
+            await self._left.pop().kill()
+        if not self.files:
+            await self._open_line()
+
+    async def _open_line(self) -> None:
+        """Opens the device or the socket."""
+        assert self.line.opens
+        stream = await opened(self.line.opens)
+        self.name, self.files['line-in'] = stream.name, stream.reads
+        if stream.writes != stream.reads:
+            self.files['line-out'] = stream.writes
+
+    def _set_ends(self) -> None:
+        """The ends for a program."""
+        reads, *_, writes = [*self.files.values()] * 2
+        self.both = reads, writes
+
+    def _tell_open(self) -> None:
         self.since, self.fault = time.time(), ''
+        self.tell({'event': 'trunk', **self.status()})
 
     async def open_until(self, ending: asyncio.Event) -> None:
         """Opens it, or leaves that if the end is asked for: the other end of a FIFO may never come."""
@@ -108,31 +137,71 @@ class TrunkFiles:
                 self._pause.begins()
                 await either(self._pause.ends(), ending)
 
-    async def join(self, octets: int, is_new: bool, is_well: bool) -> None:
-        """Called before a program begins, behind this number of octets of the trunk: with a new gateway, or with the
-        state of one that has ended well, or not."""
+    async def loads(self, version: ProgramVersion, state: Checkpoint) -> None:
+        """The next program is the first one here, and begins with a state."""
 
-    def close(self) -> None:
-        for file in {*self.both} - {-1}:
-            os.close(file)
-        self.both = -1, -1
+    async def join(self, octets: int, is_new: bool) -> None:
+        """Called before a program begins behind this number of octets of the trunk, perhaps with a new gateway."""
+        if self.crc4:
+            self.crc4.follows()
+
+    def takes(self, line: str) -> bool:
+        """Takes a line that the program has said, if it has counts of CRC-4."""
+        if not (self.crc4 and (counts := counts_in(line))):
+            return False
+        for event in self.crc4.take(counts):
+            self.tell(event)
+        return True
 
     async def finish(self) -> None:
         """Closes it, behind what was sent last."""
-        self.close()
+        while self.files:
+            os.close(self.files.popitem()[1])
+        self.both = -1, -1
+        if self.crc4:
+            self.crc4.ended()
 
     def failure(self) -> str:
         """Why it has ended, if that was a failure which no program has seen."""
         return ''
 
+    # ---- for the service that comes after this one ----
+
     def note(self) -> dict[str, Any]:
-        """What the next service has to know of it, and to have."""
-        reads, writes = self.both
-        return {'files': {'trunk-in': reads, 'trunk-out': writes if writes != reads else -1}}
+        """What it has to know, and to have."""
+        return {'files': self.files, 'name': self.name, 'crc4': self.crc4 and self.crc4.note()}
+
+    def take_up(self, files: dict[str, int], note: dict[str, Any]) -> None:
+        """Goes on with these descriptors of the service before this one. What is between the line and the program
+        begins again if it is not all there, or if that service had other processes there."""
+        self.name, self.files, processes = str(note.get('name', '')), files, note.get('processes', {})
+        if self.crc4 and note.get('crc4'):
+            self.crc4.take_up(note['crc4'])
+        lacks = note['files'].keys() - files.keys()
+        if files and not lacks and self._is_joined(processes):
+            return self._goes_on(processes)
+        self._left = [Child(*its[:2]) for its in processes.values() if its]
+        for what in [what for what in files if what not in LINE or lacks & {*LINE}]:
+            os.close(files.pop(what))
+
+    def _is_joined(self, processes: dict[str, list[int]]) -> bool:
+        """Whether the processes of the service before this one are those that there are now."""
+        return not processes
+
+    def _goes_on(self, processes: dict[str, list[int]]) -> None:
+        """All of it goes on."""
+        self._set_ends()
+
+    # ---- what is known ----
+
+    def status(self) -> dict[str, Any]:
+        """What the transport tells of itself, as plain values."""
+        return {'trunk': self.name, 'waiting': unsent(self.both[1])}
 
     def facts(self) -> dict[str, Any]:
-        """Since when it is open, and why it is not, as plain values."""
-        return {'since': self.since, 'fault': self.fault}
+        """Since when it is open, why it is not, and what is counted, as plain values."""
+        return {'since': self.since, 'fault': self.fault, 'carried': {
+            'transport': self.status(), 'crc4': self.crc4 and self.crc4.status()}}
 
     def has_ended(self, took: int) -> bool:
         """Whether the other end has closed it. A device does not tell; it has ended if a program `took` nothing of it
@@ -145,6 +214,18 @@ class TrunkFiles:
         poll = select.poll()
         poll.register(reads, select.POLLIN | select.POLLRDHUP)
         return any(events & (select.POLLHUP | select.POLLRDHUP | select.POLLERR) for _, events in poll.poll(0))
+
+
+def waiting(file: int, request: int = termios.FIONREAD) -> int:
+    """The octets that wait in a pipe, a socket or a device to be read; 0 if that is not known."""
+    with suppress(OSError, ValueError):
+        return int.from_bytes(fcntl.ioctl(file, request, bytes(4)), sys.byteorder)
+    return 0
+
+
+def unsent(file: int) -> int:
+    """The octets that the other end has not taken yet; 0 if that is not known."""
+    return waiting(file, termios.TIOCOUTQ)
 
 
 async def opened(opens: Callable[[], Stream]) -> Stream:
