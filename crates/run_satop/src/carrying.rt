@@ -102,8 +102,7 @@ fn emulate_over<P: Peer + FarEnd + Drop, M: Clock + CircuitClock + Drop>(
     asked: CircuitAsked,
     peer: P,
     clock: M,
-    input: Stdin,
-    output: Stdout,
+    streams: (Stdin, Stdout),
 ) -> Result<Totals, ProgramFault>
     requires received { P.received peer ≡ [] }
     requires sent { P.sent peer ≡ [] }
@@ -111,6 +110,7 @@ fn emulate_over<P: Peer + FarEnd + Drop, M: Clock + CircuitClock + Drop>(
         → IsAsked command asked.settings asked.timing asked.rtp asked.sequence
         → DoesSatop command result }
 {
+    let (input, output) = streams;
     let incoming = open_stdin(rt, input)?;
     let outgoing = open_stdout(rt, output)?;
     let ends = CircuitEnds {
@@ -141,5 +141,5 @@ pub fn emulate<R: Machine>(
     let asked = circuit_asked(matches)?;
     let mut peer = open_far_end(rt, matches)?;
     let clock = open_clock(rt, &mut peer)?;
-    emulate_over(rt, asked, peer, clock, input, output)
+    emulate_over(rt, asked, peer, clock, (input, output))
 }
