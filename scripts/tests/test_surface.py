@@ -89,7 +89,7 @@ class TrunkWatch:
     def _values(self):
         return {'circuits': [{'lit': 1}, {'dim': 1}], 'transport': self.trunk.facts()['carried']['transport']}
 ''',
-    'driver/e1gw/sockets.py': 'def sockets_of(_):\n    pass\ndef with_sockets(status, _):\n    return status\n',
+    'driver/e1gw/udp_tables.py': 'def sockets_of(_):\n    pass\ndef with_sockets(status, _):\n    return status\n',
     'driver/e1gw/satop.py': "CONDITIONS = (('quiet', 'ticks', 'no light'),)\n",
     'driver/e1gw/metrics.py': '''def exposition(status, trunk):
     return f'# TYPE lamps gauge\\nlamps{{trunk="{trunk}",colour="red"}} 1\\nlamps{{trunk="{trunk}",colour="blue"}} 0\\n'
