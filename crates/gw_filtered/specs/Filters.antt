@@ -6,7 +6,7 @@ abbrev pub ReturnsIf : Bool → (List ℕ → List ℕ → Type 0) → List ℕ 
 ReturnsIf true Returns octets returned = Returns octets returned
 ReturnsIf false Returns octets returned = returned ≡ octets
 
--- What a filter returns for octets behind so many octets of ones, without what it returns for these.
+-- What a filter returns behind this number of octets of ones, without what it returns for the ones.
 abbrev pub ReturnsBehind : ℕ → (List ℕ → List ℕ → Type 0) → List ℕ → List ℕ → Type 0
 ReturnsBehind place Returns octets returned = (first : List ℕ) × (length first ≡ place)
     × Returns (replicate place 255 ++ octets) (first ++ returned)

@@ -17,8 +17,8 @@ impl Phase for Brand {
     ghost place = { 0 };
 }
 
-/// A filter that has taken so many octets of ones as its place says, before the first octet. What it returned
-/// for these is dropped.
+/// A filter that was given octets of ones before the first octet, as many as its place says. What it
+/// returned for the ones is dropped.
 #[derive(Drop)]
 pub struct PhasedFilter<F: BufferFilter, P: Phase> {
     filter: F,

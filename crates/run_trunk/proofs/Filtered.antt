@@ -56,7 +56,7 @@ filtered Has Returns command flag is_on filter octets returned asked is said r =
   returns = returned-if Has Returns filter is_on octets returned is said r;
 }
 
--- What a checker that is there tells of what it has checked is told.
+-- The counts of a checker are told, if there is one.
 pub told-of : {F T : Type 0} (Has : F → Type 0) (None-is Told : Type 0) (totals : Option T) (filter : Option F) (f : F)
     → filter ≡ Some f → ∥ MatchOption filter None-is Has ∥₁ → (Has f → IfSome totals (λ _. Told))
     → IfSome totals (λ _. ∥ Told ∥₁)

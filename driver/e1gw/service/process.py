@@ -45,8 +45,8 @@ class Child:
     said up to now, but for counts."""
 
     def __init__(self, pid: int, started: int = 0, said: int = -1, heard: int = 0) -> None:
-        """`started` is 0 for one that was started here a moment ago; `said` has what it says, if that is held here, of
-        which so many octets were heard before."""
+        """`started` is 0 for one that was started here a moment ago; `said` has what it says, if that is held here;
+        `heard` octets of it were heard before."""
         self.pid, self.started, self.said = pid, started or start_of(pid), said
         self._heard = self._noted = heard
         self.lines, self._news, self._counted = list[str](), list[str](), Counter[str]()
