@@ -1,6 +1,6 @@
 -- Events are noted one by one.
 use Rattle.std.proofs.Common.{◌≡◌, ◌≢◌, ◌⊎◌, ◌<◌, ◌++◌, ◌∷◌, ◌∙◌, ◌||◌, ◌==◌, ℕ, Bool, true, false, List, []}
-use Rattle.std.proofs.Common.{inl, inr, refl, sym, ap, length}
+use Rattle.std.proofs.Common.{inl, inr, sym, ap, length}
 use Rattle.std.proofs.Math.Bool.{or-false, or-true, or_assoc}
 use Rattle.std.proofs.Math.Dec.{eqb}
 use Rattle.std.proofs.lemmas.Bool.Decides.{eqb_tells}

@@ -3,6 +3,7 @@ pub mod Socket
 pub mod Names
 pub mod Udp
 pub mod Calls
+pub mod Telling
 pub mod Opening
 pub mod Outcome
 pub mod System

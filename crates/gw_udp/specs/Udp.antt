@@ -1,12 +1,12 @@
 -- The sockets of circuits, and the effect of a receive and a send for a circuit.
-use Rattle.std.specs.Prelude.{◌≡◌, ◌≢◌, ◌⊎◌, ◌-◌, ◌<◌, ◌≤◌, ℕ, zero, suc, List, flat_map, slice_index_or, ⊤}
+use Rattle.std.specs.Prelude.{◌≡◌, ◌≢◌, ◌⊎◌, ◌-◌, ◌<◌, ◌≤◌, ℕ, zero, suc, List, slice_index_or, ⊤}
 use Rattle.std.specs.Prelude.{Option, Some, None, Result, Ok, Err, string_bytes}
 use Rattle.std.specs.declared.net.socket_addr.SocketAddr.{SocketAddr}
 use Rattle.std.specs.Net.Addr.{is_ipv4}
 use Rattle.std.specs.Net.Socket.{socket_ip}
 use Rattle.gw_config.specs.declared.config.Port.{Port}
 use Rattle.gw_records.specs.declared.ports.PortFault.{PortFault}
-use Rattle.gw_records.specs.Ports.{PortsState, PortCall, Addresses, given_by_call, taken_by_call}
+use Rattle.gw_records.specs.Ports.{Addresses}
 use Rattle.gw_udp.specs.Names.{LookUp, IsAddressOf}
 use Rattle.gw_udp.specs.SourceFilter.{IsAccepted}
 use Rattle.gw_udp.specs.Socket.{Bound, Received, Sent}
@@ -122,16 +122,3 @@ addresses_at (Some e) = Some (e.here.value, e.peer)
 -- .. of circuits 1 to 30
 abbrev pub addresses_of : {S : Type 0} → List (Option (Endpoint S)) → Addresses
 addresses_of endpoints circuit = addresses_at (slice_index_or endpoints (circuit - 1) None)
-
--- Sockets report how many receives and sends have failed, their addresses, and all calls with what they gave
--- and took. What is queued in the system is not known.
-abbrev pub told : ℕ → ℕ → Addresses → List PortCall → PortsState
-told receive_failed send_failed addresses calls = record {
-  receive_failures = receive_failed;
-  send_failures = send_failed;
-  addresses = addresses;
-  waiting = None;
-  given = Some (flat_map given_by_call calls);
-  taken = Some (flat_map taken_by_call calls);
-  calls = Some calls;
-}

@@ -11,7 +11,6 @@ ghost use Rattle.gw_udp.specs.Udp.{IsEndpointOf, IsEndpoint, HasEndpoints, Keeps
 ghost use Rattle.gw_udp.specs.Opening.{Blames, LacksSocket, IsFaultOf, FailsToOpen};
 ghost use Rattle.gw_udp.specs.Socket.{KeepsBound};
 ghost use Rattle.gw_udp.specs.Udp.{ReceivesFrom, EndpointReceives, EndpointSends, TakesFrom};
-ghost use Rattle.gw_udp.specs.Udp.{addresses_of, told};
 ghost use Rattle.gw_udp.specs.Calls.{HasCalled, AreBound, IsFresh};
 
 use crate::names::NameLookup;
@@ -38,6 +37,14 @@ pub enum OpenFault {
     /// The socket of this circuit cannot be opened, its host or its peer has no address, or their addresses
     /// are of different families.
     Socket(u8),
+}
+
+// Sockets that are asked for: at this host, by these lookups, for these senders.
+#[derive(Drop)]
+struct SocketsAsked<'a, L> {
+    names: &'a L,
+    host: &'a str,
+    senders: SourceFilter,
 }
 
 /// A circuit's socket, its own address, its peer's, and the senders it accepts.
@@ -114,19 +121,18 @@ fn restrict<S: Socket>(socket: &mut S, senders: SourceFilter, peer: SocketAddr)
 // Opens a circuit's socket by its configuration.
 fn open_endpoint<S: Socket, L: NameLookup>(
     net: &impl Net,
-    names: &L,
     readiness: &Readiness,
     circuit: u8,
-    host: &str,
     port: &Port,
-    senders: SourceFilter,
+    asked: &SocketsAsked<L>,
 ) -> Result<Endpoint<S>, OpenFault>
-    ensures ok { IfOk result (IsEndpointOf (TakesFrom S.is_bound S.is_open senders) (L.looks_up names.now)
-        host.now senders port.now) }
+    ensures ok { IfOk result (IsEndpointOf (TakesFrom S.is_bound S.is_open asked.now.senders)
+        (L.looks_up asked.now.names.now) asked.now.host.now asked.now.senders port.now) }
     ensures err { IfErr result (IsFaultOf circuit
-        (LacksSocket S.refuses (L.looks_up names.now) host.now port.now)) }
+        (LacksSocket S.refuses (L.looks_up asked.now.names.now) asked.now.host.now port.now)) }
 {
-    let here = address_of(names, circuit, host, port.local_port)?;
+    let names = asked.names;
+    let here = address_of(names, circuit, asked.host, port.local_port)?;
     let peer = address_of(names, circuit, port.peer_host.as_str(), port.peer_port)?;
     // A socket of one family sends nothing to an address of the other.
     if here.is_ipv4() != peer.is_ipv4() {
@@ -136,6 +142,7 @@ fn open_endpoint<S: Socket, L: NameLookup>(
         Ok(socket) => socket,
         Err(error) => return Err(fault_of(circuit, &error)),
     };
+    let senders = asked.senders;
     restrict(&mut socket, senders, peer);
     readiness.watch(circuit, &mut socket);
     Ok(Endpoint {
@@ -149,20 +156,18 @@ fn open_endpoint<S: Socket, L: NameLookup>(
 // Opens the socket of a circuit, if it has ports.
 fn endpoint_of<S: Socket, L: NameLookup>(
     net: &impl Net,
-    names: &L,
     readiness: &Readiness,
     circuit: u8,
-    host: &str,
     port: &Option<Port>,
-    senders: SourceFilter,
+    asked: &SocketsAsked<L>,
 ) -> Result<Option<Endpoint<S>>, OpenFault>
-    ensures ok { IfOk result (IsEndpoint (TakesFrom S.is_bound S.is_open senders) (L.looks_up names.now)
-        host.now senders port.now) }
+    ensures ok { IfOk result (IsEndpoint (TakesFrom S.is_bound S.is_open asked.now.senders)
+        (L.looks_up asked.now.names.now) asked.now.host.now asked.now.senders port.now) }
     ensures err { IfErr result (IsFaultOf circuit
-        (IsSomeAnd port.now (LacksSocket S.refuses (L.looks_up names.now) host.now))) }
+        (IsSomeAnd port.now (LacksSocket S.refuses (L.looks_up asked.now.names.now) asked.now.host.now))) }
 {
     match port {
-        Some(port) => Ok(Some(open_endpoint(net, names, readiness, circuit, host, port, senders)?)),
+        Some(port) => Ok(Some(open_endpoint(net, readiness, circuit, port, asked)?)),
         None => Ok(None),
     }
 }
@@ -340,16 +345,14 @@ impl<S: Socket> UdpPorts<S> {
             return Err(OpenFault::OutOfMemory);
         };
         let readiness = Readiness::open(net, alloc);
+        let asked = SocketsAsked {
+            names: net,
+            host,
+            senders,
+        };
         for number in 1..=30u8 {
-            let endpoint = endpoint_of(
-                net,
-                net,
-                &readiness,
-                number,
-                host,
-                &ports[usize::from(number) - 1],
-                senders,
-            )?;
+            let port = &ports[usize::from(number) - 1];
+            let endpoint = endpoint_of(net, &readiness, number, port, &asked)?;
             endpoints.push_reserved(endpoint);
         }
         let opened = AtStart::of(&endpoints);
@@ -365,8 +368,9 @@ impl<S: Socket> UdpPorts<S> {
 }
 
 impl<S: Socket> Ports for UdpPorts<S> {
-    ghost tells = { λ p.
-        told p.receive_failed p.send_failed (addresses_of p.opened.value.items) p.log.calls };
+    ghost use Rattle.gw_udp.specs.Telling.{told};
+
+    ghost tells = { told };
 
     fn look(&mut self) {
         self.readiness.look();
@@ -375,17 +379,9 @@ impl<S: Socket> Ports for UdpPorts<S> {
     #[inline]
     fn receive(&mut self, circuit: CircuitNo, room: &mut [u8]) -> Result<Option<usize>, PortFault>
         ensures bound { IfOk result (λ got. IfSome got (λ n. n ≤ length room.new)) }
-        ensures receives { Receives
-            (told self.old.receive_failed self.old.send_failed (addresses_of self.old.opened.value.items)
-            self.old.log.calls)
-            (told self.new.receive_failed self.new.send_failed (addresses_of self.new.opened.value.items)
-            self.new.log.calls) circuit result room.new }
+        ensures receives { Receives (told self.old) (told self.new) circuit result room.new }
         ensures counts { CountsFault self.old.receive_failed self.new.receive_failed result }
-        ensures sends_stay { KeepsSends
-            (told self.old.receive_failed self.old.send_failed (addresses_of self.old.opened.value.items)
-            self.old.log.calls)
-            (told self.new.receive_failed self.new.send_failed (addresses_of self.new.opened.value.items)
-            self.new.log.calls) }
+        ensures sends_stay { KeepsSends (told self.old) (told self.new) }
         ensures own { EndpointReceives S.receives circuit self.old.endpoints.items self.new.endpoints.items
             result room.new }
         ensures others { KeepsOthers circuit self.old.endpoints.items self.new.endpoints.items }
@@ -398,17 +394,9 @@ impl<S: Socket> Ports for UdpPorts<S> {
     }
 
     fn send(&mut self, circuit: CircuitNo, datagram: &[u8]) -> Result<(), PortFault>
-        ensures sends { Sends
-            (told self.old.receive_failed self.old.send_failed (addresses_of self.old.opened.value.items)
-            self.old.log.calls)
-            (told self.new.receive_failed self.new.send_failed (addresses_of self.new.opened.value.items)
-            self.new.log.calls) circuit result datagram.now }
+        ensures sends { Sends (told self.old) (told self.new) circuit result datagram.now }
         ensures counts { CountsFault self.old.send_failed self.new.send_failed result }
-        ensures receives_stay { KeepsReceives
-            (told self.old.receive_failed self.old.send_failed (addresses_of self.old.opened.value.items)
-            self.old.log.calls)
-            (told self.new.receive_failed self.new.send_failed (addresses_of self.new.opened.value.items)
-            self.new.log.calls) }
+        ensures receives_stay { KeepsReceives (told self.old) (told self.new) }
         ensures own { EndpointSends S.sends circuit self.old.endpoints.items self.new.endpoints.items
             datagram.now result }
         ensures others { KeepsOthers circuit self.old.endpoints.items self.new.endpoints.items }

@@ -10,6 +10,6 @@ invariant-loop-number g l = record {
   some : 1 ≤ l.number;
   len : vec_len l.endpoints + 1 ≡ l.number;
   memory : vec_capacity l.endpoints ≡ 30;
-  own : HasEndpoints (TakesFrom g.S.Socket.is_bound g.S.Socket.is_open l.senders) SystemLooksUp l.host l.senders
-      l.ports l.endpoints.items (l.number - 1);
+  own : HasEndpoints (TakesFrom g.S.Socket.is_bound g.S.Socket.is_open l.asked.senders) SystemLooksUp
+      l.asked.host.now l.asked.senders l.ports l.endpoints.items (l.number - 1);
 }

@@ -1,0 +1,18 @@
+-- What the sockets of circuits report.
+use Rattle.std.specs.Prelude.{flat_map, Some, None}
+use Rattle.gw_records.specs.Ports.{PortsState, given_by_call, taken_by_call}
+use Rattle.gw_udp.specs.Udp.{addresses_of}
+use Rattle.gw_udp.specs.declared.udp.UdpPorts.{UdpPorts}
+
+-- Sockets report how many receives and sends have failed, their addresses, and all calls with what they gave
+-- and took. What is queued in the system is not known.
+abbrev pub told : {S : Type 0} {m : _} → UdpPorts S m → PortsState
+told ports = record {
+  receive_failures = ports.receive_failed;
+  send_failures = ports.send_failed;
+  addresses = addresses_of ports.opened.value.items;
+  waiting = None;
+  given = Some (flat_map given_by_call ports.log.calls);
+  taken = Some (flat_map taken_by_call ports.log.calls);
+  calls = Some ports.log.calls;
+}
