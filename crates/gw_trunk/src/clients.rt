@@ -4,6 +4,7 @@ ghost use Rattle.std.specs.Prelude.{◌≡◌, ◌==◌, ◌||◌, ◌&&◌, ◌
 ghost use Rattle.std.specs.Prelude.{IfSome, IfNone, IfOk, IfErr, Some, None, is_ok, option_map};
 ghost use Rattle.std.specs.List.{list_all};
 ghost use Rattle.std.specs.Duration.{as_nanos};
+ghost use Rattle.mio.specs.Event.{event_token, is_read_closed};
 ghost use Rattle.mio.specs.Events.{items};
 ghost use Rattle.gw_trunk.specs.System.{SystemAccepted, SystemHasNobody, SystemRefusesStream};
 ghost use Rattle.gw_trunk.specs.System.{SystemWatches};
@@ -17,6 +18,7 @@ use crate::client_stream::ClientStream;
 use crate::device_calls::DeviceReader;
 use crate::logged_reader::LoggedReader;
 use crate::readiness::{open_poll, renew, wait_for_events, watch, watch_descriptor};
+use mio::event::Event;
 use mio::net::{UnixListener, UnixStream};
 use mio::{Events, Interest, Poll};
 use std::io::{self, ErrorKind};
@@ -134,21 +136,21 @@ fn wake_one<S: ClientStream>(place: &mut Option<Client<S>>, has_left: bool)
     }
 }
 
-// Notes an event of this token; a client may have left.
+// Notes an event, by its token; a client may have left.
 fn note<S: ClientStream>(
-    token: usize,
-    has_left: bool,
+    event: &Event,
     octets: &mut bool,
     knocks: &mut bool,
     ends: &mut bool,
     places: &mut [Option<Client<S>>; 8],
 )
-    ensures octets { octets.new ≡ (token == 0 || octets.old) }
-    ensures knocks { knocks.new ≡ (token == 1 || knocks.old) }
-    ensures ends { ends.new ≡ (token == 10 || ends.old) }
-    ensures woken { (k : ℕ) → k < 8
-        → IsWokenAt (token == k + 2) (token == k + 2 && has_left) (at places.old k) (at places.new k) }
+    ensures octets { octets.new ≡ ((event_token event.now).0 == 0 || octets.old) }
+    ensures knocks { knocks.new ≡ ((event_token event.now).0 == 1 || knocks.old) }
+    ensures ends { ends.new ≡ ((event_token event.now).0 == 10 || ends.old) }
+    ensures woken { (k : ℕ) → k < 8 → IsWokenAt ((event_token event.now).0 == k + 2)
+        ((event_token event.now).0 == k + 2 && is_read_closed event.now) (at places.old k) (at places.new k) }
 {
+    let token = event.token().0;
     if token == TRUNK {
         *octets = true;
     }
@@ -159,7 +161,7 @@ fn note<S: ClientStream>(
         *ends = true;
     }
     if token >= FIRST_CLIENT && token - FIRST_CLIENT < MOST_CLIENTS {
-        wake_one(&mut places[token - FIRST_CLIENT], has_left);
+        wake_one(&mut places[token - FIRST_CLIENT], event.is_read_closed());
     }
 }
 
@@ -177,14 +179,7 @@ fn note_all<S: ClientStream>(
     ensures woken { AreWoken (items events.now) places.old places.new }
 {
     for event in events.iter() {
-        note(
-            event.token().0,
-            event.is_read_closed(),
-            octets,
-            knocks,
-            ends,
-            places,
-        );
+        note(event, octets, knocks, ends, places);
     }
 }
 

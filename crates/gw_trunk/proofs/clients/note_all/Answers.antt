@@ -7,12 +7,11 @@ loop-event-preserved g c =
     let event = c.in-Some.event.now in
     let before = map (λ e. e.now) c.loop-event.yielded in
     rw (values-more _ c.loop-event.yielded c.in-Some.event) (record {
-      octets = comes-more 0 before event _ _ _ (rw (c.token.ensures) at c.note.ensures.octets)
+      octets = comes-more 0 before event _ _ _ c.note.ensures.octets
           c.loop-event.invariant.octets;
-      knocks = comes-more 1 before event _ _ _ (rw (c.token.ensures) at c.note.ensures.knocks)
+      knocks = comes-more 1 before event _ _ _ c.note.ensures.knocks
           c.loop-event.invariant.knocks;
-      ends = comes-more 10 before event _ _ _ (rw (c.token.ensures) at c.note.ensures.ends)
+      ends = comes-more 10 before event _ _ _ c.note.ensures.ends
           c.loop-event.invariant.ends;
-      woken = woken-more before event _ _ _ c.loop-event.invariant.woken
-          (rw (c.token.ensures, c.is_read_closed.ensures) at c.note.ensures.woken);
+      woken = woken-more before event _ _ _ c.loop-event.invariant.woken c.note.ensures.woken;
     })
