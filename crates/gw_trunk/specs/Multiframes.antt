@@ -94,6 +94,13 @@ pub record IsPrompt (held : List ℕ) (position : MultiframePosition) : Type 0 w
 abbrev pub HasRoom : List ℕ → MultiframePosition → Type 0
 HasRoom held position = position.discards ≡ false → position.place ≢ 0 → length held ≤ position.place
 
+-- A position is within a multiframe, there is room for the rest of it, and all is prompt if no wait ended
+-- without room.
+pub record IsWithin (slow_waits : ℕ) (held : List ℕ) (position : MultiframePosition) : Type 0 where
+  pub below : position.place < 512
+  pub room : HasRoom held position
+  pub prompt : slow_waits ≡ 0 → IsPrompt held position
+
 -- Octets were sent to a device that may be slow. They went to it in order, except for discarded whole
 -- multiframes, of this number, and for octets that it has not taken in the end. While each discarded one came
 -- a wait ended without room. All of them went if no wait did.

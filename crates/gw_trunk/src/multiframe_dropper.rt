@@ -3,7 +3,7 @@
 ghost use Rattle.std.specs.Prelude.{◌≡◌, ◌<◌, ◌≤◌, ◌+◌, ◌-◌, ◌++◌, ◌⊎◌, ℕ, [], true, false, length, take};
 ghost use Rattle.std.specs.Prelude.{min, IfOk, IfSome, IfNone, OnErr};
 ghost use Rattle.gw_trunk.specs.Device.{written_of};
-ghost use Rattle.gw_trunk.specs.Multiframes.{IsThinned, IsPrompt, HasRoom, Steps, GoesInTime};
+ghost use Rattle.gw_trunk.specs.Multiframes.{IsThinned, IsWithin, HasRoom, Steps, GoesInTime};
 ghost use Rattle.gw_trunk.specs.Multiframes.{position_after, position_discarding};
 ghost use Rattle.gw_trunk.specs.System.{SystemWasTold};
 
@@ -168,19 +168,14 @@ fn pass<O: TrunkOutput>(
     octets: &[u8],
 ) -> Result<usize, DeviceFault>
     requires fits { position.old.place + length octets.now ≤ 512 }
-    requires below { position.old.place < 512 }
-    requires room { HasRoom held.old.items position.old }
+    requires within { IsWithin (O.slow_waits outgoing.old) held.old.items position.old }
     ensures bound { IfOk result (λ n. n ≤ length octets.now) }
     ensures steps { IfOk result (λ n. Steps position.old position.new (O.went outgoing.old ++ held.old.items)
         (O.went outgoing.new ++ held.new.items) (take n octets.now)
         (O.slow_waits outgoing.old) (O.slow_waits outgoing.new)) }
-    ensures err { OnErr result (position.new ≡ position.old) }
-    ensures left { OnErr result (O.went outgoing.new ++ held.new.items
-        ≡ O.went outgoing.old ++ held.old.items) }
-    ensures room { HasRoom held.new.items position.new }
-    ensures below { position.new.place < 512 }
-    ensures prompt { O.slow_waits outgoing.new ≡ 0 → IsPrompt held.old.items position.old
-        → IsPrompt held.new.items position.new }
+    ensures err { OnErr result ((position.new ≡ position.old)
+        × (O.went outgoing.new ++ held.new.items ≡ O.went outgoing.old ++ held.old.items)) }
+    ensures within { IsWithin (O.slow_waits outgoing.new) held.new.items position.new }
     ensures waits { O.slow_waits outgoing.old ≤ O.slow_waits outgoing.new }
     ensures given { IfOk result (λ _. position.old.discards ≡ false
         → (O.slow_waits outgoing.old < O.slow_waits outgoing.new) ⊎ O.was_given outgoing.new octets.now) }
@@ -220,9 +215,7 @@ pub struct MultiframeDropper<O: TrunkOutput, E> {
     waits: Log,
     ghost thinned: { ∥ IsThinned position log.octets (O.went outgoing ++ held.items)
         (O.slow_waits outgoing) ∥₁ },
-    ghost below: { position.place < 512 },
-    ghost room: { HasRoom held.items position },
-    ghost prompt: { O.slow_waits outgoing ≡ 0 → IsPrompt held.items position },
+    ghost within: { IsWithin (O.slow_waits outgoing) held.items position },
     ghost told: { 0 < position.discarded → ∥ SystemWasTold notes ∥₁ },
 }
 

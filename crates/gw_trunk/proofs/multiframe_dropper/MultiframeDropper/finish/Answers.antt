@@ -9,9 +9,11 @@ invariant_of-self g c =
     let e = c.give_held.ensures in
     record {
       thinned = ∥∥₁_map s.thinned (λ t. waited s.position s.log.octets _ _ _ (rw (e.went) t) e.waits);
-      below = s.below;
-      room = λ goes begun. let room = s.room goes begun in omega (arith, e.shorter, room);
-      prompt = finished s.position _ _ _ _ e.waits e.shorter s.prompt;
+      within = record {
+        below = s.within.below;
+        room = λ goes begun. let room = s.within.room goes begun in omega (arith, e.shorter, room);
+        prompt = finished s.position _ _ _ _ e.waits e.shorter s.within.prompt;
+      };
       told = s.told;
     }
 
@@ -21,7 +23,7 @@ returns-clause-goes g c =
     let e = c.give_held.ensures in
     ∥∥₁_map s.thinned (λ t. in-time s.position s.log.octets _ c.give_held.new.held.items _
     (waited s.position s.log.octets _ _ _ (rw (e.went) t) e.waits)
-    (finished s.position _ _ _ _ e.waits e.shorter s.prompt))
+    (finished s.position _ _ _ _ e.waits e.shorter s.within.prompt))
 
 pub returns-clause-given : goal.returns-clause-given
 returns-clause-given g c =

@@ -11,9 +11,7 @@ invariant_of-self-then-self-gt0 g c =
       thinned = ∥∥₁_map s.thinned (λ t. rw (c.append.ensures)
           (stepped s.position c.pass.new.position _ _ _ c.args.octets.now c.min-most.result c.in-Ok.n _ _ t
           c.in-Ok.ensures.steps fits c.in-Ok.ensures.bound));
-      below = c.in-Ok.ensures.below;
-      room = c.in-Ok.ensures.room;
-      prompt = λ e. c.in-Ok.ensures.prompt e (s.prompt (omega (arith, c.in-Ok.ensures.waits, e)));
+      within = c.in-Ok.ensures.within;
       told = λ some. ∣ c.tell_slow.ensures ∣₁;
     }
 
@@ -25,9 +23,7 @@ invariant_of-self-else-self-gt0 g c =
       thinned = ∥∥₁_map s.thinned (λ t. rw (c.append.ensures)
           (stepped s.position c.pass.new.position _ _ _ c.args.octets.now c.min-most.result c.in-Ok.n _ _ t
           c.in-Ok.ensures.steps fits c.in-Ok.ensures.bound));
-      below = c.in-Ok.ensures.below;
-      room = c.in-Ok.ensures.room;
-      prompt = λ e. c.in-Ok.ensures.prompt e (s.prompt (omega (arith, c.in-Ok.ensures.waits, e)));
+      within = c.in-Ok.ensures.within;
       told = λ some. absurd (omega (arith, some, c.if-self-gt0.false));
     }
 
@@ -39,9 +35,7 @@ invariant_of-self-else-before-eq0 g c =
       thinned = ∥∥₁_map s.thinned (λ t. rw (c.append.ensures)
           (stepped s.position c.pass.new.position _ _ _ c.args.octets.now c.min-most.result c.in-Ok.n _ _ t
           c.in-Ok.ensures.steps fits c.in-Ok.ensures.bound));
-      below = c.in-Ok.ensures.below;
-      room = c.in-Ok.ensures.room;
-      prompt = λ e. c.in-Ok.ensures.prompt e (s.prompt (omega (arith, c.in-Ok.ensures.waits, e)));
+      within = c.in-Ok.ensures.within;
       told = λ some. s.told (omega (arith, c.if-before-eq0.false));
     }
 
@@ -50,9 +44,7 @@ invariant_of-self g c =
     let s = c.args.self.now in
     let e = c.in-Err.ensures in
     record {
-      thinned = ∥∥₁_map s.thinned (λ t. rw (e.err, e.left) (waited s.position s.log.octets _ _ _ t e.waits));
-      below = e.below;
-      room = e.room;
-      prompt = λ none. e.prompt none (s.prompt (omega (arith, e.waits, none)));
-      told = λ some. s.told (rw e.err at some);
+      thinned = ∥∥₁_map s.thinned (λ t. rw (e.err.0, e.err.1) (waited s.position s.log.octets _ _ _ t e.waits));
+      within = e.within;
+      told = λ some. s.told (rw (e.err.0) at some);
     }
