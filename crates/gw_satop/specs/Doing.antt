@@ -20,6 +20,11 @@ abbrev pub IsNoneDue : Receiver → PlayClock → Type 0
 IsNoneDue receiver pace = (calls : List PlayoutCall) → HasPlayed receiver calls
     → is_due pace pace.counted (reach_after receiver.settings calls) ≡ false
 
+-- a packet is due
+abbrev pub IsDueNow : Receiver → PlayClock → Type 0
+IsDueNow receiver pace = (calls : List PlayoutCall) → HasPlayed receiver calls
+    → is_due pace pace.counted (reach_after receiver.settings calls) ≡ true
+
 -- Packets were played until none was due any more, or 8192: their octets went to the trunk or are left for
 -- it.
 abbrev pub PlaysDue : Receiver → PlayClock → ℕ → List ℕ → List ℕ → Type 0

@@ -8,6 +8,7 @@ pub mod Line
 pub mod Turns
 pub mod Session
 pub mod Doing
+pub mod Playing
 pub mod Opening
 pub mod FarEnd
 pub mod System

@@ -1,5 +1,5 @@
 -- When packets are played, and when a stream begins (module `pace`). Times are in microseconds.
-use Rattle.std.specs.Prelude.{ℕ, ◌+◌, ◌-◌, ◌*◌, ◌/◌, ◌%◌, ◌^◌, ◌==◌, ◌&&◌, ◌||◌, not}
+use Rattle.std.specs.Prelude.{◌≡◌, ℕ, ◌+◌, ◌-◌, ◌*◌, ◌/◌, ◌%◌, ◌^◌, ◌==◌, ◌&&◌, ◌||◌, not}
 use Rattle.std.specs.Prelude.{nat_le, nat_lt, min, max, Bool, true, false, if◌then◌else◌, Option, Some, None}
 use Rattle.std.specs.Prelude.{Result, Ok, Err}
 use Rattle.satop_playout.specs.declared.ArrivalFault.{ArrivalFault}
@@ -139,6 +139,13 @@ at_time p now = record p {
 -- no packet of the stream has come for 100 ms, and all that may be on its way had time to come
 abbrev pub falls_silent : PlayClock → ℕ → Bool
 falls_silent p now = not p.silent && (nat_le 100000 (now - p.heard) && nat_le p.patient now)
+
+-- the pace is set up as it was, its time stands, and a silence that was to begin is still to begin
+pub record KeepsTime (old new : PlayClock) : Type 0 where
+  pub timing : new.timing ≡ old.timing
+  pub time : new.counted ≡ old.counted
+  pub listened : new.listened ≡ old.listened
+  pub silence : falls_silent new new.counted ≡ falls_silent old old.counted
 
 -- the pace after all that came was read
 abbrev pub after_listening : PlayClock → ℕ → PlayClock

@@ -4,12 +4,11 @@ ghost use Rattle.std.specs.Prelude.{◌≡◌, ◌⊎◌, ◌++◌, ◌∷◌, �
 ghost use Rattle.std.specs.Prelude.{true, false, nat_lt, IfOk, IfErr};
 ghost use Rattle.gw_satop.specs.declared.line.Receiver.{Receiver};
 ghost use Rattle.gw_satop.specs.declared.pace.PlayClock.{PlayClock};
-ghost use Rattle.gw_satop.specs.Doing.{HasReadTrunk, HearsAll, PlaysDue, RefusesOctets};
+ghost use Rattle.gw_satop.specs.Doing.{HasReadTrunk, HearsAll, IsDueNow, PlaysDue, RefusesOctets};
 ghost use Rattle.gw_satop.specs.Session.{HasSettings, PlaysAll, SendsAll};
 ghost use Rattle.gw_satop.specs.Counts.{counts_by_play, no_counts, CountsSends};
 ghost use Rattle.gw_satop.specs.Line.{HasPlayed};
-ghost use Rattle.gw_satop.specs.Pace.{after_play, falls_silent, is_due, new_pace, next_time};
-ghost use Rattle.gw_satop.specs.Sending.{packets_of};
+ghost use Rattle.gw_satop.specs.Pace.{KeepsTime, after_play, falls_silent, is_due, new_pace, next_time};
 ghost use Rattle.satop_playout.specs.Calls.{PlayoutCall};
 ghost use Rattle.satop_playout.specs.Plays.{is_there, reach_after};
 
@@ -92,15 +91,10 @@ fn play_into(
 )
     requires room { length room.old ≡ receiver.old.settings.size }
     requires left { left.old.items ≡ [] }
-    requires due { (calls : List PlayoutCall) → HasPlayed receiver.old calls
-        → is_due pace.old pace.old.counted
-        (reach_after receiver.old.settings calls) ≡ true }
+    requires due { IsDueNow receiver.old pace.old }
     ensures settings { receiver.new.settings ≡ receiver.old.settings }
     ensures rtp { receiver.new.rtp ≡ receiver.old.rtp }
-    ensures timing { pace.new.timing ≡ pace.old.timing }
-    ensures time { pace.new.counted ≡ pace.old.counted }
-    ensures listened { pace.new.listened ≡ pace.old.listened }
-    ensures silence { falls_silent pace.new pace.new.counted ≡ falls_silent pace.old pace.old.counted }
+    ensures pace { KeepsTime pace.old pace.new }
     ensures left { length left.new.items ≡ length room.new }
     ensures sent { counts.new.sent ≡ counts.old.sent }
     ensures unsent { counts.new.unsent ≡ counts.old.unsent }
@@ -123,13 +117,8 @@ fn send_all<P: Peer>(
     missing: bool,
     octets: &[u8],
 )
-    requires rest { length sender.old.held.items < sender.old.start.size }
-    requires sent { P.sent peer.old
-        ≡ packets_of sender.old.start sender.old.log.flags sender.old.came.octets }
-    ensures rest { length sender.new.held.items < sender.new.start.size }
-    ensures sent { P.sent peer.new
-        ≡ packets_of sender.new.start sender.new.log.flags sender.new.came.octets }
-    ensures came { sender.new.came.octets ≡ sender.old.came.octets ++ octets.now }
+    requires { SendsAll sender.old (P.sent peer.old) sender.old.came.octets }
+    ensures sends { SendsAll sender.new (P.sent peer.new) (sender.old.came.octets ++ octets.now) }
     ensures received { P.received peer.new ≡ P.received peer.old }
     ensures start { sender.new.start ≡ sender.old.start }
     ensures counted { CountsSends counts.old sender.old.log.flags (P.taken peer.old)
@@ -150,6 +139,8 @@ fn send_all<P: Peer>(
 }
 
 impl<I: TrunkInput, O: TrunkOutput, P: Peer> SatopCircuit<I, O, P> {
+    ghost use Rattle.gw_satop.specs.Playing.{OnlyPlays};
+
     /// A circuit before any octet and datagram.
     pub fn new(
         incoming: I,
@@ -265,16 +256,8 @@ impl<I: TrunkInput, O: TrunkOutput, P: Peer> SatopCircuit<I, O, P> {
     // Plays the next packet, which is due, and is then left for the trunk.
     fn play_next(&mut self)
         requires left { self.old.left.items ≡ [] }
-        requires due { (calls : List PlayoutCall) → HasPlayed self.old.receiver calls → is_due self.old.pace
-            self.old.pace.counted (reach_after self.old.receiver.settings calls) ≡ true }
-        ensures same { HasSettings self.old.receiver self.new.receiver self.old.sender self.new.sender
-            self.old.pace self.new.pace }
-        ensures time { self.new.pace.counted ≡ self.old.pace.counted }
-        ensures listened { self.new.pace.listened ≡ self.old.pace.listened }
-        ensures silence { falls_silent self.new.pace self.new.pace.counted
-            ≡ falls_silent self.old.pace self.old.pace.counted }
-        ensures peer { self.new.peer ≡ self.old.peer }
-        ensures incoming { self.new.incoming ≡ self.old.incoming }
+        requires due { IsDueNow self.old.receiver self.old.pace }
+        ensures only { OnlyPlays self.old self.new }
         ensures outgoing { self.new.outgoing ≡ self.old.outgoing }
         ensures left { length self.new.left.items ≡ self.old.receiver.settings.size }
     {
@@ -291,16 +274,8 @@ impl<I: TrunkInput, O: TrunkOutput, P: Peer> SatopCircuit<I, O, P> {
 
     // Plays the next packet, which is due, to the trunk.
     fn play(&mut self) -> Result<(), DeviceFault>
-        requires due { (calls : List PlayoutCall) → HasPlayed self.old.receiver calls → is_due self.old.pace
-            self.old.pace.counted (reach_after self.old.receiver.settings calls) ≡ true }
-        ensures same { HasSettings self.old.receiver self.new.receiver self.old.sender self.new.sender
-            self.old.pace self.new.pace }
-        ensures time { self.new.pace.counted ≡ self.old.pace.counted }
-        ensures listened { self.new.pace.listened ≡ self.old.pace.listened }
-        ensures silence { falls_silent self.new.pace self.new.pace.counted
-            ≡ falls_silent self.old.pace self.old.pace.counted }
-        ensures peer { self.new.peer ≡ self.old.peer }
-        ensures incoming { self.new.incoming ≡ self.old.incoming }
+        requires due { IsDueNow self.old.receiver self.old.pace }
+        ensures only { OnlyPlays self.old self.new }
         ensures octets { IfOk result (λ _. length (O.went self.new.outgoing ++ self.new.left.items)
             ≡ length (O.went self.old.outgoing ++ self.old.left.items) + self.old.receiver.settings.size) }
         ensures all { IfOk result (λ _. self.new.left.items ≡ []) }
@@ -313,14 +288,7 @@ impl<I: TrunkInput, O: TrunkOutput, P: Peer> SatopCircuit<I, O, P> {
 
     // Plays the packets that are due.
     fn play_due(&mut self) -> Result<(), DeviceFault>
-        ensures same { HasSettings self.old.receiver self.new.receiver self.old.sender self.new.sender
-            self.old.pace self.new.pace }
-        ensures time { self.new.pace.counted ≡ self.old.pace.counted }
-        ensures listened { self.new.pace.listened ≡ self.old.pace.listened }
-        ensures silence { falls_silent self.new.pace self.new.pace.counted
-            ≡ falls_silent self.old.pace self.old.pace.counted }
-        ensures peer { self.new.peer ≡ self.old.peer }
-        ensures incoming { self.new.incoming ≡ self.old.incoming }
+        ensures only { OnlyPlays self.old self.new }
         ensures plays { IfOk result (λ _. PlaysDue self.new.receiver self.new.pace
             self.old.receiver.settings.size (O.went self.old.outgoing ++ self.old.left.items)
             (O.went self.new.outgoing ++ self.new.left.items)) }

@@ -54,3 +54,9 @@ loop-at-preserved g c = record {
   plays = λ receiver pace received went silent k. rw (c.if-packet.ensures.none refl, c.fill-at.ensures.flags)
       (c.loop-at.invariant.plays receiver pace received went silent k);
 }
+
+pub returns-clause-sends : goal.returns-clause-sends
+returns-clause-sends g c =
+    let all = take_all c.loop-at.at c.args.octets.now (omega (arith, c.loop-at-test.false)) in
+    let came = rw all at c.loop-at.invariant.came in
+    record { came_are = came; sent_are = rw (← came) c.loop-at.invariant.sent; rest = c.loop-at.invariant.rest }

@@ -31,7 +31,7 @@ plays-on receiver receiver' pace pace' size size' before before' after after' r 
 pub returns-clause-hears : goal.returns-clause-hears
 returns-clause-hears g c = anyway c.take.result (hears-on g.P.Peer.received g.P.Peer.has_none _ _ _ _
     c.advance.ensures.peer (c.take.ensures.received
-    ∙ ap g.P.Peer.received (c.in_ok-play_due.ensures.peer ∙ c.listen.ensures.peer)) c.in_ok-hear_all.ensures.hears)
+    ∙ ap g.P.Peer.received (c.in_ok-play_due.ensures.only.peer ∙ c.listen.ensures.peer)) c.in_ok-hear_all.ensures.hears)
 
 pub returns-clause-plays : goal.returns-clause-plays
 returns-clause-plays g c = anyway c.take.result (plays-on _ _ _ _ _ _ _ _ _ _

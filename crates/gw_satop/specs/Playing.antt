@@ -1,0 +1,14 @@
+-- What plays leave of an emulated circuit (module `circuit`).
+use Rattle.std.specs.Prelude.{◌≡◌}
+use Rattle.gw_satop.specs.declared.circuit.SatopCircuit.{SatopCircuit}
+use Rattle.gw_satop.specs.Pace.{KeepsTime}
+use Rattle.gw_satop.specs.Session.{HasSettings}
+
+-- packets were played, and nothing else was done: both halves are set up as they were, time stands, nothing
+-- was sent to the far end or received, and no octet came from the trunk
+pub record OnlyPlays {I O P : Type 0} {i : _} {o : _} {p : _} (old new : SatopCircuit I O P i o p)
+    : Type 0 where
+  pub same : HasSettings old.receiver new.receiver old.sender new.sender old.pace new.pace
+  pub pace : KeepsTime old.pace new.pace
+  pub peer : new.peer ≡ old.peer
+  pub incoming : new.incoming ≡ old.incoming
