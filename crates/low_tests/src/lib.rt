@@ -12,6 +12,8 @@ mod g704_cas_tests;
 #[cfg(test)]
 mod g704_crc4_tests;
 #[cfg(test)]
+mod g704_slots_tests;
+#[cfg(test)]
 mod g726_codec_tests;
 #[cfg(test)]
 mod g726_predict_tests;

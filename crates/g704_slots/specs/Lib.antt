@@ -1,0 +1,4 @@
+pub mod Search
+pub mod Loss
+pub mod Shown
+pub mod Mover
