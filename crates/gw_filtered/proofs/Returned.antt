@@ -1,11 +1,11 @@
 -- What a filter returns that is used or not, and what is held of it.
 use Rattle.std.proofs.Common.{◌≡◌, ◌++◌, ◌∙◌, ◌≤◌, ℕ, Bool, List, Option, Some, None, [], length, take, drop, sym, ap}
-use Rattle.std.proofs.Common.{append-nil}
+use Rattle.std.proofs.Common.{append-nil, arith, false, true, inl, inr, refl, ◌∷◌, ◌<◌}
 use Rattle.std.proofs.lemmas.List.{length-take-le, take-append-drop}
 use lib.Seq.{take-append_seam}
 use Rattle.std.specs.Prelude.{MatchOption, is_some}
 use Rattle.gw_filtered.specs.Filters.{ReturnsIf}
-use Rattle.gw_filtered.specs.Outgoing.{WasOffered}
+use Rattle.gw_filtered.specs.Outgoing.{WasOffered, WasOfferedOrNone}
 
 -- By whether it is used, in words that follow from its own.
 pub returned-if : {F : Type 0} (Has : F → List ℕ → List ℕ → Type 0) (Returns : List ℕ → List ℕ → Type 0)
@@ -26,22 +26,22 @@ pub took-first : (WasGiven : List ℕ → Type 0) (n : ℕ) (octets held left : 
     → WasGiven octets → octets ≡ held → WasOffered WasGiven left
 took-first WasGiven n octets held left rest given same = (take n held, rw (rest, take-append-drop, ← same) given)
 
--- What was replaced where it stood, all of it.
-pub refilled : (before after : List ℕ) → length after ≡ length before
-    → take (length before) (after ++ drop (length after) before) ≡ after
-refilled before after long =
-    ap (λ (n : ℕ). take n (after ++ drop (length after) before)) (sym long)
-    ∙ take-append_seam after (drop (length after) before)
-
--- More octets were filtered when nothing was held any more: what went and is held now is what is returned for all.
-pub filtered-more : (Had Has : List ℕ → List ℕ → Type 0)
-    (log log' returned went held octets room room' left all : List ℕ)
-    → ((taken returned : List ℕ) → Had taken returned → Has (taken ++ room) (returned ++ room'))
-    → went ++ held ≡ returned → held ≡ [] → room ≡ octets → log' ≡ log ++ octets → all ≡ went ++ left → left ≡ room'
+-- More octets were passed when nothing was held any more: what went and is held now is what is returned for all.
+pub passed-more : (Had Has : List ℕ → List ℕ → Type 0) (log log' returned went held octets given all : List ℕ)
+    → ((taken before : List ℕ) → Had taken before → Has (taken ++ octets) (before ++ given))
+    → went ++ held ≡ returned → held ≡ [] → log' ≡ log ++ octets → all ≡ went ++ given
     → Had log returned → Has log' all
-filtered-more Had Has log log' returned went held octets room room' left all stands kept none same more is refill had =
+passed-more Had Has log log' returned went held octets given all stands kept none same more had =
     let front : went ≡ returned = sym (append-nil went) ∙ ap (λ (xs : List ℕ). went ++ xs) (sym none) ∙ kept in
-    rw (more, is, refill, ← same) (stands log went (rw front had))
+    rw (more, same) (stands log went (rw front had))
+
+-- What was returned was offered, if it is something.
+pub offered-if : (may_return_none : Bool) (WasGiven : List ℕ → Type 0) (held left : List ℕ)
+    → (may_return_none ≡ false → 0 < length held) → (held ≡ [] → left ≡ [])
+    → (0 < length held → WasOffered WasGiven left) → WasOfferedOrNone may_return_none WasGiven left
+offered-if true WasGiven [] left some none given = inl (refl, none refl)
+offered-if true WasGiven (x ∷ held) left some none given = inr (given (omega arith))
+offered-if false WasGiven held left some none given = inr (given (some refl))
 
 -- A filter that is off has returned more octets as they came, where nothing is held.
 pub passed-on : (Has : List ℕ → List ℕ → Type 0) (log log' went went' held octets : List ℕ)

@@ -1,12 +1,14 @@
-//! A trunk's device behind filters, one octet for each octet (`FilteredInput`, `FilteredOutput`).
+//! A trunk's device behind filters (`FilteredInput`, `FilteredOutput`).
 #![tactic(auto)]
 
 mod incoming;
 mod outgoing;
 mod phased;
+mod pieces;
 mod switches;
 
 pub use incoming::FilteredInput;
 pub use outgoing::FilteredOutput;
 pub use phased::{Phase, PhasedFilter};
+pub use pieces::PieceFilter;
 pub use switches::{Switch, SwitchedFilter};

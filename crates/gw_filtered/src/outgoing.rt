@@ -3,10 +3,10 @@
 ghost use Rattle.std.specs.Prelude.{◌≡◌, ◌<◌, ◌≤◌, ◌⊎◌, ◌++◌, ℕ, List, [], length, min, true, false};
 ghost use Rattle.std.specs.Prelude.{IfOk, IfErr, IfSome, IfNone, OnErr};
 ghost use Rattle.gw_trunk.specs.Device.{written_of};
-ghost use Rattle.gw_filtered.specs.Outgoing.{WasOffered, TookNone, HasGone};
+ghost use Rattle.gw_filtered.specs.Outgoing.{WasOffered, WasOfferedOrNone, TookNone, HasGone};
 
+use crate::pieces::PieceFilter;
 use arrayvec::ArrayVec;
-use gw_filter::BufferFilter;
 use gw_records::Log;
 use gw_trunk::{DeviceFault, TrunkOutput, drop_first, give_held};
 
@@ -24,6 +24,7 @@ fn give_now<O: TrunkOutput>(
     ensures slow { O.slow_waits outgoing.new ≡ O.slow_waits outgoing.old }
     ensures full { IfOk result (λ all. all ≡ false → O.is_full outgoing.new) }
     ensures given { 0 < length held.old.items → WasOffered (O.was_given outgoing.new) held.new.items }
+    ensures none { held.old.items ≡ [] → held.new.items ≡ [] }
     ensures some { IfOk result (λ all. all ≡ false → 0 < length held.old.items) }
     ensures begun { OnErr result (0 < length held.old.items) }
     ensures err { OnErr result (TookNone O.has_failed O.has_taken outgoing.new) }
@@ -42,11 +43,11 @@ fn give_now<O: TrunkOutput>(
     Ok(true)
 }
 
-/// A trunk to which go the octets that a filter returns, one for each octet that is sent. Of what is sent 512
-/// octets at most are taken at once, and none before the device has taken what the filter returned before.
-/// Waits are the device's own.
+/// A trunk to which go the octets that a filter returns for what is sent. Of that 512 octets at most are
+/// taken at once, and none before the device has taken what the filter returned before. Waits are the
+/// device's own.
 #[derive(Drop)]
-pub struct FilteredOutput<O: TrunkOutput, F: BufferFilter> {
+pub struct FilteredOutput<O: TrunkOutput, F: PieceFilter> {
     outgoing: O,
     filter: F,
     // What the filter returned, and the device has not taken.
@@ -55,7 +56,7 @@ pub struct FilteredOutput<O: TrunkOutput, F: BufferFilter> {
     ghost returned: { ∥ F.has_returned filter log.octets (O.went outgoing ++ held.items) ∥₁ },
 }
 
-impl<O: TrunkOutput, F: BufferFilter> FilteredOutput<O, F> {
+impl<O: TrunkOutput, F: PieceFilter> FilteredOutput<O, F> {
     /// A trunk to which nothing went yet, and its filter.
     pub fn new(outgoing: O, filter: F) -> FilteredOutput<O, F>
         requires went { O.went outgoing ≡ [] }
@@ -117,7 +118,17 @@ impl<O: TrunkOutput, F: BufferFilter> FilteredOutput<O, F> {
     }
 }
 
-impl<O: TrunkOutput, F: BufferFilter> TrunkOutput for FilteredOutput<O, F> {
+impl<O: TrunkOutput + Drop, F: PieceFilter + Drop> FilteredOutput<O, F> {
+    /// What is sent.
+    pub fn into_outgoing(self) -> O
+        ensures { result ≡ self.outgoing }
+    {
+        let FilteredOutput { outgoing, .. } = self;
+        outgoing
+    }
+}
+
+impl<O: TrunkOutput, F: PieceFilter> TrunkOutput for FilteredOutput<O, F> {
     ghost went = { λ d. d.log.octets };
 
     ghost is_full = { λ d. O.is_full d.outgoing };
@@ -127,7 +138,8 @@ impl<O: TrunkOutput, F: BufferFilter> TrunkOutput for FilteredOutput<O, F> {
     ghost has_taken = { λ d _. HasGone d.held.items
         (O.is_full d.outgoing ⊎ TookNone O.has_failed O.has_taken d.outgoing) };
 
-    ghost was_given = { λ d octets. 0 < length octets → WasOffered (O.was_given d.outgoing) d.held.items };
+    ghost was_given = { λ d octets. 0 < length octets
+        → WasOfferedOrNone F.may_return_none (O.was_given d.outgoing) d.held.items };
 
     ghost waits = { λ d. O.waits d.outgoing };
 
@@ -152,7 +164,7 @@ impl<O: TrunkOutput, F: BufferFilter> TrunkOutput for FilteredOutput<O, F> {
             (O.is_full self.new.outgoing ⊎ TookNone O.has_failed O.has_taken self.new.outgoing))) }
         ensures full { IfOk result (λ n. IfNone n (O.is_full self.new.outgoing)) }
         ensures given { 0 < length octets.now
-            → WasOffered (O.was_given self.new.outgoing) self.new.held.items }
+            → WasOfferedOrNone F.may_return_none (O.was_given self.new.outgoing) self.new.held.items }
         ensures err { IfErr result (λ _. TookNone O.has_failed O.has_taken self.new.outgoing) }
     {
         if !give_now(&mut self.outgoing, &mut self.held)? {
@@ -162,8 +174,7 @@ impl<O: TrunkOutput, F: BufferFilter> TrunkOutput for FilteredOutput<O, F> {
             return self.pass_on(octets);
         }
         let n = octets.len().min(MOST_TAKEN);
-        let _ = self.held.try_extend_from_slice(&octets[..n]);
-        self.filter.filter_buffer(self.held.as_mut_slice());
+        self.filter.pass(&octets[..n], &mut self.held);
         self.log.append(octets, n);
         let _ = give_now(&mut self.outgoing, &mut self.held);
         Ok(Some(n))

@@ -1,0 +1,4 @@
+pub mod Frames
+pub mod Receives
+pub mod Drops
+pub mod Inputs

@@ -1,0 +1,49 @@
+-- What a receiver has made of the octets of a device, and how a device is read for it.
+use Rattle.std.specs.Prelude.{◌≡◌, ◌≤◌, ◌⊎◌, ℕ, ◌+◌, ◌*◌, ◌/◌, ◌%◌, ◌==◌, if◌then◌else◌, min, max, List, []}
+use Rattle.std.specs.Prelude.{◌∷◌, length, Option, Ok, Err, ⊤}
+use Rattle.e1_g711.specs.declared.Law.{Law}
+use Rattle.e1_g711.specs.Law.{idle_code}
+use Rattle.g704_slots.specs.Mover.{HasHistory}
+use Rattle.gw_trunk.specs.Device.{ReadResult}
+use Rattle.gw_trunk.specs.declared.device.DeviceRead.TheVariants.{Octets, NoneNow, Ended}
+use Rattle.gw_slots.specs.Frames.{slot_0, first_of, whole_trunk}
+use Rattle.gw_slots.specs.declared.receiving.SlotReceiver.{SlotReceiver}
+
+-- slot 0 if a frame begins at this place in two frames
+abbrev pub begun_by : ℕ → List ℕ
+begun_by place = if place % 32 == 0 then slot_0 place ∷ [] else []
+
+-- A receiver of a trunk of this law whose first octet is at this place in a multiframe has taken these
+-- octets, and made these for them.
+pub record HasMadeWhole (receiver : SlotReceiver) (law : Law) (place : ℕ) (taken made : List ℕ) : Type 0 where
+  pub history : HasHistory receiver.mover (first_of place) taken
+  pub idle : receiver.mover.idle ≡ idle_code law
+  pub place_is : receiver.place ≡ (place + length made) % 64
+  pub made_are : made ≡ whole_trunk law place taken
+
+-- how many octets of a device are read for this room: those of the whole frames that fit, 64 at most
+abbrev pub most_read : ℕ → ℕ
+most_read room = min 1984 (max 1 (room / 32 * 31))
+
+-- What is told of a read of the device that came to this: octets for octets, as many at least.
+abbrev pub TellsOf : ReadResult → ReadResult → Type 0
+TellsOf (Ok (Octets n)) told = (m : ℕ) × (n ≤ m) × (told ≡ Ok (Octets m))
+TellsOf (Ok NoneNow) told = told ≡ Ok NoneNow
+TellsOf (Ok Ended) told = told ≡ Ok Ended
+TellsOf (Err fault) told = told ≡ Err fault
+
+-- What is held is given as far as there is room: none is held any more, or the room is full.
+abbrev pub GivesAll : List ℕ → ℕ → ReadResult → Type 0
+GivesAll held room (Ok (Octets n)) = (held ≡ []) ⊎ (n ≡ room)
+GivesAll held room (Ok NoneNow) = ⊤
+GivesAll held room (Ok Ended) = ⊤
+GivesAll held room (Err fault) = ⊤
+
+-- The device was read for this room, and what it came to is told. What has become of slot 16 was told, or is
+-- what was told last.
+pub record ReadsSlots (reads : ℕ → ReadResult → Type 0) (has_told : Option ℕ → Type 0)
+    (before told : Option ℕ) (room : ℕ) (result : ReadResult) : Type 0 where
+  pub read : ReadResult
+  pub device : reads (most_read room) read
+  pub tells : TellsOf read result
+  pub late : (told ≡ before) ⊎ has_told told

@@ -1,0 +1,207 @@
+//! What comes of a trunk whose device has slots 1 to 31 alone (`SlotInput`).
+
+ghost use Rattle.std.specs.Prelude.{◌≡◌, ◌⊎◌, ◌+◌, ◌*◌, ◌<◌, ◌≤◌, ◌++◌, ◌||◌, ◌&&◌, ℕ, Option, List, [], ⊤};
+ghost use Rattle.std.specs.Prelude.{length, min, take, is_some, not, true, false, MatchOption, IfOk};
+ghost use Rattle.e1_g711.specs.declared.Law.{Law};
+ghost use Rattle.gw_trunk.specs.Device.{IsTaken, octets_taken};
+ghost use Rattle.gw_slots.specs.Receiving.{HasMadeWhole, GivesAll, ReadsSlots, most_read};
+ghost use Rattle.gw_slots.specs.Frames.{late_from};
+
+use crate::receiving::{DeviceSlots, SlotReceiver};
+use arrayvec::ArrayVec;
+use gw_records::Log;
+use gw_trunk::{DeviceFault, DeviceRead, TrunkInput, drop_first};
+use std::marker::PhantomData;
+
+// The octets of 64 frames: read at once at most.
+const MOST_READ: usize = 1984;
+
+/// Who is told when slot 16 is found, and when it is lost.
+///
+/// The relation is the type's own: a caller that does not know the type has it of a call alone.
+pub trait SlotTeller {
+    ghost use Rattle.std.specs.Prelude.{ℕ, Option, ⊤};
+
+    /// Holds of what it was told last.
+    ghost has_told: { Self → Option ℕ → Type 0 } = { λ _ _. ⊤ };
+
+    /// Is told by how many octets others are delayed from now on; none if slot 16 is lost.
+    fn tell(&mut self, late: Option<u8>)
+        ensures { has_told self.new late };
+}
+
+/// A trunk whose device has slots 1 to 31 alone, if its receiver is used: what comes has slot 0 again, and
+/// each octet in its slot. Clients, waits and the end are the trunk's own.
+#[derive(Drop)]
+pub struct SlotInput<I: TrunkInput, T: SlotTeller, S: DeviceSlots> {
+    incoming: I,
+    slots: Option<SlotReceiver>,
+    // Octets that have come, for which there was no room.
+    held: ArrayVec<u8, 2112>,
+    // Whether the last read gave only such octets.
+    only_held: bool,
+    teller: T,
+    // What the teller was told last.
+    told: Option<u8>,
+    log: Log,
+    of: PhantomData<S>,
+    ghost is: { is_some slots ≡ S.is_on },
+    ghost came: { ∥ MatchOption slots ((log.octets ≡ I.came incoming) × (held.items ≡ []))
+        (λ s. HasMadeWhole s S.law S.place (I.came incoming) (log.octets ++ held.items)) ∥₁ },
+    ghost said: { ∥ MatchOption slots ⊤ (λ s. told ≡ late_from S.place (I.came incoming)) ∥₁ },
+    ghost off: { is_some slots ≡ false → only_held ≡ false },
+    ghost few: { length held.items ≤ 1 },
+}
+
+impl<I: TrunkInput, T: SlotTeller, S: DeviceSlots> SlotInput<I, T, S> {
+    /// A trunk of which nothing has come yet, and its receiver before its first octet.
+    pub fn new(incoming: I, slots: Option<SlotReceiver>, teller: T) -> SlotInput<I, T, S>
+        requires came { I.came incoming ≡ [] }
+        requires begins { MatchOption slots ⊤ (λ s. HasMadeWhole s S.law S.place [] []) }
+        requires picked { is_some slots ≡ S.is_on }
+        ensures incoming { result.incoming ≡ incoming }
+        ensures log { result.log.octets ≡ [] }
+    {
+        SlotInput {
+            incoming,
+            slots,
+            held: ArrayVec::new(),
+            only_held: false,
+            teller,
+            told: None,
+            log: Log::new(),
+            of: PhantomData,
+        }
+    }
+}
+
+// Notes the octets that a read took into a room.
+fn log_read(log: &mut Log, read: &Result<DeviceRead, DeviceFault>, room: &[u8])
+    ensures { log.new.octets ≡ log.old.octets ++ octets_taken read.now room.now }
+{
+    if let Ok(DeviceRead::Octets(n)) = read {
+        log.append(room, *n);
+    }
+}
+
+// Makes the trunk's octets of those that a read of the device took into a room, where nothing is held.
+fn make(
+    slots: &mut SlotReceiver,
+    read: &Result<DeviceRead, DeviceFault>,
+    room: &[u8],
+    held: &mut ArrayVec<u8, 2112>,
+)
+    requires few { IfOk read.now (λ t. IsTaken t 1984) }
+    requires room { length room.now ≡ 1984 }
+    requires none { held.old.items ≡ [] }
+    ensures made { (law : Law) (place : ℕ) (taken made : List ℕ) → HasMadeWhole slots.old law place taken made
+        → HasMadeWhole slots.new law place (taken ++ octets_taken read.now room.now)
+        (made ++ held.new.items) }
+    ensures some { IfOk read.now (λ t. IsTaken t (length held.new.items)) }
+    ensures most { 31 * length held.new.items ≤ 32 * length (octets_taken read.now room.now) + 30 }
+{
+    if let Ok(DeviceRead::Octets(n)) = read {
+        slots.octets(&room[..*n], held);
+    }
+}
+
+// Tells what has become of slot 16, if that is something else than what was told last.
+fn tell<T: SlotTeller>(slots: &SlotReceiver, teller: &mut T, told: &mut Option<u8>)
+    ensures late { (law : Law) (place : ℕ) (taken made : List ℕ) → HasMadeWhole slots.now law place taken made
+        → told.new ≡ late_from place taken }
+    ensures told { (told.new ≡ told.old) ⊎ T.has_told teller.new told.new }
+{
+    let late = slots.late();
+    if late != *told {
+        teller.tell(late);
+        *told = late;
+    }
+}
+
+// Gives what is held, as far as there is room.
+fn give(held: &mut ArrayVec<u8, 2112>, room: &mut [u8], log: &mut Log) -> usize
+    requires { 0 < length room.old }
+    ensures count { result ≡ min (length held.old.items) (length room.new) }
+    ensures len { length room.new ≡ length room.old }
+    ensures log { log.new.octets ≡ log.old.octets ++ take result room.new }
+    ensures left { (held.new.items ≡ []) ⊎ (result ≡ length room.new) }
+    ensures all { log.new.octets ++ held.new.items ≡ log.old.octets ++ held.old.items }
+{
+    let n = held.len().min(room.len());
+    room[..n].copy_from_slice(&held.as_slice()[..n]);
+    drop_first(held, n);
+    log.append(room, n);
+    n
+}
+
+// How many octets of a device are read for a room: what comes of them fits, unless it is very small.
+fn most_read(room: usize) -> usize
+    ensures { result ≡ most_read room }
+{
+    (room / 32 * 31).max(1).min(MOST_READ)
+}
+
+impl<I: TrunkInput, T: SlotTeller, S: DeviceSlots> TrunkInput for SlotInput<I, T, S> {
+    ghost came = { λ d. d.log.octets };
+
+    ghost asked = { λ d. I.asked d.incoming };
+
+    ghost has_ended = { λ d. I.has_ended d.incoming };
+
+    ghost has_none = { λ d. I.has_none d.incoming };
+
+    ghost has_failed = { λ d. I.has_failed d.incoming };
+
+    ghost reads = { λ d d' room told. MatchOption d.slots (I.reads d.incoming d'.incoming room told)
+        (λ _. GivesAll d'.held.items room told × (((d'.only_held ≡ true) × (0 < length d.held.items))
+        ⊎ ReadsSlots (I.reads d.incoming d'.incoming) (T.has_told d'.teller) d.told d'.told room told)) };
+
+    ghost commands = { λ d d' told room. d.only_held ≡ true ⊎ I.commands d.incoming d'.incoming told room };
+
+    ghost sleeps = { λ d d'. I.sleeps d.incoming d'.incoming };
+
+    ghost waits = { λ d. I.waits d.incoming };
+
+    ghost is_turn = { λ d. d.only_held || I.is_turn d.incoming };
+
+    ghost is_empty = { λ d. not d.only_held && I.is_empty d.incoming };
+
+    ghost clients_are_quiet = { λ d. d.only_held || I.clients_are_quiet d.incoming };
+
+    ghost is_idle = { λ d. I.is_idle d.incoming };
+
+    fn read(&mut self, room: &mut [u8]) -> Result<DeviceRead, DeviceFault> {
+        let Some(slots) = &mut self.slots else {
+            let read = self.incoming.read(room);
+            log_read(&mut self.log, &read, room);
+            return read;
+        };
+        self.only_held = !self.held.is_empty();
+        if self.only_held {
+            let n = give(&mut self.held, room, &mut self.log);
+            return Ok(DeviceRead::Octets(n));
+        }
+        let mut octets = [0u8; MOST_READ];
+        let read = self.incoming.read(&mut octets[..most_read(room.len())]);
+        make(slots, &read, &octets, &mut self.held);
+        tell(slots, &mut self.teller, &mut self.told);
+        match read {
+            Ok(DeviceRead::Octets(_)) => {
+                let n = give(&mut self.held, room, &mut self.log);
+                Ok(DeviceRead::Octets(n))
+            }
+            other => other,
+        }
+    }
+
+    fn command(&mut self, room: &mut [u8]) -> Option<usize> {
+        if self.only_held {
+            return None;
+        }
+        self.incoming.command(room)
+    }
+
+    fn wait(&mut self) {
+        self.incoming.wait();
+    }
+}
