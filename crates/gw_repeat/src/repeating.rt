@@ -41,6 +41,13 @@ pub struct Repeating<P: Ports> {
         (HasRepeated count words log.calls) ∥₁ },
 }
 
+// How many datagrams later one is sent again, and the words of a packet of each circuit.
+#[derive(Drop)]
+struct Distance<'a> {
+    count: u8,
+    words: &'a [u8; 30],
+}
+
 // Sends the circuit's datagram that is due behind this one, if there is one.
 //
 // A failure changes nothing: the ports below count it.
@@ -48,26 +55,25 @@ pub struct Repeating<P: Ports> {
 fn send_due<P: Ports>(
     ports: &mut P,
     held: &mut [RecentDatagrams],
-    count: u8,
-    words: &[u8; 30],
+    behind: &Distance,
     circuit: CircuitNo,
     datagram: &[u8],
 )
     requires thirty { length held.old ≡ 30 }
-    requires some { 0 < count }
+    requires some { 0 < behind.now.count }
     requires few { (d : RecentDatagrams)
-        → length (slice_index_or held.old (circuit - 1) d).packets.items ≤ count }
-    requires room { HasRoom count circuit held.old }
+        → length (slice_index_or held.old (circuit - 1) d).packets.items ≤ behind.now.count }
+    requires room { HasRoom behind.now.count circuit held.old }
     ensures sends { (d : RecentDatagrams) → SendsAgain (P.tells ports.old) (P.tells ports.new) circuit
-        (drop count (run_with words.now circuit datagram.now held.old d)) }
+        (drop behind.now.count (run_with behind.now.words.now circuit datagram.now held.old d)) }
     ensures own { (d : RecentDatagrams) → held_of circuit held.new d
-        ≡ take count (run_with words.now circuit datagram.now held.old d) }
-    ensures room { HasRoom count circuit held.new }
+        ≡ take behind.now.count (run_with behind.now.words.now circuit datagram.now held.old d) }
+    ensures room { HasRoom behind.now.count circuit held.new }
     ensures others { KeepsOthers circuit held.old held.new }
     ensures in_range { (1 ≤ circuit) × (circuit ≤ 30) }
 {
     let place = usize::from(circuit.get()) - 1;
-    if let Some(again) = held[place].keep(count, words[place], datagram) {
+    if let Some(again) = held[place].keep(behind.count, behind.words[place], datagram) {
         let _ = ports.send(circuit, again.as_slice());
     }
 }
@@ -168,14 +174,12 @@ impl<P: Ports> Ports for Repeating<P> {
             self.send_failed = self.send_failed.saturating_add(1);
         }
         if self.count > 0 {
-            send_due(
-                &mut self.ports,
-                self.held.as_mut_slice(),
-                self.count,
-                &self.words,
-                circuit,
-                datagram,
-            );
+            let behind = Distance {
+                count: self.count,
+                words: &self.words,
+            };
+            let held = self.held.as_mut_slice();
+            send_due(&mut self.ports, held, &behind, circuit, datagram);
         }
         sent
     }

@@ -7,9 +7,9 @@ pub invariant_of-self : goal.invariant_of-self
 invariant_of-self g c =
     let was = c.args.self.now.held in
     let held = c.send_due.new.held in
-    let same = c.as_mut_slice.ensures.value in
+    let same = c.as_mut_slice-held.ensures.value in
     let whole = take_at held (drop (length held) was.items) was.len
-    (omega (arith, c.send_due.auto.held, c.as_mut_slice.ensures.len)) in
+    (omega (arith, c.send_due.auto.held, c.as_mut_slice-held.ensures.len)) in
     let one = one_of was.items (omega (arith, c.args.self.now.thirty, was.ok)) in
     record {
       thirty = c.args.self.now.thirty;
