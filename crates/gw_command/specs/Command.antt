@@ -121,10 +121,14 @@ abbrev pub text_in : List ℕ → Option (List ℕ × List Row) → Option (List
 text_in id None = None
 text_in id (Some (name, options)) = first_of id options
 
+-- whether the first text of an option of a subcommand is this one
+abbrev pub HasText : List ℕ → List ℕ → Option (List ℕ × List Row) → Bool → Type 0
+HasText id text command is = (text_in id command ≡ Some text → is ≡ true)
+    × (is ≡ true → text_in id command ≡ Some text)
+
 -- whether a subcommand has a flag
 abbrev pub HasFlag : List ℕ → Option (List ℕ × List Row) → Bool → Type 0
-HasFlag flag command is = (text_in flag command ≡ Some (codes "true") → is ≡ true)
-    × (is ≡ true → text_in flag command ≡ Some (codes "true"))
+HasFlag flag command is = HasText flag (codes "true") command is
 
 -- the first value of an option of a subcommand is this number
 abbrev pub SaysNumberIn : ℕ → List ℕ → Option (List ℕ × List Row) → ℕ → Type 0

@@ -7,7 +7,7 @@ ghost use Rattle.gw_speech.specs.declared.stream_spec.StreamSpec.{StreamSpec};
 ghost use Rattle.gw_command.specs.Command.{law_name, codec_name, job_name, job_spec, usual_payload};
 ghost use Rattle.gw_command.specs.Command.{IsStream, IsJob, IsSession, session_name};
 ghost use Rattle.gw_command.specs.Command.{IsFilter, filter_name, IsTrunk, IsSatop, IsRequest, text_in};
-ghost use Rattle.gw_command.specs.Command.{HasFlag, SaysNumberIn, IsWaitOf, SaysWait};
+ghost use Rattle.gw_command.specs.Command.{HasFlag, HasText, SaysNumberIn, IsWaitOf, SaysWait};
 ghost use Rattle.gw_command.specs.declared.command.Filter.{Filter};
 ghost use Rattle.gw_command.specs.declared.command.SpeechJob.{SpeechJob};
 ghost use Rattle.gw_command.specs.declared.command.Request.{Request};
@@ -404,6 +404,16 @@ pub fn asks_align(matches: &ArgMatches<'_>) -> bool
     ensures { HasFlag (codes "align") (subcommand_rows_of matches.now) result }
 {
     asks(matches, "align")
+}
+
+/// Whether the device of a trunk has time slots 1 to 31 alone.
+pub fn asks_slots(matches: &ArgMatches<'_>) -> bool
+    ensures { HasText (codes "slots") (codes "1-31") (subcommand_rows_of matches.now) result }
+{
+    match text_of(matches, "slots") {
+        Some("1-31") => true,
+        _ => false,
+    }
 }
 
 /// Whether CRC-4 multiframes are to be checked in what comes of a trunk and sent in what goes.

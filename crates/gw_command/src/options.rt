@@ -143,6 +143,9 @@ const ALIGN_TEXT: &str = "Take octets whose bits stand at any offset, as e1gw al
 
 const CRC4_TEXT: &str = "Check what comes as e1gw crc4 --check, and send as e1gw crc4";
 
+const SLOTS_TEXT: &str =
+    "The device has time slots 1 to 31 alone: 1-31, 31 octets a frame,\nboth ways";
+
 const SIZE_TEXT: &str = "Octets in a packet, 32 to 1280, a multiple of 32";
 
 const JITTER_TEXT: &str = "Packets waited for after one that is due, 0 to 500";
@@ -181,6 +184,7 @@ enum OptionName {
     End,
     Align,
     Crc4,
+    Slots,
     Tell,
     Checkpoint,
     Follow,
@@ -268,6 +272,7 @@ const OF_TRUNK: &[OptionName] = &[
     OptionName::Align,
     OptionName::Crc4,
     OptionName::Live,
+    OptionName::Slots,
 ];
 
 // The options of an emulated circuit.
@@ -553,6 +558,14 @@ fn number_option<'a>(alloc: Global) -> Arg<'a> {
         .value_parser(value_parser!(u16))
 }
 
+// The option `--slots`: those that the device has.
+fn slots_option<'a>(alloc: Global) -> Arg<'a> {
+    option(alloc, "slots", SLOTS_TEXT)
+        .value_name("SLOTS")
+        .value_parser(["1-31"].as_slice())
+        .hide_possible_values(true)
+}
+
 // The option `--fill`: what replaces lost packets.
 fn fill_option<'a>(alloc: Global) -> Arg<'a> {
     option(alloc, "fill", FILL_TEXT)
@@ -592,6 +605,7 @@ fn declared<'a>(alloc: Global, option: OptionName) -> Arg<'a> {
         OptionName::End => end_option(alloc),
         OptionName::Align => flag(alloc, "align", ALIGN_TEXT),
         OptionName::Crc4 => flag(alloc, "crc4", CRC4_TEXT),
+        OptionName::Slots => slots_option(alloc),
         OptionName::Tell => tell_option(alloc),
         OptionName::Checkpoint => checkpoint_option(alloc),
         OptionName::Follow => follow_option(alloc),

@@ -1,5 +1,5 @@
 -- The report on a session that ended well.
-use Rattle.std.specs.Prelude.{⊤, ℕ, List, Option, Some, None, nat_lt, if◌then◌else◌, codes}
+use Rattle.std.specs.Prelude.{⊤, ℕ, List, Option, Some, None, MatchOption, nat_lt, if◌then◌else◌, codes}
 use Rattle.gw_records.specs.declared.outcome.Totals.{Totals}
 use Rattle.gw_filter.specs.declared.checking.Checked.{Checked}
 use Rattle.gw_command.specs.declared.command.SpeechJob.{SpeechJob}
@@ -22,6 +22,14 @@ SystemPrints name value = ⊤
 
 unfoldable pub SystemTells : ProgramFault → Type 0
 SystemTells program_fault = ⊤
+
+-- .. the line that slot 16 is lost
+unfoldable pub SystemTellsLost : Type 0
+SystemTellsLost = ⊤
+
+-- .. by how many octets others are delayed from now on that slot 16 is found, or that it is lost
+abbrev pub SlotsAreTold : Option ℕ → Type 0
+SlotsAreTold late = MatchOption late SystemTellsLost (λ octets. SystemPrints (codes "slots found") octets)
 
 -- .. those of totals
 pub record ArePrinted (totals : Totals) : Type 0 where

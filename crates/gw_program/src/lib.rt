@@ -32,7 +32,7 @@ pub use recording::{Recording, Tape, begin};
 pub use recording_file::RecordingFile;
 pub use report::{
     LiveCounts, Skipped, passed_over, print_discarded, print_fault, print_receiver_counts,
-    print_totals, print_unreported,
+    print_slots, print_totals, print_unreported,
 };
 pub use requests::{Commands, perform};
 pub use running::{run_crc4_check, run_filter, run_on_log};

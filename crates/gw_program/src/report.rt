@@ -2,7 +2,7 @@
 
 ghost use Rattle.std.specs.Prelude.{◌≡◌, codes};
 ghost use Rattle.gw_program.specs.Report.{passed_over, ArePrinted, CountsArePrinted, SystemPrints};
-ghost use Rattle.gw_program.specs.Report.{SystemTells};
+ghost use Rattle.gw_program.specs.Report.{SlotsAreTold, SystemTells, SystemTellsLost};
 
 use crate::program_fault::ProgramFault;
 use gw_command::SpeechJob;
@@ -92,6 +92,25 @@ pub fn print_unreported(rt: &impl Eprint, unreported: u64)
     ensures { SystemPrints (codes "unreported") unreported }
 {
     print_row(rt, "unreported", unreported);
+}
+
+/// Prints on standard error that slot 16 is found, and by how many octets others are delayed, or that it is
+/// lost.
+pub fn print_slots(rt: &impl Eprint, late: Option<u8>)
+    ensures { SlotsAreTold late }
+{
+    match late {
+        Some(late) => print_row(rt, "slots found", u64::from(late)),
+        None => print_lost(rt),
+    }
+}
+
+// Prints that slot 16 is lost.
+#[tactic(auto, unfolding(crate::specs::Report::SystemTellsLost))]
+fn print_lost(rt: &impl Eprint)
+    ensures { SystemTellsLost }
+{
+    let _ = eprintln!(rt; "slots lost");
 }
 
 /// What a check of CRC-4 multiframes prints beside its counts at the end.

@@ -1,15 +1,20 @@
 -- What has passed the filters of a trunk.
-use Rattle.std.proofs.Common.{◌≡◌, ◌<◌, ℕ, Bool, true, false, List, [], Option, Some, None, Result, Ok, Err, refl}
-use Rattle.std.proofs.Common.{arith}
+use Rattle.std.proofs.Common.{◌≡◌, ◌<◌, ◌≤◌, ◌++◌, ℕ, Bool, true, false, List, [], Option, Some, None, refl}
+use Rattle.std.proofs.Common.{Result, Ok, Err}
+use Rattle.std.proofs.Common.{append-nil, arith}
+use Rattle.e1_g711.specs.declared.Law.{Law}
+use Rattle.gw_slots.specs.Frames.{whole_trunk}
+use Rattle.gw_slots.specs.Receiving.{HasMadeWhole}
+use Rattle.gw_slots.specs.declared.receiving.SlotReceiver.{SlotReceiver}
 use Rattle.std.specs.Prelude.{IfOk}
 use Rattle.gw_trunk.specs.declared.device.DeviceFault.{DeviceFault}
-use Rattle.std.proofs.Math.Logic.{∥∥₁_map}
+use Rattle.std.proofs.Math.Logic.{∥∥₁_map, ∥∥₁_map₂}
 use Rattle.std.specs.Prelude.{IfSome, MatchOption, codes, is_some}
 use Rattle.g704_bits.specs.Standing.{StandsAfter}
 use Rattle.g704_bits.specs.declared.bits.BitAligner.{BitAligner}
 use Rattle.g704_crc4.specs.declared.counting.TrunkChecker.{TrunkChecker}
 use Rattle.g704_framing.specs.Replies.{replies_after}
-use Rattle.gw_command.specs.Command.{HasFlag}
+use Rattle.gw_command.specs.Command.{HasText}
 use Rattle.gw_filter.specs.Align.{align_reply}
 use Rattle.gw_filter.specs.Check.{HasReported, IsChecked}
 use Rattle.gw_filter.specs.Crc4.{HasSent, IsFramed}
@@ -19,7 +24,7 @@ use Rattle.gw_filter.proofs.Sends.{is_sent}
 use Rattle.gw_filtered.specs.Filters.{ReturnsBehind}
 use Rattle.gw_filtered.proofs.Returned.{returned-if}
 use Rattle.gw_program.specs.Requests.{CommandLine}
-use Rattle.run_trunk.specs.Filters.{Checks, FiltersIf, SendsFrom}
+use Rattle.run_trunk.specs.Filters.{Checks, FiltersBy, SendsFrom, SlotsIf, both_ended}
 
 -- What an aligner has returned for octets.
 abbrev pub Aligned : BitAligner → List ℕ → List ℕ → Type 0
@@ -46,15 +51,35 @@ sent place sender reports octets returned s =
 
 -- A filter that is used if the command asks for it has returned this.
 pub filtered : {F : Type 0} (Has : F → List ℕ → List ℕ → Type 0) (Returns : List ℕ → List ℕ → Type 0)
-    (command : CommandLine) (flag : List ℕ) (is_on : Bool) (filter : Option F) (octets returned : List ℕ)
-    → HasFlag flag command is_on → is_some filter ≡ is_on → ((f : F) → Has f octets returned → Returns octets returned)
+    (command : CommandLine) (id text : List ℕ) (is_on : Bool) (filter : Option F) (octets returned : List ℕ)
+    → HasText id text command is_on → is_some filter ≡ is_on
+    → ((f : F) → Has f octets returned → Returns octets returned)
     → MatchOption filter (returned ≡ octets) (λ f. Has f octets returned)
-    → FiltersIf command flag Returns octets returned
-filtered Has Returns command flag is_on filter octets returned asked is said r = record {
+    → FiltersBy command id text Returns octets returned
+filtered Has Returns command id text is_on filter octets returned asked is said r = record {
   is_on = is_on;
   asked = asked;
   returns = returned-if Has Returns filter is_on octets returned is said r;
 }
+
+-- What a receiver of slots has made of octets.
+abbrev pub Whole : Law → ℕ → SlotReceiver → List ℕ → List ℕ → Type 0
+Whole law place receiver octets returned = HasMadeWhole receiver law place octets returned
+
+-- What a receiver of slots has made, and gives but for what is held.
+pub made-if : (command : CommandLine) (law : Law) (place : ℕ) (is_on : Bool) (slots : Option SlotReceiver)
+    (received given held : List ℕ) → HasText (codes "slots") (codes "1-31") command is_on → is_some slots ≡ is_on
+    → MatchOption slots ((given ≡ received) × (held ≡ [])) (λ s. HasMadeWhole s law place received (given ++ held))
+    → SlotsIf command (whole_trunk law place) received (given ++ held)
+made-if command law place is_on None received given held asked is made =
+    filtered (Whole law place) _ command _ _ is_on None _ _ asked is (λ s m. m.made_are)
+    (rw (made.1, append-nil given) made.0)
+made-if command law place is_on (Some s) received given held asked is made =
+    filtered (Whole law place) _ command _ _ is_on (Some s) _ _ asked is (λ s m. m.made_are) made
+
+-- What follows of three things, each of which is there.
+pub of-three : {A B C D : Type 0} → ∥ A ∥₁ → ∥ B ∥₁ → ∥ C ∥₁ → (A → B → C → D) → ∥ D ∥₁
+of-three {C = C} {D = D} a b c follows = ∥∥₁_map₂ {A = C → D} (∥∥₁_map₂ a b follows) c (λ rest z. rest z)
 
 -- The counts of a checker are told, if there is one.
 pub told-of : {F T : Type 0} (Has : F → Type 0) (None-is Told : Type 0) (totals : Option T) (filter : Option F) (f : F)
@@ -64,9 +89,13 @@ told-of Has None-is Told None filter f is has tells = tt
 told-of Has None-is Told (Some totals) filter f is has tells = ∥∥₁_map has (λ h. tells (rw is at h))
 
 -- A device that did not fail in the end took all, if no wait for it has ended without room.
-pub taken-whole : (A : Type 0) (output : Result Bool DeviceFault) (before behind : ℕ)
-    → IfOk output (λ all. all ≡ true → A) → IfOk output (λ all. all ≡ false → before < behind)
-    → IfOk output (λ _. behind ≡ 0 → A)
-taken-whole A (Ok true) before behind all slow = λ none. all refl
-taken-whole A (Ok false) before behind all slow = λ none. absurd (omega (arith, none, slow refl))
-taken-whole A (Err fault) before behind all slow = tt
+pub taken-whole : (A B : Type 0) (output rest : Result Bool DeviceFault) (before between behind : ℕ)
+    → IfOk output (λ all. all ≡ true → A) → IfOk output (λ all. all ≡ false → before < between)
+    → IfOk rest (λ all. all ≡ true → B) → IfOk rest (λ all. all ≡ false → between < behind)
+    → between ≤ behind → IfOk (both_ended output rest) (λ _. behind ≡ 0 → A × B)
+taken-whole A B (Ok true) (Ok true) before between behind a s b t more = λ none. (a refl, b refl)
+taken-whole A B (Ok true) (Ok false) before between behind a s b t more = λ none. absurd (omega (arith, none, t refl))
+taken-whole A B (Ok false) (Ok all) before between behind a s b t more =
+    λ none. absurd (omega (arith, none, s refl, more))
+taken-whole A B (Err fault) rest before between behind a s b t more = tt
+taken-whole A B (Ok all) (Err fault) before between behind a s b t more = tt

@@ -2,6 +2,7 @@
 use Rattle.std.proofs.Common.{◌≡◌, ◌∙◌, ◌⊎◌, inl, inr, ℕ, Bool, List, [], Some, None, Result, Ok, Err, refl, ap}
 use Rattle.std.specs.Prelude.{IsErrAnd, codes}
 use Rattle.mio.specs.declared.poll.Poll.{Poll}
+use Rattle.e1_g711.specs.declared.Law.{Law}
 use Rattle.gw_config.specs.declared.config.Config.{Config}
 use Rattle.gw_records.specs.declared.outcome.Totals.{Totals}
 use Rattle.gw_records.specs.Ports.{PortsState}
@@ -62,7 +63,7 @@ pub asked_of : (command : CommandLine) (poll : Poll) → IsEndedBy command poll 
 asked_of command poll ended n named = (poll, ended n named)
 
 module _ (s s' : SourceState) (k k' : SinkState) {X P T : Type 0} {x x' : X} {command : CommandLine}
-    {lacks : ProgramFault → Type 0} {saves : Result (Unit {0}) ProgramFault → Type 0}
+    {law : Law} {lacks : ProgramFault → Type 0} {saves : Result (Unit {0}) ProgramFault → Type 0}
     (opens : P → Type 0) (begins : T → Type 0) (ports_tell : P → PortsState) (tape_tells : T → TapeState)
     {gateway gateway' : Gateway} {ended told : Result Totals ProgramFault} (output : Result Bool DeviceFault)
   where
@@ -72,10 +73,10 @@ module _ (s s' : SourceState) (k k' : SinkState) {X P T : Type 0} {x x' : X} {co
         (around_log s k (ports_tell ports) (tape_tells tape)) (around_log s' k' (ports_tell ports') (tape_tells tape'))
         passed gateway gateway') saves ended)
         → ((does : Traffic → Result Totals ProgramFault → Type 0) → does passed ended
-        → HasTrunk command gateway does told) → told ≡ told_behind ended output
+        → HasTrunk command law gateway does told) → told ≡ told_behind ended output
         → (x' ≡ x → around s' k' no_ports no_tape ≡ around s k no_ports no_tape)
         → s.reads ≡ 0 → s.given ≡ Some [] → s.failures ≡ 0 → k.failures ≡ 0
-        → ServesBy command lacks saves gateway gateway' told
+        → ServesBy command law lacks saves gateway gateway' told
     served_by passed (inl n) trunk behind same a b c d =
         let told-is : told ≡ Err n.program_fault = behind ∙ ap (λ e. told_behind e output) n.told_is in
         on_new s s' k k' (inl (told_why (λ fault why. why) same
@@ -89,10 +90,10 @@ module _ (s s' : SourceState) (k k' : SinkState) {X P T : Type 0} {x x' : X} {co
     }
 
 -- What was done of what passed, told by less.
-trunk_so : {command : CommandLine} {gateway : Gateway} {does does' : Traffic → Result Totals ProgramFault → Type 0}
-    {told : Result Totals ProgramFault} → ((passed : Traffic) (ended : Result Totals ProgramFault)
-    → does passed ended → does' passed ended)
-    → HasTrunk command gateway does told → HasTrunk command gateway does' told
+trunk_so : {command : CommandLine} {law : Law} {gateway : Gateway}
+    {does does' : Traffic → Result Totals ProgramFault → Type 0} {told : Result Totals ProgramFault}
+    → ((passed : Traffic) (ended : Result Totals ProgramFault) → does passed ended → does' passed ended)
+    → HasTrunk command law gateway does told → HasTrunk command law gateway does' told
 trunk_so is t = record {
   asked = t.asked;
   passed = t.passed;
@@ -113,7 +114,7 @@ trunk_so is t = record {
 pub served_as : {command : CommandLine} {files : SystemFiles} → TakesAsked command files
     → {lacks_more : Config → ProgramFault → Type 0} {told : Result Totals ProgramFault} (config : Config)
     (gateway gateway' : Gateway) → files.reads config → files.starts config gateway
-    → ServesBy command (lacks_more config) (files.saves config gateway') gateway gateway' told
+    → ServesBy command config.gateway.law (lacks_more config) (files.saves config gateway') gateway gateway' told
     → ServesTrunk command (LacksSession (files_in command) lacks_more) told
 served_as {command = command} takes {lacks_more = lacks_more} config gateway gateway' read begun s = record {
   before = s.before;

@@ -1,21 +1,23 @@
 -- The filters of a trunk that the command line asks for (module `filters`).
 use Rattle.std.specs.Prelude.{◌≡◌, ◌++◌, ℕ, Bool, List, [], IfSome, Option, codes, is_some, ◌%◌, length, Some}
+use Rattle.e1_g711.specs.declared.Law.{Law}
 use Rattle.g704_bits.specs.Standing.{StandsAfter}
 use Rattle.gw_switch.specs.declared.GatewayConfig.{GatewayConfig}
 use Rattle.gw_switch.specs.declared.gateway.Gateway.{Gateway}
 use Rattle.gw_switch.specs.Events.{Event, octets}
 use Rattle.gw_switch.specs.Standing.{HasHistory}
 use Rattle.g704_crc4.specs.ReceiverCounts.{receiver_counts_of}
-use Rattle.gw_command.specs.Command.{HasFlag, text_in}
+use Rattle.gw_command.specs.Command.{HasFlag, HasText, text_in}
 use Rattle.gw_filter.specs.Align.{align_reply}
 use Rattle.gw_filter.specs.Check.{AreReported, HasReported, IsChecked}
 use Rattle.gw_filter.specs.Crc4.{IsFramed}
 use Rattle.gw_filter.specs.Filter.{RepliesTo}
 use Rattle.gw_filter.specs.declared.checking.Checked.{Checked}
 use Rattle.gw_filtered.specs.Filters.{ReturnsBehind, ReturnsIf}
+use Rattle.gw_slots.specs.Frames.{device_frames, whole_trunk}
 use Rattle.gw_trunk.specs.Multiframes.{GoesInTime}
 use Rattle.gw_trunk.specs.declared.device.DeviceFault.{DeviceFault}
-use Rattle.std.specs.Prelude.{◌≤◌, IfOk, Result}
+use Rattle.std.specs.Prelude.{◌≤◌, ◌&&◌, IfOk, Result, Ok, Err}
 use Rattle.gw_trunk.specs.System.{SystemPairs}
 use Rattle.gw_program.specs.Report.{CountsArePrinted, SystemPrints}
 use Rattle.gw_program.specs.Requests.{CommandLine}
@@ -31,17 +33,28 @@ pub record AreJoined {R : Type 0} (crc4 : Crc4 R) : Type 0 where
 
 -- the filters that the command asks for, through which nothing has passed
 pub record AreAsked {R : Type 0} (command : CommandLine) (filters : TrunkFilters R) : Type 0 where
+  pub slots : HasText (codes "slots") (codes "1-31") command filters.slots
   pub align : HasFlag (codes "align") command (is_some filters.aligner)
   pub aligner : IfSome filters.aligner (λ aligner. StandsAfter aligner [])
   pub asks_crc4 : HasFlag (codes "crc4") command (is_some filters.crc4)
   pub crc4 : IfSome filters.crc4 AreJoined
 
--- A filter is used if the command has a flag. It returned this for octets, or these pass as they came.
-pub record FiltersIf (command : CommandLine) (flag : List ℕ) (Returns : List ℕ → List ℕ → Type 0)
+-- A filter is used if the command has this text of an option. It returned this for octets, or these pass as
+-- they came.
+pub record FiltersBy (command : CommandLine) (id text : List ℕ) (Returns : List ℕ → List ℕ → Type 0)
     (octets returned : List ℕ) : Type 0 where
   pub is_on : Bool
-  pub asked : HasFlag flag command is_on
+  pub asked : HasText id text command is_on
   pub returns : ReturnsIf is_on Returns octets returned
+
+-- .. if the command has a flag
+abbrev pub FiltersIf : CommandLine → List ℕ → (List ℕ → List ℕ → Type 0) → List ℕ → List ℕ → Type 0
+FiltersIf command flag Returns octets returned = FiltersBy command flag (codes "true") Returns octets returned
+
+-- .. if the command says that the device has slots 1 to 31 alone
+abbrev pub SlotsIf : CommandLine → (List ℕ → List ℕ) → List ℕ → List ℕ → Type 0
+SlotsIf command with_slots octets returned =
+    FiltersBy command (codes "slots") (codes "1-31") (λ given made. made ≡ with_slots given) octets returned
 
 -- octets were checked and came unchanged, and all but some of their errored submultiframes were reported
 abbrev pub Checks : List ℕ → List ℕ → Type 0
@@ -52,11 +65,18 @@ Checks octets returned = (reports : List ℕ) × IsChecked reports octets return
 abbrev pub SendsFrom : ℕ → List ℕ → List ℕ → Type 0
 SendsFrom place octets sent = (reports : Option (List ℕ)) × ReturnsBehind place (IsFramed reports) octets sent
 
--- Octets that came of a trunk were aligned, if the command asks for it, and what came of that was checked, if
--- it asks for CRC-4.
-pub record Comes (command : CommandLine) (received came : List ℕ) : Type 0 where
+-- What came of a trunk of this law was made whole, from a place in a multiframe on, if its device has slots 1
+-- to 31 alone. All of this but the last octet at most was aligned, if the command asks for it, and what came
+-- of that was checked, if it asks for CRC-4.
+pub record Comes (command : CommandLine) (law : Law) (place : ℕ) (received came : List ℕ) : Type 0 where
+  pub made : List ℕ
+  pub slots : SlotsIf command (whole_trunk law place) received made
+  pub whole : List ℕ
+  pub rest : List ℕ
+  pub made_are : made ≡ whole ++ rest
+  pub few : length rest ≤ 1
   pub aligned : List ℕ
-  pub aligns : FiltersIf command (codes "align") (RepliesTo align_reply) received aligned
+  pub aligns : FiltersIf command (codes "align") (RepliesTo align_reply) whole aligned
   pub checks : FiltersIf command (codes "crc4") Checks aligned came
 
 -- the place of the next octet in its multiframe: how many came, modulo those of a multiframe (ITU-T G.704,
@@ -65,22 +85,38 @@ abbrev pub IsPlaceOf : Gateway → ℕ → Type 0
 IsPlaceOf gateway place = (config : GatewayConfig) (before : List Event) → HasHistory config gateway before
     → place ≡ length (octets before) % 512
 
--- What was sent went in time, except for whole multiframes if the device was slow, and with CRC-4
--- multiframes, if the command asks for it. The device took all of that but for what it had not taken in the
--- end: nothing, if it did not fail then and no wait for it has ended without room.
+-- How two writers ended, one behind the other: whether both took all.
+abbrev pub both_ended : Result Bool DeviceFault → Result Bool DeviceFault → Result Bool DeviceFault
+both_ended (Ok all) (Ok rest) = Ok (all && rest)
+both_ended (Ok all) (Err fault) = Err fault
+both_ended (Err fault) rest = Err fault
+
+-- What was left to be sent went with CRC-4 multiframes, if the command asks for it, and by slots 1 to 31 of
+-- whole frames, if the device has no others. The device took all of that but for what it had not taken in the
+-- end: nothing, if it did not fail then and no wait for it, of this number before, has ended without room.
+pub record GoesFramed (command : CommandLine) (place : ℕ) (left : List ℕ) (slow_waits : ℕ)
+    (output : Result Bool DeviceFault) : Type 0 where
+  pub framed : List ℕ
+  pub frames : FiltersIf command (codes "crc4") (SendsFrom place) left framed
+  pub passed : List ℕ
+  pub behind : List ℕ
+  pub framed_are : framed ≡ passed ++ behind
+  pub device : List ℕ
+  pub slots : SlotsIf command (device_frames place) passed device
+  pub went : List ℕ
+  pub untaken : List ℕ
+  pub device_is : device ≡ went ++ untaken
+  pub last_waits : ℕ
+  pub more_waits : slow_waits ≤ last_waits
+  pub whole : IfOk output (λ all. last_waits ≡ 0 → (behind ≡ []) × (untaken ≡ []))
+
+-- What was sent went in time, except for whole multiframes if the device was slow, and as the command asks.
 pub record Goes (command : CommandLine) (place : ℕ) (sent : List ℕ) (discarded : ℕ)
     (output : Result Bool DeviceFault) : Type 0 where
   pub left : List ℕ
   pub slow_waits : ℕ
   pub in_time : GoesInTime sent left discarded slow_waits
-  pub framed : List ℕ
-  pub frames : FiltersIf command (codes "crc4") (SendsFrom place) left framed
-  pub went : List ℕ
-  pub untaken : List ℕ
-  pub framed_are : framed ≡ went ++ untaken
-  pub last_waits : ℕ
-  pub more_waits : slow_waits ≤ last_waits
-  pub whole : IfOk output (λ all. last_waits ≡ 0 → untaken ≡ [])
+  pub framed : GoesFramed command place left slow_waits output
 
 -- what the command asks for by a flag
 abbrev pub AsksFlag : List ℕ → CommandLine → Type 0

@@ -1,6 +1,7 @@
 -- What it means that the trunk that the command line names is served.
 use Rattle.std.specs.Prelude.{◌≡◌, ◌⊎◌, ℕ, Bool, pos, List, true, Some, None, Ok, Err, OnOk, Result, codes}
 use Rattle.mio.specs.declared.poll.Poll.{Poll}
+use Rattle.e1_g711.specs.declared.Law.{Law}
 use Rattle.gw_switch.specs.declared.GatewayConfig.{GatewayConfig}
 use Rattle.gw_switch.specs.declared.gateway.Gateway.{Gateway}
 use Rattle.gw_records.specs.declared.outcome.Totals.{Totals}
@@ -58,16 +59,16 @@ told_behind (Err fault) output = Err fault
 -- What the command names for the end was seen to. Octets came from a trunk and were sent to it, clients
 -- asked and were answered, and this was done of it by the gateway. What came and what was sent passed the
 -- filters that the command asks for. What the command asks to be told at the end was told, if it ended well.
-pub record HasTrunk (command : CommandLine) (gateway : Gateway)
+pub record HasTrunk (command : CommandLine) (law : Law) (gateway : Gateway)
     (does : Traffic → Result Totals ProgramFault → Type 0) (told : Result Totals ProgramFault) : Type 0 where
   pub asked : AsksEnd command
   pub passed : Traffic
   pub ended : Result Totals ProgramFault
   pub done : does passed ended
-  pub received : List ℕ
-  pub comes : ∥ Comes command received passed.came ∥₁
   pub place : ℕ
   pub place_is : IsPlaceOf gateway place
+  pub received : List ℕ
+  pub comes : ∥ Comes command law place received passed.came ∥₁
   pub discarded : ℕ
   pub output : Result Bool DeviceFault
   pub goes : ∥ Goes command place passed.went discarded output ∥₁
@@ -88,10 +89,10 @@ LacksEnds command fault = LacksStream fault
 
 -- The trunk that the command names was served by a gateway and the state of this saved; or it was not begun
 -- for such a reason, and nothing was read or written.
-abbrev pub ServesBy : CommandLine → (ProgramFault → Type 0) → (Result (Unit {0}) ProgramFault → Type 0)
+abbrev pub ServesBy : CommandLine → Law → (ProgramFault → Type 0) → (Result (Unit {0}) ProgramFault → Type 0)
     → Gateway → Gateway → Result Totals ProgramFault → Type 0
-ServesBy command lacks saves gateway gateway' told = OnNewStreams (λ a a'. NotBegun a a' lacks told
-    ⊎ HasTrunk command gateway (λ passed ended.
+ServesBy command law lacks saves gateway gateway' told = OnNewStreams (λ a a'. NotBegun a a' lacks told
+    ⊎ HasTrunk command law gateway (λ passed ended.
     EndedSaved (CarriesTrunk a a' passed gateway gateway') saves ended) told)
 
 -- The trunk that the command names was served with this result: it has no ends, or its session was not begun
@@ -100,5 +101,6 @@ ServesBy command lacks saves gateway gateway' told = OnNewStreams (λ a a'. NotB
 abbrev pub ServesTrunk : CommandLine → (ProgramFault → Type 0) → Result Totals ProgramFault → Type 0
 ServesTrunk command lacks told = OnNewStreams (λ a a'.
     ByGateway a a' command (λ fault. LacksEnds command fault ⊎ lacks fault) told (λ config gateway gateway'.
-    HasTrunk command gateway (λ passed ended. EndedSaved (CarriesTrunk a a' passed gateway gateway')
+    HasTrunk command config.gateway.law gateway (λ passed ended. EndedSaved
+    (CarriesTrunk a a' passed gateway gateway')
     (IsSaved (save_in command) config.gateway gateway') ended) told))

@@ -10,8 +10,8 @@ ghost use Rattle.run_trunk.specs.Trunks.{AsksEnd, IsEndedBy, LacksControl, Lacks
 ghost use Rattle.run_trunk.specs.Trunks.{ServesBy, told_behind};
 
 use crate::filters::{
-    Incoming, TrunkFilters, filtered_input, filtered_output, filters_as_asked, finish_input,
-    finish_output, parted,
+    Incoming, PrintedSlots, TrunkFilters, filtered_input, filtered_output, filters_as_asked,
+    finish_input, finish_output, parted, receiver_from,
 };
 use crate::performing::{TrunkRecords, perform_trunk};
 use crate::sealed::{AnswersDevice, TrunkDevice, TrunkSource};
@@ -21,6 +21,7 @@ use gw_config::Config;
 use gw_filtered::{Phase, Switch};
 use gw_program::{Machine, ProgramFault, System, print_discarded};
 use gw_session::{RunFault, Totals};
+use gw_slots::DeviceSlots;
 use gw_switch::Gateway;
 use gw_trunk::{
     DeviceFault, FromDevice, NoClients, ToDevice, TrunkInput, TrunkOutput, TrunkRecordSink,
@@ -99,11 +100,11 @@ struct TrunkEnds<'r, R, I: TrunkInput, O: TrunkOutput, A: TrunkOutput> {
 }
 
 // Tells the end of a trunk: the counts of what came, and then how many multiframes were discarded.
-fn tell_end<'r, R: Machine, I: TrunkInput + Drop, K: Switch, L: Switch>(
+fn tell_end<'t, 'r, R: Machine, I: TrunkInput + Drop, S: DeviceSlots, K: Switch, L: Switch>(
     rt: &'r R,
     matches: &ArgMatches<'_>,
     told: &Result<Totals, ProgramFault>,
-    incoming: Incoming<'r, R, I, K, L>,
+    incoming: Incoming<'t, 'r, R, I, S, K, L>,
     discarded: u64,
 )
     requires { HasFlag (codes "crc4") (subcommand_rows_of matches.now) L.is_on }
@@ -141,6 +142,7 @@ fn carry_from<
     I: TrunkInput + TrunkSource + Drop,
     O: TrunkDevice + Drop,
     A: TrunkOutput + AnswersDevice + Drop,
+    S: DeviceSlots,
     K: Switch,
     L: Switch,
     P: Phase,
@@ -158,10 +160,12 @@ fn carry_from<
     requires went { O.went ends.outgoing ≡ [] }
     requires told { A.went ends.answers ≡ [] }
     requires filters { AreAsked (subcommand_rows_of matches.now) ends.filters }
+    requires slots { ends.filters.slots ≡ S.is_on }
     requires align { is_some ends.filters.aligner ≡ K.is_on }
     requires crc4 { is_some ends.filters.crc4 ≡ L.is_on }
-    requires place { gateway.old.trunk.position % 512 ≡ P.place }
-    ensures { ServesBy (subcommand_rows_of matches.now)
+    requires place { (gateway.old.trunk.position % 512 ≡ P.place) × (P.place ≡ S.place) }
+    requires law { config.now.gateway.law ≡ S.law }
+    ensures { ServesBy (subcommand_rows_of matches.now) config.now.gateway.law
         (LacksTapeOrPorts (Y.lacks_tape system.now) (Y.lacks_ports system.now config.now))
         ((Y.files system.now).saves config.now gateway.new) gateway.old gateway.new result }
 {
@@ -169,11 +173,23 @@ fn carry_from<
         incoming,
         outgoing,
         answers,
-        filters: TrunkFilters { aligner, crc4 },
+        filters: TrunkFilters {
+            slots,
+            aligner,
+            crc4,
+        },
     } = ends;
+    let place = gateway.place();
+    let receiver = receiver_from(slots, config.gateway.law, place);
     let (checker, reports) = parted(crc4);
-    let incoming = filtered_input::<R, I, K, L>(incoming, aligner, checker);
-    let outgoing = filtered_output::<R, O, L, P>(rt, outgoing, reports, gateway.place());
+    let incoming = filtered_input::<R, I, S, K, L>(
+        PrintedSlots { rt },
+        incoming,
+        receiver,
+        aligner,
+        checker,
+    );
+    let outgoing = filtered_output::<R, O, S, L, P>(rt, outgoing, slots, reports, place);
     let mut trunk = TrunkRecords {
         source: TrunkRecordSource::new(incoming),
         sink: TrunkRecordSink::new(outgoing, answers),
@@ -213,7 +229,7 @@ fn carry<
 {
     let config = system.read_config()?;
     let mut gateway = system.begin_gateway(&config)?;
-    carry_from::<R, Y, I, O, A, Brand, Brand, Brand>(
+    carry_from::<R, Y, I, O, A, Brand, Brand, Brand, Brand>(
         rt,
         matches,
         system,

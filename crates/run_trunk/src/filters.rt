@@ -4,19 +4,25 @@ ghost use Rattle.std.specs.Prelude.{◌≡◌, ◌<◌, ℕ, List, [], true, IfO
 ghost use Rattle.std.specs.Prelude.{codes};
 ghost use Rattle.clap.specs.Words.{subcommand_rows_of};
 ghost use Rattle.g704_bits.specs.Standing.{StandsAfter};
-ghost use Rattle.gw_command.specs.Command.{HasFlag};
+ghost use Rattle.gw_command.specs.Command.{HasFlag, HasText};
 ghost use Rattle.gw_filter.specs.Check.{HasReported};
+ghost use Rattle.gw_program.specs.Report.{SlotsAreTold};
 ghost use Rattle.gw_program.specs.Requests.{CommandLine};
-ghost use Rattle.run_trunk.specs.Filters.{AreAsked, AreJoined, CountsAreTold, Goes};
+ghost use Rattle.gw_slots.specs.Receiving.{HasMadeWhole};
+ghost use Rattle.run_trunk.specs.Filters.{AreAsked, AreJoined, CountsAreTold, Goes, GoesFramed, both_ended};
 ghost use Rattle.run_trunk.specs.Trunks.{LacksStream};
 
 use clap::ArgMatches;
+use e1_g711::Law;
 use g704_bits::BitAligner;
-use gw_command::{asks_align, asks_crc4, asks_live};
+use gw_command::{asks_align, asks_crc4, asks_live, asks_slots};
 use gw_filter::{BufferFilter, ReportingChecker, ReportingSender, ToReports};
 use gw_filtered::{FilteredInput, FilteredOutput, Phase, PhasedFilter, Switch, SwitchedFilter};
-use gw_program::{LiveCounts, Machine, ProgramFault, print_receiver_counts, print_unreported};
+use gw_program::{
+    LiveCounts, Machine, ProgramFault, print_receiver_counts, print_slots, print_unreported,
+};
 use gw_session::{FromRead, Totals};
+use gw_slots::{DeviceSlots, SlotDropper, SlotInput, SlotReceiver, SlotTeller};
 use gw_trunk::{DeviceFault, MultiframeDropper, TrunkInput, TrunkOutput, open_pair};
 use mio::net::UnixStream;
 use std::rt::Stderr;
@@ -27,17 +33,35 @@ pub(crate) type Checker<'r, R> = ReportingChecker<ToReports<UnixStream>, LiveCou
 /// Puts CRC-4 multiframes into what goes, from a place in a multiframe on.
 pub(crate) type Sender<P> = PhasedFilter<ReportingSender<FromRead<UnixStream>>, P>;
 
-/// What comes of a trunk, aligned and then checked.
-pub(crate) type Incoming<'r, R, I, K, L> = FilteredInput<
-    FilteredInput<I, SwitchedFilter<BitAligner, K>>,
+/// Prints on standard error when slot 16 is found and lost.
+#[derive(Drop)]
+pub(crate) struct PrintedSlots<'r, R> {
+    /// Standard error.
+    pub(crate) rt: &'r R,
+}
+
+impl<R: Machine> SlotTeller for PrintedSlots<'_, R> {
+    ghost has_told = { λ _. SlotsAreTold };
+
+    fn tell(&mut self, late: Option<u8>) {
+        print_slots(self.rt, late);
+    }
+}
+
+/// What comes of a trunk, with all slots, aligned and then checked.
+pub(crate) type Incoming<'t, 'r, R, I, S, K, L> = FilteredInput<
+    FilteredInput<SlotInput<I, PrintedSlots<'t, R>, S>, SwitchedFilter<BitAligner, K>>,
     SwitchedFilter<Checker<'r, R>, L>,
 >;
 
-/// Where what is sent goes, by multiframes and then with CRC-4.
-pub(crate) type Outgoing<O, L, P> = MultiframeDropper<
-    FilteredOutput<O, SwitchedFilter<Sender<P>, L>>,
-    Stderr,
+/// Where what is sent goes, with CRC-4 and then without slot 0.
+pub(crate) type Framed<O, S, L, P> = FilteredOutput<
+    FilteredOutput<O, SlotDropper<S>>,
+    SwitchedFilter<Sender<P>, L>,
 >;
+
+/// Where what is sent goes, by multiframes first.
+pub(crate) type Outgoing<O, S, L, P> = MultiframeDropper<Framed<O, S, L, P>, Stderr>;
 
 /// The checker of a trunk, and its reports for the sender.
 #[derive(Drop)]
@@ -49,6 +73,8 @@ pub(crate) struct Crc4<'r, R> {
 /// The filters of a trunk that are asked for, through which nothing has passed.
 #[derive(Drop)]
 pub(crate) struct TrunkFilters<'r, R> {
+    /// Whether the device has slots 1 to 31 alone.
+    pub(crate) slots: bool,
     pub(crate) aligner: Option<BitAligner>,
     pub(crate) crc4: Option<Crc4<'r, R>>,
 }
@@ -106,6 +132,7 @@ pub(crate) fn filters_as_asked<'r, R: Machine>(
 {
     match crc4_as_asked(rt, matches) {
         Ok(crc4) => Ok(TrunkFilters {
+            slots: asks_slots(matches),
             aligner: aligner_as_asked(matches),
             crc4,
         }),
@@ -126,20 +153,44 @@ pub(crate) fn parted<'r, R>(
     }
 }
 
+/// The receiver of a device that has slots 1 to 31 alone, if it has.
+pub(crate) fn receiver_from(is_on: bool, law: Law, place: u16) -> Option<SlotReceiver>
+    requires { place < 512 }
+    ensures is { is_some result ≡ is_on }
+    ensures begins { IfSome result (λ s. HasMadeWhole s law place [] []) }
+{
+    if is_on {
+        return Some(SlotReceiver::new(law, place));
+    }
+    None
+}
+
 /// What comes of a trunk, as these filters return it.
-pub(crate) fn filtered_input<'r, R: Machine, I: TrunkInput, K: Switch, L: Switch>(
+pub(crate) fn filtered_input<
+    't,
+    'r,
+    R: Machine,
+    I: TrunkInput,
+    S: DeviceSlots,
+    K: Switch,
+    L: Switch,
+>(
+    teller: PrintedSlots<'t, R>,
     incoming: I,
+    slots: Option<SlotReceiver>,
     aligner: Option<BitAligner>,
     checker: Option<Checker<'r, R>>,
-) -> Incoming<'r, R, I, K, L>
+) -> Incoming<'t, 'r, R, I, S, K, L>
     requires came { I.came incoming ≡ [] }
+    requires slots { IfSome slots (λ s. HasMadeWhole s S.law S.place [] []) }
     requires aligner { IfSome aligner (λ a. StandsAfter a []) }
     requires checker { IfSome checker (λ c. HasReported c.checker c.reported c.reports.log.octets [] []) }
-    requires picked { (is_some aligner ≡ K.is_on) × (is_some checker ≡ L.is_on) }
+    requires picked { (is_some slots ≡ S.is_on) × (is_some aligner ≡ K.is_on) × (is_some checker ≡ L.is_on) }
     ensures came { result.log.octets ≡ [] }
-    ensures asked { I.asked result.incoming.incoming ≡ I.asked incoming }
+    ensures asked { I.asked result.incoming.incoming.incoming ≡ I.asked incoming }
 {
-    let aligned = FilteredInput::new(incoming, SwitchedFilter::<BitAligner, K>::new(aligner));
+    let whole = SlotInput::<I, PrintedSlots<'t, R>, S>::new(incoming, slots, teller);
+    let aligned = FilteredInput::new(whole, SwitchedFilter::<BitAligner, K>::new(aligner));
     FilteredInput::new(aligned, SwitchedFilter::<Checker<'r, R>, L>::new(checker))
 }
 
@@ -157,39 +208,73 @@ fn sender_from<P: Phase>(reports: Option<FromRead<UnixStream>>, place: u16) -> O
     }
 }
 
-/// Where what is sent goes, by multiframes, and with CRC-4 from a place on if there are reports.
-pub(crate) fn filtered_output<R: Machine, O: TrunkOutput, L: Switch, P: Phase>(
+/// Where what is sent goes, by multiframes, with CRC-4 from a place on if there are reports, and without slot
+/// 0 if the device has none.
+pub(crate) fn filtered_output<R: Machine, O: TrunkOutput, S: DeviceSlots, L: Switch, P: Phase>(
     rt: &R,
     outgoing: O,
+    slots: bool,
     reports: Option<FromRead<UnixStream>>,
     place: u16,
-) -> Outgoing<O, L, P>
+) -> Outgoing<O, S, L, P>
     requires went { O.went outgoing ≡ [] }
     requires below { place < 512 }
-    requires place { place ≡ P.place }
+    requires place { (place ≡ P.place) × (place ≡ S.place) }
     requires unread { IfSome reports (λ r. r.log.octets ≡ []) }
-    requires picked { is_some reports ≡ L.is_on }
+    requires picked { (slots ≡ S.is_on) × (is_some reports ≡ L.is_on) }
     ensures { result.log.octets ≡ [] }
 {
     let sender = sender_from(reports, place);
-    let framed = FilteredOutput::new(outgoing, SwitchedFilter::<Sender<P>, L>::new(sender));
+    let frames = FilteredOutput::new(outgoing, SlotDropper::<S>::new(slots, place));
+    let framed = FilteredOutput::new(frames, SwitchedFilter::<Sender<P>, L>::new(sender));
     MultiframeDropper::new(framed, rt.errors())
+}
+
+// How two writers ended, one behind the other.
+fn both_ended(
+    all: Result<bool, DeviceFault>,
+    rest: Result<bool, DeviceFault>,
+) -> Result<bool, DeviceFault>
+    ensures { result ≡ both_ended all rest }
+{
+    match (all, rest) {
+        (Ok(all), Ok(rest)) => Ok(all && rest),
+        (Ok(_), Err(fault)) => Err(fault),
+        (Err(fault), _) => Err(fault),
+    }
+}
+
+// Gives the device what is still held for it, first with slot 0 and then without, and returns whether it took
+// all.
+fn finish_framed<O: TrunkOutput + Drop, S: DeviceSlots, L: Switch, P: Phase>(
+    framed: Framed<O, S, L, P>,
+) -> Result<bool, DeviceFault>
+    requires { S.place ≡ P.place }
+    ensures { (command : CommandLine) → HasText (codes "slots") (codes "1-31") command S.is_on
+        → HasFlag (codes "crc4") command L.is_on
+        → ∥ GoesFramed command P.place framed.log.octets (O.slow_waits framed.outgoing.outgoing) result ∥₁ }
+{
+    let mut framed = framed;
+    let all = framed.finish();
+    let mut frames = framed.into_outgoing();
+    let rest = frames.finish();
+    both_ended(all, rest)
 }
 
 /// Gives the device what is still held for it, and returns how many multiframes were discarded, and whether
 /// the device took all in the end.
-pub(crate) fn finish_output<O: TrunkOutput + Drop, L: Switch, P: Phase>(
-    outgoing: Outgoing<O, L, P>,
+pub(crate) fn finish_output<O: TrunkOutput + Drop, S: DeviceSlots, L: Switch, P: Phase>(
+    outgoing: Outgoing<O, S, L, P>,
 ) -> (u64, Result<bool, DeviceFault>)
-    ensures { (command : CommandLine) → HasFlag (codes "crc4") command L.is_on
+    requires { S.place ≡ P.place }
+    ensures { (command : CommandLine) → HasText (codes "slots") (codes "1-31") command S.is_on
+        → HasFlag (codes "crc4") command L.is_on
         → ∥ Goes command P.place outgoing.log.octets result.0 result.1 ∥₁ }
 {
     let mut dropper = outgoing;
     dropper.finish();
     let discarded = dropper.discarded();
-    let mut framed = dropper.into_outgoing();
-    let output = framed.finish();
-    (discarded, output)
+    (discarded, finish_framed(dropper.into_outgoing()))
 }
 
 // Tells the counts of a checker, and how many errored submultiframes are not reported.
@@ -215,11 +300,15 @@ fn tell_checked<R: Machine>(rt: &R, checker: &mut Checker<'_, R>, totals: Option
 
 /// Tells the counts of what came, if it was checked: as a line, and as those of the end if the totals are
 /// asked for.
-pub(crate) fn finish_input<'r, R: Machine, I: TrunkInput + Drop, K: Switch, L: Switch>(
-    rt: &'r R,
-    incoming: Incoming<'r, R, I, K, L>,
-    totals: Option<Totals>,
-)
+pub(crate) fn finish_input<
+    't,
+    'r,
+    R: Machine,
+    I: TrunkInput + Drop,
+    S: DeviceSlots,
+    K: Switch,
+    L: Switch,
+>(rt: &'r R, incoming: Incoming<'t, 'r, R, I, S, K, L>, totals: Option<Totals>)
     ensures { L.is_on ≡ true → IfSome totals (λ _. ∥ CountsAreTold incoming.entry.log.octets ∥₁) }
 {
     if let Some(checker) = incoming.into_filter().into_filter() {

@@ -5,6 +5,7 @@
 use crate::filters::{Incoming, Outgoing};
 use gw_filtered::{Phase, Switch};
 use gw_program::Machine;
+use gw_slots::DeviceSlots;
 use gw_trunk::{FromDevice, NoClients, ToDevice, TrunkInput, TrunkOutput, WithClients};
 use mio::net::UnixStream;
 use std::rt::{Stdin, Stdout};
@@ -12,13 +13,13 @@ use std::rt::{Stdin, Stdout};
 /// Standard input, with clients or without.
 pub(crate) trait TrunkSource {}
 
-/// The same, aligned and then checked.
+/// The same with all slots, aligned and then checked.
 pub(crate) trait FilteredSource {}
 
 /// Standard output.
 pub(crate) trait TrunkDevice: TrunkOutput {}
 
-/// Standard output by whole multiframes, with those of CRC-4.
+/// Standard output by whole multiframes, with those of CRC-4, and without slot 0.
 pub(crate) trait MultiframeDevice {}
 
 /// The clients of the trunk, or none.
@@ -28,12 +29,13 @@ impl TrunkSource for FromDevice<Stdin> {}
 
 impl TrunkSource for WithClients<Stdin> {}
 
-impl<R: Machine, I: TrunkInput + TrunkSource, K: Switch, L: Switch> FilteredSource
-    for Incoming<'_, R, I, K, L> {}
+impl<R: Machine, I: TrunkInput + TrunkSource, S: DeviceSlots, K: Switch, L: Switch> FilteredSource
+    for Incoming<'_, '_, R, I, S, K, L> {}
 
 impl TrunkDevice for ToDevice<Stdout> {}
 
-impl<O: TrunkDevice, L: Switch, P: Phase> MultiframeDevice for Outgoing<O, L, P> {}
+impl<O: TrunkDevice, S: DeviceSlots, L: Switch, P: Phase> MultiframeDevice
+    for Outgoing<O, S, L, P> {}
 
 impl AnswersDevice for ToDevice<UnixStream> {}
 

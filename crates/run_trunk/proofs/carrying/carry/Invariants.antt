@@ -11,3 +11,11 @@ ghosts-carry_from-L-Switch g a = record { is_on = is_some a.ends.filters.crc4 }
 -- .. and these begin at the gateway's place.
 abbrev pub ghosts-carry_from-P-Phase : goal.ghosts-carry_from-P-Phase
 ghosts-carry_from-P-Phase g a = record { place = a.gateway.now.trunk.position % 512 }
+
+-- .. of a trunk of this law, whose device has these slots.
+abbrev pub ghosts-carry_from-S-DeviceSlots : goal.ghosts-carry_from-S-DeviceSlots
+ghosts-carry_from-S-DeviceSlots g a = record {
+  is_on = a.ends.filters.slots;
+  law = a.config.now.gateway.law;
+  place = a.gateway.now.trunk.position % 512;
+}
