@@ -13,7 +13,7 @@ NOTICED = frozenset(('alarm', 'remote alarm', 'flows', 'rate', 'renewed', 'satop
 # The alarms of ITU-T G.704, G.706 and G.732, by what has no alignment: at this end, and as the other one tells.
 LOSSES = {'frame': 'loss of frame alignment (LFA)', 'multiframe': 'loss of multiframe alignment'}
 REMOTE = {'frame': 'RAI (bit A)', 'multiframe': 'distant multiframe alarm (bit y)'}
-_SLOTS = {'lost': 'slot 16 lost: both directions silent', 'found': 'slot 16 found again, speech goes on',
+_SLOTS = {'lost': 'slot 16 lost: what comes is silent', 'found': 'slot 16 found, speech goes on',
           'moved': 'slots moved by {}: slot 16 found again, speech goes on'}
 # CRC-4 (ITU-T G.704, 2.3.3; G.706, 4.2 and 4.3).
 _CRC4 = {'none': 'no CRC multiframe alignment', 'found': 'CRC multiframe alignment found',

@@ -29,7 +29,6 @@ LIMITS: dict[str, Any] = {
     'service.pages.EVERY': 0.0,
     'ctl_all.PATIENCE': LONG,
     'programs.PATIENCE': LONG, 'tie.trunk.PATIENCE': LONG, 'writers.OPENS': LONG,
-    'service.slot_trunk.TAKES': LONG,
     'service.pair.GRACE': LONG, 'service.service.GRACE': LONG, 'service.handover.GRACE': LONG,
     'service.events.FLUSH': LONG, 'service.journal.FLUSH': LONG,
     # (A process that gets what others leave gets next to nothing on a loaded machine.)

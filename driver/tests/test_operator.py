@@ -19,7 +19,7 @@ from .world import World, children, config_of
 from e1gw.exchange import SEIZED
 from e1gw.metrics import table
 from e1gw.service import commands, connection
-from e1gw.session import Command, Kind, command_record, encode_record
+from e1gw.session import MULTIFRAME, Command, Kind, command_record, encode_record
 
 
 class OperatorTests(unittest.TestCase):
@@ -115,7 +115,7 @@ class OperatorTests(unittest.TestCase):
         world.until(lambda: [world.state(n) for n in (1, 2, 4)] == ['idle', 'clearedback', 'blocked'])
         call(world, 1)
         for _ in range(20):
-            world.give(world.ones)
+            world.give(b'\xff' * MULTIFRAME)
         self.assertEqual(self.next(events, event='cleared')['circuits'], [1])
 
 

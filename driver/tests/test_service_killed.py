@@ -17,7 +17,7 @@ from .test_program_killed import KeeperCase
 from .world import LAUNCHER
 from e1gw.service.handover import note_in
 from e1gw.service.log import in_memory
-from e1gw.service.process import UNKNOWN, Child, start_of
+from e1gw.service.process import UNKNOWN, Child, held_pipe, start_of
 from e1gw.testing.service import ask
 
 
@@ -91,6 +91,23 @@ class RestartedKeeperCase(KeeperCase):
     def kill_keeper(self) -> None:
         self.keeper.kill()
         self.keeper.wait()
+
+    def is_updated(self, option: str, *names: str, **noted: Any) -> None:
+        """A service of before, with processes of these names on the line for an option, is killed, and updated."""
+        self.kill_keeper()
+        old = {name: subprocess.Popen(['sleep', str(SECONDS)]) for name in names}
+        for each in old.values():
+            self.addCleanup(each.kill)
+        note = note_in(os.pread(self.manager.files['kept'], 65_536, 0))
+        note['opens'].append(option)
+        self.manager.files['joint-1'] = held_pipe()
+        files = {'line-in': note['trunk']['files']['line-in'], 'joint': 'joint-1'}
+        note['trunk'] = {'files': files, 'zero': 1, 'name': '', 'satop': [], 'origin': 0, 'why': '', **noted,
+                         'processes': {name: [each.pid, start_of(each.pid), 0] for name, each in old.items()}}
+        os.pwrite(self.manager.files['kept'], json.dumps(note).encode() + b'\n', 0)
+        self.options = f'--{option}', '--control', self.path('its-control')
+        self.again()
+        self.assertEqual({each.wait(SECONDS) for each in old.values()}, {-signal.SIGKILL})
 
     def dies_unkept(self) -> None:
         """The service is killed where nobody keeps descriptors, and the next one opens the device again."""

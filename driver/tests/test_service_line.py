@@ -1,15 +1,11 @@
-"""A trunk that is no plain device: SAToP, any bit offset, CRC-4, a card that keeps slot 0. What becomes of the process
-on its line."""
+"""A trunk that is no plain device: SAToP, any bit offset, CRC-4. What becomes of the process on its line."""
 from __future__ import annotations
 
 import asyncio
 import functools
-import json
 import os
 import signal
-import socket
 import stat
-import subprocess
 import sys
 import unittest
 from typing import Callable
@@ -25,13 +21,9 @@ from e1gw.crc4 import COUNTS
 from e1gw.lines import Event
 from e1gw.service import carried, satop_trunk, trunk
 from e1gw.service.carried import BROKEN, ONES
-from e1gw.service.handover import note_in
-from e1gw.service.process import held_pipe, start_of
 from e1gw.service.satop_trunk import SatopTrunk
-from e1gw.service.slot_trunk import SlotTrunk
 from e1gw.service.trunk import LineOptions, waiting
 from e1gw.session import OCTETS_A_SECOND
-from e1gw.trunks import Stream
 
 
 class LineKilledTests(RestartedKeeperCase):
@@ -108,24 +100,9 @@ class LineKilledTests(RestartedKeeperCase):
     def test_an_update_with_crc4(self) -> None:
         """The service before had `e1gw crc4` on the line. It ends; the device is held, and the calls go on."""
         self.begins()
-        self.kill_keeper()
-        old = [subprocess.Popen(['sleep', str(support.SECONDS)]) for _ in range(2)]
-        for process in old:
-            self.addCleanup(process.kill)
-        note = note_in(os.pread(self.manager.files['kept'], 65_536, 0))
-        its = note['trunk']['files']['line-in']
-        joint = held_pipe()
-        self.manager.files |= {'joint-send-1': joint}
-        note['opens'].append('crc4')
-        note['trunk'] = {
-            'files': {'line-in': its, 'joint-send': 'joint-send-1'}, 'zero': 1, 'name': '', 'satop': [], 'origin': 0,
-            'why': '', 'first': 0, 'counts': [{}, False, [dict.fromkeys(COUNTS, 7), True, dict.fromkeys(COUNTS, 7)]],
-            'processes': {name: [each.pid, start_of(each.pid), 0] for name, each in zip(('check', 'send'), old)}}
-        os.pwrite(self.manager.files['kept'], json.dumps(note).encode() + b'\n', 0)
-        self.options = '--crc4', '--control', self.path('its-control')
-        self.again()
+        its = dict.fromkeys(COUNTS, 7)
+        self.is_updated('crc4', 'check', 'send', counts=[{}, False, [its, True, its]])
         self.goes_on_behind()
-        self.assertEqual([each.wait(support.SECONDS) for each in old], [-signal.SIGKILL] * 2)
         self.step(20)
         self.settles()
         self.assertEqual(self.device.exchange.signals, self.up())
@@ -230,32 +207,3 @@ class LineProcessTests(support.FolderCase, unittest.IsolatedAsyncioTestCase):
         os.write(trunk.both[1], bytes(100_000))
         await trunk.finish()
         self.assertTrue(os.path.exists(self.path('over')))
-
-
-class SlotTrunkTests(unittest.IsolatedAsyncioTestCase):
-    async def test_octets_that_a_program_did_not_answer(self) -> None:
-        """As many octets go to the card as have come, and each slot stays in its place."""
-        ours, card = socket.socketpair()
-        self.addCleanup(card.close)
-        card.setblocking(False)
-        file = ours.detach()
-        trunk = SlotTrunk(LineOptions(lambda: Stream(file, file, 'card'), law=lambda: 'A'))
-        await trunk.open()
-        self.addAsyncCleanup(trunk.finish)
-        sent = bytes(range(1, 32)) * 16
-        for octets, count in (0, 100), (512, 0), (1024, 511), (1536, 512):
-            await trunk.join(octets, False)
-            card.send(sent)
-            answers = await self.read(trunk.both[0], 512)
-            os.write(trunk.both[1], answers[:count])
-        self.assertEqual(await self.read(card.fileno(), 100 - 4), sent[:100 - 4])
-        back = await self.read(card.fileno(), 4 * len(sent) - (100 - 4))
-        self.assertEqual(back[-len(sent):], sent)
-        self.assertEqual(set(trunk.note()['processes']), {'pump'})
-
-    async def read(self, file: int, count: int) -> bytes:
-        octets = b''
-        while len(octets) < count:
-            await asyncio.sleep(0.001)
-            octets += os.read(file, min(waiting(file), count - len(octets))) if waiting(file) else b''
-        return octets

@@ -22,7 +22,6 @@ from e1gw.ctl_all import line_of
 from e1gw.metrics import exposition
 from e1gw.service.feed import MOST_PIECE, PIECE, TICK
 from e1gw.service.log import octets_in, whole_records
-from e1gw.service.slot_trunk import SIGNAL, SIGNALS
 from e1gw.service.standby import IN_TIME, START
 from e1gw.session import MULTIFRAME, OCTETS_A_SECOND, packet_of
 from e1gw.testing.ports import free_port
@@ -30,6 +29,7 @@ from e1gw.testing.ports import free_port
 STRANGERS = 200             # connections, of fewer descriptors than a unit may have
 SILENCE = 1.0               # seconds: more than the jitter buffers have room for
 WAITS = 100                 # milliseconds that a takeover takes, besides what its processes have to do
+SIGNAL, SIGNALS = 0x9B, 64   # the octet with the frame alignment signal, and octets from one to the next
 SIZE, MANY = 1248, 16       # octets of a packet of SAToP, which no 50 to 68 multiframes fill; packets: few
 
 

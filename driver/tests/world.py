@@ -17,6 +17,7 @@ from typing import Any, Callable, Mapping, Self
 from . import limits, support
 from .support import SECONDS
 from e1gw.exchange import ACKNOWLEDGED, ANSWERED, IDLE, SEIZED
+from e1gw.session import MULTIFRAME
 from e1gw.testing.ports import free_ports
 from e1gw.testing.service import ask
 
@@ -82,7 +83,6 @@ class World:
         self.configure(config)
         self.exchange = support.Exchange()
         self.answers = answers
-        self.ones = b'\xff' * (496 if '--clear' in options else 512)     # a carrier gives whole multiframes
         self.sent, self.heard = bytearray(), bytearray()
         self._ages: dict[int, int] = {}
         os.mkdir(self.path('run'))
@@ -109,7 +109,7 @@ class World:
             except (FileNotFoundError, ConnectionRefusedError, EOFError):
                 time.sleep(0.01)
             else:
-                self.give(self.ones)
+                self.give(b'\xff' * MULTIFRAME)
         raise AssertionError(f'the service does not come to know the trunk: {self.wait()}')
 
     def __enter__(self) -> Self:

@@ -94,7 +94,7 @@ class TrunkWatch:
     'driver/e1gw/metrics.py': '''def exposition(status, trunk):
     return f'# TYPE lamps gauge\\nlamps{{trunk="{trunk}",colour="red"}} 1\\nlamps{{trunk="{trunk}",colour="blue"}} 0\\n'
 ''',
-    'driver/e1gw/service/slot_trunk.py': "STATUS = ('moved',)\n",
+    'driver/e1gw/slots.py': 'class Slots:\n    def status(self):\n        return {"slots": "clear", "moved": 0}\n',
     **{f'driver/e1gw/{name.lower()}.py': f'from unittest.mock import MagicMock\n{name} = MagicMock()\n'
        for name in ('Clock', 'Crc4')},
 }

@@ -9,7 +9,7 @@ import logging
 import os
 import socket
 import time
-from typing import Any, Awaitable, Callable, Iterator
+from typing import Any, Iterator
 
 from ..session import MULTIFRAME
 from .process import UNKNOWN, Child
@@ -31,7 +31,7 @@ class CarriedTrunk(TrunkFiles):
     def __init__(self, line: LineOptions) -> None:
         super().__init__(line)
         self.child: Child | None = None
-        self._restarts, self._works = Pause(), dict[str, asyncio.Task[None]]()
+        self._restarts, self._works = Pause(), list[asyncio.Task[None]]()
         self._why = ''                  # why the line has ended
         self._lacked = False
 
@@ -41,47 +41,33 @@ class CarriedTrunk(TrunkFiles):
         await self._hold_line()
         self._why = ''
         try:
-            self._lay()
+            self._join()
+            self._start()
         except OSError:
             await self.finish()
             raise
-        self._does('look', self._look)
+        self._goes()
         self._tell_open()
 
-    def _lay(self) -> None:
-        """Joins the program and the process."""
-        self._join()
-        self._begin()
-
-    def _join(self, sent: int = 0, came: int = 0) -> None:
-        """Makes the socket pair, also in place of one with octets that nobody counts any more. This number of ones was
-        sent into it, and came, as far as it has room."""
+    def _join(self) -> None:
+        """Makes the socket pair."""
         for name, line in zip(('near', 'far'), socket.socketpair()):
-            if name in self.files:
-                os.close(self.files[name])
             self.files[name] = line.detach()
-            os.set_blocking(self.files[name], False)
-        os.write(self.files['near'], b'\xff' * sent)
-        os.write(self.files['far'], b'\xff' * came)
-        os.set_blocking(self.files['far'], True)
+        os.set_blocking(self.files['near'], False)
         self._set_ends()
 
     def _set_ends(self) -> None:
         self.both = self.files['near'], self.files['near']
 
-    def line_out(self) -> int:
-        """Where the device takes octets."""
-        return self.files.get('line-out', self.files.get('line-in', -1))
-
-    def _command(self) -> tuple[list[str], int, int, list[int]]:
-        """The command line of the process, its standard input and output, and what else it is given."""
+    def _command(self) -> tuple[list[str], int, int]:
+        """The command line of the process, its standard input and output."""
         raise NotImplementedError
 
     def _start(self) -> None:
         """Starts the process. OSError if it can't be."""
-        words, reads, writes, passed = self._command()
+        words, reads, writes = self._command()
         self._lacked = self.lacks()
-        child = Child.start(words[0], words, reads, writes, passed)
+        child = Child.start(words[0], words, reads, writes)
         if self.child:
             self.child.close()
         self.child = child
@@ -91,12 +77,9 @@ class CarriedTrunk(TrunkFiles):
         """Whether something that the process needs is not there."""
         return False
 
-    def _begin(self) -> None:
-        self._start()
-        self._does('keep', self._keep)
-
-    def _does(self, name: str, work: Callable[[], Awaitable[None]]) -> None:
-        self._works[name] = asyncio.create_task(again(work, 'the line'))
+    def _goes(self) -> None:
+        """Sees to the process from now on."""
+        self._works = [asyncio.create_task(again(work, 'the line')) for work in (self._keep, self._look)]
 
     # ---- while it is there ----
 
@@ -108,10 +91,11 @@ class CarriedTrunk(TrunkFiles):
             status, words = child.status or 0, self._end_words(child)
             ended_itself = 0 <= status < UNKNOWN
             if self._why or ended_itself and not (status and self.tries_again()):
-                return self._end_line(f'{BROKEN}: {words}' if status else ENDED)
+                self._why = self._why or (f'{BROKEN}: {words}' if status else ENDED)
+                return shut(self.files['far'])      # (the program is given what has come, and ends behind that)
             self.fault = f'{BROKEN}: {words}'
             self.tell({'event': 'trunk lost', 'why': self.fault})
-            await self._begin_again(words)
+            await self._begin_again()
             self._tell_open()
 
     def tries_again(self) -> bool:
@@ -123,7 +107,7 @@ class CarriedTrunk(TrunkFiles):
         last = child.lines[-1:] if 0 < (child.status or 0) < UNKNOWN else []
         return ': '.join([f'{self.title} {child.words()}', *last])
 
-    async def _begin_again(self, words: str) -> None:
+    async def _begin_again(self) -> None:
         """Begins it again at once; if it has died soon after its start before, later, or when what it lacked has come.
         Octets are missing then, so with CRC-4 the program is given ones, behind which it looks for multiframes again:
         moved by half a multiframe each submultiframe would be right, and E bits read where there are none."""
@@ -138,11 +122,6 @@ class CarriedTrunk(TrunkFiles):
             except OSError as fault:
                 self._restarts.begins()
                 logger.error('%s cannot be started: %s', self.title, fault.strerror)
-
-    def _end_line(self, why: str) -> None:
-        """The line has ended. The program is given what has come, and ends behind that."""
-        self._why = self._why or why
-        shut(self.files['far'])
 
     async def _look(self) -> None:
         while True:
@@ -167,12 +146,16 @@ class CarriedTrunk(TrunkFiles):
         return '' if self._why == ENDED else self._why
 
     async def finish(self) -> None:
-        if look := self._works.pop('look', None):
-            look.cancel()
+        while self._works:
+            self._works.pop().cancel()
         if near := self.files.get('near'):
             shut(near)
             asyncio.get_running_loop().add_reader(near, drop, near)     # (who cannot write does not look for an end)
-        await self._end_process(self.patience())
+        if child := self.child:
+            await child.end_within(self.patience())
+            self._hear()
+            child.close()
+        self.child = None
         if near:
             asyncio.get_running_loop().remove_reader(near)
         await super().finish()
@@ -180,16 +163,6 @@ class CarriedTrunk(TrunkFiles):
     def patience(self) -> float:
         """Seconds for the process to send what it was given last."""
         return GRACE
-
-    async def _end_process(self, seconds: float) -> None:
-        """Waits for the end of the process so long at most, and kills it."""
-        if keep := self._works.pop('keep', None):
-            keep.cancel()
-        if child := self.child:
-            await child.end_within(seconds)
-            self._hear()
-            child.close()
-        self.child = None
 
     # ---- for the service that comes after this one ----
 
@@ -210,9 +183,8 @@ class CarriedTrunk(TrunkFiles):
     def _goes_on(self, processes: dict[str, list[int]]) -> None:
         for pid, started, heard in processes.values():
             self.child = Child(pid, started, self.files.pop(f'said-{self.kind}'), heard)
-            self._does('keep', self._keep)
         self._set_ends()
-        self._does('look', self._look)
+        self._goes()
 
 
 class AlignedTrunk(CarriedTrunk):
@@ -221,11 +193,11 @@ class AlignedTrunk(CarriedTrunk):
     kind, title = 'align', 'e1gw align'
 
     def _set_ends(self) -> None:
-        self.both = self.files['near'], self.line_out()
+        self.both = self.files['near'], self.files.get('line-out', self.files['line-in'])
 
-    def _command(self) -> tuple[list[str], int, int, list[int]]:
+    def _command(self) -> tuple[list[str], int, int]:
         os.set_blocking(self.files['line-in'], True)        # (it waits in a read)
-        return [self.line.program, 'align'], self.files['line-in'], self.files['far'], []
+        return [self.line.program, 'align'], self.files['line-in'], self.files['far']
 
     def patience(self) -> float:
         return 0.0

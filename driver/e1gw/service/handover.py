@@ -27,7 +27,7 @@ from .lifecycle import ANEW, GRACE, TrunkKeeper, TrunkWants, loaded
 from .log import Checkpoint, octets_in, take_file
 from .process import Child, start_of
 from .program import TrunkProgram, connected
-from .slot_trunk import trunk_of
+from .satop_trunk import trunk_of
 from .version import version_of_now
 
 NOTE = 'kept'               # the file of the note, in the folder of the service; also the name of its descriptor
@@ -187,7 +187,6 @@ async def first_keeper(wants: TrunkWants, handover: Handover, notifier: Notifier
     keeper.state = loaded(wants.state)
     if keeper.state.state >= 0:
         keeper.why = 'begins with what was saved'
-        await keeper.trunk.loads(version, keeper.state)
     return keeper
 
 

@@ -87,7 +87,7 @@ class TrunkKeeper:
         self._handover, self.notifier = handover, notifier
         self.silent, self._due, self._deaths = time.monotonic(), 0.0, DeathCount()
         self._finishing = Tasks()
-        trunk.ask, trunk.place = self.ask, self.place
+        trunk.place = self.place
 
     # ---- from the beginning to the end ----
 
@@ -115,7 +115,7 @@ class TrunkKeeper:
             if self.ending:
                 self.finish(self.ending, 0)
             return None
-        program = self.program or await self._start()
+        program = self.program or self._start()
         if not program.is_up and not await program.comes_up(START) and not program.ended_well():
             await self._never_up(program)
             return None
@@ -123,9 +123,9 @@ class TrunkKeeper:
             self._follow(program)
         return program
 
-    async def _start(self) -> TrunkProgram:
+    def _start(self) -> TrunkProgram:
         """Starts a program from the state of now, and remembers it before anything else happens."""
-        await self.trunk.join(self.state.counted['octets'], self.state.state < 0)
+        self.trunk.follows()
         self.number += 1
         self.program = program = TrunkProgram.started(
             self.number, self.versions.now, self.state, f'{self.wants.control}.{self.number}',
@@ -173,7 +173,7 @@ class TrunkKeeper:
         self._pass_on(program)
         if (lacks := program.lacks()) and now >= self._due:
             self._due = now + APART     # (another program has one, once a minute at most)
-            self.ask(lacks)
+            self.wanted = self.wanted or lacks
         self.note()
 
     async def _succeed(self, program: TrunkProgram, why: str) -> None:
@@ -297,11 +297,6 @@ class TrunkKeeper:
     def place(self) -> int:
         """The octet of the trunk behind all that was taken."""
         return self.program.octets() if self.program else self.state.counted['octets']
-
-    def ask(self, why: str) -> None:
-        """Another program is to follow, for this reason."""
-        self.wanted = self.wanted or why
-        self.wake.set()
 
     def end(self, why: str) -> None:
         """The end is asked for."""

@@ -11,7 +11,7 @@ from typing import Callable
 from .. import satop
 from ..clearing import on_loss_of
 from ..faults import checked, named, number
-from ..lines import SEIZURE_WAIT, law_of, read_config, wait_words
+from ..lines import SEIZURE_WAIT, wait_words
 from ..programs import SENDERS, program_of
 from ..recording_ring import seconds_of
 from ..trunks import Stream, host_and_port, open_files, open_tcp, open_unix
@@ -152,9 +152,8 @@ def line_of(asked: argparse.Namespace) -> LineOptions:
         raise ValueError('--crc4 is for all 32 slots; the device of --clear sends slot 0 itself, and CRC-4 in it')
     if asked.clear and asked.satop:
         raise ValueError('--clear is for a device that keeps slot 0; --satop has all 32 slots')
-    law = (lambda: law_of(read_config(asked.config))) if asked.clear else None
     return LineOptions(None if asked.satop else opening_of(asked), satop_of(asked) if asked.satop else None,
-                       asked.align, asked.crc4, law, asked.reopen)
+                       asked.align, asked.crc4, asked.clear, asked.reopen)
 
 
 def opening_of(asked: argparse.Namespace) -> Callable[[], Stream]:
@@ -192,5 +191,6 @@ def wants_of(asked: argparse.Namespace) -> TrunkWants:
     state = None if asked.standby else asked.state      # (the other machine may have gone on from it)
     return TrunkWants(program, asked.config, asked.senders, replace(line, program=program), folder, control,
                       asked.tell or os.path.join(folder, 'tell'), state,
-                      [*['--repeat', str(asked.repeat)] * (asked.repeat > 0), *['--crc4', '--live'] * asked.crc4],
+                      [*['--repeat', str(asked.repeat)] * (asked.repeat > 0), *['--crc4', '--live'] * asked.crc4,
+                       *['--slots', '1-31'] * asked.clear],
                       wait_words(asked.seizure_wait), asked.totals)

@@ -84,8 +84,6 @@ class TrunkPair:
         state, words = await self.standby.state(bool(trunk.line.satop))
         keeper.begins_with(state)
         keeper.lost, keeper.why = words if state else f', {words}{ANEW}', 'promoted'
-        if state:
-            await trunk.loads(keeper.versions.now, state)
         if state and fed:
             trunk.zero, trunk.ones = fed.zero, functools.partial(fed.ones, START)
         keeper.was_up = True

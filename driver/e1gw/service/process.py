@@ -19,7 +19,7 @@ LOOK = 0.25                 # seconds between two looks whether a signal has sto
 UNKNOWN = 255               # the status of a process that ended while nobody waited for it
 TOTALS, PLACE = ('records', 'octets', 'datagrams', 'dropped', 'port_faults', 'discarded_multiframes'), 'place'
 AT_END = {*TOTALS, PLACE, *COUNTS, 'unreported'}        # what it counts at its end
-EACH_SECOND = 'live ', 'satop ', '{'    # how lines begin that come again and again
+OFTEN = 'live ', 'satop ', 'slots '     # how lines begin that come again and again
 PYTHON = 'import sys; sys.path[:0] = [sys.argv.pop(1)]; from e1gw.{} import main; sys.exit(main())'
 TOP = os.path.dirname(os.path.dirname(os.path.dirname(os.path.abspath(__file__))))
 
@@ -94,7 +94,7 @@ class Child:
                 self._counted[word] = int(count)
                 continue
             self._news.append(line)
-            if not line.startswith(EACH_SECOND):
+            if not line.startswith(OFTEN):
                 self.lines.append(line)
 
     def news(self) -> list[str]:

@@ -1,12 +1,12 @@
-"""The trunk of an emulated circuit: what `e1gw satop` makes of packets."""
+"""The trunk of an emulated circuit: what `e1gw satop` makes of packets. Which trunk there is for which options."""
 from __future__ import annotations
 
 import asyncio
 from typing import Any
 
 from ..satop import CONDITIONS, SatopCondition, can_send, counts_of
-from .carried import ONES, CarriedTrunk, give
-from .trunk import LineOptions, waiting
+from .carried import ONES, AlignedTrunk, CarriedTrunk, give
+from .trunk import LineOptions, TrunkFiles, waiting
 
 ANEW = 0.2                  # seconds for the far end of `e1gw satop` to take its packets as a new stream
 
@@ -26,21 +26,24 @@ class SatopTrunk(CarriedTrunk):
         assert self.line.satop
         self._words = await asyncio.to_thread(self.line.satop)
 
-    def _lay(self) -> None:
-        self._join(self.place() % self._size(), self.ones())
+    def _join(self) -> None:
+        """Of the first packet a part was sent before, which is ones; so is what is given to the next program, as far as
+        there is room."""
+        super()._join()
+        give(self.files['near'], b'\xff' * (self.place() % self._size()))
+        give(self.files['far'], b'\xff' * self.ones())
         self.ones = lambda: 0
-        self._begin()
 
     def _size(self) -> int:
         """The octets of a packet."""
         return int(self._words[self._words.index('--size') + 1])
 
-    def _command(self) -> tuple[list[str], int, int, list[int]]:
+    def _command(self) -> tuple[list[str], int, int]:
         """Its numbers go on with the octets, here and at another machine."""
         far = self.files['far']
         unread = waiting(far)       # (first: what comes meanwhile is before no number twice)
         number = self.zero + (self.place() - unread) // self._size()
-        return [self.line.program, 'satop', *self._words, '--sequence', str(number & 0xffff)], far, far, []
+        return [self.line.program, 'satop', *self._words, '--sequence', str(number & 0xffff)], far, far
 
     def lacks(self) -> bool:
         """One of two machines has its address a moment later."""
@@ -49,9 +52,9 @@ class SatopTrunk(CarriedTrunk):
     def tries_again(self) -> bool:
         return self.line.reopens
 
-    async def _begin_again(self, words: str) -> None:
+    async def _begin_again(self) -> None:
         """The far end is given ones, too."""
-        await super()._begin_again(words)
+        await super()._begin_again()
         if self.crc4:
             await asyncio.sleep(ANEW)
             give(self.files['near'], ONES)
@@ -72,3 +75,18 @@ class SatopTrunk(CarriedTrunk):
 
     def status(self) -> dict[str, Any]:
         return {'trunk': self.name, **self._counts, **{name: int(each.on) for name, each, _ in self._conditions}}
+
+
+def trunk_of(line: LineOptions, files: dict[str, int], note: dict[str, Any] | None) -> TrunkFiles:
+    """A trunk that is to be opened, or that of the service before this one, of which `files` and `note` are."""
+    kind = SatopTrunk if line.satop else AlignedTrunk if line.align else TrunkFiles
+    trunk = kind(line)
+    if not note:
+        return trunk
+    if 'counts' in note:                # (of a version before this one)
+        note['slots'], _, note['crc4'] = note['counts']
+    try:
+        trunk.take_up({what: files[name] for what, name in note['files'].items() if name in files}, note)
+        return trunk
+    except (KeyError, TypeError, ValueError, OSError):      # (then it is opened again)
+        return kind(line)

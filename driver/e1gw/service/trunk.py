@@ -14,22 +14,20 @@ import traceback
 from contextlib import suppress
 from dataclasses import dataclass
 from math import inf
-from typing import TYPE_CHECKING, Any, Awaitable, Callable, Coroutine
+from typing import Any, Awaitable, Callable, Coroutine
 
 from ..crc4 import Crc4, counts_in
 from ..faults import words_of_fault
 from ..lines import Event
+from ..slots import Slots
 from ..trunks import Stream
 from .events import tell_journal
 from .process import Child
 
-if TYPE_CHECKING:
-    from .log import Checkpoint
-    from .version import ProgramVersion
-
 QUICK = 1.0                 # seconds: what ends within them is begun again later
 PAUSE, MOST_PAUSE = 0.25, 30.0          # seconds up to then, at first and at most
 AGAIN = 0.1                 # seconds before what has failed is begun again
+REST = 0.05                 # seconds for the processes of the service before this one
 LINE = 'line-in', 'line-out'            # descriptors of a device or a socket
 
 logger = logging.getLogger(__name__)
@@ -38,13 +36,13 @@ logger = logging.getLogger(__name__)
 @dataclass(frozen=True)
 class LineOptions:
     """What a trunk is. `opens` opens a device or a socket; else `satop` looks both ends of an emulated circuit up, and
-    gives the words of `e1gw satop`. `law` reads that of the configuration for a device that keeps slot 0 (--clear)."""
+    gives the words of `e1gw satop`. `clear` is for a device that keeps slot 0."""
 
     opens: Callable[[], Stream] | None = None
     satop: Callable[[], list[str]] | None = None
     align: bool = False
     crc4: bool = False
-    law: Callable[[], str] | None = None
+    clear: bool = False
     reopens: bool = False
     program: str = ''           # for the processes between the line and the gateway
 
@@ -72,12 +70,11 @@ class TrunkFiles:
     def __init__(self, line: LineOptions) -> None:
         self.line, self.name, self.files = line, '', dict[str, int]()
         self.tell: Callable[[Event], None] = tell_journal
-        self.ask: Callable[[str], None] = lambda why: None      # asks for another program
         self.place: Callable[[], int] = lambda: 0       # the octet of the trunk behind all that was taken
         self.zero = int.from_bytes(os.urandom(2))       # (SAToP) the number of the packet with the first octet of all
         self.ones: Callable[[], int] = lambda: 0        # octets of ones that are given to the next program
         self.since, self.fault = time.time(), ''         # when it was opened, and why it is not
-        self.crc4 = Crc4() if line.crc4 else None
+        self.crc4, self.slots = Crc4() if line.crc4 else None, Slots() if line.clear else None
         self._pause, self._left = Pause(), list[Child]()        # (processes of the service before this one)
         self.both = -1, -1
 
@@ -92,8 +89,8 @@ class TrunkFiles:
 
     async def _hold_line(self) -> None:
         """Opens the line, unless it is held."""
-        while self._left:
-            await self._left.pop().kill()
+        while self._left:       # (what they have in hand goes out)
+            await self._left.pop().end_within(REST)
         if not self.files:
             await self._open_line()
 
@@ -137,21 +134,20 @@ class TrunkFiles:
                 self._pause.begins()
                 await either(self._pause.ends(), ending)
 
-    async def loads(self, version: ProgramVersion, state: Checkpoint) -> None:
-        """The next program is the first one here, and begins with a state."""
-
-    async def join(self, octets: int, is_new: bool) -> None:
-        """Called before a program begins behind this number of octets of the trunk, perhaps with a new gateway."""
+    def follows(self) -> None:
+        """Another program follows."""
         if self.crc4:
             self.crc4.follows()
+        if self.slots:
+            self.slots.follows()
 
     def takes(self, line: str) -> bool:
-        """Takes a line that the program has said, if it has counts of CRC-4."""
-        if not (self.crc4 and (counts := counts_in(line))):
-            return False
-        for event in self.crc4.take(counts):
+        """Takes a line that the program has said, if it is of CRC-4 or of slot 16."""
+        counts = counts_in(line) if self.crc4 else {}
+        events = self.crc4.take(counts) if self.crc4 and counts else self.slots.take(line) if self.slots else []
+        for event in events:
             self.tell(event)
-        return True
+        return bool(counts or events)
 
     async def finish(self) -> None:
         """Closes it, behind what was sent last."""
@@ -169,7 +165,8 @@ class TrunkFiles:
 
     def note(self) -> dict[str, Any]:
         """What it has to know, and to have."""
-        return {'files': self.files, 'name': self.name, 'crc4': self.crc4 and self.crc4.note()}
+        return {'files': self.files, 'name': self.name, 'crc4': self.crc4 and self.crc4.note(),
+                'slots': self.slots and self.slots.note()}
 
     def take_up(self, files: dict[str, int], note: dict[str, Any]) -> None:
         """Goes on with these descriptors of the service before this one. What is between the line and the program
@@ -177,6 +174,8 @@ class TrunkFiles:
         self.name, self.files, processes = str(note.get('name', '')), files, note.get('processes', {})
         if self.crc4 and note.get('crc4'):
             self.crc4.take_up(note['crc4'])
+        if self.slots and note.get('slots'):
+            self.slots.take_up(note['slots'])
         lacks = note['files'].keys() - files.keys()
         if files and not lacks and self._is_joined(processes):
             return self._goes_on(processes)
@@ -196,7 +195,7 @@ class TrunkFiles:
 
     def status(self) -> dict[str, Any]:
         """What the transport tells of itself, as plain values."""
-        return {'trunk': self.name, 'waiting': unsent(self.both[1])}
+        return {'trunk': self.name, 'waiting': unsent(self.both[1]), **(self.slots.status() if self.slots else {})}
 
     def facts(self) -> dict[str, Any]:
         """Since when it is open, why it is not, and what is counted, as plain values."""
