@@ -1,70 +1,23 @@
 """Trunks: what gives 2048 kbit/s as octets and takes as many. A device, a file, a FIFO, a pseudo-terminal, a socket."""
 from __future__ import annotations
 
-import errno
 import os
 import socket
-import stat
 import tty
 
 from .faults import named
 
-MOST_WAITING = 1 << 20      # octets that wait to be written before the trunk counts as broken
-
 
 class Stream:
-    """A trunk that is read and written by one descriptor or two. `name` is where it is: a path, or an address. Nothing
-    here waits: `read` gives what there is, `write` keeps what the other end does not take yet."""
+    """A trunk that is read and written by one descriptor or two, on which nothing waits. `name` is where it is: a path,
+    or an address."""
 
     def __init__(self, reads: int, writes: int, name: str) -> None:
         self.reads, self.writes, self.name = reads, writes, name
-        self._waiting = bytearray()
         for file in {reads, writes}:
             if os.isatty(file):
                 tty.setraw(file)
             os.set_blocking(file, False)
-        self.paced = not stat.S_ISREG(os.fstat(reads).st_mode)      # octets come by a clock
-
-    def read(self, most: int) -> bytes:
-        """Octets that have come, at most this number; none if there are none now. EOFError where it has ended, OSError
-        where it has failed."""
-        try:
-            octets = os.read(self.reads, most)
-        except (BlockingIOError, InterruptedError):
-            return b''
-        except OSError as fault:
-            if fault.errno == errno.EIO and os.isatty(self.reads):
-                raise EOFError from None            # the other end of a pseudo-terminal is closed
-            raise
-        if not octets:
-            raise EOFError
-        return octets
-
-    def write(self, octets: bytes) -> None:
-        """Sends octets. OSError where it has failed."""
-        if not self._waiting:
-            try:
-                sent = os.write(self.writes, octets)
-            except (BlockingIOError, InterruptedError):
-                sent = 0
-            if sent == len(octets):
-                return
-            octets = octets[sent:]
-        self._waiting += octets
-        if len(self._waiting) > MOST_WAITING:
-            raise OSError(errno.ENOBUFS, 'the trunk takes nothing')
-
-    def waiting(self) -> int:
-        """How many octets wait to be sent."""
-        return len(self._waiting)
-
-    def flush(self) -> None:
-        """Sends of them what can be sent."""
-        try:
-            while self._waiting:
-                del self._waiting[:os.write(self.writes, self._waiting)]
-        except (BlockingIOError, InterruptedError):
-            pass
 
     def close(self) -> None:
         for file in {self.reads, self.writes}:

@@ -14,30 +14,12 @@ from .test_trunk import FOUR, aligned
 from .test_trunk_served import octets_in
 from .world import World, children, config_of, trunk_command
 from e1gw.session import trunk_record
-from e1gw.trunks import Stream, host_and_port
+from e1gw.trunks import host_and_port
 
 OCTETS = bytes(range(256)) * 2
 
 
-class StreamTests(unittest.TestCase):
-    def test_what_is_not_taken_waits(self) -> None:
-        reads, writes = os.pipe()
-        trunk = Stream(os.open(os.devnull, os.O_RDONLY), writes, 'pipe')
-        self.addCleanup(os.close, reads)
-        sent = 0
-        while not trunk.waiting():
-            trunk.write(OCTETS)
-            sent += len(OCTETS)
-        got = 0
-        while got < sent:
-            got += len(os.read(reads, 1 << 20))
-            trunk.flush()
-        self.assertEqual((got, trunk.waiting()), (sent, 0))
-        with self.assertRaises(OSError):
-            for _ in range(10_000):
-                trunk.write(OCTETS)
-        trunk.close()
-
+class PlaceTests(unittest.TestCase):
     def test_hosts_and_ports(self) -> None:
         self.assertEqual(host_and_port('127.0.0.1:1'), ('127.0.0.1', 1))
         self.assertEqual(host_and_port('[::1]:65535'), ('::1', 65535))
