@@ -106,7 +106,8 @@ class ClearTests(RestartedKeeperCase):
         self.card.lose = 3
         self.goes_on_as_before(LOST, MOVED.format(3))
         self.has_counted(1, 1)
-        os.kill(self.program, signal.SIGKILL)
+        self.send(2)
+        os.kill(self.program, signal.SIGKILL)       # (what it had in hand is whole frames)
         self.goes_on()
         self.goes_on_as_before(FOUND)
         self.keeper.send_signal(signal.SIGHUP)
