@@ -24,7 +24,7 @@ LIMITS: dict[str, Any] = {
     'service.status.QUIET': LONG, 'service.pages.DRAWN': LONG, 'service.reload.PATIENCE': LONG,
     'service.feed.PATIENCE': LONG, 'service.standby.PATIENCE': LONG, 'service.pair.PATIENCE': LONG,
     'service.feed.FRESH': LONG, 'service.standby.FRESH': LONG, 'service.pair.FRESH': LONG,
-    'service.standby.MOST_AGE': LONG, 'service.recordings.FLUSH': LONG, 'service.carried.GRACE': LONG,
+    'service.standby.MOST_AGE': LONG, 'service.recordings.FLUSH': LONG, 'service.satop_trunk.GRACE': LONG,
     'service.connection.NEXT': LONG, 'service.trunk.MOST_PAUSE': 0.01, 'service.pages.SECONDS': LONG,
     'service.pages.EVERY': 0.0,
     'ctl_all.PATIENCE': LONG,

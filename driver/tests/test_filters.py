@@ -3,9 +3,6 @@
 All goes in lock step; the exchange's CRC-4 is that of test_crc4."""
 from __future__ import annotations
 
-import contextlib
-import os
-import signal
 import subprocess
 from typing import Any
 
@@ -14,7 +11,7 @@ from .support import SECONDS
 from .test_crc4 import HALF, MULTIFRAME, Crc4Sender, checked, e_bits, frame_alignment, multiframe_in
 from .test_trunk import FOUR, aligned, call
 from .test_trunk_served import octets_in
-from .world import World, children, config_of, trunk_command
+from .world import World, config_of, trunk_command
 from e1gw.session import trunk_record
 
 SECOND = 500                                # multiframes
@@ -34,10 +31,14 @@ class FilteredWorld(World):
         super().__init__(config_of(FOUR), *options, **more)
 
     def give(self, octets: bytes) -> bytes:
+        return super().give(self.on_the_line(octets))
+
+    def on_the_line(self, octets: bytes) -> bytes:
+        """As they come."""
         if self.has_crc4 and len(octets) == MULTIFRAME:
             octets = self.sender.multiframe(octets)
         self.last, before = octets[-1], self.last
-        return super().give(late(octets, before) if self.is_late else octets)
+        return late(octets, before) if self.is_late else octets
 
 
 class FilterServiceTests(support.FolderCase):
@@ -120,22 +121,22 @@ class FilterServiceTests(support.FolderCase):
         status = world.status()
         self.assertTrue(status['crc4']['aligned'])
         self.assertEqual((status['crc4']['errored'], status['crc4']['multiframes_found']), (0, 1))
-        self.assertEqual(status['transport']['aligning'], 0)
         self.is_right(world.heard)
 
     def test_the_program_dies_inside_a_multiframe(self) -> None:
         """The exchange keeps the alignment of frames and multiframes."""
-        world = aligned(self.world('--crc4', within={'service.lifecycle.WITHIN': 0.0}))
-        call(world, 1)
-        for count in 0, 77, 500:
-            with self.subTest(count):
-                octets = world.sender.multiframe(world.exchange.multiframe())
-                world.line.sendall(octets[:count])
-                back = support.read_from(world.line, count)
-                world.kill('trunk')
-                world.line.sendall(octets[count:])
-                world.exchange.hear(back + support.read_from(world.line, MULTIFRAME - count))
-                self.goes_on(world)
+        for options in ('--crc4',), ('--crc4', '--align'):
+            world = aligned(self.world(*options, within={'service.lifecycle.WITHIN': 0.0}))
+            call(world, 1)
+            for count in 0, 77, 500:
+                with self.subTest(count, options=options):
+                    octets = world.on_the_line(world.exchange.multiframe())
+                    world.line.sendall(octets[:count])
+                    back = support.read_from(world.line, count)
+                    world.kill('trunk')
+                    world.line.sendall(octets[count:])
+                    world.exchange.hear(back + support.read_from(world.line, MULTIFRAME - count))
+                    self.goes_on(world)
 
     def test_another_program_follows(self) -> None:
         """Counts go on, also where it follows at once, and nothing has happened to the line."""
@@ -149,20 +150,14 @@ class FilterServiceTests(support.FolderCase):
         self.assertEqual((status, said.count('CRC'), said.count('CRC multiframe alignment found')), (0, 1, 1), said)
 
     def test_it_comes_again(self) -> None:
-        """The trunk, inside a frame, and perhaps what is on its line ends meanwhile."""
-        rows: tuple[tuple[str, tuple[str, ...]], ...] = (
-            ('--align', ('align',)), ('--crc4', ()))
-        for option, words in rows:
-            with self.subTest(words), FilteredWorld(option, '--reopen') as world:
+        """The trunk, inside a frame."""
+        for option in '--align', '--crc4':
+            with self.subTest(option), FilteredWorld(option, '--reopen') as world:
                 aligned(world)
                 call(world, 1)
                 world.line.sendall(b'\xD5' * 77)
                 support.all_read(world.line)
                 with world.new_listener() as listener:
-                    if words:
-                        os.kill(support.until(lambda: children(world.process.pid, *words))[0], signal.SIGKILL)
-                        with contextlib.suppress(EOFError, ConnectionError):
-                            world.step()
                     world.line.close()
                     world.take(listener)
                 world.exchange, world.last = support.Exchange(), 0xFF

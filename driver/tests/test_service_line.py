@@ -1,4 +1,4 @@
-"""A trunk that is no plain device: SAToP, any bit offset, CRC-4. What becomes of the process on its line."""
+"""A trunk that is no plain device: any bit offset, CRC-4; SAToP, and what becomes of the process on its line."""
 from __future__ import annotations
 
 import asyncio
@@ -8,33 +8,36 @@ import signal
 import stat
 import sys
 import unittest
-from typing import Callable
+from typing import Any, Callable
 from unittest import mock
 
 from . import limits, support
 from .test_crc4 import FRAME, checked, with_bit
+from .test_filters import late
 from .test_satop import ENDS, SCRIPT
 from .test_service_killed import RestartedKeeperCase
-from .test_trunk import is_there
 from .world import words_of
 from e1gw.crc4 import COUNTS
 from e1gw.lines import Event
-from e1gw.service import carried, satop_trunk, trunk
-from e1gw.service.carried import BROKEN, ONES
-from e1gw.service.satop_trunk import SatopTrunk
+from e1gw.service import satop_trunk, trunk
+from e1gw.service.satop_trunk import BROKEN, ONES, SatopTrunk
 from e1gw.service.trunk import LineOptions, waiting
 from e1gw.session import OCTETS_A_SECOND
 
 
-class LineKilledTests(RestartedKeeperCase):
-    """A service that is killed: the process on its line goes on, and the next one sees to it."""
+class LateExchange(support.Exchange):
+    """What it sends comes three bits late."""
 
-    def align(self, before: int = 0) -> int:
-        """The `e1gw align` of the line, another one than before, if need be waited for."""
-        def found() -> int:
-            pid = int(support.until(self.noted)['trunk']['processes']['align'][0])
-            return pid if pid != before else 0
-        return support.until(found)
+    last = 0xFF
+
+    def multiframe(self) -> bytes:
+        octets, before = super().multiframe(), self.last
+        self.last = octets[-1]
+        return late(octets, before)
+
+
+class LineKilledTests(RestartedKeeperCase):
+    """A service that is killed: the next one goes on with its line."""
 
     def goes_on_over_all(self) -> None:
         """The trunk goes on over the end of the service, another program and an update."""
@@ -49,19 +52,21 @@ class LineKilledTests(RestartedKeeperCase):
         self.step(20)
         self.settles()
 
-    def test_align(self) -> None:
-        """Not an octet is lost that no process had, also if one dies while no service is there."""
-        self.begins('--align')
-        align = self.align()
-        self.goes_on_over_all()
-        self.assertEqual(self.align(), align)
-        self.kill_keeper()
-        os.kill(align, signal.SIGKILL)
-        self.comes_back()
-        self.align(align)
+    def is_up(self) -> None:
+        """All calls are, and the exchange hears no alarm."""
         self.step(20)
-        self.survives()
-        self.assertEqual(os.listdir(self.memory), [])
+        exchange = self.device.exchange
+        self.assertEqual((exchange.signals, exchange.remote_alarms), (self.up(), False))
+
+    def test_align(self) -> None:
+        """Each program finds alignment again, and the calls go on."""
+        self.device.exchange = LateExchange()
+        self.begins('--align')
+        self.goes_on_over_all()
+        for _ in range(3):
+            self.killed(signal.SIGKILL)
+            self.is_up()
+        self.leaves_nothing()
 
     def test_crc4(self) -> None:
         """It goes on with the next program in its phase: two submultiframes are errored for each at most."""
@@ -78,38 +83,42 @@ class LineKilledTests(RestartedKeeperCase):
         self.ends()
 
     def test_the_line_ends(self) -> None:
-        """The program ends behind what has come, and another one goes on with the device opened again. Where nobody
-        keeps descriptors, what is on the line ends with the service."""
+        """Another program goes on with the device opened again, also where nobody keeps descriptors."""
+        self.device.exchange = LateExchange()
         self.begins('--crc4', '--align', '--reopen')
-        align = self.align()
-        os.kill(align, signal.SIGKILL)
-        self.align(align)
         self.device.line.close()
         self.device.accept()
         self.assertIn('behind octet', self.goes_on())
         self.step(40)
         self.settles()
-        align = self.align()
         self.dies_unkept()
         self.assertIn('behind octet', self.goes_on())
-        self.step(40)
-        self.assertEqual(self.device.exchange.signals, self.up())
-        self.assertFalse(is_there(align))
+        self.step(20)
+        self.is_up()
         self.ends()
 
-    def test_an_update_with_crc4(self) -> None:
-        """The service before had `e1gw crc4` on the line. It ends; the device is held, and the calls go on."""
+    def is_updated(self, option: str, *names: str, **noted: Any) -> None:
+        """These processes of the service before end; the device is held, and the calls go on."""
         self.begins()
-        its = dict.fromkeys(COUNTS, 7)
-        self.is_updated('crc4', 'check', 'send', counts=[{}, False, [its, True, its]])
+        os.set_blocking(self.manager.files[self.noted()['trunk']['files']['line-in']], True)
+        super().is_updated(option, *names, **noted)
         self.goes_on_behind()
-        self.step(20)
         self.settles()
-        self.assertEqual(self.device.exchange.signals, self.up())
-        self.assertEqual(self.known(len)['crc4'], {**dict.fromkeys(COUNTS, 7), 'aligned': True})
+        self.is_up()
+        self.assertFalse(os.get_blocking(self.manager.files[self.noted()['trunk']['files']['line-in']]))
         self.kill_keeper()
         self.comes_back()
         self.step(4)
+
+    def test_an_update_with_align(self) -> None:
+        self.is_updated('align', 'align')
+        self.ends()
+        support.until(lambda: not self.manager.files)
+
+    def test_an_update_with_crc4(self) -> None:
+        its = dict.fromkeys(COUNTS, 7)
+        self.is_updated('crc4', 'check', 'send', counts=[{}, False, [its, True, its]])
+        self.assertEqual(self.known(len)['crc4'], {**dict.fromkeys(COUNTS, 7), 'aligned': True})
         self.ends()
         support.until(lambda: not self.manager.files)
 
@@ -119,7 +128,7 @@ class LineProcessTests(support.FolderCase, unittest.IsolatedAsyncioTestCase):
 
     def setUp(self) -> None:
         super().setUp()
-        grace = mock.patch.object(carried, 'GRACE', limits.LONG)
+        grace = mock.patch.object(satop_trunk, 'GRACE', limits.LONG)
         grace.start()
         self.addCleanup(grace.stop)
 

@@ -67,8 +67,7 @@ def add_trunk(words: argparse._ArgumentGroup) -> None:
     words.add_argument('--reopen', action='store_true', help='opens a trunk that ends or fails again, within 30 s')
     words.add_argument('--satop', metavar='LOCAL,PEER', help='SAToP (RFC 4553) over UDP, each as HOST:PORT')
     words.add_argument('--clear', action='store_true', help='the device gives time slots 1 to 31 alone')
-    words.add_argument('--align', action='store_true',
-                       help='octets of the trunk may begin at any bit; e1gw align runs between it and the gateway')
+    words.add_argument('--align', action='store_true', help='octets of the trunk may begin at any bit')
     words.add_argument('--crc4', action='store_true',
                        help='CRC-4: it is sent, and counted each second in what comes')
 
@@ -153,7 +152,7 @@ def line_of(asked: argparse.Namespace) -> LineOptions:
     if asked.clear and asked.satop:
         raise ValueError('--clear is for a device that keeps slot 0; --satop has all 32 slots')
     return LineOptions(None if asked.satop else opening_of(asked), satop_of(asked) if asked.satop else None,
-                       asked.align, asked.crc4, asked.clear, asked.reopen)
+                       asked.crc4, asked.clear, asked.reopen)
 
 
 def opening_of(asked: argparse.Namespace) -> Callable[[], Stream]:
@@ -191,6 +190,6 @@ def wants_of(asked: argparse.Namespace) -> TrunkWants:
     state = None if asked.standby else asked.state      # (the other machine may have gone on from it)
     return TrunkWants(program, asked.config, asked.senders, replace(line, program=program), folder, control,
                       asked.tell or os.path.join(folder, 'tell'), state,
-                      [*['--repeat', str(asked.repeat)] * (asked.repeat > 0), *['--crc4', '--live'] * asked.crc4,
-                       *['--slots', '1-31'] * asked.clear],
+                      [*['--repeat', str(asked.repeat)] * (asked.repeat > 0), *['--align'] * asked.align,
+                       *['--crc4', '--live'] * asked.crc4, *['--slots', '1-31'] * asked.clear],
                       wait_words(asked.seizure_wait), asked.totals)

@@ -1,25 +1,57 @@
-"""The trunk of an emulated circuit: what `e1gw satop` makes of packets. Which trunk there is for which options."""
+"""The trunk of an emulated circuit: `e1gw satop` stands between the packets and the program, joined by a socket pair of
+which the program has the end `near`, the process `far`. No octet passes here. The service holds both ends, so that
+neither sees the other one die, and begins the process again in its place. Which trunk there is for which options."""
 from __future__ import annotations
 
 import asyncio
-from typing import Any
+import contextlib
+import logging
+import os
+import socket
+import time
+from typing import Any, Iterator
 
 from ..satop import CONDITIONS, SatopCondition, can_send, counts_of
-from .carried import ONES, AlignedTrunk, CarriedTrunk, give
-from .trunk import LineOptions, TrunkFiles, waiting
+from ..session import MULTIFRAME
+from .process import UNKNOWN, Child
+from .trunk import LineOptions, Pause, TrunkFiles, again, waiting
 
-ANEW = 0.2                  # seconds for the far end of `e1gw satop` to take its packets as a new stream
+LOOK, SOON = 0.25, 0.01     # seconds between two looks at what the process says, and at what it lacked
+GRACE = 1.0                 # seconds for the process to send what it was given last
+ANEW = 0.2                  # seconds for the far end to take its packets as a new stream
+ONES = b'\xff' * 2 * MULTIFRAME         # behind which frame alignment is looked for again
+ENDED, BROKEN = 'the trunk has ended', 'the trunk cannot be read or written'
+
+logger = logging.getLogger(__name__)
 
 
-class SatopTrunk(CarriedTrunk):
-    """The trunk of such a line. Its name is not that of a device."""
+class SatopTrunk(TrunkFiles):
+    """The trunk of such a circuit. Its name is not that of a device."""
 
-    kind, title = 'satop', 'e1gw satop'
+    title = 'e1gw satop'
 
     def __init__(self, line: LineOptions) -> None:
         super().__init__(line)
         self.name, self._words, self._counts = 'satop', list[str](), dict[str, int]()
         self._conditions = [(name, SatopCondition(count), words) for name, count, words in CONDITIONS]
+        self.child: Child | None = None
+        self._restarts, self._works = Pause(), list[asyncio.Task[None]]()
+        self._why = ''                  # why the line has ended
+        self._lacked = False            # whether this machine did not have its address
+
+    # ---- opening ----
+
+    async def open(self) -> None:
+        await self._hold_line()
+        self._why = ''
+        try:
+            self._join()
+            self._start()
+        except OSError:
+            await self.finish()
+            raise
+        self._goes()
+        self._tell_open()
 
     async def _open_line(self) -> None:
         """Looks both ends up."""
@@ -27,59 +59,153 @@ class SatopTrunk(CarriedTrunk):
         self._words = await asyncio.to_thread(self.line.satop)
 
     def _join(self) -> None:
-        """Of the first packet a part was sent before, which is ones; so is what is given to the next program, as far as
-        there is room."""
-        super()._join()
+        """Makes the socket pair. Of the first packet a part was sent before, which is ones; so is what is given to the
+        next program, as far as there is room."""
+        for name, line in zip(('near', 'far'), socket.socketpair()):
+            self.files[name] = line.detach()
+        os.set_blocking(self.files['near'], False)
+        self._set_ends()
         give(self.files['near'], b'\xff' * (self.place() % self._size()))
         give(self.files['far'], b'\xff' * self.ones())
         self.ones = lambda: 0
+
+    def _set_ends(self) -> None:
+        self.both = self.files['near'], self.files['near']
 
     def _size(self) -> int:
         """The octets of a packet."""
         return int(self._words[self._words.index('--size') + 1])
 
-    def _command(self) -> tuple[list[str], int, int]:
-        """Its numbers go on with the octets, here and at another machine."""
+    def _start(self) -> None:
+        """Starts the process, whose numbers go on with the octets, here and at another machine. OSError if it can't
+        be."""
         far = self.files['far']
         unread = waiting(far)       # (first: what comes meanwhile is before no number twice)
         number = self.zero + (self.place() - unread) // self._size()
-        return [self.line.program, 'satop', *self._words, '--sequence', str(number & 0xffff)], far, far
+        self._lacked = not can_send(self._words)
+        words = self.line.program, 'satop', *self._words, '--sequence', str(number & 0xffff)
+        child = Child.start(words[0], words, far, far)
+        if self.child:
+            self.child.close()
+        self.child = child
+        self._restarts.begins()
 
-    def lacks(self) -> bool:
-        """One of two machines has its address a moment later."""
-        return not can_send(self._words)
+    def _goes(self) -> None:
+        """Sees to the process from now on."""
+        self._works = [asyncio.create_task(again(work, 'the line')) for work in (self._keep, self._look)]
 
-    def tries_again(self) -> bool:
-        return self.line.reopens
+    # ---- while it is there ----
+
+    async def _keep(self) -> None:
+        """Begins the process again each time that it dies, until the line ends."""
+        while child := self.child:
+            await child.over.wait()
+            self._hear()
+            status, words = child.status or 0, self._end_words(child)
+            ended_itself = 0 <= status < UNKNOWN
+            if self._why or ended_itself and not (status and self.line.reopens):
+                self._why = self._why or (f'{BROKEN}: {words}' if status else ENDED)
+                return shut(self.files['far'])      # (the program is given what has come, and ends behind that)
+            self.fault = f'{BROKEN}: {words}'
+            self.tell({'event': 'trunk lost', 'why': self.fault})
+            await self._begin_again()
+            self._tell_open()
+
+    def _end_words(self, child: Child) -> str:
+        """How a process has ended, and the last that it said."""
+        last = child.lines[-1:] if 0 < (child.status or 0) < UNKNOWN else []
+        return ': '.join([f'{self.title} {child.words()}', *last])
 
     async def _begin_again(self) -> None:
-        """The far end is given ones, too."""
-        await super()._begin_again()
+        """Begins it again. Octets are missing then, so with CRC-4 the program is given ones, and the far end, behind
+        which they look for multiframes again: moved by half a multiframe each submultiframe would be right, and E bits
+        read where there are none."""
+        if self.crc4:
+            give(self.files['far'], ONES)
+        while not await self._started():
+            pass
         if self.crc4:
             await asyncio.sleep(ANEW)
             give(self.files['near'], ONES)
 
-    def _take(self, line: str) -> None:
-        if counts := counts_of(line):
+    async def _started(self) -> bool:
+        """Starts it at once; if it has died soon after its start before, later, or when this machine has its address,
+        which one of two gets a moment later."""
+        until = time.monotonic() + self._restarts.ends()
+        while time.monotonic() < until and not (self._lacked and can_send(self._words)):
+            await asyncio.sleep(SOON)
+        try:
+            self._start()
+            return True
+        except OSError as fault:
+            self._restarts.begins()
+            logger.error('%s cannot be started: %s', self.title, fault.strerror)
+            return False
+
+    async def _look(self) -> None:
+        while True:
+            self._hear()
+            await asyncio.sleep(LOOK)
+
+    def _hear(self) -> None:
+        """Takes what the process has said."""
+        for counts in filter(None, map(counts_of, self.child.news() if self.child else ())):
             self._counts = counts
             for _, condition, words in self._conditions:
                 if condition.changes(counts):
                     self.tell({'event': 'satop', 'what': words, 'on': condition.on})
 
-    def note(self) -> dict[str, Any]:
-        return super().note() | {'satop': self._words}
-
-    def take_up(self, files: dict[str, int], note: dict[str, Any]) -> None:
-        self._words = list(note['satop'])
-        super().take_up(files, note)
-
     def status(self) -> dict[str, Any]:
         return {'trunk': self.name, **self._counts, **{name: int(each.on) for name, each, _ in self._conditions}}
+
+    # ---- its end ----
+
+    def has_ended(self, took: int) -> bool:
+        self._hear()
+        return bool(self._why)
+
+    def failure(self) -> str:
+        return '' if self._why == ENDED else self._why
+
+    async def finish(self) -> None:
+        while self._works:
+            self._works.pop().cancel()
+        if near := self.files.get('near'):
+            shut(near)
+            asyncio.get_running_loop().add_reader(near, drop, near)     # (who cannot write does not look for an end)
+        if child := self.child:
+            await child.end_within(GRACE)
+            self._hear()
+            child.close()
+        self.child = None
+        if near:
+            asyncio.get_running_loop().remove_reader(near)
+        await super().finish()
+
+    # ---- for the service that comes after this one ----
+
+    def note(self) -> dict[str, Any]:
+        note, child = super().note() | {'satop': self._words, 'zero': self.zero, 'why': self._why}, self.child
+        return note | ({'files': self.files | {'said-satop': child.said},
+                        'processes': {'satop': [child.pid, child.started, child.noted()]}} if child else {})
+
+    def take_up(self, files: dict[str, int], note: dict[str, Any]) -> None:
+        self._why, self.zero, self._words = str(note['why']), int(note['zero']), list(note['satop'])
+        super().take_up(files, note)
+
+    def _is_joined(self, processes: dict[str, list[int]]) -> bool:
+        return 'near' in self.files and processes.keys() <= {'satop'}
+
+    def _goes_on(self, processes: dict[str, list[int]]) -> None:
+        for pid, started, heard in processes.values():
+            self.child = Child(pid, started, self.files.pop('said-satop'), heard)
+        self._set_ends()
+        self._goes()
 
 
 def trunk_of(line: LineOptions, files: dict[str, int], note: dict[str, Any] | None) -> TrunkFiles:
     """A trunk that is to be opened, or that of the service before this one, of which `files` and `note` are."""
-    kind = SatopTrunk if line.satop else AlignedTrunk if line.align else TrunkFiles
+    kind = SatopTrunk if line.satop else TrunkFiles
     trunk = kind(line)
     if not note:
         return trunk
@@ -90,3 +216,28 @@ def trunk_of(line: LineOptions, files: dict[str, int], note: dict[str, Any] | No
         return trunk
     except (KeyError, TypeError, ValueError, OSError):      # (then it is opened again)
         return kind(line)
+
+
+@contextlib.contextmanager
+def end_of(file: int) -> Iterator[socket.socket]:
+    """This end of a socket pair as a socket. What fails there is passed over."""
+    with contextlib.suppress(OSError), socket.socket(fileno=os.dup(file)) as line:
+        yield line
+
+
+def drop(file: int) -> None:
+    """Takes what it has, which nobody reads any more."""
+    with end_of(file) as line:
+        line.recv(1 << 16, socket.MSG_DONTWAIT)
+
+
+def shut(file: int) -> None:
+    """Nothing more is sent by this end: the other one sees the end of it."""
+    with end_of(file) as line:
+        line.shutdown(socket.SHUT_WR)
+
+
+def give(file: int, octets: bytes) -> None:
+    """Sends octets by this end, as far as there is room."""
+    with end_of(file) as line:
+        line.send(octets, socket.MSG_DONTWAIT)

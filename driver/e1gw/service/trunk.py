@@ -40,11 +40,10 @@ class LineOptions:
 
     opens: Callable[[], Stream] | None = None
     satop: Callable[[], list[str]] | None = None
-    align: bool = False
     crc4: bool = False
     clear: bool = False
     reopens: bool = False
-    program: str = ''           # for the processes between the line and the gateway
+    program: str = ''           # for `e1gw satop`
 
 
 class Pause:
@@ -182,6 +181,8 @@ class TrunkFiles:
         self._left = [Child(*its[:2]) for its in processes.values() if its]
         for what in [what for what in files if what not in LINE or lacks & {*LINE}]:
             os.close(files.pop(what))
+        for file in files.values():
+            os.set_blocking(file, False)        # (a process of that service may have waited in a read)
 
     def _is_joined(self, processes: dict[str, list[int]]) -> bool:
         """Whether the processes of the service before this one are those that there are now."""
