@@ -42,7 +42,7 @@ without_slot_0 place (octet ∷ octets) =
     then without_slot_0 (place + 1) octets
     else octet ∷ without_slot_0 (place + 1) octets
 
--- The octets from the first frame on that begins behind this place.
+-- The octets from the first frame on that begins at this place or behind it.
 abbrev pub from_frame : ℕ → List ℕ → List ℕ
 from_frame place octets = drop ((32 - place % 32) % 32) octets
 

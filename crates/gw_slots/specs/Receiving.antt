@@ -25,7 +25,7 @@ pub record HasMadeWhole (receiver : SlotReceiver) (law : Law) (place : ℕ) (tak
 abbrev pub most_read : ℕ → ℕ
 most_read room = min 1984 (max 1 (room / 32 * 31))
 
--- What is told of a read of the device that came to this: octets for octets, as many at least.
+-- What is returned if a read of the device returned this: at least as many octets, or the same.
 abbrev pub TellsOf : ReadResult → ReadResult → Type 0
 TellsOf (Ok (Octets n)) told = (m : ℕ) × (n ≤ m) × (told ≡ Ok (Octets m))
 TellsOf (Ok NoneNow) told = told ≡ Ok NoneNow
@@ -39,8 +39,8 @@ GivesAll held room (Ok NoneNow) = ⊤
 GivesAll held room (Ok Ended) = ⊤
 GivesAll held room (Err fault) = ⊤
 
--- The device was read for this room, and what it came to is told. What has become of slot 16 was told, or is
--- what was told last.
+-- The device was read for this room, and its result is returned. What has become of slot 16 was reported, or
+-- is as it was reported last.
 pub record ReadsSlots (reads : ℕ → ReadResult → Type 0) (has_told : Option ℕ → Type 0)
     (before told : Option ℕ) (room : ℕ) (result : ReadResult) : Type 0 where
   pub read : ReadResult

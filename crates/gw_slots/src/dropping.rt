@@ -94,7 +94,7 @@ impl<S: DeviceSlots> PieceFilter for SlotDropper<S> {
     ghost has_returned = { λ d taken returned. MatchOption d.frame (returned ≡ taken)
         (λ f. HasFramed f S.place taken returned) };
 
-    ghost may_return_none = { true };
+    ghost may_return_none = { S.is_on };
 
     fn pass(&mut self, octets: &[u8], returned: &mut ArrayVec<u8, 512>) {
         match &mut self.frame {

@@ -16,16 +16,16 @@ use std::marker::PhantomData;
 // The octets of 64 frames: read at once at most.
 const MOST_READ: usize = 1984;
 
-/// Who is told when slot 16 is found, and when it is lost.
+/// A receiver of reports on slot 16: when it is found, and when it is lost.
 ///
 /// The relation is the type's own: a caller that does not know the type has it of a call alone.
 pub trait SlotTeller {
     ghost use Rattle.std.specs.Prelude.{ℕ, Option, ⊤};
 
-    /// Holds of what it was told last.
+    /// Holds of what it received last.
     ghost has_told: { Self → Option ℕ → Type 0 } = { λ _ _. ⊤ };
 
-    /// Is told by how many octets others are delayed from now on; none if slot 16 is lost.
+    /// Receives by how many octets others are delayed from now on; none if slot 16 is lost.
     fn tell(&mut self, late: Option<u8>)
         ensures { has_told self.new late };
 }
@@ -41,7 +41,7 @@ pub struct SlotInput<I: TrunkInput, T: SlotTeller, S: DeviceSlots> {
     // Whether the last read gave only such octets.
     only_held: bool,
     teller: T,
-    // What the teller was told last.
+    // What was reported last.
     told: Option<u8>,
     log: Log,
     of: PhantomData<S>,
@@ -105,7 +105,7 @@ fn make(
     }
 }
 
-// Tells what has become of slot 16, if that is something else than what was told last.
+// Reports what has become of slot 16, if that is something else than what was reported last.
 fn tell<T: SlotTeller>(slots: &SlotReceiver, teller: &mut T, told: &mut Option<u8>)
     ensures late { (law : Law) (place : ℕ) (taken made : List ℕ) → HasMadeWhole slots.now law place taken made
         → told.new ≡ late_from place taken }
