@@ -7,30 +7,17 @@ import shutil
 import subprocess
 from collections.abc import Iterator
 from dataclasses import dataclass, field
-from typing import IO, Any, NamedTuple
+from typing import IO, Any
 
 from .lines import SEIZURE_WAIT, WAIT
-from .session import OCTETS_A_SECOND
+from .session_clock import Break, FileNote, breaks_of, slips_of
 
 PIECE = 1 << 16
 ENDINGS = ('.e1gw', '.e1gw.zst', '.rec', '.rec.zst')
-OUTAGE = 1.0                # seconds without octets from which on it is one, and no slip
 
 
 class InputError(Exception):
     """Why something can't be read or drawn, in words."""
-
-
-class Break(NamedTuple):
-    """A jump of the time of day at a place: from there on it is later by `seconds` than the octets before it say. In
-    an outage no octets came; else a new file begins, which has a time of its own."""
-    place: int
-    seconds: float
-    is_outage: bool
-
-    def behind(self, place: int) -> Break:
-        """The same where the session begins at this place."""
-        return self._replace(place=self.place + place)
 
 
 @dataclass
@@ -137,29 +124,10 @@ def _told(session: RecordedSession) -> RecordedSession:
     session.place = about.get('place', 0)
     session.state = state_of(session.files[0]) if session.middle else ''
     if 'place' in about:
-        session.slips = [(place - about['place'], seconds) for file in session.files
-                         for place, seconds in note_of(file).get('slips', ()) if seconds < OUTAGE]
-        session.breaks = list(_breaks([note_of(file) for file in session.files]))
+        notes = [note for file in session.files if (note := FileNote.of(note_of(file)))]
+        session.slips = slips_of(notes)
+        session.breaks = [*breaks_of(notes)]
     return session
-
-
-def _breaks(abouts: list[dict[str, Any]]) -> Iterator[Break]:
-    """The outages noted in files, and the time of each file. One before a file shows by the monotonic clock, which
-    nobody sets; behind a boot, and without it, by the time. What slips explain is none."""
-    first, last, shift, slipped = abouts[0], abouts[0], 0.0, 0.0
-    for about in (about for about in abouts if 'time' in first and 'time' in about and 'place' in about):
-        place = about['place'] - first['place']
-        more = about['time'] - first['time'] - place / OCTETS_A_SECOND - shift
-        passed = about.get('monotonic', 0.0) - last.get('monotonic', 0.0)
-        passed = passed if passed > 0 else about['time'] - last['time']
-        away = passed - (about['place'] - last['place']) / OCTETS_A_SECOND - slipped
-        yield Break(place, more, min(more, away) >= OUTAGE)
-        last, shift, slipped = about, shift + more, 0.0
-        for at, seconds in about.get('slips', ()):
-            slipped += seconds
-            if seconds >= OUTAGE:
-                yield Break(at - first['place'], seconds, True)
-                shift += seconds
 
 
 def pieces(file: IO[bytes]) -> Iterator[bytes]:

@@ -97,7 +97,7 @@ class PictureCommandTests(FolderCase):
         self.kept(('20231114T221320Z', self.octets, {'place': 1000, 'slips': [[129000, 0.25], [257000, 0.5]]}))
         page, _ = page_of(folder)
         self.assertIn('e1gw-trunk noted 2 slips, first at 22:13:20.500: 0.750 s of the trunk were lost', page)
-        self.assertIn('22:13:21.000: 0.500 s were lost', page)
+        self.assertIn('22:13:21.250: 0.500 s were lost', page)     # (1.25 s, of which 0.25 are missing)
         self.assertNotIn('>slips</text>', page_of('--config', self.config, self.given)[0])
 
     def test_kept_in_several_files(self) -> None:

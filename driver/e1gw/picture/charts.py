@@ -99,7 +99,9 @@ def _marks(sheet: Sheet, scale: Scale, y: float, name: str, marks: list[tuple[in
         groups.setdefault(int(scale.x(mark[0]) * 2 / scale.coarse), []).append(mark)
     for each in groups.values():
         first, last, lost = each[0][0], each[-1][1], sum(seconds for *_, seconds in each)
-        title = f'{scale.words(first)}: {lost:.3f} s were lost' if lost else f'{name}: {scale.span(first, last)}'
+        title = f'{name}: {scale.span(first, last)}'
+        if lost:
+            title = f'{scale.words(first, each[0][2])}: {lost:.3f} s were lost'
         wide = max(scale.x(last) - scale.x(first), 2.4)
         for kind in ('s-alarm', 'h-cross') if wide > 5 else ('s-alarm',):
             sheet.box(scale.x(first), y, wide, 10, kind, title)
@@ -107,9 +109,9 @@ def _marks(sheet: Sheet, scale: Scale, y: float, name: str, marks: list[tuple[in
 
 def outages(sheet: Sheet, scale: Scale, top: float, bottom: float) -> None:
     """Grey gaps where no octets of the trunk came, over what is drawn."""
-    for (place, seconds, _), (_, room) in zip(scale.outages, scale.gaps):
-        wide, long = max(room / scale.octets, 2.4), duration(seconds * SECOND)
-        title = f'no octets of the trunk: {scale.words(place, seconds)} to {scale.words(place)}, {long}'
+    for (place, _, lost), (_, room) in zip(scale.outages, scale.gaps):
+        wide, long = max(room / scale.octets, 2.4), duration(lost * SECOND)
+        title = f'no octets of the trunk: {scale.words(place, lost)} to {scale.words(place)}, {long}'
         sheet.box(scale.x(place) - wide, top, wide, bottom - top, 'outage', title)
         if wide > 6.5 * len(long):
             sheet.words(scale.x(place) - wide / 2, top + 11, long, 'tick', 'middle')

@@ -13,7 +13,7 @@ from collections.abc import Iterable, Iterator, Sequence
 from dataclasses import dataclass, field
 from typing import Any
 
-from ..session_files import Break
+from ..session_clock import Break
 from ..lines import OPEN, SEIZURE_WAIT
 from ..session import FRAME, MULTIFRAME, OCTETS_A_SECOND, Repetitions
 from .sound import HeardSamples, ListeningTimes

@@ -276,13 +276,13 @@ def _alarms(facts: Facts, scale: Scale) -> Iterator[Anomaly]:
 def _trunk(facts: Facts, scale: Scale) -> Iterator[Anomaly]:
     """Octets that did not come, and datagrams for no circuit."""
     if scale.outages:
-        when = [f'from {scale.words(place, seconds)} to {scale.words(place)} ({duration(seconds * SECOND)})'
-                for place, seconds, _ in scale.outages]
+        when = [f'from {scale.words(each.place, each.lost)} to {scale.words(each.place)} '
+                f'({duration(each.lost * SECOND)})' for each in scale.outages]
         yield Anomaly('outage', 0, f'no octets of the trunk came {some(when, ", ", " and {} times more")}')
     slips = [(place, seconds) for place, seconds in facts.slips or () if facts.start <= place]
     if slips:
         yield Anomaly('slips', 0, f'e1gw-trunk noted {len(slips)} slip{"s" * (len(slips) > 1)}, first at '
-                      f'{scale.words(slips[0][0])}: {sum(seconds for _, seconds in slips):.3f} s of the trunk were '
+                      f'{scale.words(*slips[0])}: {sum(seconds for _, seconds in slips):.3f} s of the trunk were '
                       'lost')
     for (host, port), count in facts.strays.most_common():
         if count > 5:

@@ -5,10 +5,10 @@ import argparse
 import os
 import sys
 from collections.abc import Iterator
-from datetime import datetime, timezone
 from typing import Any
 
 from ..faults import checked, number
+from ..session_clock import moment
 from ..session_files import InputError, RecordedSession, octets_of, pieces
 from ..lines import read_config, with_wait
 from ..frames import raw_words_of
@@ -40,14 +40,6 @@ def span(text: str) -> int:
     if not 0.001 <= value <= 1e9:
         raise ValueError
     return int(value * OCTETS_A_SECOND)
-
-
-def moment(text: str) -> float:
-    """Seconds since 1970, or a date and time, in UTC if it names no zone. ValueError for others."""
-    if text.replace('.', '', 1).isdecimal():
-        return float(text)
-    when = datetime.fromisoformat(text)
-    return (when if when.tzinfo else when.replace(tzinfo=timezone.utc)).timestamp()
 
 
 def parser() -> argparse.ArgumentParser:

@@ -118,7 +118,7 @@ class PicturePage:
         """The first lines: time, duration, counts."""
         facts, wholes = self.facts, self.whole.values()
         when = '' if facts.begin is None else time.strftime('%Y-%m-%d %H:%M:%S UTC, ',
-                                                            time.gmtime(self.scale.second(facts.start)))
+                                                            time.gmtime(self.scale.clock.second(facts.start)))
         calls, answers = (sum(whole.counts[name] for whole in wholes) for name in ('calls', 'answers'))
         up = sum(state in OPEN for row in self.rows
                  for *_, state in row.states.between(facts.start, facts.start + 1))
@@ -177,8 +177,8 @@ class PicturePage:
         facts, scale = self.facts, self.scale
         alarms = [(name, *self._times(first, last)) for which, name in charts.ALARMS.items()
                   for first, last, on in facts.alarms[which].between(facts.start, facts.place) if on]
-        alarms += [('no octets (outage)', scale.words(place, seconds), scale.words(place), duration(seconds * SECOND))
-                   for place, seconds, _ in scale.outages]
+        alarms += [('no octets (outage)', scale.words(each.place, each.lost), scale.words(each.place),
+                    duration(each.lost * SECOND)) for each in scale.outages]
         commands = [(row.number, scale.words(each.place), each.words + f', and {each.more} more' * (each.more > 0),
                      each.answer) for row in self.rows for each in row.commands.values() if each.place >= facts.start]
         states = [(row.number, *self._times(first, last), charts.MEANS[state]) for row in self.rows

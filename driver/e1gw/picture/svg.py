@@ -5,7 +5,7 @@ import html
 import time
 from collections.abc import Iterable, Sequence
 
-from ..session_files import Break
+from ..session_clock import Break, SessionClock
 from .facts import SECOND
 
 LEFT, WIDE, RIGHT = 126, 1000, 14
@@ -27,11 +27,12 @@ class Scale:
     coarse = 1                          # by how much detail is reduced
 
     def __init__(self, start: int, end: int, begin: float | None, breaks: Sequence[Break] = ()) -> None:
-        self.start, self.end, self.begin, self.breaks = start, max(end, start + 256), begin, breaks
+        self.start, self.end, self.begin = start, max(end, start + 256), begin
+        self.clock = SessionClock(begin, tuple(breaks))
         self.outages = [each for each in breaks if each.is_outage and start < each.place <= end]
-        whole, long = sum(each.seconds for each in self.outages) * SECOND, self.end - self.start
+        whole, long = sum(each.lost for each in self.outages) * SECOND, self.end - self.start
         part = min(1.0, long / 2 / whole) if whole else 0.0
-        self.gaps = [(each.place, part * each.seconds * SECOND) for each in self.outages]       # as they are drawn
+        self.gaps = [(each.place, part * each.lost * SECOND) for each in self.outages]      # as they are drawn
         self.octets = (long + part * whole) / WIDE          # to a pixel
 
     def x(self, place: float) -> float:
@@ -45,33 +46,29 @@ class Scale:
             place = max(at, place - room) if place >= at else place
         return int(place)
 
-    def second(self, place: float) -> float:
-        """The time of a place, in seconds from place 0, or since 1970 if that is known."""
-        return (self.begin or 0.0) + place / SECOND + sum(each.seconds for each in self.breaks if each.place <= place)
-
     def words(self, place: int, before: float = 0.0) -> str:
         """The time of a place as text, or the time `before` seconds earlier."""
-        seconds = self.second(place) - before
+        seconds = self.clock.second(place) - before
         if self.begin is None:
             return f'{seconds:.3f} s' if seconds < 300 else f'{int(seconds) // 60}:{seconds % 60:06.3f} min'
         return clock(seconds)
 
     def long(self, first: int, last: int) -> str:
-        """How long it is from a place to another, outages between them included."""
-        away = sum(each.seconds for each in self.outages if first < each.place <= last)
-        return duration(last - first + SECOND * away)
+        """How long it is from a place to another, with what is missing of the trunk between them."""
+        return duration(last - first + SECOND * self.clock.lost(first, last))
 
     def span(self, first: int, last: int) -> str:
         return f'{self.words(first)} to {self.words(last)}, {self.long(first, last)}'
 
     def ticks(self) -> list[tuple[float, str]]:
-        """The places of round times, and their texts; none in an outage."""
+        """The places of round times, and their texts; none where octets are missing."""
         step = next((step for step in STEPS if self.octets * WIDE / SECOND / step <= 10), STEPS[-1])
         out = []
-        edges = [self.start, *(each.place for each in self.outages), self.end + 1]
+        edges = [self.start, *(each.place for each in self.clock.breaks if self.start < each.place <= self.end),
+                 self.end + 1]
         for first, last in zip(edges, edges[1:]):
-            origin = self.second(first) - first / SECOND
-            n = -int(-self.second(first) // step)
+            origin = self.clock.second(first) - first / SECOND
+            n = -int(-self.clock.second(first) // step)
             while n * step <= origin + (last - 1) / SECOND + 1e-9:
                 out.append((self.x((n * step - origin) * SECOND), self._tick(n * step, step)))
                 n += 1

@@ -1,0 +1,224 @@
+"""The time of each place of a kept session: the picture, the .json of its files and the journal tell the same."""
+from __future__ import annotations
+
+import asyncio
+import os
+import random
+import re
+import types
+import unittest
+from collections import Counter
+from dataclasses import dataclass
+from datetime import datetime
+from typing import Any
+from unittest import mock
+
+from . import support
+from .picture_made import page_of
+from e1gw import session_clock
+from e1gw.clock import TICK, ClockFinding
+from e1gw.service import reader, recordings
+from e1gw.service.log import Checkpoint, TrunkLog
+from e1gw.session import MULTIFRAME, OCTETS_A_SECOND, trunk_record
+from e1gw.session_clock import Break, FileNote, SessionClock
+from e1gw.session_files import kept
+
+RECORD = MULTIFRAME / OCTETS_A_SECOND       # seconds
+DAY = 1_800_000_000.0
+OUTAGES = re.compile(r'(\d\d:\d\d:\d\d\.\d{3}) to (\d\d:\d\d:\d\d\.\d{3}) \(([\d.]+) s\)')
+
+
+@dataclass
+class Stretch:
+    """What happens on a trunk: octets come, then none for `away` seconds. A `new` program carries it from then on,
+    which began `early` seconds before the octets came; or another file begins, or another service goes on."""
+
+    flows: float
+    away: float = 0.0
+    new: bool = False
+    early: float = 0.0
+    cuts: bool = False
+    service: bool = False
+
+
+# Each ends with octets. By hand: what a file's time and a slip both tell of, and what one of them alone does.
+SESSIONS = {
+    'the device stands still': [Stretch(3, 5), Stretch(3)],
+    'closed and opened again': [Stretch(3, 31.8, new=True), Stretch(3)],
+    'opened before octets come': [Stretch(3, 30, new=True, early=4), Stretch(3)],
+    'closed for less than an outage': [Stretch(3, 0.4, new=True), Stretch(3)],
+    'twice': [Stretch(3, 61.82, new=True), Stretch(3, 61.83, new=True), Stretch(3)],
+    'twice, before the flow was steady': [Stretch(3, 30, new=True), Stretch(0.05, 20, new=True), Stretch(3)],
+    'a slip soon behind it': [Stretch(3, 31.8, new=True), Stretch(0.7, 0.3), Stretch(3)],
+    'another program at once': [Stretch(3, 0.008, new=True), Stretch(3, 12), Stretch(3)],
+    'files in between': [Stretch(6, 8, new=True), Stretch(6, cuts=True), Stretch(3, 2), Stretch(6, cuts=True),
+                         Stretch(3)],
+    'the service ends meanwhile': [Stretch(3, 20, new=True, service=True), Stretch(3, 4), Stretch(3)],
+    'the service ends, then an outage': [Stretch(3, service=True), Stretch(2, 9, new=True), Stretch(3)]}
+
+
+def made(chance: random.Random) -> list[Stretch]:
+    """A session of any such steps. (What the service itself does not see, since it begins meanwhile, no file tells.)"""
+    steps = []
+    for _ in range(chance.randrange(1, 6)):
+        away, new = chance.choice((0.0, 0.3, 1.5, chance.uniform(1.2, 90))), chance.random() < 0.6
+        service = chance.random() < 0.2 and (new or not away)
+        steps.append(Stretch(2.1 + chance.random(), away, new, cuts=chance.random() < 0.3, service=service))
+    return [*steps, Stretch(3)]
+
+
+class KeptSession:
+    """A ring that the reader of the logs writes, by a clock of its own, and what is true of it."""
+
+    def __init__(self, folder: str, config: str) -> None:
+        self.wants = recordings.RecordingWants(folder, 60, 'west', config, 200)
+        self.now, self.octets, self.number = 5000.0, 0, 0
+        self.times: list[tuple[int, float]] = []        # of some places, seconds of the day
+        self.outages: list[tuple[float, float]] = []    # from when to when octets were missing, if that was an outage
+        self.journal: list[float] = []                  # the gaps that it has
+        self.program, self.reader = self.program_of(), self.service()
+
+    def program_of(self) -> Any:
+        """Another program, which begins now."""
+        self.number += 1
+        begun = Checkpoint(-1, 0, Counter(octets=self.octets))
+        version = types.SimpleNamespace(program='/bin/false', config=os.open(os.devnull, os.O_RDONLY))
+        return types.SimpleNamespace(number=self.number, version=version, log=TrunkLog(), begun=begun, checkpoint=begun,
+                                     is_adopted=False, is_saving=False, is_done=False)
+
+    def service(self) -> reader.LogReader:
+        """Another service, behind the one that there was."""
+        its = reader.LogReader(self.wants, 0.1, lambda: None, mock.AsyncMock())
+        its.found = self.found
+        return its
+
+    def found(self, finding: ClockFinding) -> None:
+        self.journal += [finding.value] * (finding.what == 'gap')
+
+    async def begin(self, lost: bool = False) -> None:
+        self.reader.began(self.program, lost)
+
+    async def go(self, seconds: float, comes: bool = True) -> None:
+        """Time goes by, with octets or without."""
+        until, due = self.now + seconds - RECORD / 2, self.now + TICK
+        while self.now < until:
+            self.now += RECORD
+            if comes:
+                log = self.program.log
+                os.pwrite(log.file, trunk_record(bytes(MULTIFRAME)), log.place())
+                self.octets += MULTIFRAME
+            if self.now >= due:
+                due = self.now + TICK
+                await self.reader.look()
+
+    async def do(self, step: Stretch) -> None:
+        await self.go(step.flows)
+        self.times.append((self.octets, self.now + DAY))
+        if step.cuts:
+            place = self.program.log.place()
+            self.program.checkpoint = Checkpoint(-1, place, Counter(octets=self.octets))
+        if step.service:
+            await self.reader.look()
+            await self.follow()
+        begun = self.now
+        await self.go(step.away - step.early, comes=False)
+        if step.new:
+            self.program = self.program_of()
+            await self.begin(step.away < 0.02)
+        await self.go(step.early, comes=False)
+        self.outages += [(begun + DAY, self.now + DAY)] * (step.away >= 1)
+
+    async def follow(self) -> None:
+        """The service ends when all is copied, and another one goes on with what it has noted."""
+        before, note = self.reader._recording, self.reader.note()
+        assert before and note
+        await asyncio.to_thread(before.close)
+        note, files = self.reader.note() or note, dict[str, int]()
+        for log in note['logs']:
+            files |= {str(file): file for file in log['files'].values()}
+            log['files'] = {what: str(file) for what, file in log['files'].items()}
+        self.reader = self.service()
+        self.reader.take_up(note, files)
+        await self.begin()
+
+    async def end(self) -> None:
+        await self.reader.look()
+        await self.reader.finish()
+
+
+class SessionClockTests(support.FolderCase, unittest.IsolatedAsyncioTestCase):
+    def setUp(self) -> None:
+        super().setUp()
+        self.config = self.write('west.toml', 'law = "A"\n')
+
+    async def asyncSetUp(self) -> None:
+        asyncio.get_running_loop().set_debug(False)
+
+    async def session(self, name: str, steps: list[Stretch]) -> KeptSession:
+        """A session that is kept in a folder of this name."""
+        its = KeptSession(self.path(name), self.config)
+        clock = types.SimpleNamespace(monotonic=lambda: its.now, time=lambda: its.now + DAY)
+        with mock.patch.object(reader, 'time', clock), mock.patch.object(recordings, 'time', clock):
+            its.reader.take_up(None, {})
+            await its.begin()
+            for step in steps:
+                await its.do(step)
+            await its.end()
+        return its
+
+    async def test_sessions(self) -> None:
+        """Twenty sessions with gaps: each octet has the time at which it came, and each outage is told once."""
+        chance = support.chance_of(self)
+        for name, steps in [*SESSIONS.items(), *((f'made {n}', made(chance)) for n in range(9))]:
+            with self.subTest(name, steps=steps):
+                its = await self.session(name, steps)
+                session = kept(its.wants.session)
+                clock = SessionClock(session.begin, tuple(session.breaks))
+                for place, second in its.times:
+                    self.assertAlmostEqual(clock.second(place - 1), second, delta=0.05)
+                self.told_once(its, [each for each in session.breaks if each.is_outage], clock)
+                if not any(step.service for step in steps):     # (a service does not see what was before it)
+                    missing = sum(step.away for step in steps if step.away > 0.1)
+                    self.assertAlmostEqual(sum(its.journal), missing, delta=0.05)
+
+    def told_once(self, its: KeptSession, outages: list[Break], clock: SessionClock) -> None:
+        """The .json, the picture and the journal tell the outages that there were."""
+        true = [(first, last, last - first) for first, last in its.outages]
+        told = [(clock.second(each.place) - each.lost, clock.second(each.place), each.lost) for each in outages]
+        page, _ = page_of(its.wants.session)
+        drawn = [(second_of(first), second_of(last), float(seconds))
+                 for first, last, seconds in OUTAGES.findall(page.partition('from ')[2].partition('<span')[0])]
+        self.assertEqual([len(told), len(drawn)], [len(true)] * 2)
+        for first, each, its_drawn in zip(true, told, drawn):
+            for at, (is_true, is_told, is_drawn) in enumerate(zip(first, each, its_drawn)):
+                # (a gap is found up to a tenth of a second behind it)
+                self.assertAlmostEqual(is_true, is_told, delta=0.3 if at < 2 else 0.05)
+                self.assertAlmostEqual(is_told % 86400 if at < 2 else is_told, is_drawn, delta=0.011)
+
+
+def second_of(text: str) -> float:
+    """The second of the day."""
+    return (datetime.strptime(text, '%H:%M:%S.%f') - datetime(1900, 1, 1)).total_seconds()
+
+
+class NotedTwiceTests(unittest.TestCase):
+    """What is decided of one file, without any session."""
+
+    def test_slips(self) -> None:
+        second = OCTETS_A_SECOND
+        rows: list[tuple[str, list[tuple[int, float]], float, tuple[int, float] | None]] = [
+            ('none', [], 31.8, None), ('the same', [(second // 8, 31.96)], 31.8, (0, 0.16)),
+            ('shorter', [(second // 8, 1.2)], 31.8, None), ('too late', [(3 * second, 31.8)], 31.8, None),
+            ('behind another', [(10, 0.3), (second, 31.8)], 31.8, (1, 0.0)),
+            ('nothing was missed', [(10, 0.3)], 0.02, None), ('what a program had', [(0, 0.008)], 0.2, None)]
+        for name, slips, away, found in rows:
+            with self.subTest(name):
+                its = FileNote(0, DAY, 1.0, tuple(slips)).twice(away, away)
+                self.assertEqual(its and (its[0], round(its[1], 6)), found)
+
+    def test_a_clock_that_was_set_is_no_outage(self) -> None:
+        second = OCTETS_A_SECOND
+        breaks = session_clock.breaks_of([FileNote(0, DAY, 100.0, ()),
+                                          FileNote(second, DAY - 3568.2, 132.8, ((second + 9, 31.8),))])
+        self.assertEqual([(each.place, round(each.seconds, 3), round(each.lost, 3)) for each in breaks],
+                         [(0, 0.0, 0.0), (OCTETS_A_SECOND, -3569.2, 31.8)])
