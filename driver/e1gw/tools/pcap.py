@@ -1,17 +1,21 @@
 """Turns the D records of a session into a capture of UDP packets, for Wireshark and tshark, and back. Needs python3.
 
-  tools/pcap [--circuit N] [--in SESSION] [SESSION] > call.pcap
+  tools/pcap [--circuit N] [--config FILE] [--begin TIME] [--in SESSION] [SESSION] > call.pcap
   tools/pcap --back [--circuit N] [CAPTURE] > datagrams.rec
 
 SESSION is the gateway's output, by default standard input; its datagrams go from 192.0.2.1 to 192.0.2.2. --in adds the
-datagrams of the gateway's input in the other direction. Circuit N has UDP port 5000 + 2 N at both ends. --circuit N
-selects this circuit only.
+datagrams of the gateway's input in the other direction: a file, or a folder of e1gw-trunk --keep. Circuit N has UDP
+port 5000 + 2 N at both ends. --circuit N selects this circuit only.
+
+A packet has the time at which it came or went, by its place on the trunk, 256,000 octets a second. The first octet has
+the time that a kept session tells, or --begin, in UTC; else 0. What e1gw encode writes has no octets of a trunk: the
+times are those of its RTP timestamps.
+
+Before the first packet of a circuit, and of another codec, an announcement (SAP, RFC 2974) has its SDP, by which
+Wireshark knows the port and the codec of a payload type: by --config, or the configuration that a kept session names.
 
 A packet with the same SSRC, sequence number and octets as an earlier one is a repetition, as e1gw serve --repeat sends
-it. Standard error counts them; in the capture each has the time of the packet before it.
-
-A packet's time is its RTP timestamp at 8000 Hz. A stream's first packet has the time of its place on the trunk, by the
-trunk octets before it at 256,000 a second.
+it. Standard error counts them.
 
 With --back a packet's destination port gives its circuit, or --circuit names it for all packets. A packet that is not
 UDP, is cut or fragmented, or belongs to no circuit is skipped and counted on standard error. CAPTURE is a pcap or
@@ -22,21 +26,26 @@ import heapq
 import os
 import struct
 import sys
-from typing import BinaryIO, Iterable, Iterator
+from contextlib import suppress
+from typing import BinaryIO, Iterable, Iterator, NamedTuple
 
-from ..faults import words_of_fault
+from ..faults import checked, words_of_fault
+from ..lines import law_of, lines_of, read_config
 from ..packets import BadCapture, packets
-from ..session import (CIRCUITS, FRAME, SAMPLES_A_SECOND, BadPacket, BadSession, Kind, Repetitions, datagram_record,
+from ..session import (CIRCUITS, SAMPLES_A_SECOND, BadPacket, BadSession, Kind, Record, Repetitions, datagram_record,
                        packet_of, records)
-from ..session_files import pieces
+from ..session_clock import SessionClock, moment
+from ..session_files import InputError, RecordedSession, kept, octets_of, pieces
 
 NAME = os.path.basename(sys.argv[0])    # in the package e1gw-pcap
 GATEWAY, PEER = bytes([192, 0, 2, 1]), bytes([192, 0, 2, 2])  # RFC 5737, addresses for examples
 PORTS = {circuit: 5000 + 2 * circuit for circuit in CIRCUITS}
+ANNOUNCED = bytes([224, 2, 127, 254]), 9875     # where SAP sends to (RFC 2974, 3)
 MOST = 65507  # the most octets that a UDP packet over IPv4 carries
+MOST_HELD = 1000  # D records between two of the trunk; if there are more, there is no trunk
 PLAIN_IP = 101  # LINKTYPE_RAW
 UDP = 17
-LAST = 2**32 * SAMPLES_A_SECOND - 1  # the last sample whose second a capture can tell
+LAST = 2**32 * 10**6 - 1  # the last microsecond that a capture can tell
 
 
 # ---- a session to a capture ----
@@ -60,45 +69,107 @@ class PcapRepetitions:
             print(f'pcap: {self.count} of {self.every} packets are repetitions', file=sys.stderr)
 
 
-class StreamClock:
-    """The time of each datagram, in samples, from its stream's RTP timestamps."""
+class StampTimes:
+    """The times of datagrams without a trunk, in seconds, by the RTP timestamps of each stream."""
 
     def __init__(self) -> None:
-        self.octets = 0
         self.streams: dict[tuple[int, int], tuple[int, int]] = {}
-        self.last: dict[int, int] = {}
-        self.again = PcapRepetitions()
+        self.last: dict[int, float] = {}
 
-    def time(self, circuit: int, body: bytes) -> int:
-        """The time of a datagram; one that is no RTP, or a repetition, comes with the datagram before it."""
-        trunk = self.octets // FRAME
-        if self.again.is_one(circuit, body):
-            return self.last.get(circuit, trunk)
-        try:
-            packet = packet_of(body)
-        except BadPacket:
-            return self.last.get(circuit, trunk)
-        before, then = self.streams.get((circuit, packet.ssrc), (packet.timestamp, trunk))
-        # timestamps wrap at 2^32, and a late datagram's is below the last
-        now = min(LAST, max(0, then + (packet.timestamp - before + 2**31) % 2**32 - 2**31))
-        self.streams[circuit, packet.ssrc] = packet.timestamp, now
-        self.last[circuit] = now
-        return now
+    def of(self, record: Record) -> float:
+        """That of a datagram; one that is no RTP comes with the one before it."""
+        with suppress(BadPacket):
+            packet = packet_of(record.body)
+            stamp, then = self.streams.get((record.circuit, packet.ssrc), (packet.timestamp, 0))
+            # timestamps wrap at 2^32, and a late datagram's is below the last
+            now = max(0, then + (packet.timestamp - stamp + 2**31) % 2**32 - 2**31)
+            self.streams[record.circuit, packet.ssrc] = packet.timestamp, now
+            self.last[record.circuit] = now / SAMPLES_A_SECOND
+        return self.last.get(record.circuit, 0.0)
 
 
-def packets_of(source: BinaryIO, asked: int | None, ends: tuple[bytes, bytes]) -> Iterator[tuple[int, bytes]]:
-    """The time and the octets of a packet for each datagram of a session."""
-    clock = StreamClock()
-    for kind, circuit, body in records(pieces(source)):
-        if kind is Kind.TRUNK:
-            clock.octets += len(body)
-        elif kind is Kind.DATAGRAM and asked in (None, circuit):
-            if len(body) > MOST:
-                print(f'{NAME}: skipped a datagram of {len(body)} octets, too long for UDP',
-                      file=sys.stderr)
-            else:
-                yield clock.time(circuit, body), packet(*ends, PORTS[circuit], body)
-    clock.again.tell()
+class Timed(NamedTuple):
+    """A D or K record, when it was, and whether the gateway wrote it."""
+    time: float
+    record: Record
+    went: bool
+
+
+def timed(octets: Iterable[bytes], clock: SessionClock, went: bool) -> Iterator[Timed]:
+    """The D and K records of a session with their times: those that the gateway wrote went behind the octets of the
+    trunk which follow them there."""
+    place, held, stamps = 0, list[Record](), StampTimes()
+    for record in records(octets):
+        if record.kind in (Kind.DATAGRAM, Kind.CODEC):
+            held.append(record)
+        after = place + len(record.body) * (record.kind is Kind.TRUNK)
+        if after > place:
+            second, place = clock.second(after if went else place), after
+            yield from (Timed(second, each, went) for each in held)
+            held.clear()
+        elif not place and len(held) >= MOST_HELD:
+            yield from (Timed(clock.second(0) + stamps.of(each), each, went) for each in held)
+            held.clear()
+    yield from (Timed(clock.second(place) + (0.0 if place else stamps.of(each)), each, went) for each in held)
+
+
+class Announcements:
+    """Tells of each circuit's port and codec before its first packet, and again behind a change."""
+
+    def __init__(self, config: str | None) -> None:
+        tables = read_config(config) if config else {}
+        self._law = law_of(tables)
+        self._codecs = {n: (line.codec, line.payload) for n, line in lines_of(tables).items()} if config else {}
+        self._told = dict[int, bytes]()
+        self._unknown = set[tuple[int, int]]()
+
+    def change(self, record: Record) -> None:
+        """A circuit has the codec of a K record from now on."""
+        self._codecs[record.circuit] = record.codec.word(self._law), record.payload_type
+
+    def before(self, record: Record) -> bytes:
+        """The packet that comes before a datagram; empty if nothing is to be told."""
+        circuit, kind = record.circuit, record.body[1] & 127 if len(record.body) > 1 else 0
+        codec, payload = self._codecs.get(circuit, ('', 0))
+        if kind > 95 and kind != payload and (circuit, kind) not in self._unknown:
+            self._unknown.add((circuit, kind))
+            hint = '' if self._codecs else '; --config names the configuration'
+            print(f'{NAME}: circuit {circuit}: the codec of payload type {kind} is unknown{hint}', file=sys.stderr)
+        told = announcement(circuit, codec, payload)
+        if told == self._told.get(circuit):
+            return b''
+        self._told[circuit] = told
+        return packet(GATEWAY, *ANNOUNCED, told)
+
+
+def announcement(circuit: int, codec: str, payload: int) -> bytes:
+    """What is announced of a circuit: SDP (RFC 8866), with the names of RFC 3551, in SAP (RFC 2974). The types 0 and 8
+    have their codecs without a word."""
+    known = codec and payload > 95
+    text = '\r\n'.join(['v=0', f'o=- {circuit} 0 IN IP4 192.0.2.1', f's=circuit {circuit}', 'c=IN IP4 192.0.2.1',
+                        't=0 0', f'm=audio {PORTS[circuit]} RTP/AVP 0 8{f" {payload}" * bool(known)}',
+                        *[f'a=rtpmap:{payload} {codec.upper()}/8000'] * bool(known), ''])
+    return struct.pack('>BBH4s', 0x20, 0, circuit, GATEWAY) + b'application/sdp\0' + text.encode()
+
+
+def packets_of(streams: Iterable[Timed], asked: int | None, codecs: Announcements) -> Iterator[tuple[float, bytes]]:
+    """The time and the octets of each packet."""
+    again = {True: PcapRepetitions(), False: PcapRepetitions()}
+    for time, record, went in streams:
+        if asked not in (None, record.circuit):
+            continue
+        if record.kind is Kind.CODEC:
+            codecs.change(record)
+        elif len(record.body) > MOST:
+            print(f'{NAME}: skipped a datagram of {len(record.body)} octets, too long for UDP', file=sys.stderr)
+        else:
+            if told := codecs.before(record):
+                yield time, told
+            again[went].is_one(record.circuit, record.body)
+            ends = (GATEWAY, PEER) if went else (PEER, GATEWAY)
+            yield time, packet(*ends, PORTS[record.circuit], record.body)
+    for each in again.values():
+        each.tell()
 
 
 def packet(source: bytes, target: bytes, port: int, body: bytes) -> bytes:
@@ -111,12 +182,37 @@ def packet(source: bytes, target: bytes, port: int, body: bytes) -> bytes:
     return ip[:10] + struct.pack('>H', 0xFFFF - total) + ip[12:] + udp + body
 
 
-def write_capture(packets: Iterable[tuple[int, bytes]], sink: BinaryIO) -> None:
+def write_capture(packets: Iterable[tuple[float, bytes]], sink: BinaryIO) -> None:
     """Writes a pcap file with times in microseconds."""
     sink.write(struct.pack('<IHHiIII', 0xA1B2C3D4, 2, 4, 0, 0, 65535, PLAIN_IP))
     for time, octets in packets:
-        seconds, samples = divmod(time, SAMPLES_A_SECOND)
-        sink.write(struct.pack('<IIII', seconds, samples * 125, len(octets), len(octets)) + octets)
+        seconds, rest = divmod(min(LAST, round(time * 1e6)), 10**6)
+        sink.write(struct.pack('<IIII', seconds, rest, len(octets), len(octets)) + octets)
+
+
+def session_of(path: str | None) -> RecordedSession:
+    """The session of a file or a folder, or of standard input."""
+    return kept(path) if path else RecordedSession([])
+
+
+def octets_in(session: RecordedSession) -> Iterator[bytes]:
+    """Its octets."""
+    if not session.files:
+        yield from pieces(sys.stdin.buffer)
+    for path in session.files:
+        yield from octets_of(path)
+
+
+def write_session(asked: argparse.Namespace, sink: BinaryIO) -> None:
+    """Writes the capture of a session, and of what was given to the gateway."""
+    answers, given = session_of(asked.file), session_of(asked.given) if asked.given else None
+    dated = given if given and given.begin is not None else answers
+    begin = dated.begin if asked.begin is None else asked.begin
+    clock = SessionClock(begin, tuple(dated.breaks))
+    streams = [timed(octets_in(each), clock, each is answers) for each in (answers, given) if each]
+    named = dated.config if dated.config and os.path.exists(dated.config) else None
+    codecs = Announcements(asked.config or named)
+    write_capture(packets_of(heapq.merge(*streams, key=lambda each: each.time), asked.circuit, codecs), sink)
 
 
 # ---- and back ----
@@ -128,6 +224,8 @@ def write_records(source: BinaryIO, asked: int | None, sink: BinaryIO) -> None:
     every = passed = 0
     for every, each in enumerate(packets(source), 1):
         circuit = asked or circuits.get(each.target) if each and not each.answer else None
+        if each and each.target == ANNOUNCED[1]:
+            continue
         if each and circuit:
             again.is_one(circuit, each.body)
             sink.write(datagram_record(circuit, each.body))
@@ -149,6 +247,8 @@ def asked_for() -> argparse.Namespace:
                                     formatter_class=argparse.RawDescriptionHelpFormatter)
     words.add_argument('--back', action='store_true')
     words.add_argument('--circuit', metavar='N', type=int, choices=CIRCUITS)
+    words.add_argument('--config', metavar='FILE')
+    words.add_argument('--begin', metavar='TIME', type=checked(moment, 'a time such as 2026-11-23T07:30:00Z'))
     words.add_argument('--in', metavar='SESSION', dest='given')
     words.add_argument('file', nargs='?')
     return words.parse_args()
@@ -160,10 +260,7 @@ def work(asked: argparse.Namespace) -> None:
     if asked.back:
         write_records(opened(asked.file), asked.circuit, sink)
     else:
-        streams = [packets_of(opened(asked.file), asked.circuit, (GATEWAY, PEER))]
-        if asked.given:
-            streams.append(packets_of(opened(asked.given), asked.circuit, (PEER, GATEWAY)))
-        write_capture(heapq.merge(*streams, key=lambda it: it[0]), sink)
+        write_session(asked, sink)
     sink.flush()
 
 
@@ -172,5 +269,5 @@ def main() -> None:
         work(asked_for())
     except BrokenPipeError:
         os.dup2(os.open(os.devnull, os.O_WRONLY), 1)
-    except (BadSession, BadCapture, OSError) as trouble:
+    except (BadSession, BadCapture, InputError, OSError) as trouble:
         sys.exit(f'{NAME}: {words_of_fault(trouble)}')
