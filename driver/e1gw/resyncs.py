@@ -2,7 +2,9 @@
 
 The playout counts the trunk's time from a call's first datagram. Octets of the trunk that are lost move all later
 datagrams against it: the calls are restarted. A call most of whose datagrams are refused for their time, as Late or as
-Full, is restarted, too. For each of the two no call is restarted again within 10 s.
+Full, is restarted, too. For each of the two no call is restarted again within 10 s, so that one whose network is too
+slow is not restarted all the time. Refusals of a call that was well for a second in between have another cause: it is
+restarted at once.
 """
 from __future__ import annotations
 
@@ -16,7 +18,8 @@ from .session import OCTETS_A_SECOND, DatagramRefusal
 
 REFUSED_FOR = 0.5           # seconds of the trunk whose datagrams are looked at
 FEWEST = 3                  # refused datagrams in them
-APART = 10.0                # seconds between two restarts of a call for lost octets, and two for refusals
+APART = 10.0                # seconds between two restarts of a call for lost octets, and two for the same refusals
+WELL = OCTETS_A_SECOND      # octets of the trunk over which no datagram is refused if what was the cause is over
 REFUSED = 'datagrams are refused for their time'
 _SPAN = round(REFUSED_FOR * OCTETS_A_SECOND)
 # What is answered to datagrams of the call itself, and whether it refuses them for their time.
@@ -32,7 +35,8 @@ class OpenCall:
     fresh: bool = False                 # a datagram has come since the last look
     since: int = 0                      # datagrams before this place are of a playout that has ended
     lost_at: float = -inf               # when it was restarted for lost octets
-    refused_at: float = -inf            # when for refusals
+    refused_at: float = -inf            # when for refusals, unless it was well since
+    well: tuple[int, int] | None = None     # the first and the last datagram since one was refused
     why: str | None = None              # why it is to be restarted for lost octets
 
     def take(self, place: int, refused: bool) -> None:
@@ -40,6 +44,9 @@ class OpenCall:
         if place < self.since:
             return
         self.fresh, first, seen = True, place - _SPAN, self.seen
+        if refused and self.well and self.well[1] - self.well[0] >= WELL:
+            self.refused_at = -inf
+        self.well = None if refused else (self.well[0] if self.well else place, place)
         seen.append(place)
         while seen[0] <= first:
             seen.popleft()

@@ -71,6 +71,23 @@ class ResyncRuleTests(unittest.TestCase):
         self.go(60.5, LATE)
         self.assertEqual([round(at) for at, _ in self.restarted], [0, 10, 20, 30, 40, 50, 60])
 
+    def test_refusals_of_another_cause(self) -> None:
+        """Behind a second without any it is restarted at once; one that is refused now and then waits."""
+        for between, count in ((1.2, 2), (4.0, 2), (0.8, 1)):
+            with self.subTest(between):
+                self.setUp()
+                self.go(0.4, LATE)
+                self.go(between, 0)
+                self.go(0.6, FULL)
+                self.assertEqual(len(self.restarted), count)
+        self.setUp()
+        self.go(0.4, LATE)
+        for _ in range(4):
+            self.go(0.5, 0)
+            self.go(0.02, LATE)
+        self.go(0.6, LATE)
+        self.assertEqual(len(self.restarted), 1)
+
     def test_lost_octets(self) -> None:
         for at in (0.0, 3.0, 5.0):
             self.now = at
@@ -243,6 +260,9 @@ SCENES: dict[str, tuple[list[tuple[str, float]], float, float, int]] = {
     # its first packet comes with octets that had waited: all later ones are late
     'a call begins in a stall': ([('flow', 0.5), ('lose', 0.16), ('speak', -0.017), ('at_once', 0.16), ('flow', 5)],
                                  0.16 + LESS, 0.0, 1),
+    # a loss that nobody finds, as at the far end of a takeover, and another one soon behind it
+    'two shifts': ([('speak', 0.003), ('flow', 2), ('at_once', 0.09), ('flow', 5), ('at_once', 0.09), ('flow', 6)],
+                   2 * (0.09 + LESS), 0.1, 2),
     # before the first packet it is of the time that all later ones have
     'a loss that is no gap': ([('flow', 1), ('lose', 0.06), ('speak', 0.003), ('flow', 12)], 0.01, 0.0, 0),
     # the first one restarts the call; those behind it add up until all is Full
