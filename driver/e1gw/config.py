@@ -18,6 +18,7 @@ from typing import Any
 
 from .explain import CODECS, ConfigFault, check, config_words, read_octets
 from .faults import number, words_of_fault
+from .lines import no_peers
 from .session import CIRCUITS
 
 FIRST, APART, TRUNKS = 24_002, 100, 64      # ports of a trunk: for each circuit one for RTP and the next one unused
@@ -84,7 +85,8 @@ def text_of(plan: Plan) -> str:
     """The whole configuration, or CannotWrite if e1gw would refuse it."""
     text = HEAD.format(depth=plan.prefill / 8, law=plan.law, host=plan.host) + ''.join(map(plan.circuit, CIRCUITS))
     try:
-        check(text.encode())
+        if why := no_peers(check(text.encode())):
+            raise CannotWrite(why)
     except ConfigFault as fault:
         raise CannotWrite(fault.text) from None
     return text
@@ -152,12 +154,18 @@ def clash_words(path: str, other: str, clashes: list[tuple[int, str, int]]) -> s
             f'e1gw-config --trunk N gives each trunk its own')
 
 
+def no_peers_words(path: str) -> str:
+    """What e1gw-trunk refuses of a configuration, and e1gw does not."""
+    why = no_peers(check(read_octets(path)))
+    return f'{path}: {why}' if why else ''
+
+
 def check_files(paths: list[str]) -> bool:
     """Prints what is wrong with each file, and which ports two have in common; returns whether nothing is. Ports of the
     package's example.toml are free, because no unit has that name."""
     good, taken = True, dict[tuple[str, int], tuple[str, int]]()
     for path in paths:
-        if why := config_words(path):
+        if why := config_words(path) or no_peers_words(path):
             print(why)
             good = False
             continue

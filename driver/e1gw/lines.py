@@ -1,6 +1,7 @@
 """The thirty lines of a trunk, in the words of the listing, and what a configuration says of them."""
 from __future__ import annotations
 
+import ipaddress
 import tomllib
 from dataclasses import dataclass
 from enum import StrEnum
@@ -126,6 +127,45 @@ def law_of(config: Mapping[str, Any]) -> str:
 def tables_of(config: Mapping[str, Any]) -> dict[int, Any]:
     """How each circuit is configured that has a table."""
     return {table['number']: (law_of(config), table) for table in config.get('circuit', [])}
+
+
+def no_peer(host: str) -> str:
+    """Why nobody can be at the address of a peer; nothing for others, and for a name."""
+    try:
+        address = ipaddress.ip_address(host)
+    except ValueError:
+        return ''
+    if address.is_multicast:
+        return 'is a multicast address'
+    if address.is_unspecified or address == ipaddress.ip_address('255.255.255.255'):
+        return 'is the address of no machine'
+    return ''
+
+
+def no_peers(config: Mapping[str, Any]) -> str:
+    """The first circuit whose peer nobody can be, and why; nothing if there is none."""
+    for n, (_, table) in sorted(tables_of(config).items()):
+        if why := no_peer(str(table.get('peer_host', ''))):
+            return f'circuit {n}: peer_host {table["peer_host"]} {why}'
+    return ''
+
+
+def quoted(text: str) -> str:
+    """A text as a TOML file has it."""
+    inside = ''.join(f'\\u{ord(each):04x}' if ord(each) < 32 or ord(each) == 127 else f'\\{each}' if each in '"\\' else
+                     each for each in text)
+    return f'"{inside}"'
+
+
+def config_text(config: Mapping[str, Any]) -> str:
+    """The tables of a configuration as a file. ValueError if one of them has what no configuration has."""
+    def line(key: str, value: object) -> str:
+        if not isinstance(value, (str, int)) or isinstance(value, bool):
+            raise ValueError(f'{key} is neither a text nor a whole number')
+        name = key if key.isascii() and key.isidentifier() else quoted(key)
+        return f'{name} = {quoted(value) if isinstance(value, str) else value}\n'
+    tables = [{key: value for key, value in config.items() if key != 'circuit'}, *config.get('circuit', [])]
+    return '[[circuit]]\n'.join(''.join(line(*each) for each in table.items()) for table in tables)
 
 
 def lines_of(config: Mapping[str, Any]) -> dict[int, Line]:

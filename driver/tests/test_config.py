@@ -82,9 +82,12 @@ class ConfigTests(support.FolderCase):
     def test_what_is_refused(self) -> None:
         self.made('--write', 'old')
         self.write('bad.toml', 'law = "A"\ncodecc = 1\n')
+        self.write('all.toml', 'law = "A"\n[[circuit]]\nnumber = 1\npeer_host = "0.0.0.0"\n')
         for words, told in ((['--law', 'mu', '--codec', 'pcma'], 'not G.711 in the law'),
                             (['--first-local', '65500', '--first-peer', '9002'], 'local_port'),
                             (['--write', 'old'], 'old.toml, ./old.options: already there; nothing was written (--over'),
+                            (['--peer', '239.0.0.1'], 'circuit 1: peer_host 239.0.0.1 is a multicast address'),
+                            (['--check', 'all.toml'], 'all.toml: circuit 1: peer_host 0.0.0.0 is the address of no'),
                             (['--tie', 'east'], '--tie needs --write'),
                             (['--trunk', '65'], '1 to 64'), (['--check', 'none.toml'], 'none.toml: No such file'),
                             (['--check', 'bad.toml'], 'bad.toml:2: codecc is not a key here')):

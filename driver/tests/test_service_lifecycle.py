@@ -15,6 +15,7 @@ import resource
 import signal
 import subprocess
 import time
+import tomllib
 import unittest
 from typing import Any, Callable
 from unittest import mock
@@ -27,8 +28,11 @@ from .support import SECONDS
 from .test_trunk import catches, is_there
 from .world import children, words_of
 from e1gw.exchange import IDLE, SEIZED
+from e1gw.lines import config_text, no_peers
 from e1gw.service.checkpoints import LOG_ROOM
-from e1gw.service.version import with_addresses
+from e1gw.service.log import Checkpoint, in_memory
+from e1gw.service.reload import calls_of
+from e1gw.service.version import ProgramVersion, with_addresses
 from e1gw.session import MULTIFRAME, Codec, Kind, codec_record, records_in
 from e1gw.testing.service import ask
 
@@ -498,9 +502,10 @@ class ServiceVersionTests(KeeperCase):
         self.ends()
 
     def test_names_are_looked_up_once(self) -> None:
-        """No program has a name to look up."""
-        text = self.peers.config(prefill=0)
-        self.write('trunk.toml', text.replace('prefill = 0', 'peer_host = "localhost"'))
+        """No program has a name to look up, however the file spells it."""
+        text, spelled = self.peers.config(prefill=0), self.chance.choice((
+            'peer_host = "localhost"', '"peer_host" = "local\\u0068ost"', "'peer_host'='localhost' # a name"))
+        self.write('trunk.toml', text.replace('prefill = 0', spelled))
         self.starts()
         words = words_of(self.program)
         number = os.path.basename(words[words.index('--config') + 1])
@@ -522,8 +527,69 @@ class ServiceNoRoomTests(KeeperCase):
         self.as_uncut()
 
 
-class PeerNameTests(unittest.TestCase):
+class CallsOfNowTests(support.FolderCase, unittest.IsolatedAsyncioTestCase):
+    """Which calls there are, when a new version is to follow."""
+
+    def version(self, program: str, text: str) -> ProgramVersion:
+        files = os.open(program, os.O_RDONLY), in_memory(text.encode())
+        for file in files:
+            self.addCleanup(os.close, file)
+        return ProgramVersion(program, *files, 'any')
+
+    async def test_program_that_may_no_longer_start(self) -> None:
+        """The new one says it, of the configuration of now; if it refuses that, the one of now; else all may be one."""
+        right, wrong, program = 'law = "A"\n', 'law = "B"\n', support.program()
+        still = self.write('still', '#!/bin/sh\nexit 0\n')       # (it may not be started)
+        for now, new, calls in (((still, right), (program, right), frozenset()),
+                                ((program, right), (program, wrong), frozenset()),
+                                ((program, right), (still, right), frozenset()),
+                                ((still, right), (still, right), frozenset(CIRCUITS))):
+            with self.subTest(now=now, new=new):
+                self.assertEqual(await calls_of(self.version(*now), self.version(*new), Checkpoint()), calls)
+
+
+class SpellingTests(support.FolderCase):
+    """What names are replaced in is a file again, with the same meaning for the program."""
+
+    SPELLED = (
+        b'law = "mu" # or \'A\'\n["circuit"]\n', b'law = """mu"""\nhost = \'127.0.0.1\'\ncircuit = []\n',
+        b'"law" = \'mu\'\n[[circuit]]\nnumber = 0x1\n"peer_host" = "west"\npeer_port = 9_000\nlocal_port = 0o17\n'
+        b'[[ "circuit" ]]\nnumber=+3\ncodec="g726-\\u00324"\npayload = 0b1100000\n',
+        b'circuit = [{number = 2, "peer_host" = "west", local_port = 5000, peer_port = 5002, prefill = 160},\n'
+        b'{ssrc = 4294967295, number = 30, role = "incoming"}]\nlaw = "A"\n')
+
+    def state(self, octets: bytes) -> bytes | None:
+        """What the program saves of a new gateway; None if it refuses the configuration."""
+        config, state = self.write('spelled.toml', octets), self.path('state')
+        done = support.ran(support.program(), 'replay', '--config', config, '--save', state)
+        return support.octets_of(state) if done[0] == 0 else None
+
+    def test_spellings(self) -> None:
+        taken = 0
+        for octets in self.SPELLED:
+            with self.subTest(octets):
+                if before := self.state(octets):
+                    taken += 1
+                    tables = with_addresses(tomllib.loads(octets.decode()), {'west': '10.0.0.1'})
+                    again = config_text(tables)
+                    self.assertEqual(self.state(again.encode()), before)
+                    meant = tomllib.loads(octets.decode().replace('"west"', '"10.0.0.1"'))
+                    self.assertEqual({'circuit': [], **tomllib.loads(again)}, meant)
+        self.assertGreaterEqual(taken, 3)
+
+    def test_texts(self) -> None:
+        for text in ('', 'west', '"', '\\', 'a\nb\tc\x7f\0', 'é\u2028\U0001f600', "'''", '"' * 3):
+            with self.subTest(text):
+                self.assertEqual(tomllib.loads(config_text({'host': text})), {'host': text})
+        with self.assertRaises(ValueError):
+            config_text({'host': 1.5})
+
+
+class NoPeerTests(unittest.TestCase):
     def test_addresses(self) -> None:
-        text = b'peer_host = "west"\n  peer_host=\'west\'\npeer_host = "west.x"\n# "west"\n'
-        self.assertEqual(with_addresses(text, {'west': '10.0.0.1'}),
-                         b'peer_host = "10.0.0.1"\n  peer_host=\'10.0.0.1\'\npeer_host = "west.x"\n# "west"\n')
+        for host, is_one in (('10.0.0.1', True), ('127.0.0.1', True), ('2001:db8::1', True), ('west', True),
+                             ('10.0.0.255', True), ('0.0.0.0', False), ('::', False), ('255.255.255.255', False),
+                             ('224.0.0.1', False), ('239.255.0.1', False), ('ff02::1', False)):
+            with self.subTest(host):
+                words = no_peers({'circuit': [{'number': 1}, {'number': 7, 'peer_host': host}]})
+                self.assertEqual(words.startswith(f'circuit 7: peer_host {host} is'), not is_one)

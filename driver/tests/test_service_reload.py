@@ -83,6 +83,13 @@ class ServiceReloadTests(unittest.TestCase):
                                              f'socket 1: port {port} is in use (ss -ulpn shows by whom)\n'))
         self.assertEqual([*self.up()], [1])
 
+    def test_a_peer_that_nobody_can_be(self) -> None:
+        call(self.world, 1)
+        self.world.configure(self.text.replace('prefill = 160', 'prefill = 160\npeer_host = "255.255.255.255"', 1))
+        self.assertEqual(self.reload(), (1, 'reload: refused, the trunk goes on as it was: circuit 1: peer_host '
+                                         '255.255.255.255 is the address of no machine\n'))
+        self.assertEqual([*self.up()], [1])
+
     def test_nobody_listens(self) -> None:
         self.world.quit()
         self.assertEqual(self.reload(), (2, ''))

@@ -5,14 +5,17 @@ import asyncio
 import logging
 import os
 import time
+from contextlib import suppress
+from dataclasses import replace
 from typing import Iterable
 
 from ..faults import words_of_fault
+from ..session import CIRCUITS
 from .lifecycle import TrunkKeeper, followed, refused
 from .log import Checkpoint
 from .program import TrunkProgram
 from .handover import Handover, Notifier
-from .version import NotYet, VersionRefused, version_of_now
+from .version import NotYet, ProgramVersion, VersionRefused, version_of_now
 
 MOST_ENDED = 3              # calls that a reload may end without force
 PATIENCE = 30.0             # seconds for the one program to end and the other one to carry the trunk
@@ -62,7 +65,7 @@ class ReloadRequests:
         version = None
         try:
             version = await version_of_now(wants.program, wants.config, wants.senders, checkpoint)
-            (new, _), (_, calls) = await version.check(checkpoint), await keeper.versions.now.check(checkpoint)
+            (new, _), calls = await version.check(checkpoint), await calls_of(keeper.versions.now, version, checkpoint)
             mute = calls & keeper.versions.now.ports() - version.ports() - new
             if len(new & calls | mute) > MOST_ENDED and not force:
                 raise VersionRefused(f'it would end {calls_in(new & calls | mute)}; reload force does')
@@ -114,6 +117,15 @@ class ReloadRequests:
         """Whether it carries the trunk, and no other one is to follow."""
         keeper = self._keeper
         return program is keeper.program and program.is_up and not (keeper.wanted or keeper.ending or self._is_busy)
+
+
+async def calls_of(now: ProgramVersion, new: ProgramVersion, checkpoint: Checkpoint) -> frozenset[int]:
+    """The circuits that are in a call, with the configuration of now, by the new program: that of now may no longer
+    start. If neither says it, all may be."""
+    for program in (replace(now, program=new.program, file=new.file), now):
+        with suppress(VersionRefused, OSError):
+            return (await program.check(checkpoint))[1]
+    return frozenset(CIRCUITS)
 
 
 def calls_in(circuits: Iterable[int]) -> str:

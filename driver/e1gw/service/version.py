@@ -14,7 +14,7 @@ from dataclasses import dataclass, replace
 from math import inf
 from typing import Any, Iterable, Sequence
 
-from ..lines import IN_CALL, read_config, tables_of
+from ..lines import IN_CALL, config_text, no_peers, read_config, tables_of
 from ..programs import version_of
 from .log import Checkpoint, in_memory
 from .process import Child, ran
@@ -102,9 +102,12 @@ async def version_of_now(program: str, config: str, senders: str | None, checkpo
         await version.check(checkpoint)         # (before any Python reads it)
         tables = tomllib.loads(octets.decode())
         addresses = await look_up(tables)
+        tables = with_addresses(tables, addresses)
+        if why := no_peers(tables):
+            raise VersionRefused(why)
         if addresses:
             os.ftruncate(version.config, 0)
-            os.pwrite(version.config, with_addresses(octets, addresses), 0)
+            os.pwrite(version.config, config_text(tables).encode(), 0)
             await version.check(checkpoint)
         return replace(version, senders=senders or ('any' if addresses else 'host'))
     except BaseException as fault:
@@ -154,12 +157,11 @@ def is_address(host: str) -> bool:
     return True
 
 
-def with_addresses(octets: bytes, addresses: dict[str, str]) -> bytes:
-    """The same configuration with addresses in place of names."""
-    for name, address in addresses.items():
-        pattern = rf'''(?m)^(\s*peer_host\s*=\s*)(["']){re.escape(name)}\2'''
-        octets = re.sub(pattern.encode(), rf'\g<1>\g<2>{address}\g<2>'.encode(), octets)
-    return octets
+def with_addresses(tables: dict[str, Any], addresses: dict[str, str]) -> dict[str, Any]:
+    """The same configuration with addresses in place of names, however the file has spelled it."""
+    circuits = [table | {'peer_host': addresses.get(table['peer_host'], table['peer_host'])} if 'peer_host' in table
+                else table for table in tables.get('circuit', [])]
+    return tables | {'circuit': circuits}
 
 
 class VersionHistory:
