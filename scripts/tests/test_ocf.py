@@ -1,0 +1,79 @@
+"""The agent of Pacemaker, with a systemd and a trunk of the test's own."""
+import os
+import socket
+import subprocess
+import tempfile
+import threading
+import unittest
+
+from . import TOP
+
+AGENT = os.path.join(TOP, 'dist', 'ocf', 'e1gw')
+RUNNING, NOT_RUNNING, ACTIVE = 0, 7, 8          # the numbers of OCF
+FUNCTIONS = '''OCF_SUCCESS=0 OCF_ERR_GENERIC=1 OCF_NOT_RUNNING=7 OCF_RUNNING_MASTER=8 OCF_FAILED_MASTER=9
+ocf_promotion_score() { :; }
+ocf_log() { :; }
+'''
+# What systemctl says of the unit, one word each time, the last one for ever.
+SYSTEMCTL = '''#!/bin/sh
+state=$(head -1 "$STATES")
+[ "$(wc -l < "$STATES")" = 1 ] || sed -i 1d "$STATES"
+echo "$state"
+[ "$state" = active ]
+'''
+
+
+class AgentTests(unittest.TestCase):
+    def setUp(self) -> None:
+        folder = tempfile.TemporaryDirectory()
+        self.addCleanup(folder.cleanup)
+        self.folder = folder.name
+        self.write('ocf-shellfuncs', FUNCTIONS)
+        for name, text in (('systemctl', SYSTEMCTL), ('sleep', '#!/bin/sh\n'), ('setsid', '#!/bin/sh\n'),
+                           ('crm_resource', '#!/bin/sh\n'), ('ip', '#!/bin/sh\necho "$@" >> "$IPS"\n')):
+            os.chmod(self.write(name, text), 0o755)
+        with open(AGENT, encoding='utf-8') as file:
+            self.agent = self.write('agent', file.read().replace('/run/e1gw/$OCF_RESKEY_trunk/', f'{self.folder}/'))
+        self.trunk = socket.socket(socket.AF_UNIX)
+        self.addCleanup(self.trunk.close)
+        self.trunk.bind(os.path.join(self.folder, 'control'))
+        self.trunk.listen(8)
+        threading.Thread(target=self.answer, daemon=True).start()
+
+    def write(self, name: str, text: str) -> str:
+        path = os.path.join(self.folder, name)
+        with open(path, 'w', encoding='utf-8') as file:
+            file.write(text)
+        return path
+
+    def answer(self) -> None:
+        """The trunk is active, and moves."""
+        while True:
+            try:
+                line = self.trunk.accept()[0]
+            except OSError:
+                return
+            asked = line.recv(100).decode().strip()
+            line.sendall(b'active, fed\n' if asked == 'role' else f'{asked}: done\n'.encode())
+            line.close()
+
+    def does(self, action: str, *states: str) -> int:
+        """The status of an action while systemd says these of the unit."""
+        paths = {name: self.write(name.lower(), '') for name in ('STATES', 'IPS')}
+        self.write('states', ''.join(f'{state}\n' for state in states))
+        around = {'PATH': f'{self.folder}:{os.environ["PATH"]}', 'OCF_FUNCTIONS_DIR': self.folder,
+                  'HA_RSCTMP': self.folder, 'OCF_RESKEY_trunk': 'west', 'OCF_RESOURCE_INSTANCE': 'west',
+                  'OCF_RESKEY_addresses': 'eth9 192.0.2.100/24'}
+        return subprocess.run(['sh', self.agent, action], env={**os.environ, **paths, **around},
+                              capture_output=True, timeout=60, check=False).returncode
+
+    def test_a_service_that_systemd_begins_again(self) -> None:
+        """It was killed; its program carries the trunk, which no monitor and no demotion ends."""
+        again = 'deactivating', 'activating', 'activating', 'active'
+        self.assertEqual([self.does('monitor', *again), self.does('demote', *again)], [ACTIVE, 0])
+
+    def test_a_unit_that_is_not_there(self) -> None:
+        for states in (('inactive',), ('failed',), ('activating', 'failed'), ('activating',)):
+            with self.subTest(states):
+                self.assertEqual([self.does(each, *states) for each in ('monitor', 'demote')], [NOT_RUNNING] * 2)
+        self.assertEqual(self.does('monitor', 'active'), ACTIVE)
