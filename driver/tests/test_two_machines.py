@@ -138,6 +138,27 @@ class PairTests(PairCase):
         support.until(lambda: line_of('a', json.loads(a.ask('status json'))).endswith('; not fed'))
         self.up_again()
 
+    def test_a_move_to_nobody(self) -> None:
+        """A standby that stands still is found before anything is given up; of one that dies when it has taken the
+        trunk, and cannot open it, that is taken back."""
+        a = self.machine('a')
+        b = self.machine('b', '', '--unix', self.path('nowhere'))
+        self.calls_with_standby(a=a, b=b)
+        with support.stopped(b.process.pid):
+            self.assertEqual(a.ask('move'), 'move: refused: no standby is fed here')
+            self.up_again()
+        self.fed(b)
+        support.until(lambda: a.ask('role') == 'active, fed')
+        answer = a.asks('move')
+        b.awaits('is to be active')
+        b.power_off()
+        self.device.accept()
+        self.assertEqual(answer(), 'move: refused: the standby did not take the trunk, and this machine carries it '
+                         'again')
+        self.device.exchange.aligned = False
+        self.step(68)
+        self.assertEqual(self.device.exchange.signals, self.up())
+
     def test_standby_that_stands_still(self) -> None:
         """It is dropped, and joins again without a gap. It says which calls it has otherwise, and the others go on."""
         other = self.write('other.toml', self.text.replace('number = 7\n', 'number = 7\nptime = 30\n'))
@@ -178,9 +199,9 @@ class PairTests(PairCase):
                     (b'', 'it carries no trunk'),
                     (good[:begun] + PIECE.pack(math.nan, 0), 'a piece of the feed is too long'),
                     (good.replace(b'"law": "A"', b'"law": "mu"'), 'its law is mu, and here it is A'),
-                    (good.replace(b'"e1gw_feed": 4', b'"e1gw_feed": 3'), 'a feed of version 3, and this is 4'),
+                    (good.replace(b'"e1gw_feed": 5', b'"e1gw_feed": 4'), 'a feed of version 4, and this is 5'),
                     (b'SSH-2.0-OpenSSH_9.2p1\r\n', 'what comes there is no feed'),
-                    (good.replace(b'"program": ', b'"program": 0.5e'), ''), (b'{"e1gw_feed": 4, "law": "A"}\n', ''),
+                    (good.replace(b'"program": ', b'"program": 0.5e'), ''), (b'{"e1gw_feed": 5, "law": "A"}\n', ''),
                     (b'[' * 60_000 + b'\n', ''), (b'x' * 200_000, ''),
                     (good[:begun] + PIECE.pack(1.0, MOST_PIECE + 1), 'a piece of the feed is too long'),
                     *((good[:length], '') for length in (
@@ -193,13 +214,18 @@ class PairTests(PairCase):
             self.assertEqual(b.ask('role'), 'standby, not fed')
             self.assertNotIn('the service goes on', b.told())
 
+    def setUp(self) -> None:
+        super().setUp()
+        self.tls = dict[str, list[str]]()
+
     def words(self, name: str) -> list[str]:
         """The options of a certificate that is its own authority."""
         key, own = self.path(f'{name}.key'), self.path(f'{name}.pem')
         words = f'req -x509 -newkey ec -pkeyopt ec_paramgen_curve:P-256 -nodes -subj /CN=e1gw -keyout {key} -out {own}'
         subprocess.run(['openssl', *words.split(), '-addext', f'subjectAltName=IP:{ADDRESSES["a"]}'],
                        check=True, capture_output=True)
-        return ['--tls', own, key, own]
+        self.tls[name] = ['--tls', own, key, own]
+        return self.tls[name]
 
     def test_strangers(self) -> None:
         """Over TLS, who has not the address and the certificate is given nothing, holds nothing and is not believed."""
@@ -216,6 +242,11 @@ class PairTests(PairCase):
         b.power_off()
         b = self.machine('b', '', *self.words('theirs'))
         b.awaits('not fed by .*certificate verify failed')
+        b.power_off()
+        (_, ours, _, _), (word, *theirs, _) = self.tls['ours'], self.tls['theirs']
+        b = self.machine('b', '', word, *theirs, ours)
+        b.awaits('not fed by .*: it refuses the certificate of this machine')
+        a.awaits('feed of .*certificate verify failed')
         with socket.create_connection(place, SECONDS, (ADDRESSES['b'], 0)) as line, contextlib.suppress(OSError):
             self.assertEqual(ssl._create_unverified_context().wrap_socket(line).recv(1), b'')     # (it shows none)
         self.up_again()

@@ -18,14 +18,17 @@ from ..lines import law_of, read_config, tables_of
 from .log import STATE_ROOM, TrunkLog
 from .program import TrunkProgram
 
-FORMAT, VERSION = 'e1gw_feed', 4
+FORMAT, VERSION = 'e1gw_feed', 5
 PIECE = struct.Struct('>di')    # before a piece: when it was all that the log had, or 0, and how many octets follow
-END, YOURS = -1, -2             # in place of the latter: nothing follows, and also that the standby carries the trunk
+END, YOURS, GO = -1, -2, -3     # in place of the latter: nothing follows; it may have the trunk; it is to carry it
 MARK = struct.Struct('>d')      # what a standby says: the time of the last piece, up to which it has all, or 0
+TAKES, CARRIES = -1.0, -2.0     # in place of that: it takes the trunk, again and again until it carries it
+NOTHING = b'no trunk\n'         # in place of a head, where there is none
 MOST_HEAD, MOST_PIECE = 64 << 10, 256 << 10
 TICK = 0.01                 # seconds between two pieces
 PULSE = 0.25                # seconds after which a piece without octets says that all goes on
 FRESH = 2.0                 # seconds up to which a standby that has said nothing is fed
+ANSWERS = 50                # ticks, each behind what has come meanwhile, in which a standby that is there says a word
 PATIENCE = 10.0             # seconds for the other end to take or to say anything
 ELSEWHERE = frozenset(('local_port', 'peer_port', 'peer_host'))     # keys that may differ at the other one
 
@@ -76,10 +79,22 @@ class FeedServer:
         self._writer: asyncio.StreamWriter | None = None        # to the standby that is fed
         self._said = self._fresh = 0.0          # when it has said something, and up to when it has all
         self.hands_over = False                 # at the end of the program
+        self.is_carried = False                 # the standby has said that it carries the trunk that was handed over
+        self._due = 0.0                         # when something is to be sent to it though nothing was logged
 
     def age(self) -> float | None:
         """How many seconds ago the standby had all that the log had; None if there is none."""
         return time.monotonic() - self._fresh if self._fresh else None
+
+    async def answers(self) -> bool:
+        """Whether the standby says within a moment that it has all up to now."""
+        since = time.monotonic()
+        for _ in range(ANSWERS):
+            if self._fresh >= since:
+                return True
+            self._due = 0.0
+            await asyncio.sleep(TICK)
+        return False
 
     async def finish(self, seconds: float) -> None:
         """Waits until the standby has the rest of what it is fed, so long at most."""
@@ -100,7 +115,7 @@ class FeedServer:
                 await writer.start_tls(self._context, ssl_handshake_timeout=PATIENCE)
             program = self._program()
             if not program or not program.is_up:
-                return
+                return writer.write(NOTHING)
             if self._writer:
                 self._writer.transport.abort()
             self._writer, self._said, self._fresh = writer, time.monotonic(), 0.0
@@ -116,7 +131,7 @@ class FeedServer:
 
     async def _feed(self, program: TrunkProgram, reader: asyncio.StreamReader, writer: asyncio.StreamWriter) -> None:
         """Until the program has ended, and the standby has all and leaves. EOFError if it leaves before."""
-        log, place, due = TrunkLog(os.dup(program.log.file)), program.checkpoint.place, 0.0
+        log, place, self._due = TrunkLog(os.dup(program.log.file)), program.checkpoint.place, 0.0
         ends, leaves = (asyncio.ensure_future(each) for each in (program.process.over.wait(), self._hear(reader)))
         try:
             writer.write(beginning(program, self._zero()))
@@ -125,11 +140,13 @@ class FeedServer:
                     raise EOFError('it is too far behind')
                 has_room = writer.transport.get_write_buffer_size() < MOST_PIECE
                 piece = log.read(place, MOST_PIECE) if has_room else b''
-                if piece or now >= due:
+                if piece or now >= self._due:
                     writer.write(PIECE.pack(now if has_room and len(piece) < MOST_PIECE else 0.0, len(piece)) + piece)
-                    place, due = place + len(piece), now + PULSE
+                    place, self._due = place + len(piece), now + PULSE
                 if ends.done() and place == log.place():
                     writer.write(PIECE.pack(time.monotonic(), YOURS if self.hands_over else END))
+                    if self.hands_over:
+                        return await self._handed(leaves)
                     await asyncio.wait([leaves], timeout=PATIENCE)
                     return
                 await asyncio.wait([leaves if ends.done() else ends], timeout=TICK)
@@ -139,10 +156,22 @@ class FeedServer:
             leaves.cancel()
             log.close()
 
+    async def _handed(self, leaves: asyncio.Future[Any]) -> None:
+        """Until the standby carries the trunk, or has left, or is silent: it says each moment that it is about to."""
+        left, said = ANSWERS, self._said
+        while left and not (self.is_carried or leaves.done()):
+            await asyncio.wait([leaves], timeout=TICK)
+            left, said = ANSWERS if self._said > said else left - 1, self._said
+
     async def _hear(self, reader: asyncio.StreamReader) -> None:
-        """What the standby says, until it leaves."""
+        """What the standby says, until it leaves. It begins when it was told to, so not if that is too late."""
+        goes = False
         with suppress(OSError, EOFError):
             while True:
                 at, = MARK.unpack(await reader.readexactly(MARK.size))
                 self._said = time.monotonic()
+                self.is_carried |= at == CARRIES
+                if at == TAKES and not goes and self._writer:
+                    self._writer.write(PIECE.pack(0.0, GO))
+                    goes = True
                 self._fresh = max(self._fresh, min(at, self._said))

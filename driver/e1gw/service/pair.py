@@ -20,6 +20,7 @@ from .standby import START, FedProgram, TrunkStandby
 from .trunk import either
 
 PATIENCE = 30.0             # seconds for a promotion or its reverse
+NOT_TAKEN = 'the standby did not take the trunk, and this machine carries it again'
 
 logger = logging.getLogger(__name__)
 
@@ -37,13 +38,17 @@ class TrunkPair:
 
     def __init__(self, keeper: TrunkKeeper, standby: TrunkStandby, feed: FeedServer, is_active: bool) -> None:
         self._keeper, self.standby, self.feed = keeper, standby, feed
-        self.is_active, self._stands = is_active, not is_active
-        standby.is_handed = lambda: self.goes(True)
+        self.is_active, self._stands, self._has_taken_back = is_active, not is_active, False
+        standby.is_handed, standby.carries = self.goes, self._carries
 
     async def stand_by(self) -> None:
         """Gives the trunk up, and follows the feed until this machine is promoted or the end is asked for."""
         keeper, standby = self._keeper, self.standby
         await self._give_up()
+        if self.feed.hands_over and not self.feed.is_carried and not self.is_active:
+            logger.error('move: %s', NOT_TAKEN)
+            self._has_taken_back = True
+            self.goes(True)
         follows = asyncio.create_task(standby.run())
         try:
             self._stands = True
@@ -66,12 +71,12 @@ class TrunkPair:
 
     async def _give_up(self) -> None:
         """The trunk is closed. What is known of it is what this machine had itself, if it carried it."""
-        keeper = self._keeper
+        keeper, ended = self._keeper, time.monotonic()
         await keeper.trunk.finish()
         keeper.trunk.fault = 'standby'
         await self.feed.finish(GRACE)
         if keeper.state.state >= 0:
-            self.standby.knows(FedProgram(keeper.versions.now, keeper.state.at_begin(), keeper.trunk.zero))
+            self.standby.knows(FedProgram(keeper.versions.now, keeper.state.at_begin(), keeper.trunk.zero, ended=ended))
         keeper.begins_with(None)
         keeper.ends.clear()
         keeper.notifier.tell('READY=1', 'STATUS=standby')
@@ -91,7 +96,7 @@ class TrunkPair:
     def goes(self, is_active: bool, hands_over: bool = False) -> None:
         """This machine is to carry the trunk from now on, or the other one; at `hands_over` its feed says so."""
         if is_active is not self.is_active:
-            self.is_active, self.feed.hands_over = is_active, hands_over
+            self.is_active, self.feed.hands_over, self.feed.is_carried = is_active, hands_over, False
             if not is_active:
                 self._keeper.wanted = DEMOTED
                 self._keeper.ends.set()
@@ -102,16 +107,24 @@ class TrunkPair:
         its, lacks = self.facts(), '' if self._stands or self._carries() else ', no program'
         if word == 'role':
             return f'{its["role"]}, {"fed" if its["fed"] else "not fed"}{lacks}'
-        if word == 'move' and (self._stands or lacks or not its['fed']):
+        if word == 'move' and (self._stands or lacks or not its['fed'] or not await self.feed.answers()):
             return 'move: refused: no standby is fed here'
+        self._has_taken_back = False
         self.goes(word == 'promote', word == 'move')
         wanted, until = self.is_active, time.monotonic() + PATIENCE
-        while self.is_active is wanted and time.monotonic() < until:
-            if self._carries() if wanted else self._stands and (word == 'demote' or self.facts()['fed']):
+        while time.monotonic() < until and (self.is_active is wanted or self._has_taken_back):
+            if self._has_taken_back and self._carries():
+                return f'{word}: refused: {NOT_TAKEN}'
+            if self._carries() if wanted else self._stands and self._is_over(word):
                 return f'{word}: done'
             await asyncio.sleep(0.002)
         return f'{word}: not within {PATIENCE:g} s; it is tried on' if self.is_active is wanted else \
             f'{word}: refused: the reverse was asked for meanwhile'
+
+    def _is_over(self, word: str) -> bool:
+        """Whether a machine that stands by has done what it was asked for: behind a move the other one carries the
+        trunk."""
+        return word == 'demote' or self.feed.is_carried and not self._has_taken_back
 
     def facts(self) -> dict[str, Any]:
         """Role and feed, as plain values. (It is active until the trunk is closed.)"""

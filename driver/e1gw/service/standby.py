@@ -15,7 +15,8 @@ from ..session import CIRCUITS, MULTIFRAME, OCTETS_A_SECOND, trunk_record
 from ..tls import context_of
 from ..writers import write_all
 from .checkpoints import Checkpoints
-from .feed import FRESH, MARK, MOST_HEAD, MOST_PIECE, PATIENCE, PIECE, YOURS, FeedRefused, configured, head_of
+from .feed import (CARRIES, FRESH, GO, MARK, MOST_HEAD, MOST_PIECE, NOTHING, PATIENCE, PIECE, TAKES, YOURS,
+                   FeedRefused, configured, head_of)
 from .log import Checkpoint, TrunkLog, in_memory, whole_records
 from .program import SOON, LoggedProgram
 from .version import ProgramVersion
@@ -28,6 +29,7 @@ READS = 1.0                 # seconds in which a follower has read all ones
 DRIFT = 1e-4                # by which the clocks of two machines differ at most, in seconds a second
 MOST_AGE = 60.0             # seconds after which a state is of no use
 NO_TRUNK = 'it carries no trunk, or this address is not its --standby'
+NO_CERTIFICATE = 'it refuses the certificate of this machine'
 
 logger = logging.getLogger(__name__)
 
@@ -35,10 +37,11 @@ logger = logging.getLogger(__name__)
 class FedProgram(LoggedProgram):
     """The program of the other machine, as far as its log is here: whole records of it."""
 
-    def __init__(self, version: ProgramVersion, begun: Checkpoint, zero: int, pid: int = 0) -> None:
+    def __init__(self, version: ProgramVersion, begun: Checkpoint, zero: int, pid: int = 0, ended: float = 0.0) -> None:
         super().__init__(0, version, begun, TrunkLog(), pid)
         self.zero, self._cut = zero, b''         # (that of the trunk there)
-        self.came = self._took = time.monotonic()       # when the other machine had octets of the trunk last
+        self._took = time.monotonic()
+        self.came = ended or self._took         # when the machine that it is of had octets of the trunk last
         self.fresh = self.came - FRESH          # of when it had all that the other log had
         self._ahead = math.inf                  # seconds by which this clock is ahead of the other one
         self.circuits = list[int]()             # that are configured otherwise at the other machine
@@ -77,7 +80,9 @@ class TrunkStandby:
                  checkpoints: Checkpoints, tell: Callable[[Event], None]) -> None:
         self._place, self._source, self._tls, self._version = place, source, tls, version
         self._checkpoints, self._tell, self._by = checkpoints, tell, f'{place[0]}:{place[1]}'
-        self.is_handed: Callable[[], None] = lambda: None       # this machine is to carry the trunk
+        self.is_handed: Callable[[bool], None] = lambda takes: None     # this machine is to carry the trunk, or no more
+        self.carries: Callable[[], bool] = lambda: False        # whether it does
+        self._taking: asyncio.Task[None] | None = None          # what says so to the other machine
         self.fed: FedProgram | None = None
         self.why = ''           # why nothing feeds it
         self._wait, self._lock = AGAIN, asyncio.Lock()
@@ -114,13 +119,16 @@ class TrunkStandby:
                 fed = await self._first(reader)
             await self._take(fed, reader, writer)
         finally:
-            writer.close()
+            if not (self._taking and not self._taking.done()):      # (which closes it)
+                writer.close()
             if fed and fed is not self.fed:
                 fed.close()
 
     async def _first(self, reader: asyncio.StreamReader) -> FedProgram:
         """The head, and the state."""
-        if not (line := await reader.readline()):
+        if not (line := await reader.readline()):       # (TLS shows this machine's certificate last)
+            raise FeedRefused(NO_CERTIFICATE if self._tls else NO_TRUNK)
+        if line == NOTHING:
             raise FeedRefused(NO_TRUNK)
         version, head = self._version(), head_of(line)
         law, circuits = configured(version.config_path())
@@ -143,13 +151,29 @@ class TrunkStandby:
                 fed.take(at, await reader.readexactly(max(0, length)))
             if at and fed is not self.fed:
                 await self._begins(fed)
+            if length == YOURS and fed is self.fed:
+                writer.write(MARK.pack(TAKES))
+                continue
+            if length == GO:
+                self._taking = asyncio.create_task(self._says_so(writer))
+                self.is_handed(True)
             if length < 0:
-                if length == YOURS and fed is self.fed:
-                    self.is_handed()
                 raise EOFError
-            if not at or at > said + SAYS:
+            if not at or not length or at > said + SAYS:
                 writer.write(MARK.pack(at))
                 said = at
+
+    async def _says_so(self, writer: asyncio.StreamWriter) -> None:
+        """Says that this machine takes the trunk until it carries it. If that lasts too long it is given back."""
+        until = time.monotonic() + PATIENCE
+        while not (carries := self.carries()) and time.monotonic() < until and not writer.is_closing():
+            writer.write(MARK.pack(TAKES))
+            await asyncio.sleep(SAYS)
+        if carries:
+            writer.write(MARK.pack(CARRIES))
+        else:
+            self.is_handed(False)
+        writer.close()
 
     async def _begins(self, fed: FedProgram) -> None:
         """A feed has given all that there is: it takes the place of what was known before."""
