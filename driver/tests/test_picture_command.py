@@ -1,10 +1,10 @@
 """e1gw-picture as it is run: what it takes, what it writes, what it says, and captures."""
 from __future__ import annotations
 
+import contextlib
 import io
 import json
 import os
-import pty
 import re
 import shutil
 import struct
@@ -15,9 +15,11 @@ from .support import SECONDS, TOP, FolderCase, program, text_of
 from .picture_made import (BEGIN, CAPTURED, COMMAND, PEER, TROUBLES, MadeSession, PictureSender, apart, captured, icmp,
                            made_of, page_of, pcap, recorded, udp)
 
+from e1gw.picture.main import Progress
 from e1gw.packets import BadCapture, Datagram, datagrams
 from e1gw.picture.page import draw
-from e1gw.session import Kind, records_in, trunk_record
+from e1gw.session import OCTETS_A_SECOND, Kind, records_in, trunk_record
+from e1gw.session_files import RecordedSession
 
 COUNTS = re.compile(r'(\d+) sent, (\d+) received, (\d+) discarded')
 
@@ -159,20 +161,19 @@ class PictureCommandTests(FolderCase):
                 self.assertEqual('class="outage"' in page, bool(outage))
 
     def test_a_long_session_says_how_far_it_is_read(self) -> None:
-        """On a terminal, each 10 s of the trunk; the last line is taken away. Elsewhere nothing is said."""
-        given = self.write('long.rec', trunk_record(bytes(2048)) * (35 * 125))
-        words = ['--config', self.config, '-o', self.path('page.html'), given]
-        self.assertEqual(page_of(*words)[1], '')
-        ours, theirs = pty.openpty()
-        with open(ours, 'rb', buffering=0) as terminal:
-            subprocess.run([COMMAND, '--program', program(), *words], stdin=subprocess.DEVNULL, stderr=theirs,
-                           check=True, timeout=SECONDS)
-            os.close(theirs)
-            said = terminal.read(4096).decode()
-        told = [float(each) for each in re.findall(r'picture: (\d+\.\d\d) s of the trunk read', said)]
-        # (it is read in pieces of a quarter of a second)
-        self.assertEqual([int(each / 10) for each in told], [1, 2, 3])
-        self.assertTrue(said.endswith('\r\x1b[K'))
+        """After two seconds: on a terminal each second, and the last line is taken away; elsewhere once. By a clock of
+        the test's own, which goes half a second for each second of the trunk."""
+        for is_terminal, told in ((True, ['4.00', '6.00', '8.00']), (False, ['4.00'])):
+            place, said = 0.0, io.StringIO()
+            with self.subTest(is_terminal), contextlib.redirect_stderr(said):
+                progress = Progress(RecordedSession(['1', '2']), is_terminal, lambda: place / 2)
+                for tenth in range(95):
+                    place = tenth / 10
+                    progress.read(round(place * OCTETS_A_SECOND))
+                progress.end()
+                found = re.findall(r'picture: (\d+\.\d\d) s of the trunk read, file 0 of 2', said.getvalue())
+                self.assertEqual(found, told)
+                self.assertEqual(said.getvalue().endswith('\r\x1b[K'), is_terminal)
 
     def test_what_cannot_be(self) -> None:
         config, given, nothing = self.config, self.given, self.path('nothing')

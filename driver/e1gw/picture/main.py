@@ -4,7 +4,8 @@ from __future__ import annotations
 import argparse
 import os
 import sys
-from collections.abc import Iterator
+import time
+from collections.abc import Callable, Iterator
 from typing import Any
 
 from ..faults import checked, number
@@ -20,7 +21,7 @@ from .page import draw
 from .reading import SessionReading, rows_of
 from .svg import duration
 
-STEP = 10 * OCTETS_A_SECOND  # of the trunk between two lines of how much is read
+SOON, EACH = 2.0, 1.0        # seconds until it says how much is read, and between two such lines
 CLEARED = '\r\x1b[K'         # a line of a terminal
 UNITS = {'ms': 0.001, 's': 1.0, 'm': 60.0, 'h': 3600.0, 'd': 86400.0}
 
@@ -67,10 +68,12 @@ def parser() -> argparse.ArgumentParser:
 
 
 class Progress:
-    """Says on a terminal how much of the trunk is read, each STEP octets of it, in place of what was said before."""
+    """Says how much of the trunk is read if that lasts: on a terminal each second, in place of what was said before,
+    elsewhere once."""
 
-    def __init__(self, session: RecordedSession) -> None:
-        self._files, self._file, self._told = session.files, 0, 0
+    def __init__(self, session: RecordedSession, is_terminal: bool, now: Callable[[], float] = time.monotonic) -> None:
+        self._files, self._file, self._is_terminal, self._now = session.files, 0, is_terminal, now
+        self._due, self._told = now() + SOON, False
 
     def octets(self) -> Iterator[bytes]:
         """The octets of the session."""
@@ -79,14 +82,18 @@ class Progress:
 
     def read(self, place: int) -> None:
         """The session is read up to a place."""
-        if place >= self._told + STEP and sys.stderr.isatty():
-            self._told = place
-            where = f', file {self._file} of {len(self._files)}' if len(self._files) > 1 else ''
-            words = f'e1gw-picture: {duration(place)} of the trunk read{where}'
+        if self._now() < self._due or self._told and not self._is_terminal:
+            return
+        self._due, self._told = self._now() + EACH, True
+        where = f', file {self._file} of {len(self._files)}' if len(self._files) > 1 else ''
+        words = f'e1gw-picture: {duration(place)} of the trunk read{where}'
+        if self._is_terminal:
             print(f'{CLEARED}{words}', end='', file=sys.stderr, flush=True)
+        else:
+            print(f'{words}; it goes on', file=sys.stderr, flush=True)
 
     def end(self) -> None:
-        print(CLEARED * bool(self._told), end='', file=sys.stderr)
+        print(CLEARED * (self._told and self._is_terminal), end='', file=sys.stderr)
 
 
 def facts_of(options: argparse.Namespace, begun: Begun, octets: Iterator[bytes]) -> tuple[Facts, Iterator[bytes]]:
@@ -106,7 +113,7 @@ def facts_of(options: argparse.Namespace, begun: Begun, octets: Iterator[bytes])
 
 def gathered(options: argparse.Namespace, begun: Begun) -> tuple[Facts, str]:
     """The facts of a session, and a word about its end."""
-    progress = Progress(begun.session)
+    progress = Progress(begun.session, sys.stderr.isatty())
     facts, octets = facts_of(options, begun, progress.octets())
     reading = SessionReading(facts, begun.replay, begun.program, begun.place)
     try:
