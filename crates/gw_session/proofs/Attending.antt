@@ -14,10 +14,11 @@ use Rattle.gw_session.proofs.Common.{SessionState}
 use Rattle.gw_session.proofs.Common.{Output, drop-take, named, TakesAllButWaiting-start, InputTrace}
 use Rattle.gw_records.specs.declared.records.FirstRecord.{FirstRecord}
 use Rattle.gw_session.proofs.Common.{Bool, PortCall, AreCalls, AreCallsFor, are_held, Act, AreActs, acts_for, Recorded}
+use Rattle.gw_session.proofs.Common.{Gateway, StandsBehind, Learns, keeps_at}
 use Rattle.gw_session.proofs.Turns.{TurnsTrace-none, TurnsTrace-join, Extends-none, Extends-join, counted-more}
 use Rattle.gw_session.proofs.Turns.{octets-append, turns_have_octets}
 use Rattle.gw_session.proofs.Turns.{through-append}
-use Rattle.gw_session.proofs.Taping.{recorded_none, recorded_join}
+use Rattle.gw_session.proofs.Taping.{recorded_none, recorded_join, told_recorded}
 
 -- the record that stands first, by its body in what is held
 pub record_is : (f : FirstRecord) (held slice : List ℕ) → 4 ≤ f.len → slice ≡ held
@@ -55,35 +56,41 @@ calls_more holds (i ∷ inputs) input xs ys p q =
     (p.0, p.1 ++ ys, rw (p.2, append_assoc) refl, p.3, calls_more holds inputs input p.1 ys p.4 q)
 
 -- the acts for inputs, and then those for one more
-acts_more : (holds : Bool) (a b c : TapeState) (inputs : List SessionInput) (input : SessionInput) (acts : List Act)
-    → AreActs holds a b inputs acts → Recorded b c (events_in input)
-    → AreActs holds a c (inputs ++ input ∷ []) (acts ++ acts_for holds c input)
-acts_more holds a b c [] input acts p q =
-    (c, [], rw (p.0) at q, rw (p.1, append-nil) refl, (refl, refl))
-acts_more holds a b c (i ∷ inputs) input acts p q = (
+acts_more : (holds : Bool) (Stands : List Event → Gateway → Type 0) (a b c : TapeState) (inputs : List SessionInput)
+    (input : SessionInput) (acts : List Act) (gateway : Gateway) → AreActs holds Stands a b inputs acts
+    → Stands (events_through inputs) gateway → Recorded b c (events_in input)
+    → AreActs holds Stands a c (inputs ++ input ∷ []) (acts ++ keeps_at b gateway ∷ acts_for holds c input)
+acts_more holds Stands a b c [] input acts gateway p at q =
+    (gateway, c, [], at, rw (p.0) at q, rw (p.1, p.0, append-nil) refl, (refl, refl))
+acts_more holds Stands a b c (i ∷ inputs) input acts gateway p at q = (
   p.0,
-  p.1 ++ acts_for holds c input,
-  p.2,
-  rw (p.3, append_assoc) refl,
-  acts_more holds p.0 b c inputs input p.1 p.4 q,
+  p.1,
+  p.2 ++ keeps_at b gateway ∷ acts_for holds c input,
+  p.3,
+  p.4,
+  rw (p.5, append_assoc) refl,
+  acts_more holds (λ happened. Stands (events_in i ++ happened)) p.1 b c inputs input p.2 gateway p.6 at q,
 )
 
 -- inputs that were done, and then the input of one record more
-follows_more : {s s' s'' : SessionState} {x y z : TapeState} {inputs : List SessionInput} {r : Record}
-    → Follows s s' x y inputs
-    → (q : ActsOn s' s'' y z r) → Follows s s'' x z (inputs ++ q.input ∷ [])
-follows_more {s = s} {s' = s'} {s'' = s''} {x = x} {y = y} {z = z} {inputs = inputs} p q = record {
+follows_more : {s s' s'' : SessionState} {x y shown z : TapeState} {inputs : List SessionInput} {r : Record}
+    → Follows s s' x y inputs → Learns y shown (keeps_at y s'.gateway ∷ [])
+    → (q : ActsOn s' s'' shown z r) → Follows s s'' x z (inputs ++ q.input ∷ [])
+follows_more {s = s} {s' = s'} {s'' = s''} {x = x} {y = y} {shown = shown} {z = z} {inputs = inputs} p told q = record {
   goes = rw (← flat_map_more turns_of [] inputs q.input, ← flat_map_more events_in [] inputs q.input)
       (TurnsTrace-join _ _ _ _ _ _ _ (inputs_octets inputs) p.goes q.goes);
   records = rw (length-append inputs (q.input ∷ []))
       (counted-more s.totals.records _ _ (length inputs) 1 p.records q.records);
   trunk_octets = rw (← flat_map_more turns_of [] inputs q.input, length-append (turns inputs) (turns_of q.input))
       (counted-more s.totals.octets _ _ (length (turns inputs)) (length (turns_of q.input)) p.trunk_octets q.octets);
-  recorded = rw (← flat_map_more events_in [] inputs q.input) (recorded_join _ _ _ _ _ p.recorded q.recorded);
+  recorded = rw (← flat_map_more events_in [] inputs q.input)
+      (recorded_join _ _ _ _ _ p.recorded (told_recorded _ _ _ _ _ told q.recorded));
   logs = (
-    p.logs.0 ++ acts_for s.holds z q.input,
-    Extends-join x.acts y.acts z.acts p.logs.0 _ p.logs.1 (rw (p.same) at q.acts),
-    acts_more s.holds x y z inputs q.input p.logs.0 p.logs.2 q.recorded,
+    p.logs.0 ++ keeps_at y s'.gateway ∷ acts_for s.holds z q.input,
+    Extends-join x.acts y.acts z.acts p.logs.0 _ p.logs.1
+        (Extends-join y.acts shown.acts z.acts _ _ told.told (rw (p.same) at q.acts)),
+    acts_more s.holds (StandsBehind s.gateway) x y z inputs q.input p.logs.0 s'.gateway p.logs.2
+        (λ config before h. (p.goes.hears config before h).stands) (told_recorded _ _ _ _ _ told q.recorded),
   );
   calls = (
     p.calls.0 ++ q.calls.0,
@@ -206,78 +213,80 @@ module _ (spells : PacketOutput) (Seen : List SessionInput
     )
 
     -- .. and then one more
-    module _ {s'' : SessionState} {z : TapeState} {r : Record} where
-      -- one record more, for which this is put
-      through_more : {Took More : List ℕ → List ℕ → Type 0} (Known : List SessionInput → Type 0)
-          → WatchedTrace (written_by spells) s s' x y Took Seen records
-          → (q : ActsOn s' s'' y z r)
-          → ((config : GatewayConfig) (now : List Event) → HasHistory config s'.gateway now → (first xs : List ℕ)
-          → Took first xs → More xs (xs ++ written_for spells config now q.input))
-          → ((inputs : List SessionInput) → Follows s s' x y inputs → Seen inputs → Known (inputs ++ q.input ∷ []))
-          → WatchedTrace (written_by spells) s s'' x z More Known (records ++ r ∷ [])
-      through_more Known p q more known = (
-        record {
-          inputs = p.0.inputs ++ q.input ∷ [];
-          told_are = rw (map_push input_record p.0.inputs q.input, p.0.told_are, q.told_is);
-          follows = follows_more p.0.follows q;
-          took = λ config before at. rw (
-            but_last_more p.0.inputs q.input,
-            through-append (written_for spells) config before p.0.inputs (q.input ∷ []),
-            append-nil,
-          )
-              (more config (before ++ events_through p.0.inputs) ((p.0.follows.goes.hears config before at).stands)
-              (written_by spells config before (but_last p.0.inputs)) (written_by spells config before p.0.inputs)
-              (p.0.took config before at));
-        },
-        known p.0.inputs p.0.follows p.1,
-      )
+    module _ {s'' : SessionState} {shown z : TapeState} {r : Record}
+        (told : Learns y shown (keeps_at y s'.gateway ∷ []))
+      where
+        -- one record more, for which this is put
+        through_more : {Took More : List ℕ → List ℕ → Type 0} (Known : List SessionInput → Type 0)
+            → WatchedTrace (written_by spells) s s' x y Took Seen records
+            → (q : ActsOn s' s'' shown z r)
+            → ((config : GatewayConfig) (now : List Event) → HasHistory config s'.gateway now → (first xs : List ℕ)
+            → Took first xs → More xs (xs ++ written_for spells config now q.input))
+            → ((inputs : List SessionInput) → Follows s s' x y inputs → Seen inputs → Known (inputs ++ q.input ∷ []))
+            → WatchedTrace (written_by spells) s s'' x z More Known (records ++ r ∷ [])
+        through_more Known p q more known = (
+          record {
+            inputs = p.0.inputs ++ q.input ∷ [];
+            told_are = rw (map_push input_record p.0.inputs q.input, p.0.told_are, q.told_is);
+            follows = follows_more p.0.follows told q;
+            took = λ config before at. rw (
+              but_last_more p.0.inputs q.input,
+              through-append (written_for spells) config before p.0.inputs (q.input ∷ []),
+              append-nil,
+            )
+                (more config (before ++ events_through p.0.inputs) ((p.0.follows.goes.hears config before at).stands)
+                (written_by spells config before (but_last p.0.inputs)) (written_by spells config before p.0.inputs)
+                (p.0.took config before at));
+          },
+          known p.0.inputs p.0.follows p.1,
+        )
 
-      -- records that were gone through, and then one more whose answer passes
-      pub through_done : {o : Option (List ℕ)} {a b : Output} (Known : List SessionInput → Type 0)
-          → WatchedTrace (written_by spells) s s' x y
-          (λ first xs. TakesAllButWaiting o a.sink.taken a.waiting xs) Seen records
-          → (q : InputTrace spells (record { state = s'; tape = y; output = a })
-          (record { state = s''; tape = z; output = b }) r (TakesAllButWaiting a.sink.taken b.sink.taken b.waiting))
-          → ((inputs : List SessionInput) → Follows s s' x y inputs → Seen inputs
-          → Known (inputs ++ q.inputs.input ∷ []))
-          → WatchedTrace (written_by spells) s s'' x z
-          (λ first xs. TakesAllButWaiting o b.sink.taken b.waiting xs) Known
-          (records ++ r ∷ [])
-      through_done Known p q known = through_more Known p q.inputs
-          (λ config now at first xs took. TakesAllButWaiting-join _ _ _ _ _ _ _ took (q.took config now at)) known
+        -- records that were gone through, and then one more whose answer passes
+        pub through_done : {o : Option (List ℕ)} {a b : Output} (Known : List SessionInput → Type 0)
+            → WatchedTrace (written_by spells) s s' x y
+            (λ first xs. TakesAllButWaiting o a.sink.taken a.waiting xs) Seen records
+            → (q : InputTrace spells (record { state = s'; tape = shown; output = a })
+            (record { state = s''; tape = z; output = b }) r (TakesAllButWaiting a.sink.taken b.sink.taken b.waiting))
+            → ((inputs : List SessionInput) → Follows s s' x y inputs → Seen inputs
+            → Known (inputs ++ q.inputs.input ∷ []))
+            → WatchedTrace (written_by spells) s s'' x z
+            (λ first xs. TakesAllButWaiting o b.sink.taken b.waiting xs) Known
+            (records ++ r ∷ [])
+        through_done Known p q known = through_more Known p q.inputs
+            (λ config now at first xs took. TakesAllButWaiting-join _ _ _ _ _ _ _ took (q.took config now at)) known
 
-      -- a write failed in it, when it was done or when its first octets were heard
-      pub input_failed : (late : ℕ) {o : SinkState} {a b : Output} → length a.waiting ≤ late
-          → WatchedTrace (written_by spells) s s' x y
-          (λ first xs. TakesAllButWaiting o.taken a.sink.taken a.waiting xs) Seen
-          records
-          → InputTrace spells (record { state = s'; tape = y; output = a })
-          (record { state = s''; tape = z; output = b }) r (AppendsPrefix a.sink.taken b.sink.taken)
-          ⊎ ((octets : List ℕ) × (r ≡ Record.Trunk octets) × StopsAt spells s' s'' a b.sink octets)
-          → {w w' : List ℕ} → ((0 < length (records ++ r ∷ []))
-          × WatchedTrace (written_by spells) s s'' x z (AppendsBut late o.taken b.sink.taken) (OfFirstInputs Seen)
-          (records ++ r ∷ []))
-          ⊎ ((c : CutTrace late spells (record { state = s; tape = x; output = record { sink = o; waiting = w } })
-          (record { state = s''; tape = z; output = record { sink = b.sink; waiting = w' } }) (records ++ r ∷ []))
-          × Seen c.trace.inputs)
-      input_failed late few p (inl q) = inl (
-        omega (arith, length-append records (r ∷ [])),
-        through_more (OfFirstInputs Seen) p q.inputs
-            (λ config now at first xs took. AppendsBut-behind late _ _ _ _ _ _ few took (q.took config now at))
-            (λ inputs follows seen. inr (rw (but_last_more inputs q.inputs.input) seen)),
-      )
-      input_failed late {a = a} few p (inr q) = inr (
-        record {
-          records = records;
-          octets = q.0;
-          all = rw (q.1);
-          between = record { state = s'; tape = y; output = a };
-          trace = p.0;
-          few = few;
-          stops = q.2;
-        },
-        p.1,
-      )
+        -- a write failed in it, when it was done or when its first octets were heard
+        pub input_failed : (late : ℕ) {o : SinkState} {a b : Output} → length a.waiting ≤ late
+            → WatchedTrace (written_by spells) s s' x y
+            (λ first xs. TakesAllButWaiting o.taken a.sink.taken a.waiting xs) Seen
+            records
+            → InputTrace spells (record { state = s'; tape = shown; output = a })
+            (record { state = s''; tape = z; output = b }) r (AppendsPrefix a.sink.taken b.sink.taken)
+            ⊎ ((octets : List ℕ) × (r ≡ Record.Trunk octets) × StopsAt spells s' s'' a b.sink octets)
+            → {w w' : List ℕ} → ((0 < length (records ++ r ∷ []))
+            × WatchedTrace (written_by spells) s s'' x z (AppendsBut late o.taken b.sink.taken) (OfFirstInputs Seen)
+            (records ++ r ∷ []))
+            ⊎ ((c : CutTrace late spells (record { state = s; tape = x; output = record { sink = o; waiting = w } })
+            (record { state = s''; tape = z; output = record { sink = b.sink; waiting = w' } }) (records ++ r ∷ []))
+            × Seen c.trace.inputs)
+        input_failed late few p (inl q) = inl (
+          omega (arith, length-append records (r ∷ [])),
+          through_more (OfFirstInputs Seen) p q.inputs
+              (λ config now at first xs took. AppendsBut-behind late _ _ _ _ _ _ few took (q.took config now at))
+              (λ inputs follows seen. inr (rw (but_last_more inputs q.inputs.input) seen)),
+        )
+        input_failed late {a = a} few p (inr q) = inr (
+          record {
+            records = records;
+            octets = q.0;
+            all = rw (q.1);
+            between = record { state = s'; tape = y; output = a };
+            trace = p.0;
+            few = few;
+            stops = q.2;
+          },
+          p.1,
+        )
 
 -- where some octets wait there are some records
 pub some_records : (records waiting : ℕ) → (records ≡ 0 → waiting ≡ 0) → 0 < waiting → 0 < records

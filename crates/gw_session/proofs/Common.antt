@@ -28,7 +28,7 @@ pub use Rattle.gw_session.specs.Answers.{packets_in, events_of, events, answered
 pub use Rattle.gw_session.specs.Answers.{sent_with}
 pub use Rattle.gw_session.specs.Exchange.{TakesEvent, Exchanges, ActsOn, Inputs, written_by, StopsAt, CutTrace}
 pub use Rattle.gw_session.specs.Exchange.{InputTrace}
-pub use Rattle.gw_session.specs.Exchange.{WatchedTrace, OfFirstInputs}
+pub use Rattle.gw_session.specs.Exchange.{WatchedTrace}
 pub use Rattle.gw_session.specs.Exchange.{ComesInTurn, GoToPorts, OctetTrace, PacketWriteError, TraceToWriteError}
 pub use Rattle.gw_session.specs.Exchange.{IsSilent, packets_held}
 pub use Rattle.gw_session.specs.Exchange.{Receiving, RecordsBehind, IsGiven, FourCome}
@@ -47,12 +47,13 @@ pub use Rattle.gw_session.specs.Serve.{Served}
 pub use Rattle.gw_session.specs.Serve.{ServesAll, ServesUntil, InTurn, served_kinds, IsFew, ComeFirst, IsStopped}
 pub use Rattle.gw_session.specs.Serve.{GatewayTrace, TurnsTrace, receives_in, send_of, calls_of, packets_of, AreSends}
 pub use Rattle.gw_session.specs.Serve.{AreCalls, AreCallsFor, are_held, HaveCalls, held_in, acts_for, AreActs}
-pub use Rattle.gw_session.specs.Serve.{LogsFirst}
+pub use Rattle.gw_session.specs.Serve.{LogsFirst, StandsBehind, OfFirstInputs}
 unfoldable pub use Rattle.gw_session.specs.Serve.{answer_to, dropped_for, given_by, but_last}
 pub use Rattle.gw_session.specs.ServeLaws.{ServingIsCutAnywhere, UnmovedCounts, without_datagrams, EventsAreTold}
 pub use Rattle.gw_session.specs.ServeLaws.{DatagramsAreInTurn}
 pub use Rattle.gw_session.specs.Tape.{TapeState, Recorded, RecordedBut, HasEnded, HasLong, AreSpelled, WritesRecords}
 pub use Rattle.gw_session.specs.Tape.{Taping, taping, Batched, Batches, RecordsAll, Act, Learns, sends_at, answers_at}
+pub use Rattle.gw_session.specs.Tape.{keeps_at}
 pub use Rattle.gw_session.specs.Watch.{Shows, Look, shown_in, IsCalled, code_after, IsCodeAfter, AreTrue, Watched}
 pub use Rattle.gw_session.specs.Watch.{InputsShown, OfFirst, RunsWatched}
 pub use Rattle.gw_session.specs.World.{Output, World, state_of, SessionState, world_of, output_of, state_with, state_in}

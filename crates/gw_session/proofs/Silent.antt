@@ -3,7 +3,7 @@ use Rattle.gw_session.proofs.Common.{◌≡◌, inl, inr, ℕ, List, [], ◌∷�
 use Rattle.gw_session.proofs.Common.{Totals, Record, SinkState, AppendsBut, SessionInput, events_in, packets_for}
 use Rattle.gw_session.proofs.Common.{written}
 use Rattle.gw_session.proofs.Common.{but_last, SessionTrace, spelled_for, written_for, written_by, TraceToWriteError}
-use Rattle.gw_session.proofs.Common.{TapeState, SessionState, silent, output_of}
+use Rattle.gw_session.proofs.Common.{TapeState, SessionState, silent, output_of, OfFirstInputs}
 
 -- packets that put nothing give no octets
 nothing_put : (ps : List (ℕ × List ℕ)) → flat_map silent ps ≡ []
@@ -34,16 +34,31 @@ serves records p = record {
       (p.took config before at);
 }
 
+-- .. and this is known of them
+pub serves_watched : {s s' : SessionState} {x y : TapeState} {Took : List ℕ → List ℕ → Type 0}
+    (Seen : List SessionInput → Type 0) (records : List Record)
+    → (p : SessionTrace (written_by silent) s s' x y Took records) → Seen p.inputs
+    → (t : SessionTrace written s s' x y Took records) × Seen t.inputs
+unfolding serves
+serves_watched Seen records p seen = (serves records p, seen)
+
 -- .. up to the one in which a write failed
+pub serves_watched_until : {s : SessionState} {end : Totals → SessionState} {x y : TapeState} {a b : SinkState}
+    (Seen : List SessionInput → Type 0) (records : List Record)
+    → TraceToWriteError 0 silent Seen (record { state = s; tape = x; output = output_of a [] })
+    (λ totals. record { state = end totals; tape = y; output = output_of b [] }) records
+    → (totals : Totals) × (t : SessionTrace written s (end totals) x y (AppendsBut 0 a.taken b.taken) records)
+    × OfFirstInputs Seen t.inputs
+unfolding serves
+serves_watched_until Seen records p = elim p.1 [
+  | inl done ↦ (p.0, serves records done.1.0, done.1.1)
+  | inr cut ↦ absurd (omega (arith, cut.0.stops.some))
+]
+
+-- .. whatever is known
 pub serves_until : {s : SessionState} {end : Totals → SessionState} {x y : TapeState} {a b : SinkState}
     (Seen : List SessionInput → Type 0) (records : List Record)
     → TraceToWriteError 0 silent Seen (record { state = s; tape = x; output = output_of a [] })
     (λ totals. record { state = end totals; tape = y; output = output_of b [] }) records
     → (totals : Totals) × SessionTrace written s (end totals) x y (AppendsBut 0 a.taken b.taken) records
-serves_until Seen records p = (
-  p.0,
-  elim p.1 [
-    | inl done ↦ serves records done.1.0
-    | inr cut ↦ absurd (omega (arith, cut.0.stops.some))
-  ],
-)
+serves_until Seen records p = let q = serves_watched_until Seen records p in (q.0, q.1)

@@ -104,6 +104,14 @@ recorded_told a b c es acts p q =
     let none : Recorded b c [] = took_none b c [] taken (λ e. (refl, failures)) (λ e f. cc) (λ e. q.same) in
     rw (append-nil es) at (recorded_join a b c es [] p none)
 
+-- a tape was told of acts, and then events were recorded
+pub told_recorded : (a b c : TapeState) (es : List Event) (acts : List Act) → Learns a b acts → Recorded b c es
+    → Recorded a c es
+told_recorded a b c es acts p q =
+    let failures : b.failures ≡ a.failures = ap (λ (t : TapeState). t.failures) p.same in
+    let taken : b.taken ≡ a.taken = ap (λ (t : TapeState). t.taken) p.same in
+    recorded_join a b c [] es (took_none a b [] taken (λ e. (refl, failures)) (λ e f. cc) (λ e. p.same)) q
+
 -- a tape was told of sends, and then of one more
 pub told_more : (a b c : TapeState) (ps : List (ℕ × List ℕ)) (p : ℕ × List ℕ) → Learns a b (map (sends_at a) ps)
     → Learns b c (sends_at b p ∷ []) → Learns a c (map (sends_at a) (ps ++ p ∷ []))

@@ -36,9 +36,9 @@ true_more config before (a ∷ inputs) (m ∷ looks) input l all code at = (
 )
 
 -- inputs were shown, and then the input of one record more with the code of its answer
-pub shown_more : {W : Type 0} {shows : Shows W} {w v v' : W} {s s' s'' : SessionState} {x y z : TapeState} {inputs :
-    List SessionInput}
-    {r : Record} {code : ℕ} → (q : ActsOn s' s'' y z r) → IsCodeAfter s'.gateway r code
+pub shown_more : {W : Type 0} {shows : Shows W} {w v v' : W} {s s' s'' : SessionState} {x y shown z : TapeState}
+    {inputs : List SessionInput}
+    {r : Record} {code : ℕ} → (q : ActsOn s' s'' shown z r) → IsCodeAfter s'.gateway r code
     → shows v v' r code s''.gateway → Follows s s' x y inputs → InputsShown shows s.gateway w v inputs
     → InputsShown shows s.gateway w v' (inputs ++ q.input ∷ [])
 shown_more {shows = shows} {w = w} {v = v} {v' = v'} {s'' = s''} {inputs = inputs} {r = r} {code = code} q is call

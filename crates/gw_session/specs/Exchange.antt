@@ -16,7 +16,7 @@ use Rattle.gw_session.specs.Serve.{events_of_turns, answer_to}
 use Rattle.gw_session.specs.Serve.{TurnsTrace, SessionTrace, PortTrace, Stop, StopsSo, as_call, receives_of}
 use Rattle.gw_session.specs.Serve.{HaveCalls, AreCalls, AreSends, are_held, held_in, acts_for}
 use Rattle.gw_session.specs.Serve.{of_circuit, coming, first_four, behind_four, LeavesOut}
-use Rattle.gw_session.specs.Serve.{packets_for, octets_for, dropped_for, through, but_last}
+use Rattle.gw_session.specs.Serve.{packets_for, octets_for, dropped_for, through, but_last, OfFirstInputs}
 use Rattle.gw_session.specs.Tape.{TapeState, Recorded, Taping, RecordedBut, sends_at}
 use Rattle.gw_session.specs.World.{SessionState, Output, World}
 use Rattle.gw_session.specs.declared.held.HeldPacket.{HeldPacket}
@@ -254,10 +254,6 @@ abbrev pub WatchedTrace : (GatewayConfig → List Event → List SessionInput �
     → TapeState → (List ℕ → List ℕ → Type 0) → (List SessionInput → Type 0) → List Record → Type 0
 WatchedTrace put s s' tape tape' Took Seen records =
     (t : SessionTrace put s s' tape tape' Took records) × Seen t.inputs
-
--- this is known of inputs, or of all but the last one
-abbrev pub OfFirstInputs : (List SessionInput → Type 0) → List SessionInput → Type 0
-OfFirstInputs Seen inputs = Seen inputs ⊎ Seen (but_last inputs)
 
 -- a session up to a write that failed, when this many octets waited at most, and this is known of its inputs:
 -- of all, or of all but the last one

@@ -3,15 +3,16 @@ use Rattle.std.specs.Prelude.{Contains, ◌≡◌, ◌⊎◌, ◌^◌, ◌<◌, 
 use Rattle.std.specs.Prelude.{Option, None, Some, length, map, flat_map}
 use Rattle.std.specs.Io.KnownBytes.{Appends}
 use Rattle.std.specs.List.{AllByRecursion}
-use Rattle.gw_session.specs.Prelude.{Datagram, Event, Record, IsGood, AppendsPrefix, Extends}
+use Rattle.gw_session.specs.Prelude.{Datagram, Event, Gateway, Record, IsGood, AppendsPrefix, Extends}
 use Rattle.gw_records.specs.Records.{spelled}
 use Rattle.gw_session.specs.Answers.{events}
 use Rattle.gw_session.specs.Running.{all_kinds}
 
--- What a session does when a record is on its tape: it sends a packet of a circuit that was held, or answers.
--- With it is what the tape had then: whether it had ended and, where they are known, the octets that it had
--- taken.
+-- What a session does between two writes to its tape: it shows the tape its gateway, sends a packet of a
+-- circuit that was held, or answers. With it is what the tape had then: whether it had ended and, where they
+-- are known, the octets that it had taken.
 pub data Act : Type 0 where
+  Keeps : (gateway : Gateway) → (ended : Bool) → (taken : Option (List ℕ)) → Act
   Sends : (circuit : ℕ) → (octets : List ℕ) → (ended : Bool) → (taken : Option (List ℕ)) → Act
   Answers : (ended : Bool) → (taken : Option (List ℕ)) → Act
 
@@ -23,7 +24,10 @@ pub record TapeState : Type 0 where
   pub taken : Option (List ℕ)
   pub acts : Option (List Act)
 
--- a packet of a circuit is sent, or an answer, when the tape is so
+-- a gateway is shown, a packet of a circuit is sent, or an answer, when the tape is so
+abbrev pub keeps_at : TapeState → Gateway → Act
+keeps_at tape gateway = Act.Keeps gateway tape.ended tape.taken
+
 abbrev pub sends_at : TapeState → ℕ × List ℕ → Act
 sends_at tape p = Act.Sends p.0 p.1 tape.ended tape.taken
 

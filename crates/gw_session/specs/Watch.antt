@@ -3,11 +3,13 @@ use Rattle.std.specs.Prelude.{◌≡◌, ◌⊎◌, ◌++◌, ◌∷◌, ⊤, �
 use Rattle.std.specs.Prelude.{MatchResult}
 use Rattle.gw_records.specs.Octets.{command_of, codec_of}
 use Rattle.gw_session.specs.Prelude.{GatewayConfig, Gateway, Event, HasHistory, Record, Totals, RunFault}
-use Rattle.gw_session.specs.Prelude.{Datagram, Command, Codec, EndsAll, EndsUntil, OrNoMemory}
+use Rattle.gw_session.specs.Prelude.{Datagram, Command, Codec, EndsAll, EndsUntil, OrNoMemory, AppendsBut}
+use Rattle.std.specs.Io.KnownBytes.{Appends}
 use Rattle.gw_switch.specs.Whole.{reply_to}
 use Rattle.gw_session.specs.Answers.{code_of}
 use Rattle.gw_session.specs.Running.{all_kinds, RunsThrough, RunsUntilWrite}
 use Rattle.gw_session.specs.Serve.{SessionInput, input_record, events_in, SessionStreams}
+use Rattle.gw_session.specs.Serve.{OfFirstInputs, Served, served_kinds}
 
 -- relates a watch before and after a call, the record that it is shown, the code of its answer, and the
 -- gateway behind it
@@ -88,3 +90,18 @@ RunsWatched a a' gateway gateway' Seen Kept result = MatchResult result
     (OrNoMemory Kept (EndsUntil all_kinds a.source a'.source a.sink a'.sink
     (λ totals records. RunsThrough gateway gateway' a.sink a'.sink totals records × Seen records)
     (λ records. RunsUntilWrite gateway gateway' a.sink a'.sink records × OfFirst Seen records)))
+
+-- A session that serves ended as `serve` promises, and this is known of its inputs: of all that it acted on.
+-- Where a write failed, it is known of all, or of all but the last one. For want of memory this was kept.
+abbrev pub ServesWatched : SessionStreams → SessionStreams → Gateway → Gateway → (List SessionInput → Type 0)
+    → Type 0 → Result Totals RunFault → Type 0
+ServesWatched a a' gateway gateway' Seen Kept result = MatchResult result
+    (EndsAll served_kinds a.source a'.source a.sink a'.sink (λ totals records.
+    (t : Served a a' gateway gateway' (λ first. Appends a.sink.taken a'.sink.taken) totals records)
+    × Seen t.inputs))
+    (OrNoMemory Kept (EndsUntil served_kinds a.source a'.source a.sink a'.sink (λ totals records.
+    (t : Served a a' gateway gateway' (λ first. Appends a.sink.taken a'.sink.taken) totals records)
+    × Seen t.inputs)
+    (λ records. (totals : Totals)
+    × (t : Served a a' gateway gateway' (AppendsBut 0 a.sink.taken a'.sink.taken) totals records)
+    × OfFirstInputs Seen t.inputs)))

@@ -19,8 +19,8 @@ use gw_records::{
 use gw_switch::Gateway;
 
 /// Gives a gateway the records of the source, of these kinds, records on a tape what it takes, and shows each
-/// record to a watch when the gateway has acted on it. It is inlined, so that a session tests for
-/// no other kinds than its own.
+/// record to a watch when the gateway has acted on it. Before each record the tape is shown the gateway. It
+/// is inlined, so that a session tests for no other kinds than its own.
 #[inline(always)]
 pub fn process_records<O: PacketPorts, S: Source, K: Sink, T: Tape, W: Watch>(
     kinds: &AcceptedKinds,
@@ -65,6 +65,7 @@ pub fn process_records<O: PacketPorts, S: Source, K: Sink, T: Tape, W: Watch>(
     'handling: loop {
         match first_record(kinds, reader.held()) {
             Ok(first) => {
+                tape.keep(gateway);
                 let body = &reader.held()[FRONT_LEN..first.len];
                 session.handle_record(gateway, packet_ports, first.head, body, sink, tape)?;
                 watch.after(&first.head, body, session.code, gateway);

@@ -12,6 +12,7 @@ use gw_records::{
     CODEC, COMMAND, DATAGRAM, RecordHead, Sink, TRUNK, TrunkRecord, octet_of_codec,
     octet_of_command, write_all,
 };
+use gw_switch::Gateway;
 
 // Fills the room with a record of this kind, circuit and body.
 fn fill(room: &mut TrunkRecord, kind: u8, circuit: u8, body: &[u8])
@@ -128,6 +129,9 @@ impl<K: Sink> Tape for Recorder<K> {
     fn end(&mut self) {
         self.ended = true;
     }
+
+    #[inline(always)]
+    fn keep(&mut self, _gateway: &Gateway) {}
 
     fn before_send(&mut self, _circuit: CircuitNo, _packet: &[u8]) {}
 

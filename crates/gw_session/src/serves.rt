@@ -1,15 +1,16 @@
 //! A session whose datagrams come and go through ports, also recorded (`serve`).
-ghost use Rattle.std.specs.Prelude.{IfOk, IfErr};
+ghost use Rattle.std.specs.Prelude.{◌≡◌, IfOk, IfErr};
 ghost use Rattle.gw_records.specs.Streams.{CanBegin};
 ghost use Rattle.gw_session.specs.Tape.{no_tape};
 ghost use Rattle.gw_session.specs.Serve.{ServesAll, ServesUntil, around, around_in, around_log};
+ghost use Rattle.gw_session.specs.Watch.{InputsShown, ServesWatched};
 
 use crate::exchange::SessionBuffers;
 use crate::held::HeldPackets;
 use crate::processing::process_records;
 use crate::receive_room::ReceiveRoom;
 use crate::tape::{NoTape, Tape};
-use crate::watch::NoWatch;
+use crate::watch::{NoWatch, Watch};
 use gw_records::{AcceptedKinds, Ports, Reader, RunFault, Sink, Source, Totals};
 use gw_switch::Gateway;
 use std::alloc::Global;
@@ -66,9 +67,10 @@ pub fn serve<S: Source, P: Ports, K: Sink>(
     serve_recorded(alloc, gateway, ports, source, sink, &mut NoTape)
 }
 
-// Serves, records on a tape what the gateway takes, and holds packets if `held` does.
+// Serves, records on a tape what the gateway takes, shows each record to a watch, and holds packets if `held`
+// does.
 #[inline(always)]
-fn serve_holding<S: Source, P: Ports, K: Sink, T: Tape>(
+fn serve_holding<S: Source, P: Ports, K: Sink, T: Tape, W: Watch>(
     alloc: Global,
     held: HeldPackets,
     gateway: &mut Gateway,
@@ -76,6 +78,7 @@ fn serve_holding<S: Source, P: Ports, K: Sink, T: Tape>(
     source: &mut S,
     sink: &mut K,
     tape: &mut T,
+    watch: &mut W,
 ) -> Result<Totals, RunFault>
     requires { CanBegin (S.tells source.old) (K.tells sink.old) }
     ensures ok { IfOk result (ServesAll
@@ -86,6 +89,11 @@ fn serve_holding<S: Source, P: Ports, K: Sink, T: Tape>(
         (around_in held.holds (S.tells source.old) (K.tells sink.old) (P.tells ports.old) (T.tells tape.old))
         (around_in held.holds (S.tells source.new) (K.tells sink.new) (P.tells ports.new) (T.tells tape.new))
         gateway.old gateway.new) }
+    ensures watched { ServesWatched
+        (around_in held.holds (S.tells source.old) (K.tells sink.old) (P.tells ports.old) (T.tells tape.old))
+        (around_in held.holds (S.tells source.new) (K.tells sink.new) (P.tells ports.new) (T.tells tape.new))
+        gateway.old gateway.new (InputsShown W.shows gateway.old watch.old watch.new)
+        (watch.new ≡ watch.old) result }
 {
     let Ok(mut reader) = Reader::new(alloc) else {
         return Err(RunFault::OutOfMemory);
@@ -103,7 +111,7 @@ fn serve_holding<S: Source, P: Ports, K: Sink, T: Tape>(
         source,
         sink,
         tape,
-        &mut NoWatch,
+        watch,
     )
 }
 
@@ -133,23 +141,34 @@ pub fn serve_recorded<S: Source, P: Ports, K: Sink, T: Tape>(
         gateway.old gateway.new) }
 {
     let held = HeldPackets::none(alloc);
-    serve_holding(alloc, held, gateway, ports, source, sink, tape)
+    serve_holding(
+        alloc,
+        held,
+        gateway,
+        ports,
+        source,
+        sink,
+        tape,
+        &mut NoWatch,
+    )
 }
 
 /// Serves as [`serve_recorded`] does, but sends the packets of a record of the trunk when all of it is on the
 /// tape, in their order, behind the receives of its octets. (A record of more than 2,048 octets has its
-/// packets sent as they are made.)
+/// packets sent as they are made.) Each record is shown to a watch when the gateway has acted on it. A record
+/// in which a write fails may not be shown.
 ///
 /// # Errors
 ///
 /// Those of [`serve`].
-pub fn serve_logged<S: Source, P: Ports, K: Sink, T: Tape>(
+pub fn serve_logged<S: Source, P: Ports, K: Sink, T: Tape, W: Watch>(
     alloc: Global,
     gateway: &mut Gateway,
     ports: &mut P,
     source: &mut S,
     sink: &mut K,
     tape: &mut T,
+    watch: &mut W,
 ) -> Result<Totals, RunFault>
     requires { CanBegin (S.tells source.old) (K.tells sink.old) }
     ensures ok { IfOk result (ServesAll
@@ -160,9 +179,14 @@ pub fn serve_logged<S: Source, P: Ports, K: Sink, T: Tape>(
         (around_log (S.tells source.old) (K.tells sink.old) (P.tells ports.old) (T.tells tape.old))
         (around_log (S.tells source.new) (K.tells sink.new) (P.tells ports.new) (T.tells tape.new))
         gateway.old gateway.new) }
+    ensures watched { ServesWatched
+        (around_log (S.tells source.old) (K.tells sink.old) (P.tells ports.old) (T.tells tape.old))
+        (around_log (S.tells source.new) (K.tells sink.new) (P.tells ports.new) (T.tells tape.new))
+        gateway.old gateway.new (InputsShown W.shows gateway.old watch.old watch.new)
+        (watch.new ≡ watch.old) result }
 {
     let Ok(held) = HeldPackets::new(alloc) else {
         return Err(RunFault::OutOfMemory);
     };
-    serve_holding(alloc, held, gateway, ports, source, sink, tape)
+    serve_holding(alloc, held, gateway, ports, source, sink, tape, watch)
 }

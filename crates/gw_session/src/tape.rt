@@ -5,13 +5,15 @@ ghost use Rattle.gw_switch.specs.Events.{Event};
 ghost use Rattle.gw_records.specs.Records.{IsGood, named};
 ghost use Rattle.gw_session.specs.Answers.{events_of};
 ghost use Rattle.gw_session.specs.Running.{all_kinds};
-ghost use Rattle.gw_session.specs.Tape.{TapeState, no_tape, tells_of, Recorded, HasEnded, Learns, sends_at};
+ghost use Rattle.gw_session.specs.Tape.{TapeState, no_tape, tells_of, Recorded, HasEnded, Learns, keeps_at};
+ghost use Rattle.gw_session.specs.Tape.{sends_at};
 ghost use Rattle.gw_session.specs.Tape.{WritesRecords, Batches, RecordsAll, taping, answers_at};
 
 use crate::spelling::append;
 use arrayvec::ArrayVec;
 use g704_cas::CircuitNo;
 use gw_records::{DATAGRAM, FRONT_LEN, RecordHead, TRUNK};
+use gw_switch::Gateway;
 
 // The longest datagram that a record can hold.
 const LONGEST: usize = 65_535;
@@ -43,6 +45,10 @@ pub trait Tape {
     fn end(&mut self)
         ensures { HasEnded (tells self.old) (tells self.new) };
 
+    /// Learns the gateway, which stands behind all that was put. It is shown before each record.
+    fn keep(&mut self, gateway: &Gateway)
+        ensures { Learns (tells self.old) (tells self.new) (keeps_at (tells self.old) gateway.now ∷ []) };
+
     /// Learns that a packet of a circuit is sent next, which was held until its record was put.
     fn before_send(&mut self, circuit: CircuitNo, packet: &[u8])
         ensures { Learns (tells self.old) (tells self.new)
@@ -65,6 +71,9 @@ impl Tape for NoTape {
     fn put_together(&mut self, _octets: &[u8]) {}
 
     fn end(&mut self) {}
+
+    #[inline(always)]
+    fn keep(&mut self, _gateway: &Gateway) {}
 
     fn before_send(&mut self, _circuit: CircuitNo, _packet: &[u8]) {}
 
@@ -90,6 +99,12 @@ impl<T: Tape> Tape for Option<T> {
     fn end(&mut self) {
         if let Some(tape) = self {
             tape.end();
+        }
+    }
+
+    fn keep(&mut self, gateway: &Gateway) {
+        if let Some(tape) = self {
+            tape.keep(gateway);
         }
     }
 

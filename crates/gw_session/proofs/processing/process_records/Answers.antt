@@ -39,7 +39,7 @@ returns-in_err-handle_record-in-Ok-clause-fault g c =
     let found = first_held f c.held.ensures c.in-Ok.ensures.good in
     let q = rw (record_is f (held c.handling.reader) _ found.more c.held-in-Ok.ensures, w.2.holds) at
     c.in_err-handle_record-in-Ok.ensures.inputs in
-    let stopped = input_failed _ _ _ w.2.few w.2.through q.2 in
+    let stopped = input_failed _ _ c.keep.ensures _ w.2.few w.2.through q.2 in
     goes_up _ _ faults.Write c.from_residual.ensures.1 q.0 (stops_in f w.2.stage found q.1 (_, stopped))
 
 pub handling-preserved-in-Ok : goal.handling-preserved-in-Ok
@@ -57,7 +57,7 @@ handling-preserved-in-Ok g c =
       w.1 ++ record_at f (held c.handling.reader) ∷ [],
       record {
         stage = record_taken f w.2.stage found c.pass.ensures.holds c.pass.ensures.turns q.1;
-        through = through_done _ _ _ w.2.through q.0 (λ inputs. shown_more q.0.inputs code shown);
+        through = through_done _ _ c.keep.ensures _ w.2.through q.0 (λ inputs. shown_more q.0.inputs code shown);
         none_waits = λ none. absurd (omega (arith, none, more));
         few = rw w.2.at_once at c.in_ok-handle_record-in-Ok.ensures.few;
         at_once = c.handle_record.ensures.at_once ∙ w.2.at_once;
