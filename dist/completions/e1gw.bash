@@ -24,7 +24,7 @@ _e1gw_options() {
       echo '--config --load --save --record --record-over --repeat --seizure-wait --senders --totals --help' ;;
     trunk)
       echo '--config --load --save --align --control --crc4 --end --live --record --record-over --repeat' \
-        '--seizure-wait --senders --slots --totals --help' ;;
+        '--seizure-wait --senders --slots --tell --totals --help' ;;
     satop) echo '--size --jitter --rtp --sequence --fill --clock --help' ;;
     '') echo '--help --version' ;;
   esac

@@ -1,14 +1,16 @@
-"""What `e1gw replay --tell` tells its clients (e1gw-tell(5)), in lock step: the lines of a record are there once it is
-answered."""
+"""What `e1gw replay --tell` and `e1gw trunk --tell` tell their clients (e1gw-tell(5)), in lock step: the lines of a
+record are there once it is answered."""
 from __future__ import annotations
 
 import contextlib
+import select
 import socket
 
 from . import support
 from .support import SECONDS
+from .test_trunk_served import TrunkProcess
 from e1gw.exchange import ACKNOWLEDGED, ANSWERED, ServeProcess
-from e1gw.session import datagram_record
+from e1gw.session import Command, command_record, datagram_record
 
 CONFIG = support.config_text({circuit: {'role': 'outgoing'} for circuit in range(1, 31)})
 LOOK = 4                    # multiframes from one look at clients to the next, where there are some
@@ -42,6 +44,15 @@ class TellClient:
                 got += more
         self.socket.settimeout(SECONDS)
         return got.decode('ascii').splitlines()
+
+    def line(self) -> str:
+        """The next line, once it has come."""
+        got = b''
+        while not got.endswith(b'\n'):
+            more = self.socket.recv(1)
+            assert more, 'the connection has ended'
+            got += more
+        return got.decode('ascii').rstrip('\n')
 
     def has_gone(self) -> bool:
         """Whether the connection has ended, of one that has read all lines."""
@@ -143,3 +154,41 @@ class TellTests(support.FolderCase):
         after = self.client()
         self.multiframes(LOOK)
         self.assertEqual(after.lines()[0], 'e1gw tell 1 A')
+
+
+class TrunkTellTests(support.FolderCase):
+    """A trunk in service with a client, which is told behind the answer."""
+
+    def told(self, client: TellClient, last: str) -> list[str]:
+        """The lines that come, up to this one."""
+        lines = list[str]()
+        while last not in lines:
+            lines += [client.line()]
+        return lines
+
+    def test_a_seizure(self) -> None:
+        """The whole state, a change, and the end."""
+        tell, control, exchange = self.path('tell'), self.path('control'), support.Exchange()
+        words = [support.program(), 'trunk', '--config', self.write('trunk.toml', CONFIG), '--tell', tell,
+                 '--control', control]
+        with TrunkProcess(words, control) as trunk:
+            trunk.passes(bytes(32))
+            client = TellClient(tell)
+            self.addCleanup(client.socket.close)
+            trunk.passes(bytes(32))
+            first, _place, *state = self.told(client, 'now')
+            self.assertEqual([first, *state], ['e1gw tell 1 A', 'alarms 1 1 0 0', *(
+                row(c, 'fault', '10 --') for c in range(1, 31)), seizures(), 'now'])
+            for _ in range(60):
+                exchange.hear(trunk.passes(exchange.multiframe()))
+            self.told(client, 'alarms 0 0 0 0')
+            operator = trunk.client()
+            self.addCleanup(operator.close)
+            operator.sendall(command_record(1, Command.SEIZE))
+            while not select.select([operator], [], [], 0)[0]:
+                exchange.hear(trunk.passes(exchange.multiframe()))
+            self.told(client, 'command 1 1 0')
+            self.assertEqual(client.line(), row(1, 'seized', '00 10'))
+            self.assertEqual(trunk.ends()[0], 0)
+        self.assertEqual(self.told(client, 'end')[-1], 'end')
+        self.assertTrue(client.has_gone())

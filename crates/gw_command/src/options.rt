@@ -267,6 +267,7 @@ const OF_TRUNK: &[OptionName] = &[
     OptionName::Senders,
     OptionName::Repeat,
     OptionName::SeizureWait,
+    OptionName::Tell,
     OptionName::Control,
     OptionName::End,
     OptionName::Align,

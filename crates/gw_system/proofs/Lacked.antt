@@ -45,3 +45,11 @@ ends_in f over command recording named senders are config fault lacks = elim lac
   | inl tape ↦ inl (named_so f recording _ _ _ named (λ asked why. (over asked, why)) tape)
   | inr ports ↦ inr (senders, are, ports)
 ]
+
+-- what a system lacks for a trunk, the command lacks
+pub trunk_in : {ends ends' : Config → ProgramFault → Type 0} {watch watch' : ProgramFault → Type 0}
+    → ((config : Config) (fault : ProgramFault) → ends config fault → ends' config fault)
+    → ((fault : ProgramFault) → watch fault → watch' fault) → (config : Config) (fault : ProgramFault)
+    → ends config fault ⊎ watch fault → ends' config fault ⊎ watch' fault
+trunk_in are is config fault (inl ends) = inl (are config fault ends)
+trunk_in are is config fault (inr watch) = inr (is fault watch)

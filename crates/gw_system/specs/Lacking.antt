@@ -52,7 +52,8 @@ LacksIn command lacks_more fault =
 
 -- .. no trunk
 abbrev pub LacksTrunkIn : CommandLine → ProgramFault → Type 0
-LacksTrunkIn command = LacksIn command (LacksEndsIn command)
+LacksTrunkIn command =
+    LacksIn command (λ config fault. LacksEndsIn command config fault ⊎ LacksTellerIn command fault)
 
 -- .. no session
 abbrev pub LacksSessionIn : CommandLine → SessionKind → ProgramFault → Type 0

@@ -9,13 +9,15 @@ use Rattle.gw_records.specs.declared.outcome.RunFault.{RunFault}
 use Rattle.gw_records.specs.declared.outcome.RunFault.TheVariants as run_faults
 use Rattle.gw_switch.specs.Events.{Event}
 use Rattle.gw_switch.specs.Standing.{HasHistory}
+use Rattle.gw_records.specs.Ports.{PortsState}
 use Rattle.gw_session.specs.Serve.{SessionStreams}
+use Rattle.gw_session.specs.Tape.{TapeState}
 use Rattle.gw_command.specs.Command.{SaysNumberIn, text_in}
 use Rattle.gw_trunk.specs.declared.device.DeviceFault.{DeviceFault}
 use Rattle.gw_trunk.specs.System.{SystemRefusesDoor, SystemRefusesStream, SystemWatches}
 use Rattle.run_trunk.specs.Filters.{Comes, EndIsTold, Goes, IsPlaceOf}
 use Rattle.run_trunk.specs.Serving.{Carried, Traffic}
-use Rattle.gw_program.specs.Performing.{EndedSaved, NotBegun}
+use Rattle.gw_program.specs.Performing.{EndedSaved, LacksTapeOrPorts, NotBegun}
 use Rattle.gw_program.specs.Requests.{ByGateway, CommandLine, OnNewStreams, save_in}
 use Rattle.gw_program.specs.Sessions.{Serves}
 use Rattle.gw_program.specs.State.{IsSaved}
@@ -30,6 +32,29 @@ pub record CarriesTrunk (a a' : SessionStreams) (t : Traffic) (gateway gateway' 
   pub served : Serves true a a' end gateway gateway'
   pub carried : (config : GatewayConfig) (before : List Event) → HasHistory config gateway before
       → ∥ Carried config before gateway' a.tape a'.tape t end ∥₁
+
+-- no tape was begun, or no ports or watch were opened
+abbrev pub LacksServing : (ProgramFault → Type 0) → (ProgramFault → Type 0) → (ProgramFault → Type 0)
+    → ProgramFault → Type 0
+LacksServing lacks_tape lacks_ports lacks_watch fault =
+    LacksTapeOrPorts lacks_tape lacks_ports fault ⊎ lacks_watch fault
+
+-- this was done with some ports and some tape, as they were before and after
+pub record WithSome (does : PortsState → TapeState → PortsState → TapeState → Type 0) : Type 0 where
+  pub ports : PortsState
+  pub tape : TapeState
+  pub ports' : PortsState
+  pub tape' : TapeState
+  pub done : does ports tape ports' tape'
+
+-- A watch was opened so, then shown what it was, and then ended so.
+pub record HasWatched {W : Type 0} (Opens : W → Type 0) (Shown Ends : W → W → Type 0) : Type 0 where
+  pub first : W
+  pub last : W
+  pub left : W
+  pub opened : Opens first
+  pub shown : Shown first last
+  pub ended : Ends last left
 
 -- the system refused to wait for a stream of the trunk, or for the descriptor that asks for its end
 abbrev pub LacksStream : ProgramFault → Type 0

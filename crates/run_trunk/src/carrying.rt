@@ -3,11 +3,11 @@
 ghost use Rattle.std.specs.Prelude.{◌≡◌, ◌%◌, [], IfOk, IfErr, None, OnOk, codes, is_some};
 ghost use Rattle.clap.specs.Words.{subcommand_rows_of};
 ghost use Rattle.gw_command.specs.Command.{HasFlag, text_in};
-ghost use Rattle.gw_program.specs.Performing.{LacksSession, LacksTapeOrPorts};
+ghost use Rattle.gw_program.specs.Performing.{LacksSession};
 ghost use Rattle.gw_program.specs.Requests.{TakesAsked, files_in};
 ghost use Rattle.run_trunk.specs.Filters.{AreAsked, EndIsTold};
 ghost use Rattle.run_trunk.specs.Trunks.{AsksEnd, IsEndedBy, LacksControl, LacksStream, ServesTrunk};
-ghost use Rattle.run_trunk.specs.Trunks.{ServesBy, told_behind};
+ghost use Rattle.run_trunk.specs.Trunks.{LacksServing, ServesBy, told_behind};
 
 use crate::filters::{
     Incoming, PrintedSlots, TrunkFilters, filtered_input, filtered_output, filters_as_asked,
@@ -166,7 +166,8 @@ fn carry_from<
     requires place { (gateway.old.trunk.position % 512 ≡ P.place) × (P.place ≡ S.place) }
     requires law { config.now.gateway.law ≡ S.law }
     ensures { ServesBy (subcommand_rows_of matches.now) config.now.gateway.law
-        (LacksTapeOrPorts (Y.lacks_tape system.now) (Y.lacks_ports system.now config.now))
+        (LacksServing (Y.lacks_tape system.now) (Y.lacks_ports system.now config.now)
+        (Y.lacks_watch system.now))
         ((Y.files system.now).saves config.now gateway.new) gateway.old gateway.new result }
 {
     let TrunkEnds {
@@ -225,7 +226,8 @@ fn carry<
     requires filters { AreAsked (subcommand_rows_of matches.now) ends.filters }
     ensures { ServesTrunk (subcommand_rows_of matches.now)
         (LacksSession (files_in (subcommand_rows_of matches.now))
-        (λ config. LacksTapeOrPorts (Y.lacks_tape system.now) (Y.lacks_ports system.now config))) result }
+        (λ config. LacksServing (Y.lacks_tape system.now) (Y.lacks_ports system.now config)
+        (Y.lacks_watch system.now))) result }
 {
     let config = system.read_config()?;
     let mut gateway = system.begin_gateway(&config)?;
@@ -251,7 +253,8 @@ fn serve_alone<R: Machine, Y: System>(
     requires alone { text_in (codes "control") (subcommand_rows_of matches.now) ≡ None }
     ensures { ServesTrunk (subcommand_rows_of matches.now)
         (LacksSession (files_in (subcommand_rows_of matches.now))
-        (λ config. LacksTapeOrPorts (Y.lacks_tape system.now) (Y.lacks_ports system.now config))) result }
+        (λ config. LacksServing (Y.lacks_tape system.now) (Y.lacks_ports system.now config)
+        (Y.lacks_watch system.now))) result }
 {
     if let Some(_descriptor) = end_of(matches) {
         return Err(ProgramFault::Nothing);
@@ -281,7 +284,8 @@ fn serve_clients<R: Machine, Y: System>(
     requires told { answers.log.octets ≡ [] }
     ensures { ServesTrunk (subcommand_rows_of matches.now)
         (LacksSession (files_in (subcommand_rows_of matches.now))
-        (λ config. LacksTapeOrPorts (Y.lacks_tape system.now) (Y.lacks_ports system.now config))) result }
+        (λ config. LacksServing (Y.lacks_tape system.now) (Y.lacks_ports system.now config)
+        (Y.lacks_watch system.now))) result }
 {
     let outgoing = open_stdout(rt, output)?;
     let filters = filters_as_asked(rt, matches)?;
@@ -314,7 +318,8 @@ pub fn serve<R: Machine, Y: System>(
     requires { TakesAsked (subcommand_rows_of matches.now) (Y.files system.now) }
     ensures { ServesTrunk (subcommand_rows_of matches.now)
         (LacksSession (files_in (subcommand_rows_of matches.now))
-        (λ config. LacksTapeOrPorts (Y.lacks_tape system.now) (Y.lacks_ports system.now config))) result }
+        (λ config. LacksServing (Y.lacks_tape system.now) (Y.lacks_ports system.now config)
+        (Y.lacks_watch system.now))) result }
 {
     let Some(path) = control_of(matches) else {
         return serve_alone(rt, matches, system, input, output);

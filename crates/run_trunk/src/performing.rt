@@ -1,10 +1,13 @@
 //! In which order a trunk is served, ended and saved, by what it has of the system (`perform_trunk`).
 
-ghost use Rattle.std.specs.Prelude.{◌⊎◌};
+ghost use Rattle.std.specs.Prelude.{◌≡◌, ◌⊎◌, Result};
+ghost use Rattle.gw_records.specs.declared.outcome.RunFault.{RunFault};
+ghost use Rattle.gw_records.specs.declared.outcome.Totals.{Totals};
+ghost use Rattle.gw_session.specs.Watch.{InputsShown, ServesWatched};
 ghost use Rattle.gw_session.specs.Serve.{around_log};
-ghost use Rattle.gw_program.specs.Performing.{EndedSaved, HasServed, LacksTapeOrPorts, NotBegun};
+ghost use Rattle.gw_program.specs.Performing.{EndedSaved, HasServed, NotBegun};
 ghost use Rattle.run_trunk.specs.Serving.{IsUnread, IsUntaken, traffic};
-ghost use Rattle.run_trunk.specs.Trunks.{CarriesTrunk};
+ghost use Rattle.run_trunk.specs.Trunks.{CarriesTrunk, HasWatched, LacksServing, WithSome};
 
 use crate::sealed::{AnswersDevice, FilteredSource, MultiframeDevice};
 use crate::serving::serve_trunk;
@@ -22,8 +25,8 @@ pub(crate) struct TrunkRecords<I: TrunkInput, O: TrunkOutput, A: TrunkOutput> {
     pub(crate) sink: TrunkRecordSink<O, A>,
 }
 
-// Serves a trunk with a configuration and a gateway, on ports and a tape of the system, and saves the state
-// of the gateway. The tape is begun before the ports are opened.
+// Serves a trunk with a configuration and a gateway, on ports, a tape and a watch of the system, and saves
+// the state of the gateway. The tape is begun before the ports are opened, and the watch behind them.
 pub(crate) fn perform_trunk<
     Y: System,
     I: TrunkInput + FilteredSource,
@@ -38,8 +41,8 @@ pub(crate) fn perform_trunk<
 ) -> Result<Totals, ProgramFault>
     requires source { IsUnread (⟦<TrunkRecordSource<I> as Source>⟧.tells trunk.old.source) }
     requires sink { IsUntaken (⟦<TrunkRecordSink<O, A> as Sink>⟧.tells trunk.old.sink) }
-    ensures { NotBegun trunk.old trunk.new
-        (LacksTapeOrPorts (Y.lacks_tape system.now) (Y.lacks_ports system.now config.now)) result
+    ensures served { NotBegun trunk.old trunk.new (LacksServing (Y.lacks_tape system.now)
+        (Y.lacks_ports system.now config.now) (Y.lacks_watch system.now)) result
         ⊎ HasServed (Y.opens system.now config.now) (Y.begins system.now) (λ p p' t t'. EndedSaved
         (CarriesTrunk (around_log (⟦<TrunkRecordSource<I> as Source>⟧.tells trunk.old.source)
         (⟦<TrunkRecordSink<O, A> as Sink>⟧.tells trunk.old.sink) (Y.Ports.tells p) (Y.Tape.tells t))
@@ -48,9 +51,19 @@ pub(crate) fn perform_trunk<
         (traffic (I.came trunk.new.source.incoming) (I.asked trunk.new.source.incoming)
         (O.went trunk.new.sink.outgoing) (A.went trunk.new.sink.answers)) gateway.old gateway.new)
         ((Y.files system.now).saves config.now gateway.new) result) }
+    ensures watched { NotBegun trunk.old trunk.new (LacksServing (Y.lacks_tape system.now)
+        (Y.lacks_ports system.now config.now) (Y.lacks_watch system.now)) result
+        ⊎ HasWatched (Y.watches system.now config.now gateway.old) (λ first last. WithSome
+        (λ ports tape ports' tape'. (end : Result Totals RunFault) × ServesWatched
+        (around_log (⟦<TrunkRecordSource<I> as Source>⟧.tells trunk.old.source)
+        (⟦<TrunkRecordSink<O, A> as Sink>⟧.tells trunk.old.sink) ports tape)
+        (around_log (⟦<TrunkRecordSource<I> as Source>⟧.tells trunk.new.source)
+        (⟦<TrunkRecordSink<O, A> as Sink>⟧.tells trunk.new.sink) ports' tape') gateway.old gateway.new
+        (InputsShown Y.Watch.shows gateway.old first last) (last ≡ first) end)) Y.ends_watch }
 {
     let mut tape = system.begin_tape()?;
     let mut ports = system.open_ports(config)?;
+    let mut watch = system.open_watch(config, gateway)?;
     let ended = serve_trunk(
         alloc,
         gateway,
@@ -58,6 +71,8 @@ pub(crate) fn perform_trunk<
         &mut trunk.source,
         &mut trunk.sink,
         &mut tape,
+        &mut watch,
     );
+    system.end_watch(&mut watch);
     end_session(system, config, gateway, ended)
 }

@@ -1,10 +1,12 @@
 //! Serves a trunk and its clients by a gateway, until no octet comes any more (`serve_trunk`).
 
+ghost use Rattle.std.specs.Prelude.{◌≡◌};
 ghost use Rattle.gw_session.specs.Serve.{around_log};
+ghost use Rattle.gw_session.specs.Watch.{InputsShown, ServesWatched};
 ghost use Rattle.run_trunk.specs.Serving.{IsUnread, IsUntaken, traffic};
 ghost use Rattle.run_trunk.specs.Trunks.{CarriesTrunk};
 
-use gw_session::{Ports, RunFault, Sink, Source, Tape, Totals, serve_logged};
+use gw_session::{Ports, RunFault, Sink, Source, Tape, Totals, Watch, serve_logged};
 use gw_switch::Gateway;
 use gw_trunk::{TrunkInput, TrunkOutput, TrunkRecordSink, TrunkRecordSource};
 use std::alloc::Global;
@@ -12,7 +14,7 @@ use std::alloc::Global;
 // Serves a trunk and its clients by a gateway until no octet comes any more: for each octet that comes the
 // one goes that the gateway sends with it, in their order, and nothing else goes. For each record of a
 // client an answer goes to clients, in their order, and nothing else does. Datagrams come and go through the
-// ports, and the tape takes what happens, as in `serve_logged`.
+// ports, the tape takes what happens, and the watch is shown it, as in `serve_logged`.
 //
 // # Errors
 //
@@ -20,23 +22,38 @@ use std::alloc::Global;
 // [`RunFault::Write`] where the other fails. [`RunFault::OutOfMemory`] where memory was refused: nothing
 // comes, is asked or goes.
 #[inline(never)]
-pub(crate) fn serve_trunk<I: TrunkInput, O: TrunkOutput, A: TrunkOutput, P: Ports, T: Tape>(
+pub(crate) fn serve_trunk<
+    I: TrunkInput,
+    O: TrunkOutput,
+    A: TrunkOutput,
+    P: Ports,
+    T: Tape,
+    W: Watch,
+>(
     alloc: Global,
     gateway: &mut Gateway,
     ports: &mut P,
     source: &mut TrunkRecordSource<I>,
     sink: &mut TrunkRecordSink<O, A>,
     tape: &mut T,
+    watch: &mut W,
 ) -> Result<Totals, RunFault>
     requires source { IsUnread (⟦<TrunkRecordSource<I> as Source>⟧.tells source.old) }
     requires sink { IsUntaken (⟦<TrunkRecordSink<O, A> as Sink>⟧.tells sink.old) }
-    ensures { CarriesTrunk
+    ensures carries { CarriesTrunk
         (around_log (⟦<TrunkRecordSource<I> as Source>⟧.tells source.old)
         (⟦<TrunkRecordSink<O, A> as Sink>⟧.tells sink.old) (P.tells ports.old) (T.tells tape.old))
         (around_log (⟦<TrunkRecordSource<I> as Source>⟧.tells source.new)
         (⟦<TrunkRecordSink<O, A> as Sink>⟧.tells sink.new) (P.tells ports.new) (T.tells tape.new))
         (traffic (I.came source.new.incoming) (I.asked source.new.incoming)
         (O.went sink.new.outgoing) (A.went sink.new.answers)) gateway.old gateway.new result }
+    ensures watched { ServesWatched
+        (around_log (⟦<TrunkRecordSource<I> as Source>⟧.tells source.old)
+        (⟦<TrunkRecordSink<O, A> as Sink>⟧.tells sink.old) (P.tells ports.old) (T.tells tape.old))
+        (around_log (⟦<TrunkRecordSource<I> as Source>⟧.tells source.new)
+        (⟦<TrunkRecordSink<O, A> as Sink>⟧.tells sink.new) (P.tells ports.new) (T.tells tape.new))
+        gateway.old gateway.new (InputsShown W.shows gateway.old watch.old watch.new)
+        (watch.new ≡ watch.old) result }
 {
-    serve_logged(alloc, gateway, ports, source, sink, tape)
+    serve_logged(alloc, gateway, ports, source, sink, tape, watch)
 }

@@ -2,7 +2,8 @@ use Rattle.std.proofs.Common.{inl, inr, refl, sym}
 use Rattle.clap.specs.Words.{subcommand_rows_of}
 use Rattle.gw_program.proofs.Streams.{lacks_so, takes_asked}
 use Rattle.gw_program.specs.Requests.{files_in}
-use Rattle.gw_system.proofs.Lacked.{ends_in}
+use Rattle.gw_system.specs.Lacking.{LacksTeller}
+use Rattle.gw_system.proofs.Lacked.{ends_in, named_so, trunk_in}
 use Rattle.run_trunk.proofs.Served.{nothing_served, served_so}
 use Rattle.gateway_main.proofs.StandardCommands.trunk.Goals as goal
 
@@ -14,8 +15,11 @@ returns g c =
     let command = subcommand_rows_of c.args.self.now.matches.now in
     let local = c.local_of-system in
     served_so command _ _ c.serve.result
-    (λ fault why. inr (lacks_so (files_in command) _ _ (ends_in (λ asked. asked.path.now) (λ asked. asked.over) command
-    local.result.recording local.ensures.recording local.result.senders local.ensures.senders) fault why))
+    (λ fault why. inr (lacks_so (files_in command) _ _ (trunk_in
+    (ends_in (λ asked. asked.path.now) (λ asked. asked.over) command local.result.recording local.ensures.recording
+    local.result.senders local.ensures.senders)
+    (λ fault. named_so (λ path. path.now) local.result.tell _ _ (λ path. LacksTeller path fault) local.ensures.tell
+    (λ path why. why))) fault why))
     c.serve.ensures
 
 pub serve-requires : goal.serve-requires

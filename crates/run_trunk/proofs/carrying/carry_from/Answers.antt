@@ -20,7 +20,7 @@ returns g c =
     = rw c.requires.slots at c.requires.filters.slots in
     let align : HasFlag (codes "align") command g.K.Switch.is_on = rw c.requires.align at c.requires.filters.align in
     let crc4 : HasFlag (codes "crc4") command g.L.Switch.is_on = rw c.requires.crc4 at c.requires.filters.asks_crc4 in
-    served_by _ _ _ _ _ _ _ _ _ _ c.perform_trunk-ended.ensures (λ does done. record {
+    served_by _ _ _ _ _ _ _ _ _ _ c.perform_trunk-ended.ensures.served (λ does done. record {
       asked = c.requires.asks;
       passed = _;
       ended = _;

@@ -4,8 +4,8 @@ use Rattle.gw_session.proofs.Ends.{either_way}
 use Rattle.run_trunk.proofs.Carried.{carried}
 use Rattle.run_trunk.proofs.serving.serve_trunk.Goals as goal
 
-pub returns : goal.returns
-returns g c = record {
+pub returns-clause-carries : goal.returns-clause-carries
+returns-clause-carries g c = record {
   served = (refl, either_way _ _ c.serve_logged.result c.serve_logged.ensures.ok c.serve_logged.ensures.fault);
   carried = λ config before new. ∥∥₁_map c.serve_logged.new.source.woven (λ w.
       carried _ _ config before c.serve_logged.result _ _ _ _ _ _
