@@ -6,10 +6,10 @@ use Rattle.gw_records.specs.declared.outcome.Totals.{Totals}
 use Rattle.gw_records.specs.declared.outcome.RunFault.{RunFault}
 use Rattle.gw_records.specs.Streams.{SourceState, SinkState}
 use Rattle.gw_command.specs.declared.command.Filter.{Filter}
-use Rattle.gw_program.specs.declared.program_fault.ProgramFault.{ProgramFault}
+use Rattle.gw_machine.specs.declared.program_fault.ProgramFault.{ProgramFault}
 use Rattle.gw_program.specs.Filters.{DoesFilter, DoesFilterUntil}
-use Rattle.gw_program.specs.Performing.{Ended, told_as}
-use Rattle.gw_program.specs.ReportsFile.{LacksReportsAt}
+use Rattle.gw_machine.specs.System.{Ended, told_as}
+use Rattle.gw_files.specs.ReportsFile.{LacksReportsAt}
 use Rattle.gw_program.specs.Requests.{LacksReports, RunsFilter}
 
 -- How something ended, and what is told of it.

@@ -19,7 +19,8 @@ use Rattle.gw_session.specs.Serve.{Served, SessionInput, SessionStreams, events_
 use Rattle.gw_state.specs.declared.loading.Loaded.{Loaded}
 use Rattle.gw_state.specs.Layout.{state_file, ConfigFits}
 use Rattle.gw_state.specs.Loaded.{IsLoaded}
-use Rattle.gw_program.specs.Sessions.{Runs, Serves}
+use Rattle.gw_program.specs.Sessions.{Runs}
+use Rattle.gw_machine.specs.System.{Serves}
 
 -- A gateway with these events was saved, whose circuits were configured as `old`, and its state was loaded
 -- with a configuration.

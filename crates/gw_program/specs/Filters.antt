@@ -7,9 +7,9 @@ use Rattle.gw_filter.specs.Align.{Aligns, AlignsUntil}
 use Rattle.gw_filter.specs.Crc4.{SendsMultiframes, SendsMultiframesUntil}
 use Rattle.gw_filter.specs.Check.{ChecksMultiframes, ChecksMultiframesUntil}
 use Rattle.gw_filter.specs.declared.checking.Checked.{Checked}
-use Rattle.gw_program.specs.declared.program_fault.ProgramFault.{ProgramFault}
-use Rattle.gw_program.specs.declared.program_fault.ProgramFault.TheVariants as program_faults
-use Rattle.gw_program.specs.Report.{CountsArePrinted}
+use Rattle.gw_machine.specs.declared.program_fault.ProgramFault.{ProgramFault}
+use Rattle.gw_machine.specs.declared.program_fault.ProgramFault.TheVariants as program_faults
+use Rattle.gw_machine.specs.Report.{CountsArePrinted}
 use Rattle.gw_command.specs.declared.command.Filter.{Filter}
 use Rattle.gw_command.specs.declared.command.Filter.TheVariants.{Align, Crc4}
 

@@ -1,5 +1,5 @@
 -- What it means that a session of a gateway is done by a configuration.
-use Rattle.std.specs.Prelude.{◌≡◌, ℕ, Bool, List, None, Result, Ok, Err, MatchResult, OnOk, IfErr}
+use Rattle.std.specs.Prelude.{◌≡◌, ℕ, List, None, Result, Ok, Err, MatchResult, OnOk, IfErr}
 use Rattle.std.specs.Io.KnownBytes.{Appends}
 use Rattle.gw_switch.specs.declared.GatewayConfig.{GatewayConfig}
 use Rattle.gw_switch.specs.declared.gateway.Gateway.{Gateway}
@@ -11,7 +11,6 @@ use Rattle.gw_records.specs.declared.outcome.RunFault.TheVariants as faults
 use Rattle.gw_records.specs.Streams.{SourceState, SinkState, FailsAfterPrefix}
 use Rattle.gw_session.specs.Recovery.{RecoversLive}
 use Rattle.gw_session.specs.Running.{RunsAll, RunsUntil}
-use Rattle.gw_session.specs.Serve.{SessionStreams, ServesAll, ServesUntil}
 use Rattle.gw_program.specs.Listing.{listing}
 
 -- Records of a source were acted on by a gateway, and this was the end. Octets of a live session's recording,
@@ -21,13 +20,6 @@ pub record Runs (source source' : SourceState) (sink sink' : SinkState) (end : R
   pub ran : MatchResult end (RunsAll gateway gateway' source source' sink sink')
       (RunsUntil gateway gateway' source source' sink sink')
   pub recovers : RecoversLive source source' sink sink' gateway gateway'
-
--- Records were acted on, datagrams came and went through ports, and what the gateway received was recorded.
--- Packets were held until their record was on the tape, or not.
-abbrev pub Serves : Bool → SessionStreams → SessionStreams → Result Totals RunFault → Gateway → Gateway
-    → Type 0
-Serves holds a a' end gateway gateway' = (a.holds ≡ holds)
-    × MatchResult end (ServesAll a a' gateway gateway') (ServesUntil a a' gateway gateway')
 
 -- the end of a session and of the listing after it: a fault of the session comes first
 abbrev pub checked : Result Totals RunFault → Result (Unit {0}) RunFault → Result Totals RunFault

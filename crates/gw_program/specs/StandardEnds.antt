@@ -4,7 +4,7 @@ use Rattle.gw_records.specs.Streams.{SourceState, SinkState}
 use Rattle.gw_session.specs.PacketPorts.{no_ports}
 use Rattle.gw_session.specs.Serve.{SessionStreams, around}
 use Rattle.gw_session.specs.Tape.{no_tape}
-use Rattle.gw_program.specs.Requests.{AreNew}
+use Rattle.gw_machine.specs.CommandLine.{AreNew}
 use Rattle.gw_program.specs.declared.standard_ends.StandardEnds.{StandardEnds}
 
 -- what was read of standard input

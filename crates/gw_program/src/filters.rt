@@ -5,13 +5,12 @@ ghost use Rattle.gw_records.specs.Streams.{CanBegin};
 ghost use Rattle.gw_filter.specs.Crc4.{HasSent};
 ghost use Rattle.gw_program.specs.Filters.{DoesFilter, DoesFilterUntil, HasChecked, HasCheckedUntil};
 
-use crate::program_fault::ProgramFault;
-use crate::report::{CheckTells, LiveCounts, print_receiver_counts, print_unreported};
 use crate::sealed::{StandardInput, StandardOutput};
 use gw_command::Filter;
 use gw_filter::{
     ReportSink, ReportingChecker, ReportingSender, align_stream, crc4_check_stream, crc4_stream,
 };
+use gw_machine::{CheckTells, LiveCounts, ProgramFault, print_receiver_counts, print_unreported};
 use gw_session::{RunFault, Sink, Source, Totals};
 
 /// Runs a filter from standard input to standard output.

@@ -6,8 +6,8 @@ ghost use Rattle.gw_records.specs.Streams.{at_most};
 ghost use Rattle.gw_session.specs.Running.{trunk_octets};
 ghost use Rattle.gw_program.specs.Places.{seconds_5, since_after};
 
-use crate::performing::System;
 use gw_config::Config;
+use gw_machine::System;
 use gw_records::RecordHead;
 use gw_session::Watch;
 use gw_switch::Gateway;

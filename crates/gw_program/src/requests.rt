@@ -2,11 +2,12 @@
 
 ghost use Rattle.std.specs.Prelude.{◌⊎◌, MatchOption};
 ghost use Rattle.clap.specs.Words.{subcommand_rows_of};
-ghost use Rattle.gw_program.specs.Requests.{HasRequest, NoRequest, by_filter, by_request, follow_in};
+ghost use Rattle.gw_machine.specs.CommandLine.{follow_in};
+ghost use Rattle.gw_program.specs.Requests.{HasRequest, NoRequest, by_filter, by_request};
 
-use crate::program_fault::ProgramFault;
 use clap::ArgMatches;
 use gw_command::{Filter, Request, SessionKind, SpeechJob, asks_check, follow_of, request_of};
+use gw_machine::ProgramFault;
 use gw_session::Totals;
 
 /// What the program does for its subcommands: one method for each, and one for sessions on a log. The
@@ -17,7 +18,7 @@ pub trait Commands {
     ghost use Rattle.gw_command.specs.declared.command.SpeechJob.{SpeechJob};
     ghost use Rattle.gw_command.specs.declared.command.SessionKind.{SessionKind};
     ghost use Rattle.gw_records.specs.declared.outcome.Totals.{Totals};
-    ghost use Rattle.gw_program.specs.declared.program_fault.ProgramFault.{ProgramFault};
+    ghost use Rattle.gw_machine.specs.declared.program_fault.ProgramFault.{ProgramFault};
 
     /// What a command is performed between.
     type Ends: Drop;

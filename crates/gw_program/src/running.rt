@@ -3,21 +3,18 @@
 ghost use Rattle.std.specs.Prelude.{◌≡◌, OnOk, Some, None, codes};
 ghost use Rattle.clap.specs.Words.{subcommand_rows_of};
 ghost use Rattle.gw_records.specs.Streams.{CanBegin};
-ghost use Rattle.gw_program.specs.Performing.{LacksMore, LacksSession, LacksTapeOrPorts};
-ghost use Rattle.gw_program.specs.Requests.{RunsFilter, ChecksCrc4, TakesAsked};
-ghost use Rattle.gw_program.specs.Requests.{reports_path_in, files_in, FollowsLog, IsPrinted};
+ghost use Rattle.gw_machine.specs.CommandLine.{TakesAsked, files_in};
+ghost use Rattle.gw_machine.specs.System.{LacksMore, LacksSession, LacksTapeOrPorts};
+ghost use Rattle.gw_program.specs.Requests.{ChecksCrc4, FollowsLog, IsPrinted, RunsFilter, reports_path_in};
 
 use crate::filters::{do_filter, perform_crc4_check};
-use crate::following::open_log;
-use crate::machine::Machine;
-use crate::performing::{SessionEnds, System, perform_session, told_as};
-use crate::program_fault::ProgramFault;
-use crate::report::{CheckTells, print_place};
-use crate::reports::open_reports;
+use crate::performing::{SessionEnds, perform_session};
 use crate::sealed::{StandardInput, StandardOutput};
 use clap::ArgMatches;
 use gw_command::{Filter, SessionKind, asks_live, from_of, reports_of, wants_totals};
+use gw_files::{open_log, open_reports};
 use gw_filter::{NoReports, ReportingSender, ToReports};
+use gw_machine::{CheckTells, Machine, ProgramFault, System, print_place, told_as};
 use gw_session::{FromRead, Sink, Source, ToWrite, Totals};
 use std::io;
 use std::rt::Stdin;

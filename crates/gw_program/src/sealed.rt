@@ -4,7 +4,7 @@
 //! These traits are public in a module that is not, so no other crate says so of a type of its own. What
 //! passes octets on to standard output, or puts others in their place, is refused by its type.
 
-use crate::following::FollowedLog;
+use gw_files::FollowedLog;
 use gw_session::{FromRead, ToWrite};
 use std::io;
 use std::rt::{Stdin, Stdout};

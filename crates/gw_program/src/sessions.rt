@@ -7,7 +7,8 @@ ghost use Rattle.gw_session.specs.PacketPorts.{no_ports};
 ghost use Rattle.gw_session.specs.Serve.{around};
 ghost use Rattle.gw_session.specs.Tape.{no_tape};
 ghost use Rattle.gw_session.specs.Watch.{RunsWatched, Watched};
-ghost use Rattle.gw_program.specs.Sessions.{Runs, Serves, Checks, Lists, checked};
+ghost use Rattle.gw_machine.specs.System.{Serves};
+ghost use Rattle.gw_program.specs.Sessions.{Runs, Checks, Lists, checked};
 
 use crate::listing::listing;
 use gw_session::laws::cut_recordings_recover;

@@ -6,7 +6,7 @@
 ghost use Rattle.std.specs.Prelude.{pos, true, false};
 ghost use Rattle.gw_program.specs.Standard.{IsReserved, IsUpTo, SystemOpensNull};
 
-use crate::machine::Machine;
+use gw_machine::Machine;
 use std::fs::{File, OpenOptions};
 use std::os::fd::{AsRawFd, RawFd};
 use std::{fs, io};

@@ -8,10 +8,10 @@ use Rattle.gw_command.specs.Command.{text_in}
 use Rattle.gw_udp.specs.declared.source_filter.SourceFilter.{SourceFilter}
 use Rattle.gw_udp.specs.Names.{SystemLooksUp}
 use Rattle.gw_udp.specs.Opening.{LacksPorts}
-use Rattle.gw_program.specs.Performing.{LacksMore, LacksTapeOrPorts}
-use Rattle.gw_program.specs.Recording.{LacksRecording}
-use Rattle.gw_program.specs.Requests.{CommandLine}
-use Rattle.gw_program.specs.declared.program_fault.ProgramFault.{ProgramFault}
+use Rattle.gw_machine.specs.System.{LacksMore, LacksTapeOrPorts}
+use Rattle.gw_files.specs.Recording.{LacksRecording}
+use Rattle.gw_machine.specs.CommandLine.{CommandLine}
+use Rattle.gw_machine.specs.declared.program_fault.ProgramFault.{ProgramFault}
 use Rattle.gw_system.specs.Asked.{AreSenders}
 use Rattle.gw_system.specs.Lacking.{LacksEndsIn}
 use Rattle.gw_system.specs.Opening.{IsOfOpening}

@@ -1,7 +1,7 @@
 -- What the command line asks of a session's ports.
 use Rattle.std.specs.Prelude.{◌≡◌, ◌≢◌, ◌⊎◌, ℕ, MatchOption, codes}
 use Rattle.gw_command.specs.Command.{SaysNumberIn, text_in}
-use Rattle.gw_program.specs.Requests.{CommandLine}
+use Rattle.gw_machine.specs.CommandLine.{CommandLine}
 use Rattle.gw_udp.specs.SourceFilter.{senders_name}
 use Rattle.gw_udp.specs.declared.source_filter.SourceFilter.{SourceFilter}
 use Rattle.gw_udp.specs.declared.source_filter.SourceFilter.TheVariants as filters

@@ -7,12 +7,12 @@ use Rattle.gw_command.specs.declared.command.SessionKind.{SessionKind}
 use Rattle.gw_udp.specs.declared.source_filter.SourceFilter.{SourceFilter}
 use Rattle.gw_udp.specs.Names.{SystemLooksUp}
 use Rattle.gw_udp.specs.Opening.{LacksPorts}
-use Rattle.gw_program.specs.Performing.{LacksMore, LacksSession, LacksTapeOrPorts}
-use Rattle.gw_program.specs.Recording.{LacksRecording}
-use Rattle.gw_program.specs.Requests.{CommandLine, files_in}
-use Rattle.gw_program.specs.Status.{SaysRefused}
-use Rattle.gw_program.specs.declared.program_fault.ProgramFault.{ProgramFault}
-use Rattle.gw_program.specs.declared.program_fault.ProgramFault.TheVariants as program_faults
+use Rattle.gw_machine.specs.System.{LacksMore, LacksSession, LacksTapeOrPorts}
+use Rattle.gw_files.specs.Recording.{LacksRecording}
+use Rattle.gw_machine.specs.CommandLine.{CommandLine, files_in}
+use Rattle.gw_machine.specs.Status.{SaysRefused}
+use Rattle.gw_machine.specs.declared.program_fault.ProgramFault.{ProgramFault}
+use Rattle.gw_machine.specs.declared.program_fault.ProgramFault.TheVariants as program_faults
 use Rattle.gw_system.specs.Asked.{AreSenders}
 use Rattle.gw_system.specs.Opening.{IsOfOpening}
 

@@ -2,8 +2,8 @@
 use Rattle.std.specs.Prelude.{◌≡◌}
 use Rattle.gw_udp.specs.declared.udp.OpenFault.{OpenFault}
 use Rattle.gw_udp.specs.declared.udp.OpenFault.TheVariants as openings
-use Rattle.gw_program.specs.declared.program_fault.ProgramFault.{ProgramFault}
-use Rattle.gw_program.specs.declared.program_fault.ProgramFault.TheVariants as program_faults
+use Rattle.gw_machine.specs.declared.program_fault.ProgramFault.{ProgramFault}
+use Rattle.gw_machine.specs.declared.program_fault.ProgramFault.TheVariants as program_faults
 
 -- what sockets that are not to be had come to: want of memory, or else the socket of the same circuit
 abbrev pub trouble_of_opening : OpenFault → ProgramFault

@@ -3,12 +3,12 @@
 ghost use Rattle.std.specs.Prelude.{◌≡◌, IfSome, option_map, codes};
 ghost use Rattle.clap.specs.Words.{subcommand_rows_of};
 ghost use Rattle.gw_command.specs.Command.{HasFlag, text_in};
-ghost use Rattle.gw_program.specs.Requests.{AsksPlace};
+ghost use Rattle.gw_machine.specs.CommandLine.{AsksPlace};
 ghost use Rattle.gw_system.specs.Asked.{AreSenders, IsRepeat};
 
 use clap::ArgMatches;
 use gw_command::{follow_of, from_of, recording_of, records_over, repeat_of, senders_of};
-use gw_program::Recording;
+use gw_files::Recording;
 use gw_udp::SourceFilter;
 
 // Which senders are accepted: any, if the matches name none.

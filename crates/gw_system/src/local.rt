@@ -3,7 +3,7 @@
 ghost use Rattle.std.specs.Prelude.{◌≡◌, IfErr, IfOk, IfSome, option_map, codes};
 ghost use Rattle.clap.specs.Words.{subcommand_rows_of};
 ghost use Rattle.gw_command.specs.Command.{HasFlag, text_in};
-ghost use Rattle.gw_program.specs.Requests.{load_in, save_in, AsksPlace, AsksWait};
+ghost use Rattle.gw_machine.specs.CommandLine.{load_in, save_in, AsksPlace, AsksWait};
 ghost use Rattle.gw_system.specs.Asked.{AreSenders, IsRepeat};
 ghost use Rattle.gw_system.specs.Lacking.{SystemRefusesTeller};
 ghost use Rattle.gw_system.specs.Opening.{trouble_of_opening};
@@ -13,10 +13,11 @@ use crate::asked::{place_asked, recording_asked, repeat_asked, senders_asked};
 use clap::ArgMatches;
 use gw_command::{checkpoint_of, load_of, save_of, seizure_wait_of, tell_of};
 use gw_config::Config;
-use gw_program::{
-    Machine, ProgramFault, Recording, RecordingFile, System, Tape, begin, begin_gateway,
-    keep_checkpoint, keep_gateway, print_fault, read_config,
+use gw_files::{
+    Recording, RecordingFile, Tape, begin, begin_gateway, keep_checkpoint, keep_gateway,
+    read_config,
 };
+use gw_machine::{Machine, ProgramFault, System, print_fault};
 use gw_repeat::{Repeating, packet_words};
 use gw_session::Recorder;
 use gw_switch::Gateway;
@@ -78,11 +79,11 @@ pub struct Local<'m, R> {
 
 impl<R: Machine> System for Local<'_, R> {
     ghost use Rattle.std.specs.Prelude.{IsSomeAnd, MatchOption, None, string_bytes, []};
-    ghost use Rattle.gw_program.specs.Performing.{IsBegun};
-    ghost use Rattle.gw_program.specs.Recording.{IsOpenedFor, LacksRecording};
-    ghost use Rattle.gw_program.specs.Report.{SystemTells};
-    ghost use Rattle.gw_program.specs.Setup.{IsMeant, LacksConfigAt, PathGives};
-    ghost use Rattle.gw_program.specs.State.{BeginsWaiting, LacksGateway, IsSaved, IsKept};
+    ghost use Rattle.gw_machine.specs.System.{IsBegun};
+    ghost use Rattle.gw_files.specs.Recording.{IsOpenedFor, LacksRecording};
+    ghost use Rattle.gw_machine.specs.Report.{SystemTells};
+    ghost use Rattle.gw_machine.specs.Setup.{IsMeant, LacksConfigAt, PathGives};
+    ghost use Rattle.gw_machine.specs.State.{BeginsWaiting, LacksGateway, IsSaved, IsKept};
     ghost use Rattle.gw_udp.specs.Names.{SystemLooksUp};
     ghost use Rattle.gw_udp.specs.Udp.{HasEndpoints, TakesFrom};
     ghost use Rattle.gw_udp.specs.Opening.{FailsToOpen as FailsToOpenPorts};

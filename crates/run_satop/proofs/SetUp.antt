@@ -8,9 +8,9 @@ use Rattle.gw_satop.specs.declared.sender.Sender.{Sender}
 use Rattle.gw_satop.specs.declared.timing.Timing.{Timing}
 use Rattle.gw_satop.specs.Session.{HasSettings}
 use Rattle.satop_playout.specs.declared.Settings.{Settings}
-use Rattle.gw_program.specs.Requests.{CommandLine}
+use Rattle.gw_machine.specs.CommandLine.{CommandLine}
 use Rattle.run_satop.specs.Satop.{BeginsAt, FailsToOpen as LacksCircuit, IsDrawn16, IsDrawn32, IsSetUp, LacksStream}
-use Rattle.gw_program.specs.declared.program_fault.ProgramFault.{ProgramFault}
+use Rattle.gw_machine.specs.declared.program_fault.ProgramFault.{ProgramFault}
 use Rattle.run_satop.specs.Asked.{IsAsked}
 
 -- The first number is the one that the command says, or is drawn where it says none.

@@ -2,7 +2,7 @@
 use Rattle.std.specs.Prelude.{◌≡◌, ◌*◌, ◌/◌, ℕ, true, Option, Some, MatchOption, codes}
 use Rattle.gw_command.specs.Command.{SaysNumberIn, text_in}
 use Rattle.gw_satop.specs.declared.timing.Timing.{Timing}
-use Rattle.gw_program.specs.Requests.{CommandLine}
+use Rattle.gw_machine.specs.CommandLine.{CommandLine}
 use Rattle.run_satop.specs.Satop.{window_for}
 use Rattle.satop_playout.specs.declared.Settings.{Settings}
 use Rattle.satop_playout.specs.declared.Replacement.TheVariants as fills

@@ -16,10 +16,10 @@ use Rattle.gw_satop.specs.Session.{PlaysAll, SendsAll}
 use Rattle.satop_playout.specs.Calls.{IsSize}
 use Rattle.satop_playout.specs.declared.Replacement.TheVariants as fills
 use Rattle.gw_state.specs.Memory.{MemoryIsRefused}
-use Rattle.gw_program.specs.Requests.{CommandLine}
-use Rattle.gw_program.specs.Status.{SaysRefused}
-use Rattle.gw_program.specs.declared.program_fault.ProgramFault.{ProgramFault}
-use Rattle.gw_program.specs.declared.program_fault.ProgramFault.TheVariants as program_faults
+use Rattle.gw_machine.specs.CommandLine.{CommandLine}
+use Rattle.gw_machine.specs.Status.{SaysRefused}
+use Rattle.gw_machine.specs.declared.program_fault.ProgramFault.{ProgramFault}
+use Rattle.gw_machine.specs.declared.program_fault.ProgramFault.TheVariants as program_faults
 
 -- a read of the trunk failed, and all that was played had gone; or a write failed
 abbrev pub IsDeviceFault : List ℕ → ProgramFault → Type 0

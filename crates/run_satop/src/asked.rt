@@ -8,7 +8,7 @@ ghost use Rattle.run_satop.specs.Satop.{FailsToOpen, window_for};
 
 use clap::ArgMatches;
 use gw_command::{clock_of, fill_of, jitter_of, rtp_of, sequence_of, size_of};
-use gw_program::ProgramFault;
+use gw_machine::ProgramFault;
 use gw_satop::Timing;
 use satop_playout::{FRAME, Replacement, Settings};
 

@@ -4,7 +4,7 @@ ghost use Rattle.std.specs.Prelude.{◌≡◌, ◌⊎◌, ◌≤◌, ◌^◌, []
 ghost use Rattle.clap.specs.Words.{subcommand_rows_of};
 ghost use Rattle.run_satop.specs.Asked.{IsAsked};
 ghost use Rattle.run_satop.specs.Satop.{CarriesSatop, DoesSatop};
-ghost use Rattle.gw_program.specs.Requests.{CommandLine};
+ghost use Rattle.gw_machine.specs.CommandLine.{CommandLine};
 ghost use Rattle.gw_satop.specs.Doing.{RefusesOctets};
 ghost use Rattle.gw_satop.specs.Session.{HasSettings};
 
@@ -12,7 +12,7 @@ use crate::asked::{CircuitAsked, circuit_asked};
 use crate::ends::{open_clock, open_far_end, open_receiver, open_stdin, open_stdout, start_of};
 use crate::sealed::{CircuitClock, FarEnd, TrunkDevice, TrunkSource};
 use clap::ArgMatches;
-use gw_program::{Machine, ProgramFault};
+use gw_machine::{Machine, ProgramFault};
 use gw_records::{NO_TOTALS, RunFault, Totals};
 use gw_satop::{Clock, Peer, PlayClock, SatopCircuit, Sender, carry_satop};
 use gw_trunk::{TrunkInput, TrunkOutput};

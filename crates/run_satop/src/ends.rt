@@ -9,7 +9,7 @@ ghost use Rattle.gw_satop.specs.Line.{HasPlayed};
 
 use clap::ArgMatches;
 use gw_command::{satop_local_of, satop_peer_of};
-use gw_program::{Machine, ProgramFault};
+use gw_machine::{Machine, ProgramFault};
 use gw_satop::{
     Receiver, SenderSettings, SystemClock, UdpPeer, WhenReady, open_input, open_output,
 };

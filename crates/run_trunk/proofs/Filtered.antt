@@ -23,7 +23,7 @@ use Rattle.gw_filter.specs.declared.sending.Crc4Sender.{Crc4Sender}
 use Rattle.gw_filter.proofs.Sends.{is_sent}
 use Rattle.gw_filtered.specs.Filters.{ReturnsBehind}
 use Rattle.gw_filtered.proofs.Returned.{returned-if}
-use Rattle.gw_program.specs.Requests.{CommandLine}
+use Rattle.gw_machine.specs.CommandLine.{CommandLine}
 use Rattle.run_trunk.specs.Filters.{Checks, FiltersBy, SendsFrom, SlotsIf, both_ended}
 
 -- What an aligner has returned for octets.

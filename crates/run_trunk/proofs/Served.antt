@@ -12,13 +12,13 @@ use Rattle.gw_session.specs.Serve.{around, around_log}
 use Rattle.gw_session.specs.Tape.{TapeState, no_tape}
 use Rattle.run_trunk.specs.Serving.{Traffic}
 use Rattle.gw_command.specs.Command.{SaysNumberIn, text_in}
-use Rattle.gw_program.proofs.Streams.{lacks_asked, on_new, performed_so, saved_told, told_why}
-use Rattle.gw_program.specs.declared.program_fault.ProgramFault.{ProgramFault}
-use Rattle.gw_program.specs.declared.program_fault.ProgramFault.TheVariants as program_faults
+use Rattle.gw_machine.proofs.Streams.{lacks_asked, on_new, performed_so, saved_told, told_why}
+use Rattle.gw_machine.specs.declared.program_fault.ProgramFault.{ProgramFault}
+use Rattle.gw_machine.specs.declared.program_fault.ProgramFault.TheVariants as program_faults
 use Rattle.gw_switch.specs.declared.gateway.Gateway.{Gateway}
-use Rattle.gw_program.specs.Performing.{EndedSaved, HasServed, LacksSession, NotBegun, SystemFiles}
-use Rattle.gw_program.specs.Performing.Performed.{Lacked, Done}
-use Rattle.gw_program.specs.Requests.{CommandLine, TakesAsked, files_in}
+use Rattle.gw_machine.specs.System.{EndedSaved, HasServed, LacksSession, NotBegun, SystemFiles}
+use Rattle.gw_machine.specs.System.Performed.{Lacked, Done}
+use Rattle.gw_machine.specs.CommandLine.{CommandLine, TakesAsked, files_in}
 use Rattle.run_trunk.specs.Trunks.{AsksEnd, CarriesTrunk, HasTrunk, IsEndedBy, LacksControl, LacksEnds}
 use Rattle.run_trunk.specs.Trunks.{LacksStream, ServesBy, ServesTrunk, told_behind}
 use Rattle.gw_trunk.specs.declared.device.DeviceFault.{DeviceFault}

@@ -19,8 +19,8 @@ use Rattle.gw_trunk.specs.Multiframes.{GoesInTime}
 use Rattle.gw_trunk.specs.declared.device.DeviceFault.{DeviceFault}
 use Rattle.std.specs.Prelude.{◌≤◌, ◌&&◌, IfOk, Result, Ok, Err}
 use Rattle.gw_trunk.specs.System.{SystemPairs}
-use Rattle.gw_program.specs.Report.{CountsArePrinted, SystemPrints}
-use Rattle.gw_program.specs.Requests.{CommandLine}
+use Rattle.gw_machine.specs.Report.{CountsArePrinted, SystemPrints}
+use Rattle.gw_machine.specs.CommandLine.{CommandLine}
 use Rattle.run_trunk.specs.declared.filters.Crc4.{Crc4}
 use Rattle.run_trunk.specs.declared.filters.TrunkFilters.{TrunkFilters}
 

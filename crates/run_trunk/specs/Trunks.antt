@@ -17,13 +17,12 @@ use Rattle.gw_trunk.specs.declared.device.DeviceFault.{DeviceFault}
 use Rattle.gw_trunk.specs.System.{SystemRefusesDoor, SystemRefusesStream, SystemWatches}
 use Rattle.run_trunk.specs.Filters.{Comes, EndIsTold, Goes, IsPlaceOf}
 use Rattle.run_trunk.specs.Serving.{Carried, Traffic}
-use Rattle.gw_program.specs.Performing.{EndedSaved, LacksTapeOrPorts, NotBegun}
-use Rattle.gw_program.specs.Requests.{ByGateway, CommandLine, OnNewStreams, save_in}
-use Rattle.gw_program.specs.Sessions.{Serves}
-use Rattle.gw_program.specs.State.{IsSaved}
-use Rattle.gw_program.specs.Status.{SaysRefused}
-use Rattle.gw_program.specs.declared.program_fault.ProgramFault.{ProgramFault}
-use Rattle.gw_program.specs.declared.program_fault.ProgramFault.TheVariants as program_faults
+use Rattle.gw_machine.specs.System.{EndedSaved, LacksTapeOrPorts, NotBegun, Serves}
+use Rattle.gw_machine.specs.CommandLine.{ByGateway, CommandLine, OnNewStreams, save_in}
+use Rattle.gw_machine.specs.State.{IsSaved}
+use Rattle.gw_machine.specs.Status.{SaysRefused}
+use Rattle.gw_machine.specs.declared.program_fault.ProgramFault.{ProgramFault}
+use Rattle.gw_machine.specs.declared.program_fault.ProgramFault.TheVariants as program_faults
 
 -- A gateway served a trunk and its clients, between whom this passed, and each record was logged before its
 -- packets were sent. What went is what the definitions give after all that had happened to the gateway.

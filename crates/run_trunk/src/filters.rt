@@ -6,8 +6,8 @@ ghost use Rattle.clap.specs.Words.{subcommand_rows_of};
 ghost use Rattle.g704_bits.specs.Standing.{StandsAfter};
 ghost use Rattle.gw_command.specs.Command.{HasFlag, HasText};
 ghost use Rattle.gw_filter.specs.Check.{HasReported};
-ghost use Rattle.gw_program.specs.Report.{SlotsAreTold};
-ghost use Rattle.gw_program.specs.Requests.{CommandLine};
+ghost use Rattle.gw_machine.specs.Report.{SlotsAreTold};
+ghost use Rattle.gw_machine.specs.CommandLine.{CommandLine};
 ghost use Rattle.gw_slots.specs.Receiving.{HasMadeWhole};
 ghost use Rattle.run_trunk.specs.Filters.{AreAsked, AreJoined, CountsAreTold, Goes, GoesFramed, both_ended};
 ghost use Rattle.run_trunk.specs.Trunks.{LacksStream};
@@ -18,7 +18,7 @@ use g704_bits::BitAligner;
 use gw_command::{asks_align, asks_crc4, asks_live, asks_slots};
 use gw_filter::{BufferFilter, ReportingChecker, ReportingSender, ToReports};
 use gw_filtered::{FilteredInput, FilteredOutput, Phase, PhasedFilter, Switch, SwitchedFilter};
-use gw_program::{
+use gw_machine::{
     LiveCounts, Machine, ProgramFault, print_receiver_counts, print_slots, print_unreported,
 };
 use gw_session::{FromRead, Totals};

@@ -5,14 +5,14 @@ ghost use Rattle.gw_records.specs.declared.outcome.RunFault.{RunFault};
 ghost use Rattle.gw_records.specs.declared.outcome.Totals.{Totals};
 ghost use Rattle.gw_session.specs.Watch.{InputsShown, ServesWatched};
 ghost use Rattle.gw_session.specs.Serve.{around_log};
-ghost use Rattle.gw_program.specs.Performing.{EndedSaved, HasServed, NotBegun};
+ghost use Rattle.gw_machine.specs.System.{EndedSaved, HasServed, NotBegun};
 ghost use Rattle.run_trunk.specs.Serving.{IsUnread, IsUntaken, traffic};
 ghost use Rattle.run_trunk.specs.Trunks.{CarriesTrunk, HasWatched, LacksServing, WithSome};
 
 use crate::sealed::{AnswersDevice, FilteredSource, MultiframeDevice};
 use crate::serving::serve_trunk;
 use gw_config::Config;
-use gw_program::{ProgramFault, System, end_session};
+use gw_machine::{ProgramFault, System, end_session};
 use gw_session::{Sink, Source, Totals};
 use gw_switch::Gateway;
 use gw_trunk::{TrunkInput, TrunkOutput, TrunkRecordSink, TrunkRecordSource};

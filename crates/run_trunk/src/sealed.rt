@@ -4,7 +4,7 @@
 
 use crate::filters::{Incoming, Outgoing};
 use gw_filtered::{Phase, Switch};
-use gw_program::Machine;
+use gw_machine::Machine;
 use gw_slots::DeviceSlots;
 use gw_trunk::{FromDevice, NoClients, ToDevice, TrunkInput, TrunkOutput, WithClients};
 use mio::net::UnixStream;

@@ -1,7 +1,8 @@
 use Rattle.std.proofs.Common.{inl, inr, refl, sym}
 use Rattle.clap.specs.Words.{subcommand_rows_of}
-use Rattle.gw_program.proofs.Streams.{can_begin, lacks_so, no_session, session_done, session_so, takes_asked}
-use Rattle.gw_program.specs.Requests.{files_in}
+use Rattle.gw_machine.proofs.Streams.{can_begin, lacks_so, takes_asked}
+use Rattle.gw_program.proofs.Ending.{no_session, session_done, session_so}
+use Rattle.gw_machine.specs.CommandLine.{files_in}
 use Rattle.gw_system.specs.Lacking.{LacksTeller}
 use Rattle.gw_system.proofs.Lacked.{ends_in, more_in, named_so}
 use Rattle.gateway_main.proofs.StandardCommands.session.Goals as goal

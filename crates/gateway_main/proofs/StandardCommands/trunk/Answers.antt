@@ -1,7 +1,7 @@
 use Rattle.std.proofs.Common.{inl, inr, refl, sym}
 use Rattle.clap.specs.Words.{subcommand_rows_of}
-use Rattle.gw_program.proofs.Streams.{lacks_so, takes_asked}
-use Rattle.gw_program.specs.Requests.{files_in}
+use Rattle.gw_machine.proofs.Streams.{lacks_so, takes_asked}
+use Rattle.gw_machine.specs.CommandLine.{files_in}
 use Rattle.gw_system.specs.Lacking.{LacksTeller}
 use Rattle.gw_system.proofs.Lacked.{ends_in, named_so, trunk_in}
 use Rattle.run_trunk.proofs.Served.{nothing_served, served_so}

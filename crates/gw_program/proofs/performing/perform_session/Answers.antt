@@ -1,5 +1,5 @@
 use Rattle.std.proofs.Common.{inr, refl, rules}
-use Rattle.gw_program.proofs.Streams.{no_gateway, with_gateway}
+use Rattle.gw_program.proofs.Ending.{no_gateway, with_gateway}
 use Rattle.gw_program.proofs.performing.perform_session.Goals as goal
 
 pub returns-in_err-gateway : goal.returns-in_err-gateway

@@ -1,6 +1,6 @@
 use Rattle.std.proofs.Common.{inl, inr, refl}
-use Rattle.gw_program.proofs.Streams.{session_done}
-use Rattle.gw_program.specs.Files.{SystemReads}
+use Rattle.gw_program.proofs.Ending.{session_done}
+use Rattle.gw_machine.specs.Files.{SystemReads}
 use Rattle.gw_program.proofs.running.run_on_log.Goals as goal
 
 pub returns-in-Err : goal.returns-in-Err

@@ -1,0 +1,6 @@
+-- What the system does with files, as `gw_machine` has it.
+unfoldable pub use Rattle.gw_machine.specs.Files.{SystemAppends, SystemCreates, SystemCreatesNew}
+unfoldable pub use Rattle.gw_machine.specs.Files.{SystemFailsToRead, SystemFailsToWrite, SystemOpens}
+unfoldable pub use Rattle.gw_machine.specs.Files.{SystemReads, SystemRefusesFile, SystemRefusesSeek}
+unfoldable pub use Rattle.gw_machine.specs.Files.{SystemRenames, SystemSeeks, SystemShowsFile}
+unfoldable pub use Rattle.gw_machine.specs.Files.{SystemSyncs, SystemTakes}

@@ -1,0 +1,4 @@
+pub mod Files
+pub mod Recording
+pub mod ReportsFile
+pub mod Following

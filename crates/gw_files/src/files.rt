@@ -1,0 +1,114 @@
+//! How a file is looked at, opened, positioned, created, written, synced and renamed.
+
+ghost use Rattle.std.specs.Prelude.{IfOk, IfErr, OnOk};
+ghost use Rattle.std.specs.Io.KnownBytes.{Appends};
+ghost use Rattle.gw_files.specs.Files.{SystemOpens, SystemRefusesFile, SystemShowsFile};
+ghost use Rattle.gw_files.specs.Files.{SystemSeeks, SystemRefusesSeek};
+ghost use Rattle.gw_files.specs.Files.{SystemCreates, SystemTakes, SystemFailsToWrite, SystemSyncs};
+ghost use Rattle.gw_files.specs.Files.{SystemAppends, SystemCreatesNew, SystemRenames};
+
+use gw_machine::Machine;
+use std::fs::{self, File, OpenOptions};
+use std::io::{self, Seek, SeekFrom, Write};
+use std::os::unix::fs::OpenOptionsExt;
+
+// The permissions of a new file, less the umask: others may not read it, since it holds the speech of all
+// calls.
+const MODE: u32 = 0o640;
+
+/// The length of the regular file at a path; None if there is something else. The error is the system's.
+#[tactic(auto, unfolding(crate::specs::Files::SystemShowsFile, crate::specs::Files::SystemRefusesFile))]
+pub(crate) fn file_len(rt: &impl Machine, path: &str) -> io::Result<Option<u64>>
+    ensures shows { IfOk result (SystemShowsFile path.now) }
+    ensures err { IfErr result (SystemRefusesFile path.now) }
+{
+    let found = fs::metadata(rt, path)?;
+    if !found.is_file() {
+        return Ok(None);
+    }
+    Ok(Some(found.len()))
+}
+
+/// Opens the file at a path, to be read. The error is the system's.
+#[tactic(auto, unfolding(crate::specs::Files::SystemOpens, crate::specs::Files::SystemRefusesFile))]
+pub(crate) fn open_file(rt: &impl Machine, path: &str) -> io::Result<File>
+    ensures opens { IfOk result (SystemOpens path.now) }
+    ensures err { IfErr result (SystemRefusesFile path.now) }
+{
+    fs::open(rt, path)
+}
+
+/// Positions a file at an octet. The error is the system's.
+#[tactic(auto, unfolding(crate::specs::Files::SystemSeeks, crate::specs::Files::SystemRefusesSeek))]
+pub(crate) fn seek_to(file: &mut File, place: u64) -> io::Result<()>
+    ensures seeks { OnOk result (SystemSeeks file.old file.new place) }
+    ensures err { IfErr result (SystemRefusesSeek place) }
+{
+    file.seek(SeekFrom::Start(place))?;
+    Ok(())
+}
+
+/// Creates the file at a path, or empties the one that is there, which keeps its permissions. The error is
+/// the system's.
+#[tactic(auto, unfolding(crate::specs::Files::SystemCreates, crate::specs::Files::SystemRefusesFile))]
+pub(crate) fn create_file(rt: &impl Machine, path: &str) -> io::Result<File>
+    ensures creates { IfOk result (SystemCreates path.now 416) }
+    ensures err { IfErr result (SystemRefusesFile path.now) }
+{
+    OpenOptions::new()
+        .write(true)
+        .create(true)
+        .truncate(true)
+        .mode(MODE)
+        .open(rt, path)
+}
+
+/// Creates the file at a path, where there is none. The error is the system's.
+#[tactic(auto, unfolding(crate::specs::Files::SystemCreatesNew, crate::specs::Files::SystemRefusesFile))]
+pub(crate) fn create_new_file(rt: &impl Machine, path: &str) -> io::Result<File>
+    ensures creates { IfOk result (SystemCreatesNew path.now 416) }
+    ensures err { IfErr result (SystemRefusesFile path.now) }
+{
+    OpenOptions::new()
+        .write(true)
+        .create_new(true)
+        .mode(MODE)
+        .open(rt, path)
+}
+
+/// Opens what is at a path, to be appended to. The error is the system's.
+#[tactic(auto, unfolding(crate::specs::Files::SystemAppends, crate::specs::Files::SystemRefusesFile))]
+pub(crate) fn append_file(rt: &impl Machine, path: &str) -> io::Result<File>
+    ensures appends { IfOk result (SystemAppends path.now) }
+    ensures err { IfErr result (SystemRefusesFile path.now) }
+{
+    OpenOptions::new().append(true).open(rt, path)
+}
+
+/// Writes octets to a file, all of them. The error is the system's.
+#[tactic(auto, unfolding(crate::specs::Files::SystemTakes, crate::specs::Files::SystemFailsToWrite))]
+pub(crate) fn write_file<W: Write>(file: &mut W, octets: &[u8]) -> io::Result<()>
+    ensures bytes { OnOk result (Appends (W.contents file.old) (W.contents file.new) octets.now) }
+    ensures takes { OnOk result (SystemTakes file.old file.new octets.now) }
+    ensures err { IfErr result (SystemFailsToWrite file.old) }
+{
+    file.write_all(octets)
+}
+
+/// Has the disk keep what a file took. The error is the system's.
+#[tactic(auto, unfolding(crate::specs::Files::SystemSyncs, crate::specs::Files::SystemFailsToWrite))]
+pub(crate) fn sync_file(file: &File) -> io::Result<()>
+    ensures syncs { OnOk result (SystemSyncs file.now) }
+    ensures err { IfErr result (SystemFailsToWrite file.now) }
+{
+    file.sync_all()
+}
+
+/// Gives the file at a path another one, in place of what is there. The error is the system's.
+#[tactic(auto, unfolding(crate::specs::Files::SystemRenames, crate::specs::Files::SystemRefusesFile))]
+pub(crate) fn rename_file(rt: &impl Machine, from: &str, to: &str) -> io::Result<()>
+    ensures renames { OnOk result (SystemRenames from.now to.now) }
+    ensures err { IfErr result (SystemRefusesFile to.now) }
+{
+    fs::rename(rt, from, to)
+}

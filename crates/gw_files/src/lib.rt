@@ -1,0 +1,18 @@
+//! How the files of a session are opened, read and kept: its configuration, its state, its recording, the log
+//! that it follows and the reports of CRC-4.
+#![tactic(auto)]
+
+mod files;
+mod following;
+mod recording;
+mod recording_file;
+mod reports;
+mod setup;
+mod state;
+
+pub use following::{FollowedLog, open_log};
+pub use recording::{Recording, Tape, begin};
+pub use recording_file::RecordingFile;
+pub use reports::open_reports;
+pub use setup::read_config;
+pub use state::{begin_gateway, keep_checkpoint, keep_gateway};

@@ -1,0 +1,381 @@
+//! How a state's file is read for `--load`, and written, synced and renamed for `--save`.
+
+ghost use Rattle.std.specs.Prelude.{◌≡◌, ◌≢◌, ◌⊎◌, ◌++◌, ◌≤◌, ◌^◌, [], IfOk, IfErr, IfSome, OnErr, OnOk};
+ghost use Rattle.std.specs.Prelude.{length, option_map, string_bytes, true, false, None, Some, ℕ};
+ghost use Rattle.gw_state.specs.Layout.{state_file};
+ghost use Rattle.gw_state.specs.Memory.{MemoryIsRefused};
+ghost use Rattle.gw_switch.specs.Standing.{HasHistory};
+ghost use Rattle.gw_files.specs.Files.{SystemRefusesFile, SystemRenames, SystemShowsFile};
+ghost use Rattle.gw_machine.specs.Setup.{IsUnreadAt, PathGives};
+ghost use Rattle.gw_machine.specs.State.{WasLoaded, FailsToLoad, IsNoState, IsReplaced};
+ghost use Rattle.gw_machine.specs.State.{IsFromState, HasBegun, Waits, BeginsWaiting, LacksGateway, IsSaved};
+ghost use Rattle.gw_machine.specs.State.{load_trouble, checkpoint_mark, checkpoint, IsStateIn, Keeps};
+ghost use Rattle.gw_machine.specs.State.{IsCheckpoint, IsAtPlace, FitsPlace, IsElsewhere};
+ghost use Rattle.gw_machine.specs.State.{IsWritten, IsUnwritten, unfinished};
+ghost use Rattle.gw_machine.specs.Renewals.{AreTold, SystemTellsNew};
+ghost use Rattle.byteorder.specs.Endian.{big_bytes};
+ghost use Rattle.gw_machine.specs.declared.program_fault.ProgramFault.TheVariants.{OtherPlace};
+
+use crate::files::{create_file, file_len, open_file, rename_file, sync_file, write_file};
+use crate::setup::Text;
+use byteorder::{BigEndian, ByteOrder};
+use gw_circuit::CircuitConfig;
+use gw_machine::{Machine, ProgramFault};
+use gw_state::{LoadFault, Loaded, load_gateway, state_file};
+use gw_switch::{Gateway, GatewayConfig};
+use std::alloc::{AllocError, Global};
+use std::{fs, io};
+
+// No state is as long: the longest has some 220,000 octets.
+const MOST_OCTETS: usize = 1_048_576;
+
+// The octets of a checkpoint before its state: the mark and the place.
+const HEAD_LEN: usize = 12;
+
+// Whether octets begin as a checkpoint: with the letters E1GC and a place.
+fn is_checkpoint(octets: &[u8]) -> bool
+    ensures yes { result ≡ true → IsCheckpoint octets.now }
+    ensures no { result ≡ false → ¬ IsCheckpoint octets.now }
+{
+    octets.len() >= HEAD_LEN && octets[..4] == [0x45, 0x31, 0x47, 0x43]
+}
+
+// The state in the octets of a file: behind the place of a checkpoint, or all.
+fn state_in(octets: &[u8]) -> &[u8]
+    ensures { IsStateIn octets.now result.now }
+{
+    if is_checkpoint(octets) {
+        &octets[HEAD_LEN..]
+    } else {
+        octets
+    }
+}
+
+// The place of a checkpoint.
+fn place_of(octets: &[u8]) -> u64
+    requires { IsCheckpoint octets.now }
+    ensures { IsAtPlace octets.now result }
+{
+    BigEndian::read_u64(&octets[4..])
+}
+
+// Whether octets may be loaded at this place. The error is the place that they are of.
+fn fits_place(octets: &[u8], place: u64) -> Result<(), u64>
+    ensures ok { OnOk result (FitsPlace (Some place) octets.now) }
+    ensures err { IfErr result (λ other. IsCheckpoint octets.now × IsAtPlace octets.now other
+        × (other ≢ place)) }
+{
+    if !is_checkpoint(octets) {
+        return Ok(());
+    }
+    let stands = place_of(octets);
+    if stands == place { Ok(()) } else { Err(stands) }
+}
+
+// Whether octets may be loaded at the place that is asked for, if one is.
+fn fits_asked(octets: &[u8], place: Option<u64>) -> Result<(), ProgramFault>
+    ensures ok { OnOk result (FitsPlace place octets.now) }
+    ensures err { IfErr result (λ fault. (other : ℕ) × (fault ≡ OtherPlace other)
+        × IsElsewhere (λ given. given ≡ octets.now) (λ asked. asked ≡ place) other) }
+{
+    let Some(place) = place else {
+        return Ok(());
+    };
+    fits_place(octets, place).map_err(ProgramFault::OtherPlace)
+}
+
+// The fault if octets are not loaded.
+fn load_trouble(fault: LoadFault) -> ProgramFault
+    ensures { result ≡ load_trouble fault }
+{
+    match fault {
+        LoadFault::OutOfMemory => ProgramFault::OutOfMemory,
+        LoadFault::Refused { .. } => ProgramFault::State(fault),
+    }
+}
+
+// The gateway whose state is in the octets of a file, at the place that is asked for, if one is.
+fn loaded_of(
+    alloc: Global,
+    config: &GatewayConfig,
+    octets: &[u8],
+    place: Option<u64>,
+) -> Result<Loaded, ProgramFault>
+    ensures ok { IfOk result (WasLoaded (λ given. given ≡ octets.now) (λ asked. asked ≡ place) config.now) }
+    ensures err { IfErr result (IsNoState (λ given. given ≡ octets.now) (λ asked. asked ≡ place)
+        config.now) }
+    ensures most { IfOk result (λ _. length octets.now ≤ 2 ^ 20) }
+{
+    if octets.len() > MOST_OCTETS {
+        return Err(ProgramFault::NoState);
+    }
+    fits_asked(octets, place)?;
+    match load_gateway(alloc, config, state_in(octets)) {
+        Ok(loaded) => Ok(loaded),
+        Err(fault) => Err(load_trouble(fault)),
+    }
+}
+
+// Loads the gateway whose state is in a text, with this configuration. It has the history of the gateway that
+// was saved. Then circuits whose configuration changed begin as new.
+fn load_from<T: Text>(
+    alloc: Global,
+    config: &GatewayConfig,
+    text: T,
+    place: Option<u64>,
+) -> Result<Loaded, ProgramFault>
+    ensures ok { IfOk result (WasLoaded (T.gives text) (λ asked. asked ≡ place) config.now) }
+    ensures whole { IfOk result (λ loaded. IfSome (T.holds text) (λ octets.
+        WasLoaded (λ given. given ≡ octets) (λ asked. asked ≡ place) config.now loaded)) }
+    ensures err { IfErr result (FailsToLoad (T.fails text) (T.gives text) (λ asked. asked ≡ place)
+        config.now) }
+{
+    let mut octets = Vec::new(alloc);
+    // (one more than any state has)
+    match text.read_up_to(1_048_577, &mut octets) {
+        Ok(()) => loaded_of(alloc, config, octets.as_slice(), place),
+        Err(error) => Err(ProgramFault::of(&error, ProgramFault::NoState)),
+    }
+}
+
+// The octets of a checkpoint before its state.
+fn checkpoint_head(place: u64) -> [u8; HEAD_LEN]
+    ensures { result ≡ checkpoint_mark ++ big_bytes 8 place }
+{
+    let mut head = [0x45, 0x31, 0x47, 0x43, 0, 0, 0, 0, 0, 0, 0, 0];
+    BigEndian::write_u64(&mut head[4..], place);
+    head
+}
+
+// The octets of a checkpoint. The error is that memory was refused.
+#[tactic(auto, unfolding(gw_state::specs::Memory::MemoryIsRefused))]
+fn checkpoint_of(
+    alloc: Global,
+    config: &GatewayConfig,
+    gateway: &Gateway,
+    place: u64,
+) -> Result<Vec<u8>, AllocError>
+    ensures octets { IfOk result (λ octets. octets.items
+        ≡ checkpoint place (state_file config.now gateway.now)) }
+    ensures err { OnErr result MemoryIsRefused }
+{
+    let mut octets = Vec::new(alloc);
+    octets.extend_from_slice(&checkpoint_head(place))?;
+    octets.extend_from_slice(state_file(alloc, config, gateway)?.as_slice())?;
+    Ok(octets)
+}
+
+// Whether two configurations of a circuit are the same.
+fn is_same(old: &CircuitConfig, config: &CircuitConfig) -> bool
+    ensures { result ≡ true → old.now ≡ config.now }
+{
+    old == config
+}
+
+// Reports that a circuit begins as new.
+#[tactic(auto, unfolding(gw_machine::specs::Renewals::SystemTellsNew))]
+fn tell_new(rt: &impl Machine, circuit: usize)
+    ensures { SystemTellsNew circuit }
+{
+    let _ = eprintln!(rt; "circuit {} begins as new", circuit);
+}
+
+// Reports that a circuit begins as new if its configuration changed.
+fn tell_changed(rt: &impl Machine, circuit: usize, old: &CircuitConfig, config: &CircuitConfig)
+    ensures { old.now ≢ config.now → SystemTellsNew circuit }
+{
+    if !is_same(old, config) {
+        tell_new(rt, circuit);
+    }
+}
+
+// Reports which circuits begin as new, since their configuration changed.
+fn tell_renewed(rt: &impl Machine, old: &GatewayConfig, config: &GatewayConfig)
+    ensures { AreTold old.now config.now 30 }
+{
+    for at in 0..config.circuits.len() {
+        tell_changed(rt, at + 1, &old.circuits[at], &config.circuits[at]);
+    }
+}
+
+// Loads the gateway whose state is in the file at a path, with this configuration.
+fn loaded_gateway(
+    rt: &impl Machine,
+    config: &GatewayConfig,
+    path: &str,
+    place: Option<u64>,
+) -> Result<Gateway, ProgramFault>
+    ensures ok { IfOk result (IsFromState (PathGives path.now) (λ asked. asked ≡ place) config.now) }
+    ensures err { IfErr result (FailsToLoad (IsUnreadAt path.now) (PathGives path.now)
+        (λ asked. asked ≡ place) config.now) }
+{
+    match open_file(rt, path) {
+        Ok(file) => {
+            let loaded = load_from(rt.alloc(), config, file, place)?;
+            tell_renewed(rt, &loaded.old, config);
+            Ok(loaded.gateway)
+        }
+        Err(error) => Err(ProgramFault::of(&error, ProgramFault::NoState)),
+    }
+}
+
+// Opens a new gateway. The error is that memory was refused.
+#[tactic(auto, unfolding(gw_state::specs::Memory::MemoryIsRefused))]
+fn open_gateway(alloc: Global, config: &GatewayConfig) -> Result<Gateway, AllocError>
+    ensures opened { IfOk result (λ gateway. HasHistory config.now gateway []) }
+    ensures err { OnErr result MemoryIsRefused }
+{
+    Gateway::open(alloc, config)
+}
+
+// Loads the gateway whose state is in a file if one is named; otherwise opens a new one.
+fn first_gateway(
+    rt: &impl Machine,
+    config: &GatewayConfig,
+    path: Option<&str>,
+    place: Option<u64>,
+) -> Result<Gateway, ProgramFault>
+    ensures ok { IfOk result (HasBegun config.now (option_map (λ path. path.now) path.entry)
+        (λ asked. asked ≡ place)) }
+    ensures err { IfErr result (LacksGateway config.now (option_map (λ path. path.now) path.entry)
+        (λ asked. asked ≡ place)) }
+{
+    match path {
+        Some(path) => loaded_gateway(rt, config, path, place),
+        None => match open_gateway(rt.alloc(), config) {
+            Ok(gateway) => Ok(gateway),
+            Err(_) => Err(ProgramFault::OutOfMemory),
+        },
+    }
+}
+
+// Sets the gateway's wait for an acknowledgement, if there is one.
+fn waiting(gateway: Gateway, wait: Option<u16>) -> Gateway
+    ensures { Waits wait gateway result }
+{
+    let mut gateway = gateway;
+    if let Some(signals) = wait {
+        gateway.release_seizures_after(signals);
+    }
+    gateway
+}
+
+/// Opens the gateway of a session: loads the state in a file if one is named, otherwise a new gateway. Its
+/// wait for an acknowledgement, in signals, is `wait`; without one it is that of the state, or 100 signals.
+/// Circuits whose configuration changed begin as new, and standard error says which. A checkpoint of another
+/// place than `place`, if there is one, is refused.
+pub fn begin_gateway(
+    rt: &impl Machine,
+    config: &GatewayConfig,
+    path: Option<&str>,
+    place: Option<u64>,
+    wait: Option<u16>,
+) -> Result<Gateway, ProgramFault>
+    ensures ok { IfOk result (BeginsWaiting config.now (option_map (λ path. path.now) path.entry)
+        (λ asked. asked ≡ place) (λ asked. asked ≡ wait)) }
+    ensures err { IfErr result (LacksGateway config.now (option_map (λ path. path.now) path.entry)
+        (λ asked. asked ≡ place)) }
+{
+    let first = first_gateway(rt, config, path, place)?;
+    Ok(waiting(first, wait))
+}
+
+// The name of a state while it is written. The error is that memory was refused.
+#[tactic(auto, unfolding(gw_state::specs::Memory::MemoryIsRefused))]
+fn unfinished(alloc: Global, path: &str) -> Result<String, AllocError>
+    ensures name { IfOk result (λ name. string_bytes name ≡ unfinished path.now) }
+    ensures err { OnErr result MemoryIsRefused }
+{
+    let mut name = String::from_str(alloc, path)?;
+    name.push_str(".new")?;
+    Ok(name)
+}
+
+// Writes octets to a new file at a path, which the disk keeps. The error is the system's.
+fn write_new(rt: &impl Machine, octets: &[u8], path: &str) -> io::Result<()>
+    ensures ok { OnOk result (IsWritten path.now octets.now) }
+    ensures err { IfErr result (IsUnwritten path.now) }
+{
+    let mut file = create_file(rt, path)?;
+    write_file(&mut file, octets)?;
+    sync_file(&file)?;
+    Ok(())
+}
+
+// Writes octets to a new file at a path, and gives it another one. What can't be written whole is removed.
+// The error is the system's.
+fn replace(rt: &impl Machine, octets: &[u8], new: &str, path: &str) -> io::Result<()>
+    ensures written { OnOk result (IsWritten new.now octets.now) }
+    ensures renamed { OnOk result (SystemRenames new.now path.now) }
+    ensures err { IfErr result (λ error. IsUnwritten new.now error ⊎ SystemRefusesFile path.now error) }
+{
+    if let Err(error) = write_new(rt, octets, new) {
+        let _ = fs::remove_file(rt, new);
+        return Err(error);
+    }
+    rename_file(rt, new, path)
+}
+
+// Whether the path has nothing, or a regular file that may be replaced.
+fn is_replaced(rt: &impl Machine, path: &str) -> bool
+    ensures yes { result ≡ true → IsReplaced path.now }
+    ensures no { result ≡ false → SystemShowsFile path.now None }
+{
+    match file_len(rt, path) {
+        Ok(Some(_)) => true,
+        Ok(None) => false,
+        Err(_) => true,
+    }
+}
+
+// Keeps octets in the file at a path. They are written beside it, synced and renamed. If that fails, the old
+// file stays as it was.
+fn keep_at(rt: &impl Machine, octets: &[u8], path: &str) -> Result<(), ProgramFault>
+    ensures { Keeps path.now octets.now result }
+{
+    if !is_replaced(rt, path) {
+        return Err(ProgramFault::NotSaved);
+    }
+    let new = match unfinished(rt.alloc(), path) {
+        Ok(new) => new,
+        Err(_) => return Err(ProgramFault::OutOfMemory),
+    };
+    match replace(rt, octets, new.as_str(), path) {
+        Ok(()) => Ok(()),
+        Err(error) => Err(ProgramFault::of(&error, ProgramFault::NotSaved)),
+    }
+}
+
+/// Saves the state of a gateway to a file, if one is named.
+pub fn keep_gateway(
+    rt: &impl Machine,
+    config: &GatewayConfig,
+    gateway: &Gateway,
+    path: Option<&str>,
+) -> Result<(), ProgramFault>
+    ensures { IsSaved (option_map (λ path. path.now) path.entry) config.now gateway.now result }
+{
+    let Some(path) = path else {
+        return Ok(());
+    };
+    match state_file(rt.alloc(), config, gateway) {
+        Ok(octets) => keep_at(rt, octets.as_slice(), path),
+        Err(_) => Err(ProgramFault::OutOfMemory),
+    }
+}
+
+/// Writes a checkpoint of a gateway to a file, as a state is saved.
+pub fn keep_checkpoint(
+    rt: &impl Machine,
+    config: &GatewayConfig,
+    gateway: &Gateway,
+    place: u64,
+    path: &str,
+) -> Result<(), ProgramFault>
+    ensures { Keeps path.now (checkpoint place (state_file config.now gateway.now)) result }
+{
+    match checkpoint_of(rt.alloc(), config, gateway, place) {
+        Ok(octets) => keep_at(rt, octets.as_slice(), path),
+        Err(_) => Err(ProgramFault::OutOfMemory),
+    }
+}

@@ -1,0 +1,131 @@
+//! Why the program failed, as the line that it prints and its exit status (`ProgramFault`).
+
+ghost use Rattle.std.specs.Prelude.{◌≡◌, ◌≤◌};
+ghost use Rattle.std.specs.IoError.{error_kind};
+ghost use Rattle.gw_machine.specs.Status.{fault_of_error, fault_status, program_fault_status};
+
+use gw_config::ConfigFault;
+use gw_session::RunFault;
+use gw_state::LoadFault;
+use std::io;
+use thiserror::Error;
+
+/// The status without a fault, and after help.
+pub const DONE: u8 = 0;
+
+const FAULT: u8 = 1;
+
+/// The status if the command line, the file or the configuration is refused.
+pub const REFUSED: u8 = 2;
+
+/// The status for want of memory.
+pub const NO_MEMORY: u8 = 3;
+
+/// Why the program failed. It prints as the line on standard error.
+#[derive(Debug, Drop, Error)]
+pub enum ProgramFault {
+    /// A session ended with a fault.
+    #[error("{0}")]
+    Session(RunFault),
+    /// The socket of the circuit of this number can't be opened.
+    #[error("socket {0}")]
+    Socket(u8),
+    /// The socket of an emulated circuit can't be opened.
+    #[error("cannot open the socket of the circuit")]
+    FarEnd,
+    /// The octets of a packet are no whole frames.
+    #[error("error: --size is not a multiple of 32")]
+    PacketSize,
+    /// The streams of a trunk can't be waited for.
+    #[error("cannot wait for the trunk")]
+    Trunk,
+    /// The command line is not text.
+    #[error("error: the command line is not text")]
+    NotText,
+    /// The command line names nothing to do.
+    #[error("error: nothing to do")]
+    Nothing,
+    /// The file of the configuration can't be read.
+    #[error("cannot read the configuration")]
+    File,
+    /// The file of the recording can't be opened.
+    #[error("cannot open the recording")]
+    Recording,
+    /// The file of the recording is there already, and is not to be written over.
+    #[error("the recording is there already: name a new file, or give --record-over")]
+    OldRecording,
+    /// The log can't be followed.
+    #[error("cannot follow the log")]
+    Log,
+    /// The file of reports can't be opened.
+    #[error("cannot open the file of --reports")]
+    Reports,
+    /// The file of a state can't be read.
+    #[error("cannot read the state")]
+    NoState,
+    /// The file has no state of this configuration.
+    #[error("{0}")]
+    State(LoadFault),
+    /// The checkpoint is of this octet of the log, and another one is asked for.
+    #[error("error: --load is of octet {0} of the log: give --from {0}")]
+    OtherPlace(u64),
+    /// The state can't be saved.
+    #[error("cannot save the state")]
+    NotSaved,
+    /// The socket that clients connect to can't be opened.
+    #[error("cannot open the control socket")]
+    Control,
+    /// The socket of `--tell` can't be opened.
+    #[error("cannot open the socket of --tell")]
+    Tell,
+    /// The file has no valid configuration.
+    #[error("{0}")]
+    Config(ConfigFault),
+    /// Memory was refused.
+    #[error("out of memory")]
+    OutOfMemory,
+}
+
+impl ProgramFault {
+    /// The fault of a failed system call: out of memory, or `otherwise`.
+    pub fn of(error: &io::Error, otherwise: ProgramFault) -> ProgramFault
+        ensures { result ≡ fault_of_error (error_kind error.now) otherwise }
+    {
+        match error.kind() {
+            io::ErrorKind::OutOfMemory => ProgramFault::OutOfMemory,
+            _ => otherwise,
+        }
+    }
+
+    /// The exit status: 1 for a fault of a session, a socket or a trunk or if a state is not saved, 2 if the
+    /// command line, a file or the configuration is refused, and 3 if out of memory.
+    pub fn status(&self) -> u8
+        ensures { result ≡ program_fault_status self.now }
+    {
+        match self {
+            ProgramFault::Session(RunFault::OutOfMemory)
+            | ProgramFault::Config(ConfigFault::OutOfMemory)
+            | ProgramFault::State(LoadFault::OutOfMemory)
+            | ProgramFault::OutOfMemory => NO_MEMORY,
+            ProgramFault::Session(_)
+            | ProgramFault::Socket(_)
+            | ProgramFault::FarEnd
+            | ProgramFault::Trunk
+            | ProgramFault::NotSaved => FAULT,
+            ProgramFault::NotText
+            | ProgramFault::PacketSize
+            | ProgramFault::Nothing
+            | ProgramFault::File
+            | ProgramFault::Recording
+            | ProgramFault::OldRecording
+            | ProgramFault::Log
+            | ProgramFault::Reports
+            | ProgramFault::NoState
+            | ProgramFault::State(_)
+            | ProgramFault::OtherPlace(_)
+            | ProgramFault::Control
+            | ProgramFault::Tell
+            | ProgramFault::Config(_) => REFUSED,
+        }
+    }
+}

@@ -1,5 +1,0 @@
-use Rattle.gw_program.specs.Renewals.{AreTold}
-use Rattle.gw_program.proofs.state.tell_renewed.Given as goal
-
-abbrev pub invariant-loop-at : goal.invariant-loop-at
-invariant-loop-at g l = AreTold l.old l.config l.at
