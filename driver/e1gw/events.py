@@ -7,7 +7,7 @@ from .lines import Event
 
 # What the journal has. An alarm of this end says that alignment was lost, and its end that it was found.
 WARNED = frozenset(('gap', 'ahead', 'stalled', 'ended', 'trunk lost', 'cleared', 'slots', 'disconnected', 'not fed',
-                    'role'))
+                    'role', 'card'))
 NOTICED = frozenset(('alarm', 'remote alarm', 'flows', 'rate', 'renewed', 'satop', 'trunk', 'crc4', 'connected', 'fed'))
 
 # The alarms of ITU-T G.704, G.706 and G.732, by what has no alignment: at this end, and as the other one tells.
@@ -15,6 +15,12 @@ LOSSES = {'frame': 'loss of frame alignment (LFA)', 'multiframe': 'loss of multi
 REMOTE = {'frame': 'RAI (bit A)', 'multiframe': 'distant multiframe alarm (bit y)'}
 _SLOTS = {'lost': 'slot 16 lost: what comes is silent', 'found': 'slot 16 found, speech goes on',
           'moved': 'slots moved by {}: slot 16 found again, speech goes on'}
+# Alarms of a DAHDI card, with what to do.
+_CARD = {'RED': 'no signal or no frames come: cable, the far end, framing of span= in /etc/dahdi/system.conf',
+         'YELLOW': 'the far end does not receive us: the sending pair',
+         'BLUE': 'the far end sends all ones (AIS): it is out of service, or has no trunk itself',
+         'LOOPBACK': 'it gives what it is sent: dahdi_maint', 'NOT OPEN': 'the span is not started: dahdi_cfg',
+         'RECOVERING': 'a moment more'}
 # CRC-4 (ITU-T G.704, 2.3.3; G.706, 4.2 and 4.3).
 _CRC4 = {'none': 'no CRC multiframe alignment', 'found': 'CRC multiframe alignment found',
          'lost': 'CRC multiframe alignment lost',
@@ -37,6 +43,7 @@ _WORDS: dict[str, Callable[[Event], str]] = {
     'role': lambda e: f'this machine is to be {e["role"]}',
     'fed': lambda e: f'fed by {e["by"]}, program {e["program"]} there',
     'not fed': lambda e: f'not fed by {e["by"]}: {e["why"]}',
+    'card': lambda e: f'card: {e["what"]} alarm{_over(e)}' + (f': {_CARD[e["what"]]}' if e['on'] else ''),
     'slots': lambda e: _SLOTS[e['what']].format(e.get('by')),
     'trunk': lambda e: f'trunk open: {e.get("trunk", "")}',
     'trunk lost': lambda e: f'trunk lost: {e["why"]}',

@@ -4,6 +4,7 @@ from __future__ import annotations
 import time
 from typing import Any, Iterable, Mapping
 
+from .dahdi import Alarm, Blocks
 from .events import LOSSES, REMOTE
 from .lines import State
 
@@ -181,7 +182,7 @@ def _head(status: Status) -> list[str]:
         + _far_end(status),
         'alignment lost: ' + ', '.join(f'{what} {n}' for what, n in status['losses'].items())
         + f'; stalls {clock["stalls"]}{_slips(clock)}']
-    lines += _pair_line(status) + _crc4_line(status)
+    lines += _pair_line(status) + _card_line(status) + _crc4_line(status)
     lines += [f'ended: {what}: {why}' for what, why in status['ended'].items() if why is not None]
     if status['stale']:
         lines.append('the counts of packets are not those of now')
@@ -205,6 +206,15 @@ def _pair_line(status: Status) -> list[str]:
     if others := ', '.join(map(str, status.get('differs', []))):
         why += f'; configured otherwise there: circuits {others}'
     return [f'two machines: {whose} {"fed" if status["fed"] else "not fed"}{why}']
+
+
+def _card_line(status: Status) -> list[str]:
+    """The line of a DAHDI card, if there is one."""
+    its = status.get('transport') or {}
+    if 'span' not in its:
+        return []
+    alarms = ', '.join(name for each in Alarm if its[str(each.name).lower()] for name in each.names())
+    return [f'card: span {its["span"]}, {alarms or "no alarm"}; {Blocks(its["block"], its["buffers"]).words()}']
 
 
 def _crc4_line(status: Status) -> list[str]:

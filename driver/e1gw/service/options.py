@@ -9,12 +9,14 @@ from dataclasses import replace
 from typing import Callable
 
 from .. import satop
+from ..card_opening import is_card, open_device
 from ..clearing import on_loss_of
+from ..dahdi import FRAMES_A_MS, MOST_BUFFERS, MOST_FRAMES, Blocks
 from ..faults import checked, named, number
 from ..lines import SEIZURE_WAIT, wait_words
 from ..programs import SENDERS, program_of
 from ..recording_ring import seconds_of
-from ..trunks import Stream, host_and_port, open_files, open_tcp, open_unix
+from ..trunks import Stream, host_and_port, open_tcp, open_unix
 from .lifecycle import TrunkWants
 from .pair import add_pair, feeding_of
 from .program import MOST_PATH
@@ -25,6 +27,8 @@ from .watch import WatchWants
 WATCHED = 'control', 'http', 'json', 'calls'      # what an operator may have of a trunk
 MEMORY = '/dev/shm'         # where the folder of a trunk is by default
 DIGITS = 11                 # octets that the number of a program adds to a socket's path
+BLOCK, BUFFERS = 16, 8      # of a DAHDI card: frames of a block, and how many there are
+CARD_PAUSE = 1.0            # seconds between two tries to open one, at most
 
 
 def add_options(words: argparse.ArgumentParser) -> None:
@@ -67,6 +71,11 @@ def add_trunk(words: argparse._ArgumentGroup) -> None:
     words.add_argument('--reopen', action='store_true', help='opens a trunk that ends or fails again, within 30 s')
     words.add_argument('--satop', metavar='LOCAL,PEER', help='SAToP (RFC 4553) over UDP, each as HOST:PORT')
     words.add_argument('--clear', action='store_true', help='the device gives time slots 1 to 31 alone')
+    words.add_argument('--block', type=number(1, MOST_FRAMES), default=BLOCK, metavar='FRAMES',
+                       help=f'what a DAHDI card gives and takes at once, 1 to {MOST_FRAMES} [default: {BLOCK}, '
+                       f'{BLOCK / FRAMES_A_MS:g} ms]')
+    words.add_argument('--buffers', type=number(2, MOST_BUFFERS), default=BUFFERS, metavar='N',
+                       help=f'blocks that it holds, each way, 2 to {MOST_BUFFERS} [default: {BUFFERS}]')
     words.add_argument('--align', action='store_true', help='octets of the trunk may begin at any bit')
     words.add_argument('--crc4', action='store_true',
                        help='CRC-4: it is sent, and counted each second in what comes')
@@ -151,8 +160,9 @@ def line_of(asked: argparse.Namespace) -> LineOptions:
         raise ValueError('--crc4 is for all 32 slots; the device of --clear sends slot 0 itself, and CRC-4 in it')
     if asked.clear and asked.satop:
         raise ValueError('--clear is for a device that keeps slot 0; --satop has all 32 slots')
-    return LineOptions(None if asked.satop else opening_of(asked), satop_of(asked) if asked.satop else None,
+    line = LineOptions(None if asked.satop else opening_of(asked), satop_of(asked) if asked.satop else None,
                        asked.crc4, asked.clear, asked.reopen)
+    return replace(line, pause=CARD_PAUSE) if asked.input and is_card(asked.input) else line
 
 
 def opening_of(asked: argparse.Namespace) -> Callable[[], Stream]:
@@ -160,7 +170,10 @@ def opening_of(asked: argparse.Namespace) -> Callable[[], Stream]:
     if asked.tcp:
         place = host_and_port(asked.tcp)
         return lambda: open_tcp(*place)
-    return (lambda: open_unix(asked.unix)) if asked.unix else (lambda: open_files(asked.input, asked.out))
+    if asked.unix:
+        return lambda: open_unix(asked.unix)
+    blocks = Blocks(asked.block, asked.buffers).check()
+    return lambda: open_device(asked.input, asked.out, blocks, asked.clear)
 
 
 def satop_of(asked: argparse.Namespace) -> Callable[[], list[str]]:

@@ -50,6 +50,10 @@ class OperatedTrunk:
         """Gaps and the rate of its octets."""
         return self._keeper.reader.clock.status()
 
+    def outage(self) -> str | None:
+        """Why no seizure can reach the other end, if the card knows."""
+        return self._keeper.trunk.outage()
+
     def hurry(self) -> None:
         """Has the follower read all that the program has logged."""
         if program := followed(self._keeper):
@@ -229,7 +233,7 @@ class TrunkStatus:
 
     def outage(self) -> str | None:
         """Why no seizure can reach the other end, or None."""
-        return 'the trunk is stalled' if self._stood else self.lines.outage()
+        return 'the trunk is stalled' if self._stood else self._trunk.outage() or self.lines.outage()
 
     def values(self) -> dict[str, Any]:
         """All that is known, as plain values."""

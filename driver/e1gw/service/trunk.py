@@ -21,6 +21,7 @@ from ..faults import words_of_fault
 from ..lines import Event
 from ..slots import Slots
 from ..trunks import Stream
+from .card import CardWatch, watch_of
 from .events import tell_journal
 from .process import Child
 
@@ -43,6 +44,7 @@ class LineOptions:
     crc4: bool = False
     clear: bool = False
     reopens: bool = False
+    pause: float = MOST_PAUSE   # seconds between two tries to open it, at most
     program: str = ''           # for `e1gw satop`
 
 
@@ -50,8 +52,8 @@ class Pause:
     """How long to wait before something is begun again: not at all, but if it has ended soon a little, and each time
     twice as long."""
 
-    def __init__(self) -> None:
-        self._began, self._seconds = -inf, 0.0
+    def __init__(self, most: float = MOST_PAUSE) -> None:
+        self._began, self._seconds, self._most = -inf, 0.0, most
 
     def begins(self) -> None:
         self._began = time.monotonic()
@@ -59,7 +61,7 @@ class Pause:
     def ends(self) -> float:
         """The seconds to wait for another one."""
         is_soon = time.monotonic() < self._began + QUICK
-        self._seconds = min(MOST_PAUSE, max(PAUSE, 2 * self._seconds)) if is_soon else 0.0
+        self._seconds = min(self._most, max(PAUSE, 2 * self._seconds)) if is_soon else 0.0
         return self._seconds
 
 
@@ -74,7 +76,8 @@ class TrunkFiles:
         self.ones: Callable[[], int] = lambda: 0        # octets of ones that are given to the next program
         self.since, self.fault = time.time(), ''         # when it was opened, and why it is not
         self.crc4, self.slots = Crc4() if line.crc4 else None, Slots() if line.clear else None
-        self._pause, self._left = Pause(), list[Child]()        # (processes of the service before this one)
+        self.card: CardWatch | None = None
+        self._pause, self._left = Pause(line.pause), list[Child]()      # (processes of the service before this one)
         self.both = -1, -1
 
     def is_open(self) -> bool:
@@ -102,9 +105,11 @@ class TrunkFiles:
             self.files['line-out'] = stream.writes
 
     def _set_ends(self) -> None:
-        """The ends for a program."""
+        """The ends for a program, and the card there if there is one."""
         reads, *_, writes = [*self.files.values()] * 2
-        self.both = reads, writes
+        self.both, self.card = (reads, writes), watch_of(reads, lambda event: self.tell(event))
+        if self.card:
+            self.card.begin()
 
     def _tell_open(self) -> None:
         self.since, self.fault = time.time(), ''
@@ -128,8 +133,9 @@ class TrunkFiles:
             try:
                 await self.open_until(ending)
             except OSError as fault:
-                self.fault = f'the trunk cannot be opened: {words_of_fault(fault)}'
-                logger.warning('%s; it is tried again', self.fault)
+                before, self.fault = self.fault, f'the trunk cannot be opened: {words_of_fault(fault)}'
+                if self.fault != before:
+                    logger.warning('%s; it is tried again', self.fault)
                 self._pause.begins()
                 await either(self._pause.ends(), ending)
 
@@ -150,6 +156,9 @@ class TrunkFiles:
 
     async def finish(self) -> None:
         """Closes it, behind what was sent last."""
+        if self.card:
+            self.card.end()
+        self.card = None
         while self.files:
             os.close(self.files.popitem()[1])
         self.both = -1, -1
@@ -158,7 +167,11 @@ class TrunkFiles:
 
     def failure(self) -> str:
         """Why it has ended, if that was a failure which no program has seen."""
-        return ''
+        return self.card.failure() if self.card else ''
+
+    def outage(self) -> str | None:
+        """Why no seizure can reach the other end, if the card knows."""
+        return self.card.outage() if self.card else None
 
     # ---- for the service that comes after this one ----
 
@@ -196,7 +209,8 @@ class TrunkFiles:
 
     def status(self) -> dict[str, Any]:
         """What the transport tells of itself, as plain values."""
-        return {'trunk': self.name, 'waiting': unsent(self.both[1]), **(self.slots.status() if self.slots else {})}
+        return {'trunk': self.name, 'waiting': unsent(self.both[1]), **(self.slots.status() if self.slots else {}),
+                **(self.card.status() if self.card else {})}
 
     def facts(self) -> dict[str, Any]:
         """Since when it is open, why it is not, and what is counted, as plain values."""
@@ -207,6 +221,8 @@ class TrunkFiles:
         """Whether the other end has closed it. A device does not tell; it has ended if a program `took` nothing of it
         before its end."""
         reads = self.both[0]
+        if self.failure():
+            return True
         if stat.S_ISCHR(os.fstat(reads).st_mode) and not os.isatty(reads):
             return took == 0
         if stat.S_ISREG(os.fstat(reads).st_mode):

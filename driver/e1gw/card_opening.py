@@ -1,0 +1,86 @@
+"""How a device is opened: a DAHDI channel is set up, and a refusal says what to do."""
+from __future__ import annotations
+
+import errno
+import glob
+import grp
+import os
+import stat
+from contextlib import suppress
+
+from .dahdi import Blocks, CardFault, DahdiChannel, is_channel
+from .faults import named, words_of_fault
+from .trunks import Stream, open_files
+
+FOLDER, MAJOR = '/dev/dahdi/', 196      # of DAHDI's devices, with its driver and without
+NO_CARD = 'no card has it now; is its driver loaded (lsdahdi), and was dahdi_cfg run? it is opened once it is there'
+ADVICE = {errno.ENOENT: NO_CARD, errno.ENXIO: NO_CARD, errno.ENODEV: NO_CARD}
+
+
+def is_card(path: str) -> bool:
+    """Whether a device is DAHDI's, or would be."""
+    with suppress(OSError):
+        about = os.stat(path)
+        if stat.S_ISCHR(about.st_mode) and os.major(about.st_rdev) == MAJOR:
+            return True
+    return os.path.abspath(path).startswith(FOLDER)
+
+
+def holders(path: str) -> list[str]:
+    """The processes that have a device open, of those that this one may see."""
+    found, device = set[str](), os.stat(path).st_rdev
+    for each in glob.glob('/proc/[0-9]*/fd/*'):
+        with suppress(OSError):
+            if stat.S_ISCHR((about := os.stat(each)).st_mode) and about.st_rdev == device:
+                with open(f'/proc/{(pid := each.split("/")[2])}/comm', encoding='utf-8', errors='replace') as name:
+                    found.add(f'{name.read().strip()} ({pid})')
+    return sorted(found)
+
+
+def group_of(path: str) -> str:
+    """The name of a file's group."""
+    number = os.stat(path).st_gid
+    with suppress(KeyError):
+        return grp.getgrgid(number).gr_name
+    return str(number)
+
+
+def advice(path: str, number: int) -> str:
+    """What to do where a card's open ended with this error; nothing if that says all."""
+    with suppress(OSError):
+        if number == errno.EBUSY:
+            who = ', '.join(holders(path)) or 'another program, or the channel is one of a bundle: give its first one'
+            return f'in use by {who}'
+        if number == errno.EACCES:
+            return f'no permission: SupplementaryGroups={group_of(path)} in the unit, or be in that group'
+        if number == errno.EPERM:
+            return f'no permission: DeviceAllow={path} rw in the unit'
+    return ADVICE.get(number, '')
+
+
+def with_advice(fault: OSError, path: str) -> OSError:
+    """The same error of an open; of a card with what to do."""
+    words = advice(path, fault.errno or 0) if is_card(path) else ''
+    return OSError(fault.errno or 0, f'{words_of_fault(fault, path)}; {words}') if words else fault
+
+
+def set_up(stream: Stream, blocks: Blocks, is_clear: bool) -> None:
+    """Sets a DAHDI channel up. OSError if it will not do."""
+    if not is_clear:
+        raise CardFault('DAHDI keeps time slot 0: --clear')
+    DahdiChannel(stream.reads).set_up(blocks)
+
+
+def open_device(reads: str, writes: str, blocks: Blocks, is_clear: bool) -> Stream:
+    """A device, files or FIFOs, as open_files does; a DAHDI channel is set up. OSError if it can't be."""
+    try:
+        stream = open_files(reads, writes)
+    except OSError as fault:
+        raise with_advice(fault, fault.filename if isinstance(fault.filename, str) else reads) from None
+    try:
+        if is_channel(stream.reads):
+            set_up(stream, blocks, is_clear)
+    except OSError as fault:
+        stream.close()
+        raise named(fault, reads) from None
+    return stream

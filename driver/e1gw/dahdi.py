@@ -1,0 +1,217 @@
+"""A channel of a DAHDI card, and what is asked of its driver: dahdi/user.h of DAHDI 2.11 and 3, as octets and back.
+
+With `clear=1-31` the first channel of a span gives time slots 1 to 31 of each frame, slot 1 first, and takes as many.
+It has buffers of a block each: a read gives one block, and discards what it has no room for; a write takes one buffer,
+however little is written. While an event waits each read and write fails with errno 500."""
+from __future__ import annotations
+
+import enum
+import errno
+import fcntl
+import os
+import re
+import stat
+import struct
+from contextlib import suppress
+from dataclasses import dataclass
+
+from .slots import SLOTS
+
+DRIVERS = frozenset(('dahdi', 'dahdi_channels'))        # by their names in /proc/devices
+PARAMETERS, BUFFERS = struct.Struct('=12i40s11iI'), struct.Struct('=6i')
+SPAN = struct.Struct('=i20s40s7i5I7i40s40s40s40s2i6s')
+NUMBER = struct.Struct('=i')
+CLEAR = 1 << 7              # the signalling of a clear channel
+MOST_FRAMES = 64            # of a block: the program reads so many at once
+MOST_BUFFERS, MOST_OCTETS = 32, 32_768
+FRAMES_A_MS = 8
+CONFIGURES = 'clear=1-31 (for the first span) in /etc/dahdi/system.conf, then dahdi_cfg'
+
+
+def request_of(ways: int, number: int, size: int) -> int:
+    """The number of a request, by ioctl(2): `ways` is 1 if the driver reads these octets, 2 if it writes them."""
+    return ways << 30 | size << 16 | 0xDA << 8 | number
+
+
+class Request(enum.IntEnum):
+    """What is asked."""
+
+    GET_PARAMETERS = request_of(3, 5, PARAMETERS.size)
+    GET_EVENT = request_of(2, 8, NUMBER.size)
+    SPAN_STATUS = request_of(3, 10, SPAN.size)
+    GET_BUFFERS = request_of(2, 27, BUFFERS.size)
+    SET_BUFFERS = request_of(1, 27, BUFFERS.size)
+    AUDIO_MODE = request_of(1, 32, NUMBER.size)
+
+
+class Alarm(enum.IntFlag):
+    """Alarms of a span."""
+
+    RECOVERING = 1 << 0
+    LOOPBACK = 1 << 1
+    YELLOW = 1 << 2
+    RED = 1 << 3
+    BLUE = 1 << 4
+    NOT_OPEN = 1 << 5
+
+    def names(self) -> list[str]:
+        """As DAHDI's own programs show them."""
+        return [(each.name or '').replace('_', ' ') for each in Alarm if each in self]
+
+
+class CardEvent(enum.IntEnum):
+    """Events of a channel, of those that a clear one has."""
+
+    NONE = 0
+    ALARM = 4
+    NO_ALARM = 5
+    REMOVED = 20
+
+
+@dataclass(frozen=True)
+class Blocks:
+    """The buffers of a channel, each way: how many frames a block has, and how many blocks there is room for."""
+
+    frames: int
+    buffers: int
+
+    def octets(self) -> int:
+        """Of a block."""
+        return SLOTS * self.frames
+
+    def words(self) -> str:
+        return f'{self.buffers} blocks of {self.frames} frames, {self.frames / FRAMES_A_MS:g} ms each'
+
+    def check(self) -> Blocks:
+        """ValueError if no channel can have them."""
+        if not (1 <= self.frames <= MOST_FRAMES and 2 <= self.buffers <= MOST_BUFFERS):
+            raise ValueError(f'--block is 1 to {MOST_FRAMES}, --buffers 2 to {MOST_BUFFERS}')
+        if self.octets() * self.buffers > MOST_OCTETS:
+            most = MOST_OCTETS // self.octets()
+            raise ValueError(f'--buffers is {most} at most with --block {self.frames}: DAHDI has {MOST_OCTETS} octets')
+        return self
+
+
+@dataclass(frozen=True)
+class ChannelFacts:
+    """A channel: its number, its span and its place there, and its signalling."""
+
+    number: int
+    span: int
+    place: int
+    signalling: int
+
+
+@dataclass(frozen=True)
+class SpanFacts:
+    """A span: its name, alarms and channels, and what it has counted, by names of ITU-T G.821 and of its driver."""
+
+    number: int
+    name: str
+    alarms: Alarm
+    channels: int
+    counts: dict[str, int]
+
+
+class CardFault(OSError):
+    """Why a channel will not do."""
+
+    def __init__(self, words: str) -> None:
+        super().__init__(errno.EINVAL, words)
+
+
+# ---- as octets ----
+
+def channel_facts(octets: bytes) -> ChannelFacts:
+    number, span, place, signalling, *_ = PARAMETERS.unpack(octets)
+    return ChannelFacts(number, span, place, signalling)
+
+
+def span_facts(octets: bytes) -> SpanFacts:
+    number, name, _, alarms, _, _, *rest = SPAN.unpack(octets)
+    bipolar, crc4, e_bits, frame, framing, code, bits, _, seconds, missed, _, _, channels, *_ = rest
+    known = Alarm(alarms & sum(Alarm))
+    return SpanFacts(number, name.partition(b'\0')[0].decode(errors='replace'), known, channels, {
+        'bipolar_violations': bipolar, 'crc4_errors': crc4, 'e_bits': e_bits, 'alignment_signal_errors': frame,
+        'framing_errors': framing, 'code_violations': code, 'bit_errors': bits, 'errored_seconds': seconds,
+        'interrupts_missed': missed})
+
+
+def blocks_of(octets: bytes) -> Blocks:
+    _, _, buffers, size, *_ = BUFFERS.unpack(octets)
+    return Blocks(size // SLOTS, buffers)
+
+
+def buffers_of(blocks: Blocks) -> bytes:
+    """The policy is 0: a block is sent as soon as it was written."""
+    return BUFFERS.pack(0, 0, blocks.buffers, blocks.octets(), 0, 0)
+
+
+def majors_of(devices: str) -> set[int]:
+    """The numbers of the driver's devices, by the text of /proc/devices."""
+    lines = map(str.split, devices.partition('Block devices:')[0].splitlines())
+    return {int(words[0]) for words in lines if len(words) == 2 and words[1] in DRIVERS}
+
+
+def is_alone(span: str, number: int) -> bool:
+    """Whether a channel has no others behind it, by the text of /proc/dahdi/SPAN."""
+    rows = re.findall(rf'^\s*{number} .*$', span, re.MULTILINE)
+    return bool(rows) and ' Master ' not in rows[0]
+
+
+# ---- the channel ----
+
+def is_channel(file: int) -> bool:
+    """Whether a descriptor is of such a card, by its driver."""
+    about = os.fstat(file)
+    if not stat.S_ISCHR(about.st_mode):
+        return False
+    with suppress(OSError), open('/proc/devices', encoding='ascii', errors='replace') as devices:
+        return os.major(about.st_rdev) in majors_of(devices.read())
+    return False
+
+
+class DahdiChannel:
+    """An open channel. OSError of a call says that the card is gone."""
+
+    def __init__(self, file: int) -> None:
+        self.file = file
+
+    def ask(self, request: Request, octets: bytes) -> bytes:
+        return fcntl.ioctl(self.file, request, octets)
+
+    def facts(self) -> ChannelFacts:
+        return channel_facts(self.ask(Request.GET_PARAMETERS, bytes(PARAMETERS.size)))
+
+    def span(self) -> SpanFacts:
+        """Of its span."""
+        return span_facts(self.ask(Request.SPAN_STATUS, bytes(SPAN.size)))
+
+    def blocks(self) -> Blocks:
+        return blocks_of(self.ask(Request.GET_BUFFERS, bytes(BUFFERS.size)))
+
+    def event(self) -> int:
+        """Takes the next event."""
+        return int(NUMBER.unpack(self.ask(Request.GET_EVENT, bytes(NUMBER.size)))[0])
+
+    def is_alone(self, span: int) -> bool:
+        """Whether it gives one time slot; False if that is not known."""
+        with suppress(OSError), open(f'/proc/dahdi/{span}', encoding='utf-8', errors='replace') as text:
+            return is_alone(text.read(), self.facts().number)
+        return False
+
+    def write(self, octets: bytes) -> None:
+        os.write(self.file, octets)
+
+    def set_up(self, blocks: Blocks) -> None:
+        """Octets go and come as they are, by whole frames, and a block of ones goes first: it is what is ahead of the
+        line. CardFault if it gives others than slots 1 to 31."""
+        facts, span = self.facts(), self.span()
+        if facts.signalling != CLEAR or self.is_alone(facts.span):
+            raise CardFault(f'channel {facts.number} is one of 64 kbit/s: {CONFIGURES}')
+        if span.channels != SLOTS or facts.place != 1:
+            raise CardFault(f'channel {facts.number} is number {facts.place} of {span.channels} of span {span.number}: '
+                            f'the first one of an E1 span has all 31')
+        self.ask(Request.AUDIO_MODE, NUMBER.pack(0))        # (nor echo canceller, gains, law, conference)
+        self.ask(Request.SET_BUFFERS, buffers_of(blocks))
+        self.write(b'\xff' * blocks.octets())

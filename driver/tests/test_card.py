@@ -1,0 +1,202 @@
+"""A DAHDI card: what is asked of its driver, how a channel is set up, and what becomes of its alarms. scripts/dahdi has
+the driver itself; the numbers here are those that gcc prints of dahdi/user.h of DAHDI 2.11.1."""
+from __future__ import annotations
+
+import asyncio
+import errno
+import os
+import socket
+import tempfile
+import unittest
+from pathlib import Path
+from unittest import mock
+
+from . import support    # noqa: F401 (makes e1gw known)
+from e1gw import card_opening, dahdi
+from e1gw.dahdi import (BUFFERS, NUMBER, PARAMETERS, SPAN, Alarm, Blocks, CardFault, DahdiChannel, Request,
+                        channel_facts, majors_of, span_facts)
+from e1gw.events import words_of
+from e1gw.lines import Event
+from e1gw.service.card import GONE, CardWatch
+
+DEVICES = 'Character devices:\n  1 mem\n196 dahdi\n246 dahdi_channels\n\nBlock devices:\n 7 loop\n 9 dahdi\n'
+BUNDLE = 'Span 1: X "x"  RED\n\n\t   1 X/1 Clear Master (In use) \n\t   2 X/2 Clear \n\t  12 X/12 Clear \n'
+
+
+def at(octets: bytes, *values: tuple[int, int]) -> bytes:
+    """The octets with numbers of 32 bits at these places."""
+    changed = bytearray(octets)
+    for place, value in values:
+        changed[place:place + 4] = NUMBER.pack(value)
+    return bytes(changed)
+
+
+class FakeChannel(DahdiChannel):
+    """The first channel of an E1 span. `asked` are the requests that change it, and what was written."""
+
+    def __init__(self, file: int = -1) -> None:
+        super().__init__(file)
+        self.asked: list[tuple[str, bytes]] = []
+        self.signalling, self.place, self.channels, self.alarms, self.alone = 128, 1, 31, 0, False
+        self.events: list[int] = []
+        self.is_away = False
+
+    def ask(self, request: Request, octets: bytes) -> bytes:
+        if self.is_away:
+            raise OSError(errno.ENODEV, os.strerror(errno.ENODEV))
+        if request is Request.GET_PARAMETERS:
+            return at(octets, (0, 1), (4, 3), (8, self.place), (12, self.signalling))
+        if request is Request.SPAN_STATUS:
+            return at(octets, (0, 3), (64, self.alarms), (76, 5), (108, 7), (112, 9), (124, self.channels))
+        if request is Request.GET_BUFFERS:
+            return at(octets, (8, 8), (12, 496))
+        if request is Request.GET_EVENT:
+            return NUMBER.pack(self.events.pop(0) if self.events else 0)
+        self.asked.append((request.name, octets))
+        return octets
+
+    def is_alone(self, span: int) -> bool:
+        return self.alone
+
+    def write(self, octets: bytes) -> None:
+        self.asked.append(('write', octets))
+
+
+class RequestTests(unittest.TestCase):
+    def test_numbers(self) -> None:
+        self.assertEqual({each.name: int(each) for each in Request}, {
+            'GET_PARAMETERS': 0xc088da05, 'GET_EVENT': 0x8004da08, 'SPAN_STATUS': 0xc13ada0a,
+            'GET_BUFFERS': 0x8018da1b, 'SET_BUFFERS': 0x4018da1b, 'AUDIO_MODE': 0x4004da20})
+
+    def test_facts(self) -> None:
+        """Each field from its offset in the header."""
+        facts = channel_facts(at(bytes(PARAMETERS.size), (0, 5), (4, 2), (8, 4), (12, 128)))
+        self.assertEqual((facts.number, facts.span, facts.place, facts.signalling), (5, 2, 4, 128))
+        octets = at(bytes(SPAN.size), (0, 2), (64, 1 << 3 | 1 << 8), (76, 5), (108, 7), (112, 9), (124, 31))
+        span = span_facts(octets[:4] + b'X/1\0y' + octets[9:])
+        self.assertEqual((span.number, span.name, span.alarms, span.channels), (2, 'X/1', Alarm.RED, 31))
+        self.assertEqual([name for name, n in span.counts.items() if n],
+                         ['bipolar_violations', 'errored_seconds', 'interrupts_missed'])
+        self.assertEqual(dahdi.buffers_of(Blocks(16, 8)), at(bytes(BUFFERS.size), (8, 8), (12, 496)))
+
+    def test_devices(self) -> None:
+        self.assertEqual(majors_of(DEVICES), {196, 246})
+        self.assertFalse(dahdi.is_alone(BUNDLE, 1))
+        self.assertTrue(dahdi.is_alone(BUNDLE, 2))
+        self.assertFalse(dahdi.is_alone(BUNDLE, 3))
+        with open(os.devnull, 'rb') as device, tempfile.TemporaryFile() as file:
+            self.assertFalse(dahdi.is_channel(device.fileno()) or dahdi.is_channel(file.fileno()))
+            with mock.patch('builtins.open', mock.mock_open(read_data=DEVICES.replace('196', '1'))):
+                self.assertTrue(dahdi.is_channel(device.fileno()))
+
+    def test_blocks(self) -> None:
+        for frames, buffers in (16, 8), (64, 16), (1, 2), (32, 32):
+            self.assertEqual(Blocks(frames, buffers).check(), Blocks(frames, buffers))
+        for frames, buffers in (0, 8), (65, 8), (16, 1), (16, 33), (64, 17):
+            with self.assertRaises(ValueError):
+                Blocks(frames, buffers).check()
+
+
+class SetUpTests(unittest.TestCase):
+    def test_what_is_set(self) -> None:
+        """Audio mode is left, then the buffers are set, and only then one of them is written."""
+        channel = FakeChannel()
+        channel.set_up(Blocks(4, 6))
+        self.assertEqual(channel.asked, [('AUDIO_MODE', bytes(4)), ('SET_BUFFERS', dahdi.buffers_of(Blocks(4, 6))),
+                                         ('write', b'\xff' * 124)])
+
+    def test_refusals(self) -> None:
+        """No other channel is changed."""
+        for name, value, words in (('signalling', 1 << 15, '64 kbit/s'), ('alone', True, '64 kbit/s'),
+                                   ('channels', 24, 'number 1 of 24'), ('place', 2, 'number 2 of 31')):
+            channel = FakeChannel()
+            setattr(channel, name, value)
+            with self.assertRaisesRegex(CardFault, words):
+                channel.set_up(Blocks(16, 8))
+            self.assertEqual(channel.asked, [])
+
+    def test_advice(self) -> None:
+        """Of a card alone; a channel that is held names who holds it."""
+        for number in errno.ENXIO, errno.ENOENT, errno.EBUSY, errno.EPERM:
+            fault = OSError(number, os.strerror(number), '/dev/e1')
+            self.assertIs(card_opening.with_advice(fault, '/dev/e1'), fault)
+        for number, words in (errno.ENXIO, 'lsdahdi'), (errno.ENOENT, 'lsdahdi'), (errno.EPERM, 'DeviceAllow='):
+            fault = OSError(number, os.strerror(number), '/dev/dahdi/7')
+            self.assertRegex(card_opening.with_advice(fault, '/dev/dahdi/7').strerror or '', words)
+        with open(os.devnull, 'rb'):
+            name = Path('/proc/self/comm').read_text(encoding='utf-8').strip()
+            self.assertIn(f'{name} ({os.getpid()})', card_opening.holders(os.devnull))
+            self.assertIn(name, card_opening.advice(os.devnull, errno.EBUSY))
+        self.assertIn('SupplementaryGroups=', card_opening.advice(os.devnull, errno.EACCES))
+
+
+class CardWatchTests(unittest.TestCase):
+    def setUp(self) -> None:
+        self.told: list[Event] = []
+        self.channel = FakeChannel()
+
+    def watch(self) -> CardWatch:
+        return CardWatch(self.channel, self.told.append)
+
+    def words(self) -> list[str]:
+        told, self.told[:] = [words_of(event) for event in self.told], []
+        return told
+
+    def test_alarms(self) -> None:
+        """Each alarm is told once, at its begin and its end; those of this end and of the other are outages."""
+        watch = self.watch()
+        for alarms, begins, outage in (
+                (0, (), None), (8, ('card: RED alarm: ',), 'the card is in alarm: RED'),
+                (8 | 4, ('card: YELLOW alarm: ',), 'the card is in alarm: RED'),
+                (4, ('card: RED alarm over',), 'the other end has no alignment'),
+                (4 | 2, ('card: LOOPBACK alarm: ',), 'the other end has no alignment'),
+                (16 | 32, ('card: LOOPBACK alarm over', 'card: YELLOW alarm over', 'card: BLUE', 'card: NOT OPEN'),
+                 'the card is in alarm: BLUE, NOT OPEN'), (1 << 8, ('card: BLUE', 'card: NOT'), None)):
+            self.channel.alarms = alarms
+            watch.look()
+            told = self.words()
+            self.assertEqual(len(told), len(begins))
+            self.assertTrue(all(map(str.startswith, told, begins)), told)
+            self.assertEqual(watch.outage(), outage)
+            self.assertEqual(watch.failure(), '')
+
+    def test_events(self) -> None:
+        """All of them are taken, at once; one of them says that the card is gone."""
+        watch = self.watch()
+        self.channel.events = [4, 5, 30, 4]
+        watch.look()
+        self.assertEqual((self.channel.events, watch.failure()), ([], ''))
+        self.channel.events = [4, 20]
+        watch.look()
+        self.assertEqual(watch.failure(), GONE)
+
+    def test_gone(self) -> None:
+        watch = self.watch()
+        self.channel.is_away = True
+        self.assertEqual(watch.failure(), GONE)
+
+    def test_status(self) -> None:
+        self.channel.alarms = 8
+        watch = self.watch()
+        found = {name: n for name, n in watch.status().items() if n}
+        self.assertEqual(found, {'span': 3, 'block': 16, 'buffers': 8, 'red': 1, 'bipolar_violations': 5,
+                                 'errored_seconds': 7, 'interrupts_missed': 9})
+
+    def test_watched(self) -> None:
+        """It looks as soon as the descriptor has what is urgent, and leaves it open at its end."""
+        async def run() -> None:
+            with socket.create_server(('127.0.0.1', 0)) as listener, \
+                    socket.create_connection(listener.getsockname()) as near, listener.accept()[0] as far:
+                self.channel.file = near.fileno()
+                with mock.patch('e1gw.service.card.LOOK', 1e6):
+                    (watch := self.watch()).begin()
+                    await asyncio.sleep(0.01)       # (the first look)
+                    self.channel.alarms = 8
+                    far.send(b'!', socket.MSG_OOB)
+                    while not self.told:
+                        await asyncio.sleep(0.01)
+                for _ in range(2):
+                    watch.end()
+                near.getsockname()
+        asyncio.run(run())
+        self.assertEqual([event['what'] for event in self.told], ['RED'])
