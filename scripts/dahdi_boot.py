@@ -1,0 +1,95 @@
+"""Boots the machine of scripts/dahdi: its initial file system (cpio, as in the kernel's
+Documentation/driver-api/early-userspace/buffer-format.rst), and qemu. The time in it counts instructions, one a
+nanosecond, so the load of this machine is not seen there."""
+from __future__ import annotations
+
+import os
+import re
+import shlex
+import shutil
+import stat
+import subprocess
+import tempfile
+from pathlib import Path
+from typing import Iterator
+
+from dahdi_build import CannotBuild, MachineFiles, linked, put, staged_python
+from paths import TOP
+
+QEMU = 'qemu-system-x86_64'
+MEMORY = 640                # MiB
+APPEND = 'console=ttyS0 loglevel=1 panic=-1 mitigations=off lpj=4000000 tsc=reliable quiet'
+# The first process: what each Linux has, and then the scenes.
+INIT = '''#!/bin/busybox sh
+export PATH=/usr/sbin:/usr/bin:/sbin:/bin HOME=/ LC_ALL=C.UTF-8 PYTHONPATH=/e1gw/driver:/e1gw/scripts
+/bin/busybox --install -s /bin
+mount -t proc proc /proc; mount -t sysfs sys /sys; mount -t devtmpfs dev /dev
+mkdir -p /dev/shm; mount -t tmpfs shm /dev/shm; mount -t tmpfs tmp /tmp
+ln -s /proc/self/fd /dev/fd; ip link set lo up
+cd /tmp
+python3.11 -B -m dahdi_scenes {words} < /dev/null
+poweroff -f
+'''
+KERNEL = re.compile(r'\s*$|\[ *[0-9.]+\]')      # what the kernel says
+SCENES = ('dahdi_far.py', 'dahdi_inside.py', 'dahdi_scenes.py', 'dahdi_talk.py', 'paths.py')
+
+
+def entry(name: str, mode: int, octets: bytes) -> bytes:
+    """An entry of a cpio archive."""
+    fields = (0, mode, 0, 0, 1, 0, len(octets), 0, 0, 0, 0, len(name) + 1, 0)
+    head = b'070701' + b''.join(b'%08X' % field for field in fields) + name.encode() + b'\0'
+    return head + bytes(-len(head) % 4) + octets + bytes(-len(octets) % 4)
+
+
+def entries(folder: Path) -> Iterator[bytes]:
+    """The entries of a folder and all below it."""
+    for path in sorted(folder.rglob('*')):
+        name, mode = str(path.relative_to(folder)), path.lstat().st_mode
+        if stat.S_ISLNK(mode):
+            yield entry(name, mode, os.readlink(path).encode())
+        elif stat.S_ISDIR(mode) or stat.S_ISREG(mode):
+            yield entry(name, mode, path.read_bytes() if stat.S_ISREG(mode) else b'')
+
+
+def write_archive(folder: Path, file: Path) -> None:
+    """Puts a folder behind what is in the file; the kernel unpacks one archive after another."""
+    with open(file, 'ab') as archive:
+        for each in entries(folder):
+            archive.write(each)
+        archive.write(entry('TRAILER!!!', 0, b''))
+
+
+def put_programs(its: MachineFiles, folder: Path, programs: dict[str, str]) -> None:
+    """The Python programs and the scenes as they are now, compiled, and built programs with their libraries."""
+    shutil.copytree(Path(TOP, 'driver'), folder / 'e1gw/driver',
+                    ignore=shutil.ignore_patterns('__pycache__', 'tests'))
+    for name in SCENES:
+        put(Path(TOP, 'scripts', name), folder / 'e1gw/scripts' / name)
+    staged_python(its, '-m', 'compileall', '-q', '-s', str(folder), str(folder / 'e1gw'))
+    for name, path in programs.items():
+        put(path, folder / 'e1gw/out' / name)
+        for library in linked(Path(path)):
+            if not (its.image / library.lstrip('/')).exists():
+                put(library, folder / library.lstrip('/'))
+
+
+def boot(its: MachineFiles, programs: dict[str, str], scenes: list[str], seconds: int) -> Iterator[str]:
+    """Boots the machine, and yields each line that its scenes write. CannotBuild if it does not end so soon."""
+    with tempfile.TemporaryDirectory() as work:
+        own, ram = Path(work, 'own'), Path(work, 'ram')
+        own.mkdir()
+        put_programs(its, own, programs)
+        (own / 'init').write_text(INIT.format(words=shlex.join(scenes)))
+        (own / 'init').chmod(0o755)
+        for folder in its.image, own:
+            write_archive(folder, ram)
+        with subprocess.Popen(
+                ['timeout', str(seconds), QEMU, '-M', 'q35', '-accel', 'tcg,thread=single', '-icount',
+                 'shift=0,sleep=off', '-cpu', 'max', '-smp', '1', '-m', str(MEMORY), '-nodefaults', '-no-user-config',
+                 '-display', 'none', '-serial', 'stdio', '-no-reboot', '-kernel', str(its.boots), '-initrd', str(ram),
+                 '-append', APPEND], stdin=subprocess.DEVNULL, stdout=subprocess.PIPE, stderr=subprocess.STDOUT,
+                text=True, errors='replace') as machine:
+            assert machine.stdout
+            yield from (line.rstrip() for line in machine.stdout if not KERNEL.match(line))
+        if machine.returncode:
+            raise CannotBuild(f'{QEMU} ended with status {machine.returncode}, or not within {seconds} s')

@@ -1,0 +1,202 @@
+"""What the machine of scripts/dahdi boots: Debian's kernel, DAHDI's modules built for it, and a root with Python, made
+in a folder that is kept. Packages are downloaded by apt-get and unpacked there; none is installed."""
+from __future__ import annotations
+
+import glob
+import hashlib
+import os
+import re
+import shutil
+import subprocess
+from dataclasses import dataclass
+from pathlib import Path
+from typing import Callable, Iterable, Iterator
+
+from paths import TOP
+
+PACKAGES = ('busybox-static', 'dahdi', 'dahdi-source', 'libpython3.11-minimal', 'libpython3.11-stdlib',
+            'libtonezone2.0', 'python3.11-minimal')
+MODULES = ('dahdi', 'dahdi_dynamic', 'dahdi_dynamic_loc', 'dahdi_dummy')       # (the last one gives a card's interrupt)
+CONFIG = ('DAHDI_BUILD_ALL=', 'HOTPLUG_FIRMWARE=yes', 'CONFIG_DAHDI=m', 'CONFIG_DAHDI_DYNAMIC=m',
+          'CONFIG_DAHDI_DYNAMIC_LOC=m', 'MODULES_EXTRA=1', 'DAHDI_MODULES_EXTRA=dahdi_dummy.o')
+PYTHON = 'usr/bin/python3.11'
+LIBRARY = 'usr/lib/python3.11'
+# What the programs and the scenes import, also later.
+IMPORTED = ('compileall', 'encodings.ascii', 'encodings.idna', 'encodings.latin_1', 'e1gw.__main__', 'e1gw.config',
+            'e1gw.ctl', 'e1gw.exchange', 'e1gw.service.service', 'e1gw.testing.openr2', 'e1gw.testing.service',
+            'e1gw.tools.exchange')
+COPIED = ('usr/sbin/dahdi_cfg', 'bin/busybox', PYTHON)
+LISTS = 'import importlib, sys; [importlib.import_module(name) for name in sys.argv[1:]]; ' \
+    'print(*(each.__file__ for each in list(sys.modules.values()) if getattr(each, "__file__", None)), sep="\\n")'
+
+
+class CannotBuild(Exception):
+    """Why there is no machine."""
+
+
+def ran(*words: str | Path, cwd: str | Path = TOP, env: dict[str, str] | None = None) -> str:
+    """What a command writes; CannotBuild, with its last lines, if it fails."""
+    done = subprocess.run(words, cwd=cwd, env=env, stdout=subprocess.PIPE, stderr=subprocess.STDOUT, text=True,
+                          check=False)
+    if done.returncode:
+        raise CannotBuild(f'{" ".join(map(str, words[:4]))} ..: {" / ".join(done.stdout.splitlines()[-3:])}')
+    return done.stdout
+
+
+def depends(package: str) -> list[str]:
+    """The packages that one depends on."""
+    return re.findall(r'^\s*Depends: (\S+)', ran('apt-cache', 'depends', package), re.MULTILINE)
+
+
+@dataclass(frozen=True)
+class MachineFiles:
+    """The folder that is kept."""
+
+    folder: Path
+    kernel: str             # its version, as 6.1.0-50-amd64
+
+    @property
+    def root(self) -> Path:
+        """Where packages are unpacked."""
+        return self.folder / 'root'
+
+    @property
+    def image(self) -> Path:
+        """What is seen in the machine, but for the programs of this repository."""
+        return self.folder / 'image'
+
+    @property
+    def boots(self) -> Path:
+        return self.root / 'boot' / f'vmlinuz-{self.kernel}'
+
+    @property
+    def drivers(self) -> Path:
+        return self.root / 'modules' / 'dahdi' / 'drivers' / 'dahdi'
+
+    @property
+    def headers(self) -> Path:
+        return self.root / 'usr' / 'src' / f'linux-headers-{self.kernel}'
+
+
+def kernel_of_now() -> str:
+    """The version of Debian's kernel."""
+    found = [name for name in depends('linux-headers-amd64') if name.startswith('linux-headers-')]
+    if not found:
+        raise CannotBuild('apt has no linux-headers-amd64: apt-get update')
+    return found[0].removeprefix('linux-headers-')
+
+
+def packages(kernel: str) -> list[str]:
+    """All that are unpacked."""
+    headers = f'linux-headers-{kernel}'
+    others = [name for name in depends(headers) if name.startswith(('linux-headers', 'linux-kbuild'))]
+    return sorted({*PACKAGES, f'linux-image-{kernel}', headers, *others})
+
+
+def stamp_of(names: Iterable[str]) -> str:
+    """What the folder is made of: another version of a package or of this file makes it again."""
+    policy = ran('apt-cache', 'policy', *names)
+    octets = Path(__file__).read_bytes() + ' '.join(re.findall(r'Candidate: (\S+)', policy)).encode()
+    return hashlib.sha256(octets).hexdigest()
+
+
+def unpack(its: MachineFiles, names: list[str]) -> None:
+    """Downloads packages, and unpacks them."""
+    (debs := its.folder / 'debs').mkdir(parents=True, exist_ok=True)
+    shutil.rmtree(its.root, ignore_errors=True)
+    its.root.mkdir()
+    ran('apt-get', 'download', '-q', *names, cwd=debs)
+    for deb in sorted(debs.glob('*.deb')):
+        ran('dpkg-deb', '-x', deb, its.root)
+        deb.unlink()
+    ran('tar', '-xf', 'usr/src/dahdi.tar.bz2', cwd=its.root)
+
+
+def build_modules(its: MachineFiles) -> None:
+    """Builds DAHDI's modules. (The headers name each other by their places on an installed system.)"""
+    makefile = its.headers / 'Makefile'
+    makefile.write_text(makefile.read_text().replace(' /usr/src/', f' {its.root}/usr/src/'))
+    for name in 'scripts', 'tools':
+        place = its.headers / name
+        if place.is_symlink():
+            target = os.readlink(place)
+            if target.startswith('/'):
+                place.unlink()
+                place.symlink_to(f'{its.root}{target}')
+    dahdi = its.root / 'modules' / 'dahdi'
+    (dahdi / 'include' / 'dahdi' / 'version.h').touch()
+    ran('make', '-s', '-C', dahdi, f'KVERS={its.kernel}', f'KSRC={its.headers}', 'include/dahdi/version.h')
+    ran('make', '-s', f'-j{os.cpu_count()}', '-C', its.headers, f'M={its.drivers}', f'KBUILD_EXTMOD={its.drivers}',
+        f'DAHDI_INCLUDE={dahdi}/include', *CONFIG, 'modules')
+
+
+# ---- the image ----
+
+def staged_python(its: MachineFiles, *words: str) -> str:
+    """What the unpacked Python writes."""
+    return ran(its.root / PYTHON, *words, env={'PYTHONHOME': str(its.root / 'usr'), 'PYTHONDONTWRITEBYTECODE': '1',
+                                               'PYTHONPATH': f'{TOP}/driver', 'LC_ALL': 'C.UTF-8'})
+
+
+def library_files(its: MachineFiles) -> list[Path]:
+    """The files of Python's library that are imported."""
+    listed = map(Path, staged_python(its, '-c', LISTS, *IMPORTED).split())
+    return sorted(path for path in listed if path.is_relative_to(its.root))
+
+
+def linked(path: Path) -> Iterator[str]:
+    """The libraries of a program, as the linker of this system finds them, and that one."""
+    done = subprocess.run(['ldd', path], capture_output=True, text=True, check=False)
+    yield from re.findall(r'(/\S+) \(0x', done.stdout)
+
+
+def put(source: Path | str, place: Path) -> None:
+    """Copies a file into the image."""
+    place.parent.mkdir(parents=True, exist_ok=True)
+    shutil.copy2(source, place)
+
+
+def put_libraries(its: MachineFiles, path: Path) -> None:
+    """Copies the libraries of a program into the image."""
+    for library in linked(path):
+        if not (place := its.image / library.lstrip('/')).exists():
+            put(library, place)
+
+
+def make_image(its: MachineFiles) -> None:
+    """Makes the image: modules, tools, Python and what it imports, compiled."""
+    shutil.rmtree(its.image, ignore_errors=True)
+    for folder in 'dev', 'etc/dahdi', 'proc', 'run', 'sys', 'tmp':
+        (its.image / folder).mkdir(parents=True)
+    for name in MODULES:
+        place = its.image / 'modules' / f'{name}.ko'
+        put(its.drivers / f'{name}.ko', place)
+        ran('strip', '-g', place)
+    for copied in COPIED:
+        put(its.root / copied, its.image / copied)
+    for tonezone in its.root.glob('usr/lib/**/libtonezone.so.2*'):
+        put(tonezone, its.image / 'lib/x86_64-linux-gnu' / tonezone.name)
+    for path in library_files(its):
+        put(path, its.image / path.relative_to(its.root))
+    staged_python(its, '-m', 'compileall', '-q', str(its.image / LIBRARY))
+    for each in (its.image / copied for copied in COPIED):
+        put_libraries(its, each)
+    for each in map(Path, glob.glob(f'{its.image}/{LIBRARY}/lib-dynload/*.so')):
+        put_libraries(its, each)
+
+
+def machine_files(folder: Path, tell: Callable[[str], None]) -> MachineFiles:
+    """The folder of a machine, made if it is not there, or of other packages."""
+    its = MachineFiles(folder.resolve(), kernel_of_now())
+    names = packages(its.kernel)
+    stamp, marker = stamp_of(names), its.folder / 'stamp'
+    if marker.exists() and marker.read_text() == stamp:
+        return its
+    marker.unlink(missing_ok=True)
+    tell(f'kernel {its.kernel}: {len(names)} packages are downloaded')
+    unpack(its, names)
+    tell('the modules are built')
+    build_modules(its)
+    make_image(its)
+    marker.write_text(stamp)
+    return its

@@ -1,0 +1,247 @@
+"""What the scenes of scripts/dahdi use inside the machine: its two spans, trunks in service on them, and checks."""
+from __future__ import annotations
+
+import errno
+import fcntl
+import os
+import re
+import struct
+import subprocess
+import sys
+import time
+from contextlib import suppress
+from pathlib import Path
+from typing import Any, Callable, Iterable
+
+from paths import TOP
+from e1gw.dahdi import NUMBER, SPAN, SpanFacts, request_of, span_facts
+from e1gw.testing.service import Service
+
+PROGRAM = f'{TOP}/out/e1gw'
+DYNAMIC = struct.Struct('=20s40siii')
+CREATE, DESTROY = request_of(3, 80, DYNAMIC.size), request_of(1, 81, DYNAMIC.size)
+SPAN_STATUS, SHUTDOWN = request_of(3, 10, SPAN.size), request_of(1, 100, NUMBER.size)
+SLOTS = 31
+DEVICES = '/dev/dahdi/1', '/dev/dahdi/32'           # the bundles of the two spans
+CLEAR = 'clear=1-31\nclear=32-62\n'
+LOADED = 'dahdi', 'dahdi_dynamic', 'dahdi_dynamic_loc', 'dahdi_dummy'
+SOON = 20.0                 # seconds for what has to happen
+
+
+class SceneFailed(Exception):
+    """What was not as it has to be."""
+
+
+def until(condition: Callable[[], Any], what: str, seconds: float = SOON) -> float:
+    """Waits until a condition holds; how long that took. SceneFailed if it does not come."""
+    began = time.monotonic()
+    while not condition():
+        if time.monotonic() > began + seconds:
+            raise SceneFailed(f'not within {seconds:g} s: {what}')
+        time.sleep(0.02)
+    return time.monotonic() - began
+
+
+def asks(what: bool, words: str) -> None:
+    """SceneFailed if something does not hold."""
+    if not what:
+        raise SceneFailed(words)
+
+
+def matches(what: str, pattern: str, opens: Callable[[], Any]) -> None:
+    """An open is refused with words that have this pattern."""
+    try:
+        opens()
+    except OSError as fault:
+        return asks(bool(re.search(pattern, fault.strerror or '')), f'{what}: {fault.strerror}')
+    raise SceneFailed(f'{what}: it is opened')
+
+
+def as_user(number: int, works: Callable[[], Any]) -> None:
+    """Does something in a process of another user, whose OSError is raised here."""
+    reads, writes = os.pipe()
+    if (child := os.fork()) == 0:
+        os.setgid(number)
+        os.setuid(number)
+        try:
+            works()
+        except OSError as fault:
+            os.write(writes, (fault.strerror or '').encode())
+        os._exit(0)
+    os.close(writes)
+    os.waitpid(child, 0)
+    with open(reads, encoding='utf-8') as told:
+        if words := told.read():
+            raise OSError(errno.EACCES, words)
+
+
+def ran(*words: str) -> int:
+    """The status of a command."""
+    return subprocess.run(words, stdout=subprocess.DEVNULL, stderr=subprocess.DEVNULL, check=False).returncode
+
+
+def control(request: int, octets: bytes) -> bytes:
+    """Asks the driver at its control device."""
+    file = os.open('/dev/dahdi/ctl', os.O_RDWR)
+    try:
+        return fcntl.ioctl(file, request, octets)
+    finally:
+        os.close(file)
+
+
+# ---- spans ----
+
+def load() -> None:
+    """Loads the driver, and makes both spans."""
+    ran('insmod', '/modules/dahdi.ko', 'auto_assign_spans=1')
+    for name in LOADED[1:3]:
+        ran('insmod', f'/modules/{name}.ko')
+    for span in 0, 1:
+        create(span)
+    configure()
+    ran('insmod', f'/modules/{LOADED[3]}.ko')       # (last: it takes the next number of a span)
+
+
+def unload() -> int:
+    """Unloads the driver; 0 if that was done."""
+    return max([ran('rmmod', name) for name in reversed(LOADED)])
+
+
+def span_request(span: int) -> bytes:
+    return DYNAMIC.pack(b'loc', f'1:{span}'.encode(), SLOTS, 0, 0)
+
+
+def create(span: int) -> None:
+    """Makes a span, which is joined to the other one, if that is there."""
+    control(CREATE, span_request(span))
+
+
+def is_destroyed(span: int) -> bool:
+    """Takes a span away for good; whether nobody had it open."""
+    with suppress(OSError):
+        control(DESTROY, span_request(span))
+        return True
+    return False
+
+
+def remove(span: int) -> Path:
+    """Takes a span away, as a card that is pulled out; returns what it can be given back by."""
+    folder, = Path('/sys/bus/dahdi_devices/devices').glob(f'*/span-{span + 1}')
+    (folder.parent / 'unassign_span').write_text('1', encoding='ascii')
+    return folder.parent
+
+
+def give_back(span: int, folder: Path) -> None:
+    """Gives it back, with its numbers."""
+    (folder / 'assign_span').write_text(f'1:{span + 1}:{1 + SLOTS * span}', encoding='ascii')
+    configure()
+
+
+def configure(text: str = CLEAR) -> int:
+    """Has dahdi_cfg configure the channels, and names those that udev would name."""
+    Path('/etc/dahdi/system.conf').write_text(text + 'alaw=1-62\n', encoding='ascii')
+    status = ran('dahdi_cfg')
+    for number, device in enumerate(DEVICES, 1):
+        if not os.path.islink(device):
+            os.symlink(f'/dev/dahdi/chan/{number:03}/001', device)
+    return status
+
+
+def unconfigure() -> None:
+    """No channel is configured."""
+    for number in 1, 2:
+        control(SHUTDOWN, NUMBER.pack(number))
+
+
+def span_of(number: int) -> SpanFacts:
+    return span_facts(control(SPAN_STATUS, NUMBER.pack(number) + bytes(SPAN.size - NUMBER.size)))
+
+
+# ---- trunks ----
+
+class Site:
+    """A trunk in service at one of the two spans, by the options of docs/START.md and others."""
+
+    def __init__(self, name: str, number: int, *options: str) -> None:
+        self.name, self.number, self.device = name, number, DEVICES[number]
+        self._words = '--clear', '--in', self.device, '--out', self.device, '--reopen', *options
+        self.service = self._started()
+
+    def _started(self) -> Service:
+        return Service('/tmp', self.name, PROGRAM, f'/tmp/{self.name}.toml', *self._words)
+
+    def commands(self, name: str, circuits: Iterable[int]) -> None:
+        """Gives the same command for each circuit."""
+        for circuit in circuits:
+            if (answer := self.service.ask(f'{name} {circuit}')) != f'{name} {circuit}: done':
+                raise SceneFailed(f'{self.name}: {answer}')
+
+    def status(self) -> dict[str, Any]:
+        return self.service.status()
+
+    def transport(self) -> dict[str, Any]:
+        return dict(self.status().get('transport', {}))
+
+    def is_heard(self) -> bool:
+        """Whether slot 16 was found, and the far end has no alarm."""
+        status = self.status()
+        alarms = [*status.get('alarm', {'': True}).values(), *status.get('remote_alarm', {}).values()]
+        return not any(alarms) and status['transport'].get('silent') is False
+
+    def states(self) -> set[str]:
+        """Of all circuits."""
+        return {str(row['state']) for row in self.status().get('circuits', [])}
+
+    def state(self, circuit: int) -> str:
+        return next((str(row['state']) for row in self.status().get('circuits', []) if row['circuit'] == circuit), '')
+
+    def losses(self) -> tuple[int, int]:
+        """How often slot 16 was lost, and multiframe alignment."""
+        status = self.status()
+        return int(status['transport']['slots_lost']), int(status['losses']['multiframe'])
+
+    def programs(self) -> list[int]:
+        """The processes of its program."""
+        return self._running(b'trunk')
+
+    def processes(self) -> list[int]:
+        """The service, the program and its follower."""
+        return [self.service.driver.pid, *self._running(b'trunk'), *self._running(b'replay')]
+
+    def _running(self, subcommand: bytes) -> list[int]:
+        found, folder = [], f'/dev/shm/{self.name}-'.encode()
+        for path in Path('/proc').glob('[0-9]*/cmdline'):
+            with suppress(OSError):
+                words = path.read_bytes().split(b'\0')
+                if words[1:2] == [subcommand] and any(word.startswith(folder) for word in words):
+                    found.append(int(path.parts[2]))
+        return found
+
+    def said(self, words: str) -> bool:
+        return words in self.service.said()
+
+    def killed(self) -> None:
+        """Kills e1gw-trunk, and starts it again by the same command line."""
+        self.service.driver.kill()
+        self.service.driver.wait()
+        self.service.log.close()
+        self.service = self._started()
+
+    def transport_is_open(self) -> bool:
+        return bool(self.status().get('trunk_up')) and 'span' in self.transport()
+
+    def busy(self) -> float:
+        """The seconds of a processor that its processes have had."""
+        return sum(int(Path(f'/proc/{pid}/schedstat').read_text(encoding='ascii').split()[0])
+                   for pid in self.processes()) / 1e9
+
+    def end(self) -> None:
+        self.service.end()
+        self.service.log.close()
+
+
+def configured() -> None:
+    """Writes the configurations of two sites: the west seizes."""
+    for trunk, name, role in (1, 'west', 'outgoing'), (2, 'east', 'incoming'):
+        if not os.path.exists(f'/tmp/{name}.toml'):
+            ran(sys.executable, '-m', 'e1gw', 'config', '--write', name, '--role', role, '--trunk', str(trunk))

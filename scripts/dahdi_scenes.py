@@ -1,0 +1,323 @@
+"""The scenes of scripts/dahdi, which run inside its machine: python3 -m dahdi_scenes NAME.. runs those of these names.
+Each prints a line `passed NAME: figures` or `failed NAME: why`."""
+from __future__ import annotations
+
+import os
+import signal
+import sys
+import time
+import traceback
+from dataclasses import dataclass
+from functools import partial
+from pathlib import Path
+from typing import Callable, Iterator
+
+import dahdi_inside as inside
+from paths import TOP
+from dahdi_inside import DEVICES, Site, SceneFailed, asks, until
+from dahdi_far import FarEnd, openr2, simulated
+from dahdi_talk import Comparison, Talk, figures
+from e1gw.card_opening import open_device
+from e1gw.dahdi import Blocks
+from e1gw.testing.openr2 import OpenR2
+
+PORTS = (24002, 34002), (24102, 34102)      # of e1gw-config, local and its peer's, of both sites
+THIRTY = range(1, 31)
+BACK = 2.0                  # seconds after which a trunk is there again once its card is
+DEFAULT = Blocks(16, 8)
+NOBODY = 65534
+R2 = 'R2 call of libopenr2'
+
+
+@dataclass(frozen=True)
+class Scene:
+    """A scene: its name, and what it does; that returns figures, or raises SceneFailed."""
+
+    name: str
+    does: Callable[[], str]
+    is_long: bool = False
+
+
+class Pair:
+    """Two sites, one on each span, aligned."""
+
+    def __init__(self, *options: str) -> None:
+        inside.configured()
+        self.sites = [Site('west', 0, *options), Site('east', 1, *options)]
+        self.west, self.east = self.sites
+        self.are_heard()
+
+    def are_heard(self, seconds: float = inside.SOON) -> None:
+        for site in self.sites:
+            until(site.is_heard, f'{site.name} has alignment: {site.status().get("alarm")}', seconds)
+
+    def calls(self) -> None:
+        """All thirty answered."""
+        if self.are_answered():
+            return
+        self.west.commands('seize', THIRTY)
+        until(lambda: self.west.states() == {'acked'}, f'thirty acked, not {self.west.states()}')
+        self.east.commands('answer', THIRTY)
+        until(self.are_answered, f'thirty answered, not {self.west.states()}')
+
+    def are_answered(self) -> bool:
+        return self.west.states() == self.east.states() == {'answered'}
+
+    def goes_on(self, before: list[int]) -> bool:
+        """Whether the west has another program than before, and both have alignment."""
+        return bool(set(self.west.programs()) - set(before)) and all(site.is_heard() for site in self.sites)
+
+    def talk(self, seconds: float) -> list[Comparison]:
+        return Talk(PORTS, THIRTY, seconds).run()
+
+    def end(self) -> None:
+        for site in self.sites:
+            site.end()
+
+
+class Shared:
+    """The pair that scenes share, begun by the first one, and by the one behind a scene that failed."""
+
+    pair: Pair | None = None
+
+    @classmethod
+    def begun(cls) -> Pair:
+        cls.pair = cls.pair or Pair()
+        return cls.pair
+
+    @classmethod
+    def end(cls) -> None:
+        pair, cls.pair = cls.pair, None
+        if pair:
+            pair.end()
+
+
+# ---- the scenes ----
+
+def thirty_calls() -> str:
+    """By the options of docs/START.md."""
+    pair = Shared.begun()
+    pair.calls()
+    before = [site.losses() for site in pair.sites]
+    compared = pair.talk(10)
+    after = [site.losses() for site in pair.sites]
+    told = ', '.join(figures(compared))
+    asks(all(one.found == 1 and not one.wrong and not one.missing for one in compared), told)
+    asks(before == after, f'slot 16 and multiframe alignment lost: {before} before, {after} behind; {told}')
+    return told
+
+
+def killed() -> str:
+    """Whatever is killed or replaced, the calls stay."""
+    pair, took = Shared.begun(), dict[str, float]()
+    pair.calls()
+    west = pair.west
+    acts: dict[str, Callable[[], None]] = {
+        'program': lambda: os.kill(west.programs()[0], signal.SIGKILL),
+        'reload': lambda: west.service.driver.send_signal(signal.SIGHUP), 'e1gw-trunk': west.killed}
+    for what, ends in acts.items():
+        before = west.programs()
+        ends()
+        took[what] = until(partial(pair.goes_on, before), f'both have alignment again behind: {what}')
+        asks(pair.are_answered(), f'{what}: {pair.west.states()}, {pair.east.states()}')
+    return 'thirty calls stay; alignment again after ' + ', '.join(f'{s:.1f} s ({what})' for what, s in took.items())
+
+
+def removed() -> str:
+    """A card goes: one end knows it, the other one has an alarm. Both come back with it."""
+    pair = Shared.begun()
+    pair.calls()
+    program, card = pair.west.programs(), inside.remove(1)
+    alarm = until(lambda: pair.west.transport().get('red') == 1, 'the west has RED')
+    until(lambda: not pair.east.status().get('trunk_up', True), 'the east has no trunk')
+    asks(pair.west.said('card: RED alarm: '), 'the west says nothing of RED')
+    asks(pair.east.said('the card is gone'), 'the east does not say that the card is gone')
+    refusal = pair.west.service.ask('seize 1')
+    time.sleep(3)
+    inside.give_back(1, card)
+    back = until(lambda: pair.east.transport().get('red') == 0, 'the east has its card again', BACK)
+    pair.are_heard()
+    until(lambda: pair.west.said('card: RED alarm over'), 'the west says that RED is over', BACK)
+    asks(pair.are_answered(), f'{pair.west.states()}, {pair.east.states()}')
+    asks(pair.west.programs() == program, 'the alarm has ended the program of the west')
+    return f'RED within {alarm:.1f} s (seize: {refusal}), open {back:.1f} s behind the card, thirty calls stay'
+
+
+def unloaded() -> str:
+    """The driver is unloaded, which it refuses while a channel is open, and loaded again."""
+    pair = Shared.begun()
+    pair.calls()
+    asks(inside.ran('rmmod', 'dahdi_dynamic') != 0, 'the driver was unloaded while channels were open')
+    for span in 0, 1:
+        inside.remove(span)
+    for span in 0, 1:
+        until(partial(inside.is_destroyed, span), f'span {span} is destroyed')
+    until(lambda: inside.unload() == 0, 'the driver is unloaded')
+    asks(not Path(DEVICES[0]).exists(), 'the channel is still there')
+    time.sleep(1)
+    inside.load()
+    took = max(until(site.transport_is_open, f'{site.name} has its card again', BACK) for site in pair.sites)
+    pair.are_heard()
+    return f'open {took:.1f} s behind the driver; calls: {pair.west.states()}'
+
+
+REFUSALS = (
+    # (what, the device, the channels of dahdi_cfg, whether --clear was given, what is said)
+    ('in use', DEVICES[0], '', True, 'in use by .*e1gw.*'),
+    ('no such channel', '/dev/dahdi/9', '', True, 'No such file.*lsdahdi'),
+    ('one of a bundle', '/dev/dahdi/chan/002/005', '', True, 'busy.*give its first one'),
+    ('without --clear', DEVICES[1], '', False, 'DAHDI keeps time slot 0: --clear'),
+    ('single channels', DEVICES[1], 'clear=1-31\nbchan=32-62\n', True, 'channel 32 is one of 64 kbit/s: clear='),
+    ('unconfigured', DEVICES[1], 'clear=1-31\n', True, 'No such device or address.*dahdi_cfg'),
+)
+
+
+def refused() -> str:
+    """Each refusal of a card says what to do."""
+    pair = Shared.begun()
+    pair.east.end()
+    Shared.pair = None
+    try:
+        for what, device, channels, is_clear, words in REFUSALS:
+            if channels:
+                inside.unconfigure()
+                inside.configure(channels)
+            inside.matches(what, words, partial(open_device, device, device, DEFAULT, is_clear))
+        os.chmod('/dev/dahdi/chan/001/001', 0o660)
+        inside.matches('as nobody', 'no permission: SupplementaryGroups=', lambda: inside.as_user(
+            NOBODY, partial(open_device, DEVICES[0], DEVICES[0], DEFAULT, True)))
+    finally:
+        inside.unconfigure()
+        inside.configure()
+        pair.west.end()
+    return f'{len(REFUSALS) + 1} refusals, each with what to do'
+
+
+def simulated_exchange() -> str:
+    """A call to the project's own exchange, which gives back what it hears."""
+    Shared.end()
+    inside.configured()
+    far, west = FarEnd(simulated()), Site('west', 0)
+    try:
+        until(west.is_heard, 'the west has alignment')
+        west.commands('seize', [1])
+        took = until(lambda: west.states() >= {'answered'}, 'answered')
+        west.commands('clear', [1])
+        until(lambda: west.states() == {'idle'}, f'cleared, not {west.states()}')
+    finally:
+        west.end()
+        far.close()
+    return f'answered after {took:.1f} s, cleared'
+
+
+LOOP = '''law = "A"
+host = "127.0.0.1"
+[[circuit]]
+number = 1
+role = "incoming"
+prefill = 160
+local_port = 25002
+peer_host = "127.0.0.1"
+peer_port = 25004
+[[circuit]]
+number = 2
+role = "outgoing"
+prefill = 160
+local_port = 25004
+peer_host = "127.0.0.1"
+peer_port = 25002
+'''
+DIALS, OFFERED = '5551234567 4711', 'offered 5551234567 4711'
+
+
+def real_call() -> str:
+    """libopenr2 calls on circuit 1, and is called on circuit 2: digits, answer and clearing pass both ways over RTP."""
+    Shared.end()
+    Path('/tmp/loop.toml').write_text(LOOP, encoding='ascii')
+    exchange = OpenR2(f'{TOP}/out/exchange', '--answer', '300')
+    far, west = FarEnd(openr2(exchange)), Site('loop', 0)
+    try:
+        until(west.is_heard, 'alignment')
+        until(lambda: exchange.found(1, 'idle'), 'circuit 1 is idle at the exchange')
+        exchange.command(f'call 1 {DIALS}')
+        until(lambda: west.state(1) == 'acked', 'circuit 1 is seized')
+        west.commands('seize', [2])
+        took = until(lambda: exchange.found(2, OFFERED), f'offered: {exchange.events}')
+        until(lambda: west.state(2) == 'answered', 'answered by the exchange')
+        west.commands('answer', [1])
+        until(lambda: exchange.found(1, 'answered'), 'the caller is told of the answer')
+        exchange.command('hangup 1')
+        until(lambda: west.state(1) == 'idle', 'the caller has cleared')
+        west.commands('clear', [2])
+        until(lambda: exchange.found(2, 'ended'), 'the called exchange has ended the call')
+    finally:
+        west.end()
+        far.close()
+        exchange.end()
+    return f'{OFFERED} after {took:.1f} s, answered, cleared'
+
+
+def delays() -> str:
+    """What blocks of so many frames cost, and what is lost with them."""
+    Shared.end()
+    for frames in 1, 2, 4, 8, 16, 32, 64:
+        pair = Pair('--block', str(frames), '--buffers', str(min(32, 32768 // (31 * frames), max(8, 128 // frames))))
+        try:
+            pair.calls()
+            before, began = [site.losses() for site in pair.sites], time.monotonic()
+            busy = pair.west.busy()
+            compared = pair.talk(4)
+            share = (pair.west.busy() - busy) / (time.monotonic() - began)
+            lost = [b - a for one, other in zip(before, (site.losses() for site in pair.sites))
+                    for a, b in zip(one, other)]
+            blocks = pair.west.transport()
+            print(f'  {frames} frames x {blocks["buffers"]}: {", ".join(figures(compared))}; lost {lost}; '
+                  f'{100 * share:.1f} % of a core', flush=True)
+        except SceneFailed as fault:
+            print(f'  {frames} frames: {fault}', flush=True)
+        finally:
+            pair.end()
+    return 'see above'
+
+
+SCENES = (
+    Scene('thirty calls', thirty_calls),
+    Scene('killed', killed),
+    Scene('removed', removed),
+    Scene('unloaded', unloaded),
+    Scene('refused', refused),
+    Scene('simulated exchange', simulated_exchange),
+    Scene(R2, real_call),
+    Scene('delays', delays, is_long=True),
+)
+
+
+def tried(scene: Scene) -> bool:
+    began = time.monotonic()
+    try:
+        told, word = scene.does(), 'passed'
+    except Exception as fault:      # pylint: disable=broad-exception-caught
+        told, word = str(fault), 'failed'
+        if not isinstance(fault, SceneFailed):
+            traceback.print_exc(file=sys.stdout)
+    print(f'{word} {scene.name}: {told} ({time.monotonic() - began:.1f} s)', flush=True)
+    return word == 'passed'
+
+
+def last_lines() -> Iterator[str]:
+    """Of what the trunks have said."""
+    for path in sorted(Path('/tmp').glob('*.log')):
+        yield from (f'  {path.stem}: {line}' for line in path.read_text(encoding='utf-8').splitlines()[-16:])
+
+
+def main() -> None:
+    inside.load()
+    for scene in SCENES:
+        if scene.name in sys.argv[1:] and not tried(scene):
+            print(*last_lines(), sep='\n', flush=True)
+            Shared.end()
+    Shared.end()
+
+
+if __name__ == '__main__':
+    main()
