@@ -15,9 +15,9 @@ use Rattle.gw_trunk.specs.declared.client.ClientPoll.{ClientPoll}
 use Rattle.gw_trunk.specs.declared.client.ClientPoll.TheVariants.{Command, Nothing, Gone}
 use Rattle.gw_trunk.specs.declared.client.Client.{Client}
 use Rattle.gw_trunk.specs.declared.clients.Clients.{Clients}
-use Rattle.gw_trunk.specs.Device.{GaveBehind, passed_count, is_broken_pipe}
+use Rattle.gw_trunk.specs.Device.{AnswersByKind, GaveBehind, passed_count, is_broken_pipe}
 use Rattle.gw_trunk.specs.Pieces.{AsksRecord, client_kinds}
-use Rattle.gw_trunk.specs.System.{SystemAccepted, SystemHasNobody, SystemRead, SystemRenews, SystemReports}
+use Rattle.gw_trunk.specs.System.{SystemAccepted, SystemHasNobody, SystemGave, SystemRenews, SystemReports}
 use Rattle.gw_trunk.specs.System.{SystemWatches, SystemWrote}
 use Rattle.gw_records.specs.declared.records.RecordsEnd.{RecordsEnd}
 use Rattle.gw_records.specs.Records.{end_of, is_open}
@@ -332,7 +332,7 @@ Waits clients clients' = ((clients.octets || clients.knocks ≡ true) × (client
 abbrev pub GivesAnswer : Clients → Clients → Type 0
 GivesAnswer clients clients' = MatchOption clients.asker (clients' ≡ clients) (λ place.
     (clients' ≡ record clients { answers = clients'.answers; places = clients'.places; asker = None })
-    × HasAnswered SystemWrote (GaveBehind (SystemRead clients'.answers.reader)
+    × HasAnswered SystemWrote (GaveBehind (AnswersByKind SystemGave clients'.answers.reader)
     clients.answers.log.octets clients'.answers.log.octets) clients.places clients'.places place)
 
 -- There are no clients, and somebody may knock. The system reports what comes of the trunk, unless it refuses

@@ -1,6 +1,8 @@
 -- What reads and writes of a device do (module `device`).
 use Rattle.std.specs.Prelude.{◌≡◌, ◌⊎◌, ◌≤◌, ◌<◌, ◌==◌, ◌^◌, ◌++◌, ⊤, ℕ, Bool, true, false, List, [], take}
-use Rattle.std.specs.Prelude.{Option, Some, None, Result, Ok, Err, nat_lt}
+use Rattle.std.specs.Prelude.{Option, Some, None, Result, Ok, Err, nat_lt, pos}
+use Rattle.std.specs.IoError.{error_kind, raw_os_error}
+use Rattle.std.specs.declared.io.Error.{Error}
 use Rattle.std.specs.declared.io.ErrorKind.{ErrorKind}
 use Rattle.std.specs.declared.io.ErrorKind.TheVariants.{WouldBlock, Interrupted, BrokenPipe}
 use Rattle.gw_trunk.specs.declared.device.DeviceFault.{DeviceFault}
@@ -40,6 +42,26 @@ abbrev pub written_of : Result (Option ℕ) DeviceFault → List ℕ → List �
 written_of (Ok (Some n)) octets = take n octets
 written_of (Ok None) octets = []
 written_of (Err e) octets = []
+
+-- a device has an event: no octet passes before somebody has taken it (ELAST of DAHDI's user.h)
+abbrev pub HasEvent : Error → Type 0
+HasEvent error = raw_os_error error ≡ Some (pos 500)
+
+-- the kind of an error of a device: while it has an event a call is to be repeated; else that of the error
+abbrev pub IsKindOf : Error → ErrorKind → Type 0
+IsKindOf error kind = (HasEvent error → kind ≡ WouldBlock) × (¬ HasEvent error → kind ≡ error_kind error)
+
+-- what a call of a device returns if the system's answer is this
+abbrev pub IsAnswer : Result ℕ Error → Result ℕ ErrorKind → Type 0
+IsAnswer (Ok n) result = result ≡ Ok n
+IsAnswer (Err error) (Ok n) = ⊥
+IsAnswer (Err error) (Err kind) = IsKindOf error kind
+
+-- .. by what the system answered, which a relation tells of a device
+abbrev pub AnswersByKind : {S : Type 0} → (S → Result ℕ Error → Type 0) → S → Result ℕ ErrorKind
+    → Type 0
+AnswersByKind answered device result = (answer : Result ℕ Error) × answered device answer
+    × IsAnswer answer result
 
 -- an error says only that a call is to be repeated
 abbrev pub is_for_later : ErrorKind → Bool

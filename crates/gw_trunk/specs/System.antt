@@ -6,7 +6,11 @@ use Rattle.std.specs.Prelude.{⊤, ℕ, Bool, List, Option, Result}
 use Rattle.std.specs.declared.io.Error.{Error}
 use Rattle.std.specs.declared.io.ErrorKind.{ErrorKind}
 
--- the last read of a reader returned this
+-- the last read of a device returned this
+unfoldable pub SystemGave : {S : Type 0} → S → Result ℕ Error → Type 0
+SystemGave reader answer = ⊤
+
+-- the last read of a client's connection returned this
 unfoldable pub SystemRead : {S : Type 0} → S → Result ℕ ErrorKind → Type 0
 SystemRead reader read = ⊤
 
@@ -19,8 +23,8 @@ unfoldable pub SystemWrote : {S : Type 0} → S → List ℕ → Result ℕ Erro
 SystemWrote writer octets written = ⊤
 
 -- the last write to a device returned this
-unfoldable pub SystemTook : {S : Type 0} → S → Result ℕ ErrorKind → Type 0
-SystemTook writer written = ⊤
+unfoldable pub SystemTook : {S : Type 0} → S → Result ℕ Error → Type 0
+SystemTook writer answer = ⊤
 
 -- .. and was of these octets
 unfoldable pub SystemWasGiven : {S : Type 0} → S → List ℕ → Type 0

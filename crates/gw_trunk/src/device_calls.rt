@@ -3,10 +3,13 @@
 ghost use Rattle.std.specs.Prelude.{◌≡◌, ◌≤◌, ℕ, List, length, IfOk, Option, Result};
 ghost use Rattle.std.specs.Io.KnownBytes.{ReadConsumes, WriteAppends};
 ghost use Rattle.std.specs.declared.io.ErrorKind.{ErrorKind};
-ghost use Rattle.gw_trunk.specs.Device.{is_for_later};
-ghost use Rattle.gw_trunk.specs.System.{SystemRead, SystemTook, SystemWasGiven, SystemWasOffered};
+ghost use Rattle.gw_trunk.specs.Device.{is_for_later, AnswersByKind, IsKindOf};
+ghost use Rattle.gw_trunk.specs.System.{SystemGave, SystemTook, SystemWasGiven, SystemWasOffered};
 
-use std::io::{ErrorKind, Read, Write};
+use std::io::{Error, ErrorKind, Read, Write};
+
+// The error number of a DAHDI channel that has an event: ELAST of its dahdi/user.h.
+const HAS_EVENT: i32 = 500;
 
 /// Reads octets without waiting for them.
 ///
@@ -53,15 +56,15 @@ pub trait DeviceWriter {
 impl<R: Read> DeviceReader for R {
     ghost remaining = { λ r. R.remaining r };
 
-    ghost has_read = { SystemRead };
+    ghost has_read = { AnswersByKind SystemGave };
 
     ghost was_offered = { SystemWasOffered };
 
-    #[tactic(auto, unfolding(crate::specs::System::SystemRead, crate::specs::System::SystemWasOffered))]
+    #[tactic(auto, unfolding(crate::specs::System::SystemGave, crate::specs::System::SystemWasOffered))]
     fn read_now(&mut self, room: &mut [u8]) -> Result<usize, ErrorKind> {
         match self.read(room) {
             Ok(n) => Ok(n),
-            Err(error) => Err(error.kind()),
+            Err(error) => Err(kind_of(&error)),
         }
     }
 }
@@ -69,7 +72,7 @@ impl<R: Read> DeviceReader for R {
 impl<W: Write> DeviceWriter for W {
     ghost contents = { λ w. W.contents w };
 
-    ghost has_written = { SystemTook };
+    ghost has_written = { AnswersByKind SystemTook };
 
     ghost was_given = { SystemWasGiven };
 
@@ -77,9 +80,20 @@ impl<W: Write> DeviceWriter for W {
     fn write_now(&mut self, octets: &[u8]) -> Result<usize, ErrorKind> {
         match self.write(octets) {
             Ok(n) => Ok(n),
-            Err(error) => Err(error.kind()),
+            Err(error) => Err(kind_of(&error)),
         }
     }
+}
+
+/// The kind of an error of a device. One that has an event, which somebody else takes, has none or no room
+/// now.
+pub fn kind_of(error: &Error) -> ErrorKind
+    ensures { IsKindOf error.now result }
+{
+    if error.raw_os_error() == Some(HAS_EVENT) {
+        return ErrorKind::WouldBlock;
+    }
+    error.kind()
 }
 
 /// Whether an error says only that a call is to be repeated.
