@@ -97,6 +97,7 @@ AFTER = {
 SYSTEMD = 'root and systemd: scripts/units pastes them'
 CLUSTER = 'root, systemd and Pacemaker: bench/two-machines pastes them'
 NOT_RUN = {
+    ('README.md', 'scripts/build'): 'it proves the program that runs the rest',
     ('README.md', 'scripts/gate'): 'it runs this test',
     ('docs/START.md', "e1gw-config --folder /etc/e1gw --write west --device '--in"): SYSTEMD,
     ('docs/START.md', "e1gw-config --folder /etc/e1gw --write box"): SYSTEMD,
