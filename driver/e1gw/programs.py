@@ -14,18 +14,30 @@ SENDERS = {'any': 'datagrams of any sender are received (--senders any)',
            'peer': 'datagrams are received from peer_host and peer_port alone (--senders peer)'}
 
 
-def program_of(asked: str | None) -> str:
-    """The program that is named, or that of this repository, which is built first if it is not there yet (its progress
-    goes to standard error), or the one on the path."""
+UNPROVED = 'e1gw.unproved'  # what scripts/build --unproved makes
+
+
+def program_of(asked: str | None, how: str | None = None) -> str:
+    """The program that is named, or that of this repository, by scripts/build with this word (what it says goes to
+    standard error), or the one on the path."""
     build = os.path.join(TOP, 'scripts', 'build')
     if asked or os.environ.get('E1GW'):
         return asked or os.environ['E1GW']
     if os.path.exists(build):
-        done = subprocess.run([build], stdout=subprocess.PIPE, check=False, text=True)
+        done = subprocess.run([build, *filter(None, [how])], stdout=subprocess.PIPE, check=False, text=True)
         if done.returncode:
             raise SystemExit(done.returncode)       # it has said why
         return done.stdout.strip()
     return shutil.which('e1gw') or 'e1gw'
+
+
+def proved_program_of(asked: str | None) -> str:
+    """The same for what carries calls, as a path: it is not built here. ValueError if it is not proved."""
+    program = program_of(asked, '--built')
+    program = os.path.abspath(shutil.which(program) or program)
+    if os.path.basename(os.path.realpath(program)) == UNPROVED:
+        raise ValueError(f'{program} is not proved, and only a proved program carries calls: scripts/build makes one')
+    return program
 
 
 def version_of(program: str) -> str:

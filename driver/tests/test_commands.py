@@ -62,11 +62,11 @@ class CommandNameTests(support.FolderCase):
 class ProgramBuiltTests(support.FolderCase):
     """A command of a clone whose program is not built yet."""
 
-    def built(self, status: int) -> tuple[int, str, str]:
+    def built(self, status: int, asked: str = 'program_of') -> tuple[int, str, str]:
         os.makedirs(self.path('scripts'), exist_ok=True)
-        os.chmod(self.write('scripts/build', f'#!/bin/sh\necho "e1gw: proving gw_switch" >&2\necho /program\n'
+        os.chmod(self.write('scripts/build', f'#!/bin/sh\necho "e1gw: proving gw_switch" >&2\necho /program$1\n'
                             f'exit {status}\n'), 0o755)
-        code = f'from e1gw import programs; programs.TOP = {self.folder!r}; print(programs.program_of(None))'
+        code = f'from e1gw import programs; programs.TOP = {self.folder!r}; print(programs.{asked}(None))'
         return ran(sys.executable, '-c', code, env=AROUND | {'E1GW': ''})
 
     def test_the_progress_is_shown(self) -> None:
@@ -74,3 +74,22 @@ class ProgramBuiltTests(support.FolderCase):
 
     def test_a_failed_build_ends_it(self) -> None:
         self.assertEqual(self.built(70), (70, '', 'e1gw: proving gw_switch\n'))
+
+    def test_for_calls_none_is_built(self) -> None:
+        self.assertEqual(self.built(0, 'proved_program_of')[:2], (0, '/program--built\n'))
+        self.assertEqual(self.built(70, 'proved_program_of')[:2], (70, ''))
+
+    def test_for_calls_none_without_proof_is_taken(self) -> None:
+        """By its name, also behind a link; of the words, the variable or the path."""
+        os.makedirs(self.path('bin'))
+        program = self.write('bin/e1gw.unproved', '#!/bin/sh\necho e1gw 0.1.0\n')
+        os.chmod(program, 0o755)
+        os.symlink(program, self.path('bin/e1gw'))
+        words = [os.path.join(DRIVER, 'e1gw-trunk'), '--config', 'c', '--unix', 'u']
+        for path in program, self.path('bin/e1gw'), 'e1gw':
+            for more, variable in (['--program', path], ''), (list[str](), path):
+                with self.subTest(path=path, more=more):
+                    status, out, said = ran(*words, *more, env=AROUND | {
+                        'E1GW': variable, 'PATH': f'{self.path("bin")}:{os.environ["PATH"]}'})
+                    self.assertEqual((status, out, said.count('\n')), (2, '', 1))
+                    self.assertRegex(said, 'is not proved, and only a proved program carries calls: scripts/build ')

@@ -1,6 +1,7 @@
 """A session that is to be drawn, and `e1gw replay` at its beginning: of a piece of a ring from the state next to it."""
 from __future__ import annotations
 
+import functools
 import os
 from contextlib import suppress
 from dataclasses import dataclass
@@ -25,9 +26,15 @@ class Begun:
     place: int = 0
 
 
+@functools.cache
+def replaying(program: str | None) -> str:
+    """The program, which need not be proved. (That is said once.)"""
+    return program_of(program, '--unproved')
+
+
 def started(session: RecordedSession, config: str, program: str | None, wait: int | None, state: str = '') -> Begun:
     """A session with a new gateway, or with the one of a state."""
-    path, wait, place = program_of(program), wait or session.wait, session.place % MULTIFRAME if state else 0
+    path, wait, place = replaying(program), wait or session.wait, session.place % MULTIFRAME if state else 0
     return Begun(session, config, path, wait, Replay(path, config, state, wait), place)
 
 

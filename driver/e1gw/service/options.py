@@ -3,7 +3,6 @@ from __future__ import annotations
 
 import argparse
 import os
-import shutil
 import zlib
 from dataclasses import replace
 from typing import Callable
@@ -14,7 +13,7 @@ from ..clearing import on_loss_of
 from ..dahdi import FRAMES_A_MS, MOST_BUFFERS, MOST_FRAMES, Blocks
 from ..faults import checked, named, number
 from ..lines import SEIZURE_WAIT, wait_words
-from ..programs import SENDERS, program_of
+from ..programs import SENDERS, proved_program_of
 from ..recording_ring import seconds_of
 from ..trunks import Stream, host_and_port, open_tcp, open_unix
 from .lifecycle import TrunkWants
@@ -198,8 +197,7 @@ def wants_of(asked: argparse.Namespace) -> TrunkWants:
     for path in filter(None, (control, asked.tell)):
         if len(os.fsencode(path)) + DIGITS > MOST_PATH:
             raise ValueError(f'{path}: a path of a socket has {MOST_PATH - DIGITS} octets at most')
-    program = program_of(asked.program)
-    program = os.path.abspath(shutil.which(program) or program)
+    program = proved_program_of(asked.program)
     state = None if asked.standby else asked.state      # (the other machine may have gone on from it)
     return TrunkWants(program, asked.config, asked.senders, replace(line, program=program), folder, control,
                       asked.tell or os.path.join(folder, 'tell'), state,
