@@ -2,26 +2,41 @@
 from __future__ import annotations
 
 from dataclasses import dataclass
+from math import inf
 from typing import Callable
+
+
+LOOKS = 0.5                 # seconds between two looks from which on this process stood still, and no client
 
 
 @dataclass(frozen=True)
 class DisconnectPolicy:
-    """Calls are cleared after these seconds, and idle circuits blocked if that is asked too; None keeps them."""
+    """Calls are cleared after these seconds, and idle circuits blocked if that is asked too; None keeps them. A client
+    that has said nothing for `alive` seconds counts as gone since."""
 
     seconds: float | None = None
     blocks: bool = False
+    alive: float | None = None
 
 
 def on_loss_of(words: list[str]) -> DisconnectPolicy:
-    """`keep`, `clear SECONDS` or `block SECONDS`. ValueError where it is none."""
+    """`keep`, `clear SECONDS` or `block SECONDS`, and behind that `alive SECONDS`. ValueError where it is none."""
     if words == ['keep']:
         return DisconnectPolicy()
-    if len(words) == 2 and words[0] in ('clear', 'block'):
-        seconds = float(words[1])
-        if 0 <= seconds <= 86400:
-            return DisconnectPolicy(seconds, words[0] == 'block')
+    if len(words) in (2, 4) and words[0] in ('clear', 'block') and words[2:3] in ([], ['alive']):
+        seconds, alive = float(words[1]), float(words[3]) if words[3:] else None
+        if 0 <= seconds <= 86400 and (alive is None or 1 <= alive <= 86400):
+            return DisconnectPolicy(seconds, words[0] == 'block', alive)
     raise ValueError('keep, or clear or block SECONDS (0 to 86400)')
+
+
+@dataclass
+class DisconnectClient:
+    """A client that asked for something to be done when it is gone: what, and when it has said something last."""
+
+    wish: DisconnectPolicy
+    said: float
+    is_silent: bool = False     # for so long that it counts as gone
 
 
 class DisconnectWatch:
@@ -29,11 +44,12 @@ class DisconnectWatch:
 
     def __init__(self, usual: DisconnectPolicy, clear: Callable[[str, bool], None]) -> None:
         self._usual, self._clear = usual, clear
-        self._asked: dict[object, DisconnectPolicy] = {}
+        self._asked: dict[object, DisconnectClient] = {}
         self._due: float | None = None
         self._blocks = False
+        self._looked = inf
 
-    def asked(self, client: object, words: list[str]) -> str:
+    def asked(self, client: object, words: list[str], now: float) -> str:
         """A client asks with these words, or, without any, for what is usual on this trunk."""
         try:
             wish = on_loss_of(words) if words else self._usual
@@ -42,18 +58,36 @@ class DisconnectWatch:
         if wish.seconds is None:
             self._asked.pop(client, None)
         else:
-            self._asked[client] = wish
+            self._asked[client] = DisconnectClient(wish, now)
         self._due = None
         return 'on-loss: done'
 
+    def said(self, client: object, now: float) -> None:
+        """A client has said something: it is there."""
+        if its := self._asked.get(client):
+            if its.is_silent:
+                self._due = None
+            its.said, its.is_silent = now, False
+
     def left(self, client: object, now: float) -> None:
         """A client is gone."""
-        wish = self._asked.pop(client, None)
-        if wish and wish.seconds is not None and not self._asked:
-            self._due, self._blocks = now + wish.seconds, wish.blocks
+        its = self._asked.pop(client, None)
+        if its and not its.is_silent:
+            self._lost(its.wish, now)
+
+    def _lost(self, wish: DisconnectPolicy, since: float) -> None:
+        if wish.seconds is not None and all(each.is_silent for each in self._asked.values()):
+            self._due, self._blocks = since + wish.seconds, wish.blocks
 
     def look(self, now: float) -> None:
-        """To be called now and then."""
+        """To be called a few times a second. (What came while this process stood still is not read yet.)"""
+        stood, self._looked = now - self._looked, now
+        for its in self._asked.values():
+            if stood > LOOKS:
+                its.said += stood
+            if its.wish.alive is not None and not its.is_silent and now - its.said > its.wish.alive:
+                its.is_silent = True
+                self._lost(its.wish, its.said)
         if self._due is not None and now >= self._due:
             self._due = None
             self._clear('the last control client is gone', self._blocks)

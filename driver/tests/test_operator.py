@@ -102,7 +102,7 @@ class OperatorTests(unittest.TestCase):
         self.assertTrue(line['seized'] and line['answered'] and line['ended'] and int(line['sent']))
 
     def test_calls_that_are_cleared(self) -> None:
-        """When the last client that has asked for it is gone, and in the dark."""
+        """When the last client that has asked for it is gone, or says nothing any more, and in the dark."""
         world = self.world('--dark', '0', '--on-loss', 'block', '0', incoming=(2, 4))
         events = self.events(world)
         world.exchange.pairs[2] = SEIZED
@@ -113,6 +113,12 @@ class OperatorTests(unittest.TestCase):
             self.assertEqual(line.recv(100), b'on-loss: done\n\n')
         self.assertEqual(self.next(events, event='cleared')['circuits'], [1, 2])
         world.until(lambda: [world.state(n) for n in (1, 2, 4)] == ['idle', 'clearedback', 'blocked'])
+        call(world, 1)
+        with support.connected(world.path('ctl')) as line:
+            line.sendall(b'on-loss clear 0 alive 1\n')
+            self.assertEqual(line.recv(100), b'on-loss: done\n\n')
+            self.assertEqual(self.next(events, event='cleared')['circuits'], [1])
+        world.until(lambda: world.state(1) == 'idle')
         call(world, 1)
         for _ in range(20):
             world.give(b'\xff' * MULTIFRAME)

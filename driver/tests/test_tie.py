@@ -128,7 +128,7 @@ class TieCallTests(TieCase):
         await self.sends(self.east, 3, HELD, State.CLEAREDBACK)
         await self.sends(self.east, 3, ANSWER, State.ANSWERED)
         await self.sends(self.west, 3, IDLE, State.IDLE)
-        self.assertIn('on-loss block 3', self.west.asked)
+        self.assertIn('on-loss block 3 alive 2', self.west.asked)
         self.assertNotIn('seize 3', self.west.asked)
 
     async def test_event_behind_a_status(self) -> None:
@@ -137,7 +137,7 @@ class TieCallTests(TieCase):
         self.west.behind.append(lambda: self.west.send(3, SEIZED))
         await self.until(self.at(3, State.ACKED, State.ACKED))
         await asyncio.sleep(3 * LOOK)
-        self.assertEqual([each for each in self.east.asked if each.endswith(' 3')], ['on-loss block 3', 'seize 3'])
+        self.assertEqual([each for each in self.east.asked if each.endswith(' 3')], ['seize 3'])
 
     async def test_blocked(self) -> None:
         """What the exchange blocks is blocked at the other end, and no longer than it does."""

@@ -9,6 +9,7 @@ A line is answered by one or more lines and an empty one:
   events                     `following`; from then on a line of JSON for each change
   on-loss clear SECONDS      when the last client that asked for it is gone so long, calls are cleared
   on-loss block SECONDS      the same, and idle incoming circuits are blocked
+  on-loss .. alive SECONDS   who has said nothing for so long counts as gone
   on-loss keep               takes that back
   role                       of a trunk that two machines have: `active, fed`, `standby, not fed` ..
   promote, demote            this machine is to carry it, or the other one
@@ -84,6 +85,7 @@ class CommandServer:
         with contextlib.suppress(OSError, ValueError, asyncio.LimitOverrunError):
             while line := await reader.readline():
                 peer.last = time.monotonic()
+                self._trunk.disconnects.said(peer, peer.last)
                 if words := line.decode(errors='replace').split():
                     writer.write(f'{await self._obey(words, peer)}\n\n'.encode())
                     await writer.drain()
@@ -108,7 +110,7 @@ class CommandServer:
             case ['events']:
                 return 'following'
             case ['on-loss', *rest]:
-                return self._trunk.disconnects.asked(peer, rest)
+                return self._trunk.disconnects.asked(peer, rest, peer.last)
             case ['help']:
                 return (__doc__ or '').partition('\n\n')[2].rstrip('\n')
             case ['reload'] | ['reload', 'force']:

@@ -13,6 +13,7 @@ from typing import Any
 from ..faults import Parser, checked, number, words_of_fault
 from ..service.commands import CannotListen
 from ..service.events import EventFile, json_line
+from ..service.handover import Notifier
 from ..tls import add_tls, context_of, is_exposed
 from ..trunks import host_and_port
 from ..writers import hold_descriptors
@@ -29,6 +30,7 @@ MORE = '''One runs at each site, alongside e1gw-trunk. Each of its actions is a 
 output. Without --tls the connection is neither secret nor authenticated. See e1gw-tie(1).'''
 ANYBODY = 'any certificate of the authority is accepted, because no --peer names that of the other site'
 LEAVES = 1.0                # seconds at most to restore codecs
+SIGN = 0.5                  # seconds between two signs of life
 MOST_MAP = 100_000          # characters at most of the map's file
 
 
@@ -44,8 +46,8 @@ def parser() -> argparse.ArgumentParser:
     add_tls(made.add_mutually_exclusive_group(), 'site')
     made.add_argument('--peer', metavar='NAME', help='with --tls, the host or address in the certificate of the other '
                       'site [default: the host of --connect; with --listen any that CA has signed]')
-    made.add_argument('--hold', type=number(0, 3600, float), default=2.0, metavar='SECONDS', help='how long calls '
-                      'are kept without the other end [default: 2]')
+    made.add_argument('--hold', type=number(0, 3600, float), default=5.0, metavar='SECONDS', help='how long calls '
+                      'are kept without the other end [default: 5]')
     made.add_argument('--congestion', choices=('clear-back', 'wait'), default='clear-back', help='a call that cannot '
                       'be set up is answered and cleared back, or the caller waits [default: clear-back]')
     made.add_argument('--until-answer', choices=tuple(SIGNALLING), help='calls use G.711 until they are answered, '
@@ -70,6 +72,15 @@ def site_of(options: argparse.Namespace, tie: Tie) -> Site:
     return Site(options.listen or options.connect, options.listen is not None, context, options.peer, tie)
 
 
+async def sign_of_life() -> None:
+    """Tells systemd that this process does not stand still."""
+    notifier = Notifier()
+    notifier.tell('READY=1')
+    while True:
+        notifier.tell('WATCHDOG=1')
+        await asyncio.sleep(SIGN)
+
+
 async def work(tie: Tie, site: Site, path: str | None, http: tuple[str, int] | None) -> int:
     """Runs until a signal asks for the end; returns the status."""
     try:
@@ -80,7 +91,7 @@ async def work(tie: Tie, site: Site, path: str | None, http: tuple[str, int] | N
     for each in (signal.SIGINT, signal.SIGTERM, signal.SIGHUP):
         loop.add_signal_handler(each, ends.set)
     loop.set_exception_handler(lambda _, about: site.turned_away(str(about.get('exception') or about['message'])))
-    tasks = [asyncio.create_task(each) for each in (tie.follow(), site.run(), ends.wait())]
+    tasks = [asyncio.create_task(each) for each in (tie.follow(), site.run(), ends.wait(), sign_of_life())]
     done, _ = await asyncio.wait(tasks, return_when=asyncio.FIRST_COMPLETED)
     with suppress(TimeoutError):
         async with asyncio.timeout(LEAVES):

@@ -17,6 +17,7 @@ LOOK = 0.5                  # seconds between two looks at the trunk
 SOON = 0.1                  # seconds until a connection is retried
 MOST = 1 << 20              # octets of a line
 PATIENCE = 2.0              # seconds for an answer
+ALIVE = 2.0                 # seconds without a look after which this program counts as gone
 Tell = Callable[..., None]
 
 
@@ -57,7 +58,9 @@ class TrunkLink:
     async def _look(self) -> None:
         """Looks at the trunk again and again, which ends calls and blocks circuits if this program dies."""
         await self.ask('events')
-        answer = await self.ask(f'on-loss block {self._hold:g}')
+        answer = await self.ask(f'on-loss block {self._hold:g} alive {ALIVE:g}')
+        if not answer.endswith('done'):         # (an e1gw-trunk that does not know the last words)
+            answer = await self.ask(f'on-loss block {self._hold:g}')
         if not answer.endswith('done'):
             self._tell('warning', about='the trunk clears no calls if this program dies', answer=answer)
         while True:
