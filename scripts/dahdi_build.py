@@ -185,6 +185,14 @@ def make_image(its: MachineFiles) -> None:
         put_libraries(its, each)
 
 
+def is_kept(folder: Path) -> bool:
+    """Whether the folder has a machine of the packages of now."""
+    try:
+        return (folder / 'stamp').read_text() == stamp_of(packages(kernel_of_now()))
+    except (CannotBuild, OSError):
+        return False
+
+
 def machine_files(folder: Path, tell: Callable[[str], None]) -> MachineFiles:
     """The folder of a machine, made if it is not there, or of other packages."""
     its = MachineFiles(folder.resolve(), kernel_of_now())
