@@ -1,0 +1,5 @@
+pub mod Checksums
+pub mod Heads
+pub mod Known
+pub mod Logs
+pub mod Writes
