@@ -5,6 +5,7 @@ from __future__ import annotations
 import os
 import resource
 import subprocess
+import unittest
 from contextlib import suppress
 from functools import partial
 from itertools import accumulate
@@ -116,6 +117,7 @@ class FollowTests(support.FolderCase):
         self.assertEqual(self.followed(self.write('log', octets), '--checkpoint', self.folder),
                          (0, 'cannot save the state\n'))
 
+    @unittest.skipIf(os.environ.get('E1GW_UNPROVED'), 'a program without proof reserves terabytes of addresses')
     def test_no_memory_for_a_checkpoint(self) -> None:
         """With a little more than the session needs it is reported once, and the session goes on."""
         octets, found, limit = b''.join(trunk_record(bytes(64_000)) for _ in range(41)), list[str](), 3 << 20
