@@ -47,8 +47,7 @@ BEFORE = {
                          'cp trunk1.toml west.toml; cp /var/lib/e1gw/west/*.e1gw kept\n'
                          'name=west-20261125T101500Z; zstd -q kept -o $name.e1gw.zst\n'
                          'e1gw replay --config west.toml --save $name.state < kept > half\n',
-    'docs/SATOP.md': 'e1gw-config --host 192.0.2.10 --peer 198.51.100.20 > trunk1.toml\n' +
-                     CARD.format('--clear /dev/dahdi/1'),
+    'docs/SATOP.md': 'e1gw-config --host 192.0.2.10 --peer 198.51.100.20 > trunk1.toml\n',
     'docs/SIP.md': EXCHANGE + TRUNK.format('control', 'west') + 'espeak-ng -w speech.wav "One of thirty."\n'
                    "sed -n '/^v=0/,/^```/{/^```/!p}' docs/SIP.md > circuit3.sdp\n"
                    f'received() {{ sleep 1; e1gw-ctl control status json | python3 -c \'{RECEIVED}\' "$1"; }}\n'
@@ -65,7 +64,6 @@ BEFORE = {
 }
 # Lines that come before another line of a page, by its first words: what is so there, as the page says.
 BETWEEN = {
-    ('docs/SATOP.md', 'e1gw-trunk --config trunk1.toml --clear'): 'e1gw-ctl trunk1.control quit; sleep 1\n',
     ('docs/SIP.md', 'ffmpeg -re -i speech.wav -ar 8000 -ac 1 -c:a g726le'):
         'received 50; e1gw-ctl control codec 3 g726-32 96\n',
     ('docs/SIP.md', 'ffmpeg -protocol'): 'received 90\n',
@@ -230,15 +228,17 @@ def row_of(table: dict[tuple[str, str], str], page: str, text: str) -> str | Non
 
 
 def script_of(page: str) -> str:
-    """What a shell is given for a page."""
-    parts = [SHELL.replace('HOSTS', ' '.join(HOSTS)), BEFORE.get(page, '')]
-    for block in run_blocks(page):
+    """What a shell is given for a page; of one whose commands this machine cannot run nothing is."""
+    blocks = run_blocks(page)
+    parts = [SHELL.replace('HOSTS', ' '.join(HOSTS)), BEFORE.get(page, '') if blocks else '']
+    for block in blocks:
         parts.append(f'echo @block {block.line}\n')
         for line in block.lines():
             typed = row_of(WAITING, page, line)
             parts.append(row_of(BETWEEN, page, line) or '')
             parts.append(line if typed is None else f'{{ {line}}} < <(typed "{typed}") & sleep 1\n')
-    return ''.join([*parts, f'touch go; sleep 3\n{AFTER.get(page, "")}echo; echo @end\n'])
+    after = f'touch go; sleep 3\n{AFTER.get(page, "")}' if blocks else ''
+    return ''.join([*parts, f'{after}echo; echo @end\n'])
 
 
 def put_commands(folder: str, program: str) -> None:
