@@ -22,7 +22,7 @@ PARAMETERS, BUFFERS = struct.Struct('=12i40s11iI'), struct.Struct('=6i')
 SPAN = struct.Struct('=i20s40s7i5I7i40s40s40s40s2i6s')
 NUMBER = struct.Struct('=i')
 CLEAR = 1 << 7              # the signalling of a clear channel
-MOST_FRAMES = 64            # of a block: the program reads so many at once
+MOST_FRAMES = 64            # of a block: the most that the program reads at once
 MOST_BUFFERS, MOST_OCTETS = 32, 32_768
 FRAMES_A_MS = 8
 CONFIGURES = 'clear=1-31 (for the first span) in /etc/dahdi/system.conf, then dahdi_cfg'

@@ -10,7 +10,7 @@ import shutil
 import struct
 import subprocess
 
-from .support import SECONDS, TOP, FolderCase, program, text_of
+from .support import TOP, FolderCase, program, text_of
 
 from .picture_made import (BEGIN, CAPTURED, COMMAND, PEER, TROUBLES, MadeSession, PictureSender, apart, captured, icmp,
                            made_of, page_of, pcap, recorded, udp)
