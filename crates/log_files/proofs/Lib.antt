@@ -3,3 +3,4 @@ pub mod Heads
 pub mod Known
 pub mod Logs
 pub mod Writes
+pub mod AreasRead

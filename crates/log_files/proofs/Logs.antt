@@ -4,7 +4,7 @@ use Rattle.std.proofs.Common.{inl, inr, ⊎_elim, ◌⊎◌, Option, Some, None,
 use Rattle.log_files.specs.Adler.{Sums, sum_of, sums_of}
 use Rattle.log_files.specs.Area.{IsBlank, IsNoArea, head, head_of}
 use Rattle.log_files.specs.Pairs.{Contents, Counts, Has, HasMore, HasNothing, IsBefore, IsNewer, IsNewest}
-use Rattle.log_files.specs.Pairs.{Kept, Leaves, LogState, MayHaveMore, MayLeave, Stands, begun, more}
+use Rattle.log_files.specs.Pairs.{Kept, LeavesKept, LogState, MayHaveMore, MayLeave, StandsFor, begun, with_more}
 use Rattle.log_files.specs.Stores.{AreKnown, WhereKnown}
 use Rattle.log_files.proofs.Heads.{area_head, one_content, same_head}
 
@@ -41,7 +41,7 @@ pub before_next : {pair : Contents} {kept : Kept} → Has pair kept → IsBefore
 before_next h other k = let same = same_turn h k in omega arith
 
 -- .. if the pair is known
-pub newest_before : (files : LogState) (kept : Kept) → Stands files kept
+pub newest_before : (files : LogState) (kept : Kept) → StandsFor files kept
     → IfSome files.newest.contents (IsBefore (files.turn + 1))
 newest_before files kept s = rw s.turn (go files.newest.contents s.newest)
   where
@@ -51,10 +51,10 @@ newest_before files kept s = rw s.turn (go files.newest.contents s.newest)
     go (Some pair) h = before_next h
 
 -- a write to the other pair failed: what stood is left, or the state of the next turn
-pub leaves_one : (files files' : LogState) (kept : Kept) (state : List ℕ) → Stands files kept
+pub leaves_one : (files files' : LogState) (kept : Kept) (state : List ℕ) → StandsFor files kept
     → files'.newest ≡ files.newest
     → WhereKnown files.other.contents files'.other.contents (MayLeave (begun (files.turn + 1) state))
-    → Leaves files' kept ⊎ Leaves files' (begun (kept.turn + 1) state)
+    → LeavesKept files' kept ⊎ LeavesKept files' (begun (kept.turn + 1) state)
 leaves_one files files' kept state s same w =
     ⊎_elim (λ l. inl (record { loaded = rw same l })) (λ l. inr (record { loaded = rw same l }))
     (go files.newest.contents files.other.contents files'.other.contents s.newest s.other (rw s.turn at w.fact))
@@ -83,10 +83,10 @@ new_known None (Some new) kept h = absurd h
 new_known (Some old) (Some new) kept h = h
 
 -- a state was written to the other pair in the next turn, and the pairs were exchanged
-pub stands_next : {files files' : LogState} {kept : Kept} {state : List ℕ} → Stands files kept
+pub stands_next : {files files' : LogState} {kept : Kept} {state : List ℕ} → StandsFor files kept
     → files'.turn ≡ files.turn + 1 → files'.len ≡ 0 → files'.sums ≡ sums_of [] → files'.other ≡ files.newest
     → WhereKnown files.other.contents files'.newest.contents (λ _ pair. Has pair (begun (files.turn + 1) state))
-    → Stands files' (begun (kept.turn + 1) state)
+    → StandsFor files' (begun (kept.turn + 1) state)
 stands_next {files = files} {files' = files'} {kept = kept} {state = state} s turn len sums other w = record {
   turn = turn ∙ ap (λ (n : ℕ). n + 1) s.turn;
   len = len;
@@ -95,7 +95,7 @@ stands_next {files = files} {files' = files'} {kept = kept} {state = state} s tu
   other = rw (other, ← s.turn) (newest_before files kept s);
 }
 
-module _ (files files' : LogState) (kept : Kept) (octets : List ℕ) (sum : ℕ) (sums : Sums) (s : Stands files kept)
+module _ (files files' : LogState) (kept : Kept) (octets : List ℕ) (sum : ℕ) (sums : Sums) (s : StandsFor files kept)
     (added : (before : List ℕ) → files.sums ≡ sums_of before → sums ≡ sums_of (before ++ octets))
     (summed : sum ≡ sum_of sums) (other : files'.other ≡ files.other)
   where
@@ -110,7 +110,7 @@ module _ (files files' : LogState) (kept : Kept) (octets : List ℕ) (sum : ℕ)
     -- octets of records were appended
     pub stands_more : files'.turn ≡ files.turn → files'.len ≡ files.len + length octets → files'.sums ≡ sums
         → WhereKnown files.newest.contents files'.newest.contents (HasMore files.turn files.len octets sum)
-        → Stands files' (more kept octets)
+        → StandsFor files' (with_more kept octets)
     stands_more turn len sums_are w = record {
       turn = turn ∙ s.turn;
       len = len ∙ ap (λ (n : ℕ). n + length octets) s.len ∙ sym (length-append kept.records octets);
@@ -121,7 +121,7 @@ module _ (files files' : LogState) (kept : Kept) (octets : List ℕ) (sum : ℕ)
       where
         go : (old new : Option Contents) → IfSome old (λ pair. Has pair kept)
             → AreKnown old new (HasMore files.turn files.len octets sum)
-            → IfSome new (λ pair. Has pair (more kept octets))
+            → IfSome new (λ pair. Has pair (with_more kept octets))
         go None None h m = tt
         go None (Some new) h m = absurd m
         go (Some old) None h m = absurd m
@@ -129,22 +129,23 @@ module _ (files files' : LogState) (kept : Kept) (octets : List ℕ) (sum : ℕ)
 
     -- .. or that failed
     pub leaves_more : WhereKnown files.newest.contents files'.newest.contents
-        (MayHaveMore files.turn files.len octets sum) → Leaves files' kept ⊎ Leaves files' (more kept octets)
+        (MayHaveMore files.turn files.len octets sum)
+        → LeavesKept files' kept ⊎ LeavesKept files' (with_more kept octets)
     leaves_more w =
         ⊎_elim (λ l. inl (record { loaded = l })) (λ l. inr (record { loaded = l }))
         (go files.newest.contents files'.newest.contents files'.other.contents s.newest (rw other s.other) w.fact)
       where
         one : (old new other : Contents) → Has old kept → IsBefore kept.turn other
             → MayHaveMore files.turn files.len octets sum old new
-            → IsNewest new other kept ⊎ IsNewest new other (more kept octets)
+            → IsNewest new other kept ⊎ IsNewest new other (with_more kept octets)
         one old new other h b m =
             ⊎_elim (λ (same : Has new kept). inl (inl (same, b)))
-            (λ (longer : Has new (more kept octets)). inr (inl (longer, b))) (m kept counts h)
+            (λ (longer : Has new (with_more kept octets)). inr (inl (longer, b))) (m kept counts h)
 
         go : (old new other : Option Contents) → IfSome old (λ pair. Has pair kept)
             → IfSome other (IsBefore kept.turn) → AreKnown old new (MayHaveMore files.turn files.len octets sum)
             → IfSome new (λ n. IfSome other (λ o. IsNewest n o kept))
-            ⊎ IfSome new (λ n. IfSome other (λ o. IsNewest n o (more kept octets)))
+            ⊎ IfSome new (λ n. IfSome other (λ o. IsNewest n o (with_more kept octets)))
         go old None other h b m = inl tt
         go old (Some new) None h b m = inl tt
         go None (Some new) (Some other) h b m = absurd m
@@ -192,3 +193,14 @@ module _ {first second : Contents} where
 -- a pair that has something is newer than one that has nothing
 pub newer_than_none : {pair other : Contents} {kept : Kept} → Has pair kept → HasNothing other → IsNewer pair other kept
 newer_than_none h none = (h, λ kept k. absurd (none kept k))
+
+-- what stands is left
+pub stands_left : {files : LogState} {kept : Kept} → StandsFor files kept → LeavesKept files kept
+stands_left {files = files} {kept = kept} s =
+    record { loaded = go files.newest.contents files.other.contents s.newest s.other }
+  where
+    go : (newest other : Option Contents) → IfSome newest (λ pair. Has pair kept)
+        → IfSome other (IsBefore kept.turn) → IfSome newest (λ n. IfSome other (λ o. IsNewest n o kept))
+    go None other h b = tt
+    go (Some newest) None h b = tt
+    go (Some newest) (Some other) h b = inl (h, b)

@@ -1,5 +1,5 @@
 -- What is loaded of two pairs of files (module `loading`).
-use Rattle.std.specs.Prelude.{◌≡◌, Option, Some, Result, Ok}
+use Rattle.std.specs.Prelude.{◌≡◌, ◌<◌, ◌^◌, Option, Some, Result, Ok, length}
 use Rattle.log_files.specs.Pairs.{Contents, IsNewer, Kept}
 use Rattle.log_files.specs.declared.loading.KeptContents.{KeptContents}
 use Rattle.log_files.specs.declared.loading.Loaded.{Loaded}
@@ -25,3 +25,13 @@ abbrev pub Loads : Result (Option Loaded) SameTurn → Kept → Type 0
 Loads (Ok (Some (First loaded))) kept = kept_of loaded ≡ kept
 Loads (Ok (Some (Second loaded))) kept = kept_of loaded ≡ kept
 Loads _ kept = ⊥
+
+-- what is loaded, whichever pair it is of
+abbrev pub IsLoadedOf : Loaded → KeptContents → Type 0
+IsLoadedOf (First loaded) kept = kept ≡ loaded
+IsLoadedOf (Second loaded) kept = kept ≡ loaded
+
+-- what is loaded has so few octets of records that they can be counted
+abbrev pub IsCounted : Loaded → Type 0
+IsCounted (First loaded) = length loaded.records.now < 2 ^ 32
+IsCounted (Second loaded) = length loaded.records.now < 2 ^ 32

@@ -43,8 +43,8 @@ HaveSameTurn first second =
     (kept : Kept) × (other : Kept) × Has first kept × Has second other × (kept.turn ≡ other.turn)
 
 -- with octets of records behind the others
-abbrev pub more : Kept → List ℕ → Kept
-more kept octets = record kept { records = kept.records ++ octets }
+abbrev pub with_more : Kept → List ℕ → Kept
+with_more kept octets = record kept { records = kept.records ++ octets }
 
 -- what was kept is of this turn and has so many octets of records, which with these behind have this checksum
 pub record Counts (turn len : ℕ) (octets : List ℕ) (sum : ℕ) (kept : Kept) : Type 0 where
@@ -55,12 +55,12 @@ pub record Counts (turn len : ℕ) (octets : List ℕ) (sum : ℕ) (kept : Kept)
 -- a pair has what it had, with these octets of records behind
 abbrev pub HasMore : ℕ → ℕ → List ℕ → ℕ → Contents → Contents → Type 0
 HasMore turn len octets sum pair pair' =
-    (kept : Kept) → Counts turn len octets sum kept → Has pair kept → Has pair' (more kept octets)
+    (kept : Kept) → Counts turn len octets sum kept → Has pair kept → Has pair' (with_more kept octets)
 
 -- .. or it has what it had
 abbrev pub MayHaveMore : ℕ → ℕ → List ℕ → ℕ → Contents → Contents → Type 0
 MayHaveMore turn len octets sum pair pair' = (kept : Kept) → Counts turn len octets sum kept → Has pair kept
-    → Has pair' kept ⊎ Has pair' (more kept octets)
+    → Has pair' kept ⊎ Has pair' (with_more kept octets)
 
 -- a state of this turn, with no record behind it
 abbrev pub begun : ℕ → List ℕ → Kept
@@ -89,7 +89,7 @@ pub record LogState : Type 0 where
   pub sums : Sums
 
 -- the files of a log have this, and it is loaded; more can be appended to it
-pub record Stands (files : LogState) (kept : Kept) : Type 0 where
+pub record StandsFor (files : LogState) (kept : Kept) : Type 0 where
   pub turn : files.turn ≡ kept.turn
   pub len : files.len ≡ length kept.records
   pub sums : files.sums ≡ sums_of kept.records
@@ -97,12 +97,12 @@ pub record Stands (files : LogState) (kept : Kept) : Type 0 where
   pub other : IfSome files.other.contents (IsBefore kept.turn)
 
 -- the files of a log leave this: it is loaded
-pub record Leaves (files : LogState) (kept : Kept) : Type 0 where
+pub record LeavesKept (files : LogState) (kept : Kept) : Type 0 where
   pub loaded : IfSome files.newest.contents (λ newest. IfSome files.other.contents (λ other.
       IsNewest newest other kept))
 
 -- so many octets of records fit behind the others
-pub record HasRoom (files : LogState) (len : ℕ) : Type 0 where
+pub record FitsBehind (files : LogState) (len : ℕ) : Type 0 where
   pub records : 24 + files.len + len ≤ files.newest.records_room
   pub counted : files.len + len < 2 ^ 32
 

@@ -2,8 +2,8 @@
 
 ghost use Rattle.std.specs.Prelude.{◌≡◌, ◌⊎◌, ◌+◌, ◌<◌, ◌^◌, ◌++◌, true, false, IfSome, OnOk, OnErr, length};
 ghost use Rattle.log_files.specs.Adler.{sums_of};
-ghost use Rattle.log_files.specs.Pairs.{Appends, CanTake, HasRoom, IsBefore, Kept, Leaves, MayLeave, Stands};
-ghost use Rattle.log_files.specs.Pairs.{SameRoom, begun, more};
+ghost use Rattle.log_files.specs.Pairs.{Appends, CanTake, FitsBehind, IsBefore, Kept, LeavesKept, MayLeave};
+ghost use Rattle.log_files.specs.Pairs.{SameRoom, StandsFor, begun, with_more};
 ghost use Rattle.log_files.specs.Stores.{TellsFault, WhereKnown};
 
 use crate::adler::Adler;
@@ -62,10 +62,17 @@ impl<S: Store> LogFiles<S> {
         }
     }
 
+    /// How many octets of records there are.
+    pub fn records_len(&self) -> u32
+        ensures { result ≡ self.now.len }
+    {
+        self.len
+    }
+
     /// Whether so many octets of records fit behind the others.
     pub fn has_room(&self, len: usize) -> bool
-        ensures yes { result ≡ true → HasRoom self.now len }
-        ensures no { result ≡ false → ¬ HasRoom self.now len }
+        ensures yes { result ≡ true → FitsBehind self.now len }
+        ensures no { result ≡ false → ¬ FitsBehind self.now len }
     {
         let room = self.newest.records.room();
         let most = (u32::MAX - self.len) as usize;
@@ -83,11 +90,11 @@ impl<S: Store> LogFiles<S> {
 
     /// Appends octets of records. If it fails they are there whole or not at all.
     pub fn append(&mut self, octets: &[u8]) -> Result<(), StoreFault>
-        requires { HasRoom self.old (length octets.now) }
-        ensures ok { OnOk result ((kept : Kept) → Stands self.old kept
-            → Stands self.new (more kept octets.now)) }
-        ensures err { OnErr result ((kept : Kept) → Stands self.old kept
-            → Leaves self.new kept ⊎ Leaves self.new (more kept octets.now)) }
+        requires { FitsBehind self.old (length octets.now) }
+        ensures ok { OnOk result ((kept : Kept) → StandsFor self.old kept
+            → StandsFor self.new (with_more kept octets.now)) }
+        ensures err { OnErr result ((kept : Kept) → StandsFor self.old kept
+            → LeavesKept self.new kept ⊎ LeavesKept self.new (with_more kept octets.now)) }
         ensures fault { TellsFault self.old.newest.failed self.new.newest.failed result }
         ensures others { Appends self.old self.new }
     {
@@ -102,11 +109,11 @@ impl<S: Store> LogFiles<S> {
     pub fn checkpoint(&mut self, state: &[u8]) -> Result<(), StoreFault>
         requires { CanTake self.old (length state.now) }
         ensures begins { OnOk result (IfSome self.old.newest.contents (IsBefore (self.old.turn + 1))
-            → Stands self.new (begun (self.old.turn + 1) state.now)) }
-        ensures ok { OnOk result ((kept : Kept) → Stands self.old kept
-            → Stands self.new (begun (kept.turn + 1) state.now)) }
-        ensures err { OnErr result ((kept : Kept) → Stands self.old kept
-            → Leaves self.new kept ⊎ Leaves self.new (begun (kept.turn + 1) state.now)) }
+            → StandsFor self.new (begun (self.old.turn + 1) state.now)) }
+        ensures ok { OnOk result ((kept : Kept) → StandsFor self.old kept
+            → StandsFor self.new (begun (kept.turn + 1) state.now)) }
+        ensures err { OnErr result ((kept : Kept) → StandsFor self.old kept
+            → LeavesKept self.new kept ⊎ LeavesKept self.new (begun (kept.turn + 1) state.now)) }
         ensures other { OnOk result (self.new.other ≡ self.old.newest) }
         ensures room { OnOk result (SameRoom self.old.other self.new.newest) }
         ensures no_fault { OnOk result (self.new.newest.failed ≡ self.old.other.failed) }

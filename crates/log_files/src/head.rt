@@ -54,6 +54,17 @@ pub(crate) fn head_over(turn: u64, octets: &[u8]) -> [u8; HEAD_LEN]
     })
 }
 
+// How many octets are behind a head, as it says; 0 if the octets are no head.
+pub(crate) fn len_behind(content: &[u8]) -> u32
+    ensures some { (turn len sum : ℕ) → HasHead content.now turn len sum → result ≡ len }
+    ensures none { ((turn len sum : ℕ) → ¬ HasHead content.now turn len sum) → result ≡ 0 }
+{
+    match head_in(content) {
+        Some(head) => head.len,
+        None => 0,
+    }
+}
+
 // What the first octets say, if they are a head.
 pub(crate) fn head_in(content: &[u8]) -> Option<Head>
     ensures some { IfSome result (λ head. HasHead content.now head.turn head.len head.sum) }

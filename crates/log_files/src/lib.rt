@@ -9,6 +9,7 @@ mod files;
 mod head;
 mod loading;
 mod pair;
+mod reading;
 mod store;
 
 pub use area::is_blank;
@@ -17,4 +18,5 @@ pub use files::LogFiles;
 pub use head::HEAD_LEN;
 pub use loading::{KeptContents, Loaded, PairContents, SameTurn, newest};
 pub use pair::Pair;
+pub use reading::read_area;
 pub use store::{Store, StoreFault};

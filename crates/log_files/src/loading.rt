@@ -2,7 +2,7 @@
 
 ghost use Rattle.std.specs.Prelude.{◌≡◌, IfSome, IfNone, IfOk, OnErr, MatchOption};
 ghost use Rattle.log_files.specs.Pairs.{Has, HasNothing, HaveSameTurn, IsNewest, Kept};
-ghost use Rattle.log_files.specs.Loading.{Loads, NamesNewer, contents_of, kept_of};
+ghost use Rattle.log_files.specs.Loading.{IsCounted, IsLoadedOf, Loads, NamesNewer, contents_of, kept_of};
 
 use crate::area::area_in;
 use thiserror::Error;
@@ -36,6 +36,17 @@ pub enum Loaded<'a> {
     Second(KeptContents<'a>),
 }
 
+impl<'a> Loaded<'a> {
+    /// What is loaded.
+    pub fn kept(&self) -> KeptContents<'a>
+        ensures { IsLoadedOf self.now result }
+    {
+        match self {
+            Loaded::First(kept) | Loaded::Second(kept) => *kept,
+        }
+    }
+}
+
 /// Two pairs have something of the same turn, so it is not known which is newer.
 #[derive(Clone, Copy, Debug, PartialEq, Eq, Error)]
 #[error("both pairs are of the same turn")]
@@ -66,6 +77,7 @@ pub fn newest<'a>(
     ensures ok { IfOk result (λ found. MatchOption found
         (HasNothing (contents_of first.now) × HasNothing (contents_of second.now))
         (NamesNewer (contents_of first.now) (contents_of second.now))) }
+    ensures counted { IfOk result (λ found. IfSome found IsCounted) }
     ensures err { OnErr result (HaveSameTurn (contents_of first.now) (contents_of second.now)) }
     // what the files of a log leave is loaded
     ensures left { (kept : Kept) → IsNewest (contents_of first.now) (contents_of second.now) kept
