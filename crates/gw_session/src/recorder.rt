@@ -23,8 +23,8 @@ fn fill(room: &mut TrunkRecord, kind: u8, circuit: u8, body: &[u8])
     append(room, kind, circuit, body);
 }
 
-// Fills the room with the record of a head and a body.
-fn spell(room: &mut TrunkRecord, head: RecordHead, body: &[u8])
+/// Fills the room with the record of a head and a body.
+pub fn spell(room: &mut TrunkRecord, head: RecordHead, body: &[u8])
     requires { IsGood all_kinds (named head body.now) }
     ensures { room.new.items ≡ spelled (named head body.now) }
 {
