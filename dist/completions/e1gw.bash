@@ -23,8 +23,8 @@ _e1gw_options() {
     serve)
       echo '--config --load --save --record --record-over --repeat --seizure-wait --senders --totals --help' ;;
     trunk)
-      echo '--config --load --save --align --control --crc4 --end --live --record --record-over --repeat' \
-        '--seizure-wait --senders --slots --tell --totals --help' ;;
+      echo '--config --load --save --align --control --crc4 --end --live --log --record --record-over' \
+        '--repeat --seizure-wait --senders --slots --tell --totals --help' ;;
     satop) echo '--size --jitter --rtp --sequence --fill --clock --help' ;;
     '') echo '--help --version' ;;
   esac
@@ -48,7 +48,7 @@ _e1gw() {
     --payload | --ssrc | --sequence | --timestamp | --repeat | --seizure-wait | --size | --jitter | --rtp | \
       --from | --end)
       return ;;
-    --config | --load | --save | --checkpoint | --follow | --control | --record | --reports | --tell)
+    --config | --load | --save | --checkpoint | --follow | --control | --log | --record | --reports | --tell)
       compopt -o filenames 2> /dev/null
       mapfile -t COMPREPLY < <(compgen -f -- "$cur")
       return ;;

@@ -349,6 +349,13 @@ pub fn tell_of<'m>(matches: &'m ArgMatches<'_>) -> Option<&'m str>
     text_of(matches, "tell")
 }
 
+/// The folder of the trunk's log, the first one, if the matches name one.
+pub fn log_of<'m>(matches: &'m ArgMatches<'_>) -> Option<&'m str>
+    ensures { option_map (λ path. path.now) result ≡ text_in (codes "log") (subcommand_rows_of matches.now) }
+{
+    text_of(matches, "log")
+}
+
 /// The path of the file of checkpoints, the first one, if the matches name one.
 pub fn checkpoint_of<'m>(matches: &'m ArgMatches<'_>) -> Option<&'m str>
     ensures { option_map (λ path. path.now) result

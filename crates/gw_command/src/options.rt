@@ -129,6 +129,9 @@ const END_TEXT: &str =
     "With --control: descriptor, 0 to 65535, of a pipe or a socket; when\nit is closed at its other end, or \
      has octets, the trunk ends";
 
+const LOG_TEXT: &str =
+    "Folder of the log, which a program that is started again goes on\nwith";
+
 const TELL_TEXT: &str =
     "Unix socket at which clients are told how the trunk stands and\nwhat changes";
 
@@ -185,6 +188,7 @@ enum OptionName {
     Align,
     Crc4,
     Slots,
+    Log,
     Tell,
     Checkpoint,
     Follow,
@@ -267,6 +271,7 @@ const OF_TRUNK: &[OptionName] = &[
     OptionName::Senders,
     OptionName::Repeat,
     OptionName::SeizureWait,
+    OptionName::Log,
     OptionName::Tell,
     OptionName::Control,
     OptionName::End,
@@ -493,6 +498,11 @@ fn end_option<'a>(alloc: Global) -> Arg<'a> {
         .value_parser(value_parser!(u16))
 }
 
+// The folder of the log of a trunk.
+fn log_option<'a>(alloc: Global) -> Arg<'a> {
+    option(alloc, "log", LOG_TEXT).value_name("FOLDER")
+}
+
 // The socket whose clients are sent the state of the trunk.
 fn tell_option<'a>(alloc: Global) -> Arg<'a> {
     option(alloc, "tell", TELL_TEXT).value_name("SOCKET")
@@ -607,6 +617,7 @@ fn declared<'a>(alloc: Global, option: OptionName) -> Arg<'a> {
         OptionName::Align => flag(alloc, "align", ALIGN_TEXT),
         OptionName::Crc4 => flag(alloc, "crc4", CRC4_TEXT),
         OptionName::Slots => slots_option(alloc),
+        OptionName::Log => log_option(alloc),
         OptionName::Tell => tell_option(alloc),
         OptionName::Checkpoint => checkpoint_option(alloc),
         OptionName::Follow => follow_option(alloc),

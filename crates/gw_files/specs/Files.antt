@@ -4,3 +4,4 @@ unfoldable pub use Rattle.gw_machine.specs.Files.{SystemFailsToRead, SystemFails
 unfoldable pub use Rattle.gw_machine.specs.Files.{SystemReads, SystemRefusesFile, SystemRefusesSeek}
 unfoldable pub use Rattle.gw_machine.specs.Files.{SystemRenames, SystemSeeks, SystemShowsFile}
 unfoldable pub use Rattle.gw_machine.specs.Files.{SystemSyncs, SystemTakes}
+unfoldable pub use Rattle.gw_machine.specs.Files.{SystemHasLocked, SystemKeeps, SystemLocks}

@@ -4,13 +4,23 @@
 
 mod files;
 mod following;
+mod log_contents;
+mod log_folder;
+mod log_tape;
+mod nowhere;
+mod one_of;
 mod recording;
 mod recording_file;
 mod reports;
+mod resuming;
 mod setup;
 mod state;
 
 pub use following::{FollowedLog, open_log};
+pub use log_folder::{LogLock, lock_log};
+pub use log_tape::begin_log;
+pub use nowhere::Nowhere;
+pub use one_of::OneOf;
 pub use recording::{Recording, Tape, begin};
 pub use recording_file::RecordingFile;
 pub use reports::open_reports;

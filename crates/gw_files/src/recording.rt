@@ -109,7 +109,7 @@ fn open_as_asked(rt: &impl Machine, recording: Recording<'_>) -> io::Result<Opti
 
 // Room for a record, on the heap since the frames of a session are large. None if memory was refused.
 #[tactic(auto, unfolding(gw_state::specs::Memory::MemoryIsRefused))]
-fn open_room(alloc: Global) -> Option<Box<TrunkRecord>>
+pub(crate) fn open_room(alloc: Global) -> Option<Box<TrunkRecord>>
     ensures { IfNone result MemoryIsRefused }
 {
     match Box::new(alloc, TrunkRecord::new()) {

@@ -3,12 +3,14 @@
 ghost use Rattle.std.specs.Prelude.{◌≡◌, ◌++◌, IfSome, IfOk, IfErr, OnOk, Option, List, ℕ, option_map, take};
 ghost use Rattle.std.specs.declared.io.Error.{Error};
 ghost use Rattle.gw_config.specs.Octets.{meaning_of_octets};
+ghost use Rattle.log_files.specs.Area.{HasAreaOf};
 ghost use Rattle.gw_files.specs.Files.{SystemReads, SystemFailsToRead};
 ghost use Rattle.gw_machine.specs.Setup.{Says, IsRefusedOf, LacksConfig, LacksConfigAt, IsMeant, PathGives};
 
 use crate::files::open_file;
 use gw_config::Config;
 use gw_machine::{Machine, ProgramFault};
+use log_files::read_area;
 use std::alloc::Global;
 use std::io;
 use std::io::Read;
@@ -45,6 +47,14 @@ pub(crate) trait Text: Drop {
         ensures gives { OnOk result ((given : List ℕ) × gives self given
             × (octets.new.items ≡ octets.old.items ++ given)) }
         ensures err { IfErr result (λ e. fails self e) };
+
+    /// Reads the octets of an area of a log: its head, and what this says is behind it.
+    fn read_area(self, alloc: Global) -> io::Result<Vec<u8>>
+    where
+        Self: Sized,
+        ensures area { IfOk result (λ octets. IfSome (holds self) (λ xs. HasAreaOf xs octets.items)) }
+        ensures gives { IfOk result (λ octets. gives self octets.items) }
+        ensures err { IfErr result (λ e. fails self e) };
 }
 
 impl<R: Read + Drop> Text for R {
@@ -58,6 +68,12 @@ impl<R: Read + Drop> Text for R {
     fn read_up_to(self, most: u64, octets: &mut Vec<u8>) -> io::Result<()> {
         self.take(most).read_to_end(octets)?;
         Ok(())
+    }
+
+    #[tactic(auto, unfolding(crate::specs::Files::SystemReads, crate::specs::Files::SystemFailsToRead))]
+    fn read_area(self, alloc: Global) -> io::Result<Vec<u8>> {
+        let mut reader = self;
+        read_area(alloc, &mut reader)
     }
 }
 

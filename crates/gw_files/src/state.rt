@@ -7,6 +7,7 @@ ghost use Rattle.gw_state.specs.Memory.{MemoryIsRefused};
 ghost use Rattle.gw_switch.specs.Standing.{HasHistory};
 ghost use Rattle.gw_files.specs.Files.{SystemRefusesFile, SystemRenames, SystemShowsFile};
 ghost use Rattle.gw_machine.specs.Setup.{IsUnreadAt, PathGives};
+ghost use Rattle.gw_machine.specs.Log.{BeginsFrom, LacksFirst};
 ghost use Rattle.gw_machine.specs.State.{WasLoaded, FailsToLoad, IsNoState, IsReplaced};
 ghost use Rattle.gw_machine.specs.State.{IsFromState, HasBegun, Waits, BeginsWaiting, LacksGateway, IsSaved};
 ghost use Rattle.gw_machine.specs.State.{load_trouble, checkpoint_mark, checkpoint, IsStateIn, Keeps};
@@ -17,6 +18,7 @@ ghost use Rattle.byteorder.specs.Endian.{big_bytes};
 ghost use Rattle.gw_machine.specs.declared.program_fault.ProgramFault.TheVariants.{OtherPlace};
 
 use crate::files::{create_file, file_len, open_file, rename_file, sync_file, write_file};
+use crate::resuming::resumed_gateway;
 use crate::setup::Text;
 use byteorder::{BigEndian, ByteOrder};
 use gw_circuit::CircuitConfig;
@@ -85,7 +87,7 @@ fn fits_asked(octets: &[u8], place: Option<u64>) -> Result<(), ProgramFault>
 }
 
 // The fault if octets are not loaded.
-fn load_trouble(fault: LoadFault) -> ProgramFault
+pub(crate) fn load_trouble(fault: LoadFault) -> ProgramFault
     ensures { result ≡ load_trouble fault }
 {
     match fault {
@@ -95,7 +97,7 @@ fn load_trouble(fault: LoadFault) -> ProgramFault
 }
 
 // The gateway whose state is in the octets of a file, at the place that is asked for, if one is.
-fn loaded_of(
+pub(crate) fn loaded_of(
     alloc: Global,
     config: &GatewayConfig,
     octets: &[u8],
@@ -166,7 +168,7 @@ fn checkpoint_of(
 }
 
 // Whether two configurations of a circuit are the same.
-fn is_same(old: &CircuitConfig, config: &CircuitConfig) -> bool
+pub(crate) fn is_same(old: &CircuitConfig, config: &CircuitConfig) -> bool
     ensures { result ≡ true → old.now ≡ config.now }
 {
     old == config
@@ -190,7 +192,7 @@ fn tell_changed(rt: &impl Machine, circuit: usize, old: &CircuitConfig, config: 
 }
 
 // Reports which circuits begin as new, since their configuration changed.
-fn tell_renewed(rt: &impl Machine, old: &GatewayConfig, config: &GatewayConfig)
+pub(crate) fn tell_renewed(rt: &impl Machine, old: &GatewayConfig, config: &GatewayConfig)
     ensures { AreTold old.now config.now 30 }
 {
     for at in 0..config.circuits.len() {
@@ -249,6 +251,29 @@ fn first_gateway(
     }
 }
 
+// The gateway that a log has if one is named that has one; otherwise as without a log.
+fn begun_gateway(
+    rt: &impl Machine,
+    config: &GatewayConfig,
+    log: Option<&str>,
+    path: Option<&str>,
+    place: Option<u64>,
+) -> Result<Gateway, ProgramFault>
+    ensures ok { IfOk result (BeginsFrom config.now (option_map (λ folder. folder.now) log.entry)
+        (option_map (λ path. path.now) path.entry) (λ asked. asked ≡ place)) }
+    ensures err { IfErr result (LacksFirst config.now (option_map (λ folder. folder.now) log.entry)
+        (option_map (λ path. path.now) path.entry) (λ asked. asked ≡ place)) }
+{
+    let Some(folder) = log else {
+        return first_gateway(rt, config, path, place);
+    };
+    match resumed_gateway(rt, config, folder) {
+        Ok(Some(gateway)) => Ok(gateway),
+        Ok(None) => first_gateway(rt, config, path, place),
+        Err(fault) => Err(fault),
+    }
+}
+
 // Sets the gateway's wait for an acknowledgement, if there is one.
 fn waiting(gateway: Gateway, wait: Option<u16>) -> Gateway
     ensures { Waits wait gateway result }
@@ -260,23 +285,25 @@ fn waiting(gateway: Gateway, wait: Option<u16>) -> Gateway
     gateway
 }
 
-/// Opens the gateway of a session: loads the state in a file if one is named, otherwise a new gateway. Its
+/// Opens the gateway of a session: one that goes on from the log in a folder, if one is named in which
+/// something was kept; otherwise loads the state in a file if one is named, or opens a new gateway. Its
 /// wait for an acknowledgement, in signals, is `wait`; without one it is that of the state, or 100 signals.
 /// Circuits whose configuration changed begin as new, and standard error says which. A checkpoint of another
 /// place than `place`, if there is one, is refused.
 pub fn begin_gateway(
     rt: &impl Machine,
     config: &GatewayConfig,
+    log: Option<&str>,
     path: Option<&str>,
     place: Option<u64>,
     wait: Option<u16>,
 ) -> Result<Gateway, ProgramFault>
-    ensures ok { IfOk result (BeginsWaiting config.now (option_map (λ path. path.now) path.entry)
-        (λ asked. asked ≡ place) (λ asked. asked ≡ wait)) }
-    ensures err { IfErr result (LacksGateway config.now (option_map (λ path. path.now) path.entry)
-        (λ asked. asked ≡ place)) }
+    ensures ok { IfOk result (BeginsWaiting (BeginsFrom config.now (option_map (λ folder. folder.now) log.entry)
+        (option_map (λ path. path.now) path.entry) (λ asked. asked ≡ place)) (λ asked. asked ≡ wait)) }
+    ensures err { IfErr result (LacksFirst config.now (option_map (λ folder. folder.now) log.entry)
+        (option_map (λ path. path.now) path.entry) (λ asked. asked ≡ place)) }
 {
-    let first = first_gateway(rt, config, path, place)?;
+    let first = begun_gateway(rt, config, log, path, place)?;
     Ok(waiting(first, wait))
 }
 

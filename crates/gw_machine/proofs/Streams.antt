@@ -14,7 +14,8 @@ use Rattle.gw_machine.specs.System.{EndedSaved, NotBegun, Performed, LacksSessio
 use Rattle.gw_machine.specs.System.Performed.{Lacked, Done}
 use Rattle.gw_machine.specs.State.{BeginsWaiting, HasBegun, IsFromState, IsSaved, LacksGateway}
 use Rattle.gw_machine.specs.CommandLine.{AreNew, AsksPlace, AsksWait, CommandLine, OnNewStreams, TakesAsked}
-use Rattle.gw_machine.specs.CommandLine.{config_path_in, files_in, load_in, save_in}
+use Rattle.gw_machine.specs.CommandLine.{config_path_in, files_in, load_in, log_in, save_in}
+use Rattle.gw_machine.specs.Log.{BeginsFrom, LacksFirst}
 use Rattle.gw_machine.specs.Setup.{IsMeant, LacksConfigAt, PathGives}
 
 -- a session can begin on a new source and a new sink
@@ -104,36 +105,56 @@ lacks_at (Some path) place at config fault is (inr (inr (inl (other, e, there)))
 )))
 lacks_at (Some path) place at config fault is (inr (inr (inr were))) = inr (inr (inr were))
 
+-- so begins one that may go on from a log
+begun_from : (log path : Option (List ℕ)) (place : Option ℕ) (at : Option ℕ → Type 0) (config : GatewayConfig)
+    (gateway : Gateway) → at place → BeginsFrom config log path (λ asked. asked ≡ place) gateway
+    → BeginsFrom config log path at gateway
+begun_from None path place at config gateway is b = begun_at path place at config gateway is b
+begun_from (Some folder) path place at config gateway is (inl logged) = inl logged
+begun_from (Some folder) path place at config gateway is (inr (new, b)) =
+    inr (new, begun_at path place at config gateway is b)
+
+-- .. or lacks
+lacks_from : (log path : Option (List ℕ)) (place : Option ℕ) (at : Option ℕ → Type 0) (config : GatewayConfig)
+    (fault : ProgramFault) → at place → LacksFirst config log path (λ asked. asked ≡ place) fault
+    → LacksFirst config log path at fault
+lacks_from None path place at config fault is b = lacks_at path place at config fault is b
+lacks_from (Some folder) path place at config fault is (inl logged) = inl logged
+lacks_from (Some folder) path place at config fault is (inr (new, b)) =
+    inr (new, lacks_at path place at config fault is b)
+
 -- the place and the wait that are asked for are told as what they were asked by
-waiting_at : (path : Option (List ℕ)) (place wait : Option ℕ) (at asks : Option ℕ → Type 0)
+waiting_at : (log path : Option (List ℕ)) (place wait : Option ℕ) (at asks : Option ℕ → Type 0)
     (config : GatewayConfig) (gateway : Gateway) → at place → asks wait
-    → BeginsWaiting config path (λ asked. asked ≡ place) (λ asked. asked ≡ wait) gateway
-    → BeginsWaiting config path at asks gateway
-waiting_at path place wait at asks config gateway there is b = record {
+    → BeginsWaiting (BeginsFrom config log path (λ asked. asked ≡ place)) (λ asked. asked ≡ wait) gateway
+    → BeginsWaiting (BeginsFrom config log path at) asks gateway
+waiting_at log path place wait at asks config gateway there is b = record {
   first = b.first;
-  begun = begun_at path place at config b.first there b.begun;
+  begun = begun_from log path place at config b.first there b.begun;
   wait = b.wait;
   asked = subst asks (sym b.asked) is;
   waits = b.waits;
 }
 
 -- A system whose paths, place and wait are those of the command takes what the command names.
-pub takes_asked : (command : CommandLine) (path : List ℕ) (load save : Option (List ℕ))
-    (place wait : Option ℕ) → config_path_in command ≡ Some path → load ≡ load_in command
-    → save ≡ save_in command → AsksPlace command place → AsksWait command wait
+pub takes_asked : (command : CommandLine) (path : List ℕ) (log load save : Option (List ℕ))
+    (place wait : Option ℕ) → config_path_in command ≡ Some path → log ≡ log_in command
+    → load ≡ load_in command → save ≡ save_in command → AsksPlace command place → AsksWait command wait
     → TakesAsked command (record {
       reads = IsMeant (PathGives path);
       lacks_config = LacksConfigAt path;
-      starts = λ config. BeginsWaiting config.gateway load (λ asked. asked ≡ place) (λ asked. asked ≡ wait);
-      lacks_gateway = λ config. LacksGateway config.gateway load (λ asked. asked ≡ place);
+      starts = λ config. BeginsWaiting (BeginsFrom config.gateway log load (λ asked. asked ≡ place))
+          (λ asked. asked ≡ wait);
+      lacks_gateway = λ config. LacksFirst config.gateway log load (λ asked. asked ≡ place);
       saves = λ config. IsSaved save config.gateway;
     })
-takes_asked command path load save place wait named loads saves at asks = record {
+takes_asked command path log load save place wait named logs loads saves at asks = record {
   read = λ config meant. rw named meant;
   unread = λ fault lacks. rw named lacks;
-  begun = λ config gateway begun. rw (← loads) (waiting_at load place wait (AsksPlace command) (AsksWait command)
-      config.gateway gateway at asks begun);
-  unbegun = λ config fault lacks. rw (← loads) (lacks_at load place (AsksPlace command) config.gateway fault at lacks);
+  begun = λ config gateway begun. rw (← logs, ← loads) (waiting_at log load place wait (AsksPlace command)
+      (AsksWait command) config.gateway gateway at asks begun);
+  unbegun = λ config fault lacks. rw (← logs, ← loads) (lacks_from log load place (AsksPlace command) config.gateway
+      fault at lacks);
   saved = λ config gateway saved is. rw (← saves) is;
 }
 

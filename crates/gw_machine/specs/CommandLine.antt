@@ -11,7 +11,8 @@ use Rattle.gw_command.specs.Command.{text_in, SaysNumberIn, SaysWait}
 use Rattle.gw_machine.specs.declared.program_fault.ProgramFault.{ProgramFault}
 use Rattle.gw_machine.specs.System.{Performed, SystemFiles}
 use Rattle.gw_machine.specs.Setup.{IsConfigAt, LacksConfigAt}
-use Rattle.gw_machine.specs.State.{BeginsWaiting, IsSaved, LacksGateway}
+use Rattle.gw_machine.specs.Log.{BeginsFrom, LacksFirst}
+use Rattle.gw_machine.specs.State.{BeginsWaiting, IsSaved}
 
 -- a subcommand with its options
 abbrev pub CommandLine : Type 0
@@ -35,9 +36,13 @@ pub record OnNewStreams (does : SessionStreams → SessionStreams → Type 0) : 
   pub new : AreNew before.source before.sink
   pub done : does before after
 
--- the file of the configuration, the state to load and the state to save that the command names
+-- the file of the configuration, the folder of the log, the state to load and the state to save that the
+-- command names
 abbrev pub config_path_in : CommandLine → Option (List ℕ)
 config_path_in command = text_in (codes "config") command
+
+abbrev pub log_in : CommandLine → Option (List ℕ)
+log_in command = text_in (codes "log") command
 
 abbrev pub load_in : CommandLine → Option (List ℕ)
 load_in command = text_in (codes "load") command
@@ -59,14 +64,15 @@ AsksPlace command place = MatchOption place
     ((follow_in command ≡ None) ⊎ ((octet : ℕ) → ¬ IsFrom command octet))
     (λ octet. (follow_in command ≢ None) × IsFrom command octet)
 
--- The files that the command names. A gateway is begun from a state if one is named, at the place and with
--- the wait that are asked for.
+-- The files that the command names. A gateway goes on from the log that is named, or is begun from a state if
+-- one is named, at the place that is asked for; it has the wait that is asked for.
 abbrev pub files_in : CommandLine → SystemFiles
 files_in command = record {
   reads = IsConfigAt (config_path_in command);
   lacks_config = λ fault. IsSomeAnd (config_path_in command) (λ path. LacksConfigAt path fault);
-  starts = λ config. BeginsWaiting config.gateway (load_in command) (AsksPlace command) (AsksWait command);
-  lacks_gateway = λ config. LacksGateway config.gateway (load_in command) (AsksPlace command);
+  starts = λ config. BeginsWaiting (BeginsFrom config.gateway (log_in command) (load_in command)
+      (AsksPlace command)) (AsksWait command);
+  lacks_gateway = λ config. LacksFirst config.gateway (log_in command) (load_in command) (AsksPlace command);
   saves = λ config. IsSaved (save_in command) config.gateway;
 }
 

@@ -58,3 +58,15 @@ SystemFailsToWrite file error = ⊤
 -- the file at the first path was given the second one
 unfoldable pub SystemRenames : List ℕ → List ℕ → Type 0
 SystemRenames from to = ⊤
+
+-- the file at this path was opened to be read and written, or created with these permissions
+unfoldable pub SystemKeeps : {F : Type 0} → List ℕ → ℕ → F → Type 0
+SystemKeeps path mode file = ⊤
+
+-- no other process has a file, and none will get it while it is open
+unfoldable pub SystemLocks : {F : Type 0} → F → Type 0
+SystemLocks file = ⊤
+
+-- .. or another process has it
+unfoldable pub SystemHasLocked : {F : Type 0} → F → Type 0
+SystemHasLocked file = ⊤

@@ -4,5 +4,6 @@ pub mod Files
 pub mod Renewals
 pub mod Setup
 pub mod State
+pub mod Log
 pub mod System
 pub mod CommandLine

@@ -129,10 +129,10 @@ Waits None first gateway = gateway ≡ first
 Waits (Some signals) first gateway = WasGiven signals first gateway
 
 -- a session begins with a gateway that began so, and was given the wait that is asked for if one is
-pub record BeginsWaiting (config : GatewayConfig) (path : Option (List ℕ)) (At Asks : Option ℕ → Type 0)
-    (gateway : Gateway) : Type 0 where
+pub record BeginsWaiting (Begins : Gateway → Type 0) (Asks : Option ℕ → Type 0) (gateway : Gateway) : Type 0
+  where
   pub first : Gateway
-  pub begun : HasBegun config path At first
+  pub begun : Begins first
   pub wait : Option ℕ
   pub asked : Asks wait
   pub waits : Waits wait first gateway

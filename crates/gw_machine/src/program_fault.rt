@@ -57,6 +57,21 @@ pub enum ProgramFault {
     /// The log can't be followed.
     #[error("cannot follow the log")]
     Log,
+    /// The files of the trunk's log can't be opened, read or written.
+    #[error("cannot open the log of the trunk")]
+    NoLog,
+    /// The process of this number has the trunk's log.
+    #[error("the log of the trunk is in use by process {0}")]
+    LogInUse(u32),
+    /// The files of the trunk's log want so many octets, and there are fewer.
+    #[error("the log of the trunk wants {0} octets")]
+    LogRoom(u64),
+    /// The files of the trunk's log have nothing that can be loaded, and are not new.
+    #[error("the log of the trunk has no state that can be loaded")]
+    BadLog,
+    /// A recording and a log are both named.
+    #[error("error: give --record or --log")]
+    TwoRecordings,
     /// The file of reports can't be opened.
     #[error("cannot open the file of --reports")]
     Reports,
@@ -97,7 +112,8 @@ impl ProgramFault {
         }
     }
 
-    /// The exit status: 1 for a fault of a session, a socket or a trunk or if a state is not saved, 2 if the
+    /// The exit status: 1 for a fault of a session, a socket or a trunk, if a state is not saved or a log has too
+    /// little room, 2 if the
     /// command line, a file or the configuration is refused, and 3 if out of memory.
     pub fn status(&self) -> u8
         ensures { result ≡ program_fault_status self.now }
@@ -111,6 +127,7 @@ impl ProgramFault {
             | ProgramFault::Socket(_)
             | ProgramFault::FarEnd
             | ProgramFault::Trunk
+            | ProgramFault::LogRoom(_)
             | ProgramFault::NotSaved => FAULT,
             ProgramFault::NotText
             | ProgramFault::PacketSize
@@ -119,6 +136,10 @@ impl ProgramFault {
             | ProgramFault::Recording
             | ProgramFault::OldRecording
             | ProgramFault::Log
+            | ProgramFault::NoLog
+            | ProgramFault::LogInUse(_)
+            | ProgramFault::BadLog
+            | ProgramFault::TwoRecordings
             | ProgramFault::Reports
             | ProgramFault::NoState
             | ProgramFault::State(_)

@@ -32,8 +32,8 @@ pub trait System {
     /// Holds of a configuration, a gateway and a place in the input of which a checkpoint was to be written.
     ghost keeps: { Self → Config → Gateway → ℕ → Type 0 };
 
-    /// Holds of a tape that was begun.
-    ghost begins: { Self → Self.Tape → Type 0 };
+    /// Holds of a tape that was begun for a configuration and the gateway that a session begins with.
+    ghost begins: { Self → Config → Gateway → Self.Tape → Type 0 };
 
     /// Holds of the fault if no tape was begun.
     ghost lacks_tape: { Self → ProgramFault → Type 0 };
@@ -74,9 +74,9 @@ pub trait System {
     fn keep(&self, config: &Config, gateway: &Gateway, place: u64) -> Result<(), ProgramFault>
         ensures { keeps self.now config.now gateway.now place };
 
-    /// Begins the recording, if requested.
-    fn begin_tape(&self) -> Result<Self::Tape, ProgramFault>
-        ensures ok { IfOk result (λ tape. begins self.now tape) }
+    /// Begins what a session is recorded on that begins with this gateway, if requested.
+    fn begin_tape(&self, config: &Config, gateway: &Gateway) -> Result<Self::Tape, ProgramFault>
+        ensures ok { IfOk result (begins self.now config.now gateway.now) }
         ensures err { IfErr result (λ program_fault. lacks_tape self.now program_fault) };
 
     /// Opens the ports of a configuration.

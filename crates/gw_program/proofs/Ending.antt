@@ -83,13 +83,14 @@ module _ {X : Type 0} {x x' : X} {files : SystemFiles} {told : Result Totals Pro
 
 module _ {s s' : SourceState} {k k' : SinkState} {X P T : Type 0} {x x' : X} {files : SystemFiles}
     {command : CommandLine} (takes : TakesAsked command files) {lacks_more : Config → ProgramFault → Type 0}
-    (opens : Config → P → Type 0) (begins : T → Type 0) (ports_tell : P → PortsState) (tape_tells : T → TapeState)
+    (opens : Config → P → Type 0) (begins : Config → Gateway → T → Type 0) (ports_tell : P → PortsState)
+    (tape_tells : T → TapeState)
     {told : Result Totals ProgramFault}
   where
     -- a session took what the command names
     pub session_done : (session : SessionKind) (from place : ℕ)
         → Performed x x' files (LacksSession files lacks_more) (λ config gateway gateway'.
-        WithEnds session (opens config) begins ports_tell tape_tells (λ ports ports' tape tape'.
+        WithEnds session (opens config) (begins config gateway) ports_tell tape_tells (λ ports ports' tape tape'.
         EndedSaved (RunsSession session (around s k ports tape) (around s' k' ports' tape') gateway gateway' from place)
         (files.saves config gateway') told)) told
         → (x' ≡ x → around s' k' no_ports no_tape ≡ around s k no_ports no_tape)

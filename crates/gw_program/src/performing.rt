@@ -99,14 +99,14 @@ fn perform_serve<Y: System, S: Source, K: Sink>(
     requires { CanBegin (S.tells ends.old.source) (K.tells ends.old.sink) }
     ensures { NotBegun ends.old ends.new
         (LacksTapeOrPorts (Y.lacks_tape system.now) (Y.lacks_ports system.now config.now)) result
-        ⊎ HasServed (Y.opens system.now config.now) (Y.begins system.now)
+        ⊎ HasServed (Y.opens system.now config.now) (Y.begins system.now config.now gateway.old)
         (λ ports ports' tape tape'. EndedSaved (RunsSession Serve
         (around (S.tells ends.old.source) (K.tells ends.old.sink) (Y.Ports.tells ports) (Y.Tape.tells tape))
         (around (S.tells ends.new.source) (K.tells ends.new.sink) (Y.Ports.tells ports') (Y.Tape.tells tape'))
         gateway.old gateway.new ends.old.place ends.new.place)
         ((Y.files system.now).saves config.now gateway.new) result) }
 {
-    let mut tape = system.begin_tape()?;
+    let mut tape = system.begin_tape(config, gateway)?;
     let mut ports = system.open_ports(config)?;
     let ended = serve_through(
         alloc,
@@ -133,8 +133,8 @@ pub fn perform_session<Y: System, S: Source + StandardInput, K: Sink + StandardO
     ensures { Performed ends.old ends.new (Y.files system.now) (LacksSession (Y.files system.now)
         (LacksMore session (Y.lacks_watch system.now)
         (λ config. LacksTapeOrPorts (Y.lacks_tape system.now) (Y.lacks_ports system.now config))))
-        (λ config gateway gateway'. WithEnds session (Y.opens system.now config) (Y.begins system.now)
-        (λ ports. Y.Ports.tells ports) (λ tape. Y.Tape.tells tape)
+        (λ config gateway gateway'. WithEnds session (Y.opens system.now config)
+        (Y.begins system.now config gateway) (λ ports. Y.Ports.tells ports) (λ tape. Y.Tape.tells tape)
         (λ ports ports' tape tape'. EndedSaved (RunsSession session
         (around (S.tells ends.old.source) (K.tells ends.old.sink) ports tape)
         (around (S.tells ends.new.source) (K.tells ends.new.sink) ports' tape')

@@ -11,9 +11,10 @@ ghost use Rattle.gw_machine.specs.System.{Serves};
 ghost use Rattle.gw_program.specs.Sessions.{Runs, Checks, Lists, checked};
 
 use crate::listing::listing;
+use gw_files::Nowhere;
 use gw_session::laws::cut_recordings_recover;
 use gw_session::{
-    Ports, RunFault, Sink, SinkFault, Source, Tape, Totals, Watch, run, run_watched,
+    Ports, RunFault, Sink, Source, Tape, Totals, Watch, run, run_watched,
     serve_recorded, write_all,
 };
 use gw_switch::Gateway;
@@ -54,18 +55,6 @@ pub fn replay_watched<S: Source, K: Sink, W: Watch>(
 {
     cut_recordings_recover();
     run_watched(alloc, gateway, source, sink, watch)
-}
-
-// Takes all octets and keeps none, so that no write fails.
-#[derive(Drop)]
-struct Nowhere;
-
-impl Sink for Nowhere {
-    ghost tells = { λ s. record { failures = 0; taken = None } };
-
-    fn write(&mut self, octets: &[u8]) -> Result<usize, SinkFault> {
-        Ok(octets.len())
-    }
 }
 
 /// Processes the records of a source with a gateway, and then writes a line for each circuit, also after a

@@ -1,5 +1,5 @@
 -- Why a session or a trunk that the command line names was not begun.
-use Rattle.std.specs.Prelude.{◌≡◌, ◌⊎◌, ⊤, Bool, List, ℕ, Option, None, IsSomeAnd, string_bytes, codes}
+use Rattle.std.specs.Prelude.{◌≡◌, ◌≢◌, ◌⊎◌, ⊤, Bool, List, ℕ, Option, Some, None, IsSomeAnd, string_bytes, codes}
 use Rattle.std.specs.declared.io.Error.{Error}
 use Rattle.gw_config.specs.declared.config.Config.{Config}
 use Rattle.gw_command.specs.Command.{text_in}
@@ -9,7 +9,10 @@ use Rattle.gw_udp.specs.Names.{SystemLooksUp}
 use Rattle.gw_udp.specs.Opening.{LacksPorts}
 use Rattle.gw_machine.specs.System.{LacksMore, LacksSession, LacksTapeOrPorts}
 use Rattle.gw_files.specs.Recording.{LacksRecording}
-use Rattle.gw_machine.specs.CommandLine.{CommandLine, files_in}
+use Rattle.gw_files.specs.LogFolder.{FailsToLock}
+use Rattle.gw_files.specs.LogTape.{LacksTrunkLog}
+use Rattle.gw_switch.specs.declared.gateway.Gateway.{Gateway}
+use Rattle.gw_machine.specs.CommandLine.{CommandLine, files_in, log_in}
 use Rattle.gw_machine.specs.Status.{SaysRefused}
 use Rattle.gw_machine.specs.declared.program_fault.ProgramFault.{ProgramFault}
 use Rattle.gw_machine.specs.declared.program_fault.ProgramFault.TheVariants as program_faults
@@ -29,10 +32,19 @@ LacksTeller path fault = SaysRefused (SystemRefusesTeller path) program_faults.T
 abbrev pub LacksTellerIn : CommandLine → ProgramFault → Type 0
 LacksTellerIn command fault = IsSomeAnd (text_in (codes "tell") command) (λ path. LacksTeller path fault)
 
--- why the recording that the command names is not begun
+-- why the recording at a path that may be named is not begun
+abbrev pub LacksRecordingAt : Option (List ℕ) → ProgramFault → Type 0
+LacksRecordingAt path fault = IsSomeAnd path (λ path. (over : Bool) × LacksRecording path over fault)
+
+-- why what a session is recorded on is not begun, in the folder and at the path that may be named
+abbrev pub LacksTapeAt : Option (List ℕ) → Option (List ℕ) → ProgramFault → Type 0
+LacksTapeAt None path fault = LacksRecordingAt path fault
+LacksTapeAt (Some folder) path fault = ((fault ≡ program_faults.TwoRecordings) × (path ≢ None))
+    ⊎ ((gateway : Gateway) × LacksTrunkLog folder gateway fault)
+
+-- .. that the command names
 abbrev pub LacksTapeIn : CommandLine → ProgramFault → Type 0
-LacksTapeIn command fault =
-    IsSomeAnd (text_in (codes "record") command) (λ path. (over : Bool) × LacksRecording path over fault)
+LacksTapeIn command = LacksTapeAt (log_in command) (text_in (codes "record") command)
 
 -- why the ports of a configuration are not opened for the senders that the command names
 abbrev pub LacksPortsIn : CommandLine → Config → ProgramFault → Type 0
@@ -50,10 +62,15 @@ LacksIn command lacks_more fault =
     ((fault ≡ program_faults.Nothing) × (text_in (codes "config") command ≡ None))
     ⊎ LacksSession (files_in command) lacks_more fault
 
+-- why the folder of the log that the command names is not this process's
+abbrev pub FailsToLockIn : CommandLine → ProgramFault → Type 0
+FailsToLockIn command fault = IsSomeAnd (log_in command) (λ folder. FailsToLock folder fault)
+
 -- .. no trunk
 abbrev pub LacksTrunkIn : CommandLine → ProgramFault → Type 0
-LacksTrunkIn command =
-    LacksIn command (λ config fault. LacksEndsIn command config fault ⊎ LacksTellerIn command fault)
+LacksTrunkIn command fault =
+    LacksIn command (λ config fault. LacksEndsIn command config fault ⊎ LacksTellerIn command fault) fault
+    ⊎ FailsToLockIn command fault
 
 -- .. no session
 abbrev pub LacksSessionIn : CommandLine → SessionKind → ProgramFault → Type 0

@@ -2,3 +2,4 @@ pub mod Asked
 pub mod Lacking
 pub mod Opening
 pub mod Telling
+pub mod Tapes

@@ -4,4 +4,5 @@
 mod asked;
 mod local;
 
+pub use asked::lock_asked;
 pub use local::{Local, local_of};

@@ -3,7 +3,7 @@
 ghost use Rattle.std.specs.Prelude.{◌≡◌, IfErr, IfOk, IfSome, option_map, codes};
 ghost use Rattle.clap.specs.Words.{subcommand_rows_of};
 ghost use Rattle.gw_command.specs.Command.{HasFlag, text_in};
-ghost use Rattle.gw_machine.specs.CommandLine.{load_in, save_in, AsksPlace, AsksWait};
+ghost use Rattle.gw_machine.specs.CommandLine.{load_in, log_in, save_in, AsksPlace, AsksWait};
 ghost use Rattle.gw_system.specs.Asked.{AreSenders, IsRepeat};
 ghost use Rattle.gw_system.specs.Lacking.{SystemRefusesTeller};
 ghost use Rattle.gw_system.specs.Opening.{trouble_of_opening};
@@ -11,17 +11,19 @@ ghost use Rattle.gw_system.specs.Telling.{TellsFrom};
 
 use crate::asked::{place_asked, recording_asked, repeat_asked, senders_asked};
 use clap::ArgMatches;
-use gw_command::{checkpoint_of, load_of, save_of, seizure_wait_of, tell_of};
+use gw_command::{checkpoint_of, load_of, log_of, save_of, seizure_wait_of, tell_of};
 use gw_config::Config;
 use gw_files::{
-    Recording, RecordingFile, Tape, begin, begin_gateway, keep_checkpoint, keep_gateway,
-    read_config,
+    OneOf, Recording, RecordingFile, Tape, begin, begin_gateway, begin_log,
+    keep_checkpoint, keep_gateway, read_config,
 };
+use gw_log::TrunkLog;
 use gw_machine::{Machine, ProgramFault, System, print_fault};
 use gw_repeat::{Repeating, packet_words};
 use gw_session::Recorder;
 use gw_switch::Gateway;
 use gw_tell::Teller;
+use log_files::FileStore;
 use gw_udp::{OpenFault, Resting, Socket, SourceFilter, SystemSocket, UdpPorts, open_sockets};
 use std::fs::File;
 use std::io;
@@ -73,6 +75,8 @@ pub struct Local<'m, R> {
     pub recording: Option<Recording<'m>>,
     /// The file of `--checkpoint`, if it is asked for.
     pub checkpoint: Option<&'m str>,
+    /// The folder of the trunk's log, if it is asked for.
+    pub log: Option<&'m str>,
     /// The socket of `--tell`, if it is asked for.
     pub tell: Option<&'m str>,
 }
@@ -83,46 +87,50 @@ impl<R: Machine> System for Local<'_, R> {
     ghost use Rattle.gw_files.specs.Recording.{IsOpenedFor, LacksRecording};
     ghost use Rattle.gw_machine.specs.Report.{SystemTells};
     ghost use Rattle.gw_machine.specs.Setup.{IsMeant, LacksConfigAt, PathGives};
-    ghost use Rattle.gw_machine.specs.State.{BeginsWaiting, LacksGateway, IsSaved, IsKept};
+    ghost use Rattle.gw_machine.specs.Log.{BeginsFrom, LacksFirst};
+    ghost use Rattle.gw_machine.specs.State.{BeginsWaiting, IsSaved, IsKept};
     ghost use Rattle.gw_udp.specs.Names.{SystemLooksUp};
     ghost use Rattle.gw_udp.specs.Udp.{HasEndpoints, TakesFrom};
     ghost use Rattle.gw_udp.specs.Opening.{FailsToOpen as FailsToOpenPorts};
     ghost use Rattle.gw_system.specs.Lacking.{LacksTeller};
     ghost use Rattle.gw_system.specs.Opening.{IsOfOpening};
+    ghost use Rattle.gw_system.specs.Tapes.{BeginsTape, LacksTape};
+    ghost use Rattle.gw_log.specs.Logs.{GoesOnWith};
     ghost use Rattle.gw_system.specs.Telling.{AreToldEnd, TellsAsked};
     ghost use Rattle.gw_udp.specs.Calls.{IsFresh};
     ghost use Rattle.gw_repeat.specs.Words.{HasPacketWords};
 
     type Ports = Repeating<UdpPorts<Resting<SystemSocket>>>;
 
-    type Tape = Tape;
+    type Tape = OneOf<Tape, TrunkLog<FileStore>>;
 
     type Watch = Option<Teller>;
 
     ghost files = { λ s. record {
       reads = IsMeant (PathGives s.path.now);
       lacks_config = LacksConfigAt s.path.now;
-      starts = λ config. BeginsWaiting config.gateway (option_map (λ path. path.now) s.load)
-          (λ place. place ≡ s.place) (λ wait. wait ≡ s.wait);
-      lacks_gateway = λ config. LacksGateway config.gateway (option_map (λ path. path.now) s.load)
-          (λ place. place ≡ s.place);
+      starts = λ config. BeginsWaiting (BeginsFrom config.gateway (option_map (λ path. path.now) s.log)
+          (option_map (λ path. path.now) s.load) (λ place. place ≡ s.place)) (λ wait. wait ≡ s.wait);
+      lacks_gateway = λ config. LacksFirst config.gateway (option_map (λ path. path.now) s.log)
+          (option_map (λ path. path.now) s.load) (λ place. place ≡ s.place);
       saves = λ config. IsSaved (option_map (λ path. path.now) s.save) config.gateway;
     } };
 
     ghost keeps = { λ s config gateway place. IfSome s.checkpoint (λ path.
         IsKept path.now config.gateway gateway place) };
 
-    ghost lacks_tape = { λ s program_fault. IsSomeAnd s.recording (λ asked.
-        LacksRecording asked.path.now asked.over program_fault) };
+    ghost lacks_tape = { λ s. LacksTape (option_map (λ path. path.now) s.log) s.recording };
 
     ghost lacks_watch = { λ s program_fault. IsSomeAnd s.tell (λ path.
         LacksTeller path.now program_fault) };
 
-    ghost begins = { λ s tape. IsBegun s.recording
+    ghost begins = { λ s config gateway tape. BeginsTape (option_map (λ path. path.now) s.log) s.recording
+        (λ tape. IsBegun s.recording
         (⟦<Option<Recorder<RecordingFile<File, Stderr>>> as gw_session::Tape>⟧.tells tape)
         × MatchOption s.recording (tape ≡ None)
         (λ asked. IsSomeAnd tape (λ recorder. IsSomeAnd recorder.sink.writer
-        (IsOpenedFor asked.path.now asked.over asked.waits))) };
+        (IsOpenedFor asked.path.now asked.over asked.waits))))
+        (GoesOnWith config.gateway gateway) tape };
 
     ghost opens = { λ s config ports. HasEndpoints (TakesFrom ⟦<Resting<SystemSocket> as Socket>⟧.is_bound
         ⟦<Resting<SystemSocket> as Socket>⟧.is_open s.senders) SystemLooksUp
@@ -147,7 +155,8 @@ impl<R: Machine> System for Local<'_, R> {
     }
 
     fn begin_gateway(&self, config: &Config) -> Result<Gateway, ProgramFault> {
-        begin_gateway(self.rt, &config.gateway, self.load, self.place, self.wait)
+        let gateway = &config.gateway;
+        begin_gateway(self.rt, gateway, self.log, self.load, self.place, self.wait)
     }
 
     fn save_gateway(&self, config: &Config, gateway: &Gateway) -> Result<(), ProgramFault> {
@@ -161,8 +170,17 @@ impl<R: Machine> System for Local<'_, R> {
         }
     }
 
-    fn begin_tape(&self) -> Result<Tape, ProgramFault> {
-        begin(self.rt, self.recording)
+    fn begin_tape(&self, config: &Config, gateway: &Gateway) -> Result<Self::Tape, ProgramFault> {
+        let Some(folder) = self.log else {
+            return Ok(OneOf::First(begin(self.rt, self.recording)?));
+        };
+        if self.recording.is_some() {
+            return Err(ProgramFault::TwoRecordings);
+        }
+        match begin_log(self.rt, folder, &config.gateway, gateway) {
+            Ok(log) => Ok(OneOf::Second(log)),
+            Err(fault) => Err(fault),
+        }
     }
 
     fn open_ports(&self, config: &Config) -> Result<Self::Ports, ProgramFault> {
@@ -222,6 +240,7 @@ pub fn local_of<'m, R: Machine>(
         ≡ text_in (codes "checkpoint") (subcommand_rows_of matches.now) }
     ensures tell { option_map (λ path. path.now) result.tell
         ≡ text_in (codes "tell") (subcommand_rows_of matches.now) }
+    ensures log { option_map (λ path. path.now) result.log ≡ log_in (subcommand_rows_of matches.now) }
     ensures load { option_map (λ path. path.now) result.load ≡ load_in (subcommand_rows_of matches.now) }
     ensures save { option_map (λ path. path.now) result.save ≡ save_in (subcommand_rows_of matches.now) }
     ensures place { AsksPlace (subcommand_rows_of matches.now) result.place }
@@ -238,6 +257,7 @@ pub fn local_of<'m, R: Machine>(
         wait: seizure_wait_of(matches),
         recording: recording_asked(matches, waits),
         checkpoint: checkpoint_of(matches),
+        log: log_of(matches),
         tell: tell_of(matches),
     }
 }

@@ -43,7 +43,8 @@ pub(crate) fn perform_trunk<
     requires sink { IsUntaken (⟦<TrunkRecordSink<O, A> as Sink>⟧.tells trunk.old.sink) }
     ensures served { NotBegun trunk.old trunk.new (LacksServing (Y.lacks_tape system.now)
         (Y.lacks_ports system.now config.now) (Y.lacks_watch system.now)) result
-        ⊎ HasServed (Y.opens system.now config.now) (Y.begins system.now) (λ p p' t t'. EndedSaved
+        ⊎ HasServed (Y.opens system.now config.now) (Y.begins system.now config.now gateway.old)
+        (λ p p' t t'. EndedSaved
         (CarriesTrunk (around_log (⟦<TrunkRecordSource<I> as Source>⟧.tells trunk.old.source)
         (⟦<TrunkRecordSink<O, A> as Sink>⟧.tells trunk.old.sink) (Y.Ports.tells p) (Y.Tape.tells t))
         (around_log (⟦<TrunkRecordSource<I> as Source>⟧.tells trunk.new.source)
@@ -61,7 +62,7 @@ pub(crate) fn perform_trunk<
         (⟦<TrunkRecordSink<O, A> as Sink>⟧.tells trunk.new.sink) ports' tape') gateway.old gateway.new
         (InputsShown Y.Watch.shows gateway.old first last) (last ≡ first) end)) Y.ends_watch }
 {
-    let mut tape = system.begin_tape()?;
+    let mut tape = system.begin_tape(config, gateway)?;
     let mut ports = system.open_ports(config)?;
     let mut watch = system.open_watch(config, gateway)?;
     let ended = serve_trunk(

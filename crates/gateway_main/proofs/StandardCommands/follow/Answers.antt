@@ -12,8 +12,8 @@ returns-in_default g c = inr (refl, inl (sym (rw c.in_default.is at c.path_of.en
 
 pub run_on_log-requires : goal.run_on_log-requires
 run_on_log-requires g c =
-    takes_asked _ _ _ _ _ _ (rw c.local_of-system.ensures.path (sym c.in-Some.ensures))
-    c.local_of-system.ensures.load c.local_of-system.ensures.save c.local_of-system.ensures.place
+    takes_asked _ _ _ _ _ _ _ (rw c.local_of-system.ensures.path (sym c.in-Some.ensures))
+    c.local_of-system.ensures.log c.local_of-system.ensures.load c.local_of-system.ensures.save c.local_of-system.ensures.place
     c.local_of-system.ensures.wait
 
 pub returns : goal.returns
@@ -23,6 +23,6 @@ returns g c =
     log_so c.args.session (λ fault why. inr (lacks_so (files_in command) _ _ (more_in c.args.session _ _ _ _
     (λ fault. named_so (λ path. path.now) local.result.tell _ _ (λ path. LacksTeller path fault) local.ensures.tell
     (λ path why. why))
-    (ends_in (λ asked. asked.path.now) (λ asked. asked.over) command local.result.recording local.ensures.recording
-    local.result.senders local.ensures.senders)) fault why))
+    (ends_in command _ local.result.recording local.ensures.log local.ensures.recording local.result.senders
+    local.ensures.senders)) fault why))
     c.run_on_log.ensures

@@ -19,11 +19,11 @@ pub returns : goal.returns
 returns g c =
     let command = subcommand_rows_of c.args.self.now.matches.now in
     let local = c.local_of-system in
-    let takes = takes_asked _ _ _ _ _ _ (rw local.ensures.path (sym c.in-Some.ensures)) local.ensures.load
-    local.ensures.save local.ensures.place local.ensures.wait in
+    let takes = takes_asked _ _ _ _ _ _ _ (rw local.ensures.path (sym c.in-Some.ensures)) local.ensures.log
+    local.ensures.load local.ensures.save local.ensures.place local.ensures.wait in
     session_so c.args.session _ _ (λ fault why. inr (lacks_so (files_in command) _ _ (more_in c.args.session _ _ _ _
     (λ fault. named_so (λ path. path.now) local.result.tell _ _ (λ path. LacksTeller path fault) local.ensures.tell
     (λ path why. why))
-    (ends_in (λ asked. asked.path.now) (λ asked. asked.over) command local.result.recording local.ensures.recording
-    local.result.senders local.ensures.senders)) fault why))
+    (ends_in command _ local.result.recording local.ensures.log local.ensures.recording local.result.senders
+    local.ensures.senders)) fault why))
     (rw c.requires.1 at (session_done takes _ _ _ _ _ _ _ c.perform_session.ensures (λ e. rw e refl)))

@@ -1,0 +1,109 @@
+//! How the log of a trunk is begun or goes on (`begin_log`).
+
+ghost use Rattle.std.specs.Prelude.{◌≡◌, IfOk, IfErr};
+ghost use Rattle.gw_log.specs.Logs.{GoesOnWith, IsUnused};
+ghost use Rattle.gw_files.specs.LogTape.{LacksLogFiles, LacksStores, LacksTrunkLog, checkpoint_trouble};
+
+use crate::log_contents::log_contents;
+use crate::log_folder::{RECORDS_ROOM, STATE_ROOM, in_folder, open_or_create};
+use crate::recording::open_room;
+use gw_log::{LogFault, TrunkLog};
+use gw_machine::{Machine, ProgramFault};
+use gw_switch::{Gateway, GatewayConfig};
+use log_files::{FileStore, Pair};
+
+// Opens the file of this name in a folder to be written over.
+fn store_in(
+    rt: &impl Machine,
+    folder: &str,
+    name: &str,
+    room: u64,
+) -> Result<FileStore, ProgramFault>
+    ensures room { IfOk result (λ store. store.room ≡ room) }
+    ensures err { IfErr result (LacksStores folder.now) }
+{
+    let path = match in_folder(rt.alloc(), folder, name) {
+        Ok(path) => path,
+        Err(_) => return Err(ProgramFault::OutOfMemory),
+    };
+    match open_or_create(rt, path.as_str()) {
+        Ok(file) => Ok(FileStore::new(file, room)),
+        Err(error) => Err(ProgramFault::of(&error, ProgramFault::NoLog)),
+    }
+}
+
+// Opens a pair of files to be written over.
+fn pair_at(
+    rt: &impl Machine,
+    folder: &str,
+    state: &str,
+    records: &str,
+) -> Result<Pair<FileStore>, ProgramFault>
+    ensures err { IfErr result (LacksStores folder.now) }
+{
+    let state = store_in(rt, folder, state, STATE_ROOM)?;
+    let records = store_in(rt, folder, records, RECORDS_ROOM)?;
+    Ok(Pair::new(state, records))
+}
+
+// Opens both pairs.
+fn pairs_at(
+    rt: &impl Machine,
+    folder: &str,
+) -> Result<(Pair<FileStore>, Pair<FileStore>), ProgramFault>
+    ensures err { IfErr result (LacksStores folder.now) }
+{
+    let first = pair_at(rt, folder, "state.0", "records.0")?;
+    let second = pair_at(rt, folder, "state.1", "records.1")?;
+    Ok((first, second))
+}
+
+// The fault if no checkpoint is written.
+fn of_checkpoint(fault: LogFault) -> ProgramFault
+    ensures { result ≡ checkpoint_trouble fault }
+{
+    match fault {
+        LogFault::OutOfMemory => ProgramFault::OutOfMemory,
+        LogFault::NoRoom | LogFault::Write => ProgramFault::NoLog,
+    }
+}
+
+// The log in a folder, behind what its files have. Nothing is written yet.
+fn log_behind(
+    rt: &impl Machine,
+    folder: &str,
+    config: &GatewayConfig,
+) -> Result<TrunkLog<FileStore>, ProgramFault>
+    ensures ok { IfOk result (IsUnused config.now) }
+    ensures err { IfErr result (LacksLogFiles folder.now) }
+{
+    let contents = log_contents(rt, folder)?;
+    let loaded = contents.newest()?;
+    let (first, second) = pairs_at(rt, folder)?;
+    let Some(room) = open_room(rt.alloc()) else {
+        return Err(ProgramFault::OutOfMemory);
+    };
+    Ok(TrunkLog::over(rt.alloc(), first, second, loaded, *config, room))
+}
+
+/// Goes on with the log in a folder: it keeps this gateway, and from then on what is appended.
+///
+/// # Errors
+///
+/// [`ProgramFault::NoLog`] if the system refuses a file or a write, [`ProgramFault::BadLog`] if nothing is
+/// whole in the files, [`ProgramFault::OutOfMemory`].
+pub fn begin_log(
+    rt: &impl Machine,
+    folder: &str,
+    config: &GatewayConfig,
+    gateway: &Gateway,
+) -> Result<TrunkLog<FileStore>, ProgramFault>
+    ensures ok { IfOk result (GoesOnWith config.now gateway.now) }
+    ensures err { IfErr result (LacksTrunkLog folder.now gateway.now) }
+{
+    let mut log = log_behind(rt, folder, config)?;
+    match log.checkpoint(gateway) {
+        Ok(()) => Ok(log),
+        Err(fault) => Err(of_checkpoint(fault)),
+    }
+}
