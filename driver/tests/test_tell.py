@@ -10,13 +10,19 @@ from . import support
 from .support import SECONDS
 from .test_trunk_served import TrunkProcess
 from e1gw.exchange import ACKNOWLEDGED, ANSWERED, ServeProcess
-from e1gw.session import Command, command_record, datagram_record
+from e1gw.session import Command, DatagramRefusal, command_record, datagram_record
+from e1gw.testing.ports import free_port
 
 CONFIG = support.config_text({circuit: {'role': 'outgoing'} for circuit in range(1, 31)})
 LOOK = 4                    # multiframes from one look at clients to the next, where there are some
 NOT_OPEN = 20               # the path of a circuit without a call is not open
 SIGNALS = len('line ') + 29    # the columns of a line up to its pairs
-RTP = bytes([0x80, 8, 0, 17]) + (2720).to_bytes(4, 'big') + (0xDEADBEEF).to_bytes(4, 'big') + bytes(160)
+
+
+def packet(sequence: int, kind: int = 8) -> bytes:
+    """A datagram of RTP with a payload of 20 ms."""
+    return (bytes([0x80, kind]) + sequence.to_bytes(2, 'big') + (160 * sequence).to_bytes(4, 'big')
+            + (0xDEADBEEF).to_bytes(4, 'big') + bytes(160))
 
 
 def row(circuit: int, state: str, pairs: str, dropped: int = 0) -> str:
@@ -27,6 +33,12 @@ def row(circuit: int, state: str, pairs: str, dropped: int = 0) -> str:
 def seizures(**counts: int) -> str:
     """The line of seizures, with those of circuits that had some."""
     return ' '.join(['seizures', *(str(counts.get(f'c{n}', 0)) for n in range(1, 31))])
+
+
+def counts(circuit: int, accepted: int = 0, lost: int = 0, jitter: int = 0, **refused: int) -> str:
+    """The line of a circuit's counts, with the reasons that there were."""
+    reasons = [refused.get(reason.label, 0) for reason in DatagramRefusal]
+    return ' '.join(['counts', *map(str, [circuit, accepted, lost, jitter, *reasons])])
 
 
 class TellClient:
@@ -86,7 +98,7 @@ class TellTests(support.FolderCase):
         client = self.client()
         self.replay.trunk(bytes(32))
         whole = ['e1gw tell 1 A', 'at 64', 'alarms 1 1 0 0', *(row(c, 'fault', '10 --') for c in range(1, 31)),
-                 seizures(), 'now']
+                 *map(counts, range(1, 31)), seizures(), 'now']
         self.assertEqual(client.lines(), whole)
         self.replay.trunk(bytes(32))
         self.assertEqual(client.lines(), [])
@@ -95,8 +107,8 @@ class TellTests(support.FolderCase):
         self.replay.command(1, 'seize')
         place = f'at {96 + 60 * 512}'
         self.assertEqual(client.lines(), [place, 'command 1 1 0', row(1, 'seized', '00 10')])
-        self.replay.passes(datagram_record(2, RTP))
-        self.replay.passes(datagram_record(3, RTP[:11]))
+        self.replay.passes(datagram_record(2, packet(17)))
+        self.replay.passes(datagram_record(3, packet(17)[:11]))
         self.assertEqual(client.lines(), [f'datagram 2 {NOT_OPEN} 17 2720 3735928559',
                                           f'datagram 3 {NOT_OPEN} 0 0 0'])
         for pair, state in ((ACKNOWLEDGED, 'acked'), (ANSWERED, 'answered')):
@@ -106,7 +118,8 @@ class TellTests(support.FolderCase):
             self.assertRegex(told[0], '^at [0-9]+$')
             self.assertEqual(told[1][:SIGNALS], row(1, state, f'00 {pair:02b}')[:SIGNALS])
         self.multiframes(8)
-        self.assertEqual(client.lines()[-2:], [row(circuit, 'idle', '10 10', 1) for circuit in (2, 3)])
+        self.assertEqual(client.lines()[-4:], [*(row(circuit, 'idle', '10 10', 1) for circuit in (2, 3)),
+                                               *(counts(circuit, NotOpen=1) for circuit in (2, 3))])
         self.replay.command(1, 'clear')
         self.assertEqual([line.split()[3] for line in client.lines() if line.startswith('line')], ['releasing'])
         second = self.client()
@@ -126,7 +139,7 @@ class TellTests(support.FolderCase):
         self.multiframes(60)
         one.lines()
         for _ in range(4000):
-            self.replay.passes(datagram_record(2, RTP))
+            self.replay.passes(datagram_record(2, packet(17)))
             self.assertEqual(one.lines()[-1:], [f'datagram 2 {NOT_OPEN} 17 2720 3735928559'])
         self.assertNotIn('end', never.lines())
         self.assertTrue(never.has_gone())
@@ -149,7 +162,7 @@ class TellTests(support.FolderCase):
             self.assertIn('now', client.lines())
         self.assertTrue(clients[8].has_gone())
         clients[7].socket.close()
-        self.replay.passes(datagram_record(2, RTP))
+        self.replay.passes(datagram_record(2, packet(17)))
         self.multiframes(LOOK)
         after = self.client()
         self.multiframes(LOOK)
@@ -178,7 +191,7 @@ class TrunkTellTests(support.FolderCase):
             trunk.passes(bytes(32))
             first, _place, *state = self.told(client, 'now')
             self.assertEqual([first, *state], ['e1gw tell 1 A', 'alarms 1 1 0 0', *(
-                row(c, 'fault', '10 --') for c in range(1, 31)), seizures(), 'now'])
+                row(c, 'fault', '10 --') for c in range(1, 31)), *map(counts, range(1, 31)), seizures(), 'now'])
             for _ in range(60):
                 exchange.hear(trunk.passes(exchange.multiframe()))
             self.told(client, 'alarms 0 0 0 0')
@@ -192,3 +205,38 @@ class TrunkTellTests(support.FolderCase):
             self.assertEqual(trunk.ends()[0], 0)
         self.assertEqual(self.told(client, 'end')[-1], 'end')
         self.assertTrue(client.has_gone())
+
+    def test_datagrams_of_a_port(self) -> None:
+        """They are counted, and no line tells one. Each comes 128 samples behind the one before."""
+        exchange, peer = support.Exchange(), socket.socket(socket.AF_INET, socket.SOCK_DGRAM)
+        self.addCleanup(peer.close)
+        peer.bind(('127.0.0.1', 0))
+        port, tell, control = free_port(kind=socket.SOCK_DGRAM), self.path('tell'), self.path('control')
+        config = self.write('trunk.toml', support.config_text({1: {
+            'role': 'outgoing', 'prefill': 640, 'local_port': port, 'peer_port': peer.getsockname()[1]}}))
+        words = [support.program(), 'trunk', '--config', config, '--tell', tell, '--control', control]
+        with TrunkProcess(words, control) as trunk:
+            def passes(times: int) -> None:
+                for _ in range(times):
+                    exchange.hear(trunk.passes(exchange.multiframe() * 4))
+
+            passes(15)
+            client = TellClient(tell)
+            self.addCleanup(client.socket.close)
+            with trunk.client() as operator:
+                operator.sendall(command_record(1, Command.SEIZE))
+                while not select.select([operator], [], [], 0)[0]:
+                    passes(1)
+            for exchange.pairs[1] in ACKNOWLEDGED, ANSWERED:
+                passes(8)
+            for datagram in (packet(17), packet(18), packet(20), packet(19), packet(21, 9), packet(22),
+                             packet(23)[:11]):
+                peer.sendto(datagram, ('127.0.0.1', port))
+                passes(2)
+            passes(32)
+            self.assertEqual(trunk.ends()[0], 0)
+        told = self.told(client, 'end')
+        self.assertFalse(any(line.startswith('datagram') for line in told))
+        # their |D| are 32, 192, 288 and 224 (RFC 3550, A.8), and number 21 is lost
+        self.assertEqual([line for line in told if line.startswith('counts 1 ')][-1],
+                         counts(1, 5, 1, 43, Short=1, PayloadType=1))

@@ -1,14 +1,13 @@
 -- What a session does on its streams (module `performing`).
-use Rattle.std.specs.Prelude.{◌≡◌, ℕ, false, map, Result}
+use Rattle.std.specs.Prelude.{◌≡◌, ℕ, false, Result}
 use Rattle.gw_records.specs.declared.outcome.Totals.{Totals}
 use Rattle.gw_records.specs.declared.outcome.RunFault.{RunFault}
 use Rattle.gw_records.specs.Ports.{PortsState}
 use Rattle.gw_session.specs.PacketPorts.{no_ports}
 use Rattle.gw_session.specs.Serve.{SessionStreams}
-use Rattle.gw_session.specs.Answers.{events_of}
 use Rattle.gw_session.specs.Tape.{TapeState, no_tape}
 use Rattle.gw_session.specs.Watch as watches
-use Rattle.gw_session.specs.Watch.{RunsWatched, Watched}
+use Rattle.gw_session.specs.Watch.{RecordsShown, RunsWatched}
 use Rattle.gw_switch.specs.declared.gateway.Gateway.{Gateway}
 use Rattle.gw_command.specs.declared.command.SessionKind.{SessionKind}
 use Rattle.gw_command.specs.declared.command.SessionKind.TheVariants.{Replay, Check, Serve}
@@ -24,7 +23,8 @@ WithEnds Serve Opens Begins ports_tell tape_tells does = HasServed Opens Begins 
 WithEnds session Opens Begins ports_tell tape_tells does = does no_ports no_ports no_tape no_tape
 
 -- A watch that was opened so was shown each record of a session that a gateway has acted on, with its reply
--- and the gateway behind it, and then ended so. Where a write failed, it may lack the last one.
+-- and the gateway behind it, each datagram also before that, and then ended so. Where a write failed, it may
+-- lack the last record.
 pub record IsWatched {W : Type 0} (Opens : W → Type 0) (Ends : W → W → Type 0) (shows : watches.Shows W)
     (a a' : SessionStreams) (gateway gateway' : Gateway) : Type 0 where
   pub first : W
@@ -32,8 +32,7 @@ pub record IsWatched {W : Type 0} (Opens : W → Type 0) (Ends : W → W → Typ
   pub left : W
   pub end : Result Totals RunFault
   pub opened : Opens first
-  pub watched : RunsWatched a a' gateway gateway'
-      (λ records. Watched shows gateway first last records (map events_of records)) (last ≡ first) end
+  pub watched : RunsWatched a a' gateway gateway' (RecordsShown shows gateway first last) (last ≡ first) end
   pub ended : Ends last left
 
 -- A session of this kind ended so on these streams with a gateway. A replay began at the place `from`, and

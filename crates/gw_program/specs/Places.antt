@@ -9,6 +9,7 @@ use Rattle.gw_records.specs.declared.outcome.Totals.{Totals}
 use Rattle.gw_records.specs.declared.records.RecordsEnd.{RecordsEnd}
 use Rattle.gw_session.specs.Answers.{events}
 use Rattle.gw_session.specs.Running.{all_kinds}
+use Rattle.gw_session.specs.Watch.{Look}
 use Rattle.gw_switch.specs.declared.GatewayConfig.{GatewayConfig}
 use Rattle.gw_switch.specs.declared.gateway.Gateway.{Gateway}
 use Rattle.gw_switch.specs.Events.{Event}
@@ -21,6 +22,11 @@ seconds_5 = 1280000
 -- the octets since the last checkpoint behind this many more: none where one is due
 abbrev pub since_after : ℕ → ℕ → ℕ
 since_after since octets = if nat_le seconds_5 (since + octets) then 0 else since + octets
+
+-- a look is one at a datagram, and this holds, or it is one behind this record, and this holds of it
+abbrev pub OfLook : Look → Type 0 → (Record → Gateway → Type 0) → Type 0
+OfLook (Look.Came heard circuit octets code) came behind = came
+OfLook (Look.Behind r code gateway) came behind = behind r gateway
 
 -- The octets that a source gave are whole records, and perhaps others behind them. The gateway has acted on
 -- these records. If the first octet has the place `from`, the octet behind them has the place `place`.

@@ -4,8 +4,9 @@ ghost use Rattle.std.specs.Prelude.{◌≡◌, ◌+◌, ◌≤◌, length};
 ghost use Rattle.gw_records.specs.Records.{named, spelled};
 ghost use Rattle.gw_records.specs.Streams.{at_most};
 ghost use Rattle.gw_session.specs.Running.{trunk_octets};
-ghost use Rattle.gw_program.specs.Places.{seconds_5, since_after};
+ghost use Rattle.gw_program.specs.Places.{OfLook, seconds_5, since_after};
 
+use g704_cas::CircuitNo;
 use gw_config::Config;
 use gw_machine::System;
 use gw_records::RecordHead;
@@ -93,11 +94,16 @@ impl<'s, Y: System> PlaceWatch<'s, Y> {
 }
 
 impl<Y: System> Watch for PlaceWatch<'_, Y> {
-    ghost shows = { λ old new r code gateway. (new.place ≡ at_most (old.place + length (spelled r)))
-        × Y.Watch.shows old.watch new.watch r code gateway
+    ghost shows = { λ old new look. Y.Watch.shows old.watch new.watch look
+        × OfLook look (new ≡ record old { watch = new.watch })
+        (λ r gateway. (new.place ≡ at_most (old.place + length (spelled r)))
         × (seconds_5 ≤ old.since + length (trunk_octets r)
         → Y.keeps old.system.now old.config.now gateway new.place)
-        × (new.since ≡ since_after old.since (length (trunk_octets r))) };
+        × (new.since ≡ since_after old.since (length (trunk_octets r)))) };
+
+    fn datagram(&mut self, heard: usize, circuit: CircuitNo, octets: &[u8], code: u8) {
+        self.watch.datagram(heard, circuit, octets, code);
+    }
 
     fn after(&mut self, head: &RecordHead, body: &[u8], code: u8, gateway: &Gateway) {
         self.watch.after(head, body, code, gateway);

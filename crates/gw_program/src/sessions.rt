@@ -1,12 +1,11 @@
 //! Which session `replay`, `check` and `serve` run, and what `check` lists after a fault.
 
-ghost use Rattle.std.specs.Prelude.{◌≡◌, ◌≤◌, ◌-◌, ◌^◌, ◌<◌, None, map, false};
+ghost use Rattle.std.specs.Prelude.{◌≡◌, ◌≤◌, ◌-◌, ◌^◌, ◌<◌, None, false};
 ghost use Rattle.gw_records.specs.Streams.{CanBegin};
-ghost use Rattle.gw_session.specs.Answers.{events_of};
 ghost use Rattle.gw_session.specs.PacketPorts.{no_ports};
 ghost use Rattle.gw_session.specs.Serve.{around};
 ghost use Rattle.gw_session.specs.Tape.{no_tape};
-ghost use Rattle.gw_session.specs.Watch.{RunsWatched, Watched};
+ghost use Rattle.gw_session.specs.Watch.{RecordsShown, RunsWatched};
 ghost use Rattle.gw_machine.specs.System.{Serves};
 ghost use Rattle.gw_program.specs.Sessions.{Runs, Checks, Lists, checked};
 
@@ -50,7 +49,7 @@ pub fn replay_watched<S: Source, K: Sink, W: Watch>(
         gateway.old gateway.new }
     ensures watched { RunsWatched (around (S.tells source.old) (K.tells sink.old) no_ports no_tape)
         (around (S.tells source.new) (K.tells sink.new) no_ports no_tape) gateway.old gateway.new
-        (λ records. Watched W.shows gateway.old watch.old watch.new records (map events_of records))
+        (RecordsShown W.shows gateway.old watch.old watch.new)
         (watch.new ≡ watch.old) result }
 {
     cut_recordings_recover();

@@ -14,7 +14,7 @@ use Rattle.gw_session.proofs.Common.{SessionState}
 use Rattle.gw_session.proofs.Common.{Output, drop-take, named, TakesAllButWaiting-start, InputTrace}
 use Rattle.gw_records.specs.declared.records.FirstRecord.{FirstRecord}
 use Rattle.gw_session.proofs.Common.{Bool, PortCall, AreCalls, AreCallsFor, are_held, Act, AreActs, acts_for, Recorded}
-use Rattle.gw_session.proofs.Common.{Gateway, StandsBehind, Learns, keeps_at}
+use Rattle.gw_session.proofs.Common.{Gateway, StandsBehind, Learns, keeps_at, events_of_turns}
 use Rattle.gw_session.proofs.Turns.{TurnsTrace-none, TurnsTrace-join, Extends-none, Extends-join, counted-more}
 use Rattle.gw_session.proofs.Turns.{octets-append, turns_have_octets}
 use Rattle.gw_session.proofs.Turns.{through-append}
@@ -163,14 +163,14 @@ through_none spells Seen seen none = (
 )
 
 -- records that were gone through
-module _ (spells : PacketOutput) (Seen : List SessionInput
-    → Type 0) {s s' : SessionState} {x y : TapeState} {records : List Record}
+module _ (spells : PacketOutput) (Seen : List SessionInput → List Event → Type 0) {s s' : SessionState}
+    {x y : TapeState} {records : List Record}
   where
     -- what is known of what was put, and of the inputs
     through_as : {Took More : List ℕ → List ℕ → Type 0} (Known : List SessionInput → Type 0)
         → ((first xs : List ℕ) → length first ≤ length xs → Took first xs → More first xs)
-        → ((inputs : List SessionInput) → Seen inputs → Known inputs)
-        → WatchedTrace (written_by spells) s s' x y Took Seen records
+        → ((inputs : List SessionInput) → Seen inputs [] → Known inputs)
+        → WatchedTrace (written_by spells) s s' x y Took (λ inputs. Seen inputs []) records
         → WatchedTrace (written_by spells) s s' x y More Known records
     through_as Known f g p = (
       record {
@@ -186,24 +186,26 @@ module _ (spells : PacketOutput) (Seen : List SessionInput
 
     -- all of it was taken
     pub through_all : {o p : Option (List ℕ)} {w : List ℕ} (q : Option (List ℕ))
-        → WatchedTrace (written_by spells) s s' x y (λ first xs. TakesAllButWaiting o p w xs) Seen records
-        → Appends p q w
-        → WatchedTrace (written_by spells) s s' x y (λ first. Appends o q) Seen records
-    through_all q h wrote =
-        through_as Seen (λ first xs less took. TakesAllButWaiting-appended _ _ _ _ _ took wrote) (λ inputs seen. seen) h
+        → WatchedTrace (written_by spells) s s' x y (λ first xs. TakesAllButWaiting o p w xs)
+        (λ inputs. Seen inputs []) records → Appends p q w
+        → WatchedTrace (written_by spells) s s' x y (λ first. Appends o q) (λ inputs. Seen inputs []) records
+    through_all q h wrote = through_as (λ inputs. Seen inputs [])
+        (λ first xs less took. TakesAllButWaiting-appended _ _ _ _ _ took wrote) (λ inputs seen. seen) h
 
     -- when what waits is written nothing waits, and the rest is as it was
     pub through_on : {o p q : Option (List ℕ)} {w w' : List ℕ}
-        → WatchedTrace (written_by spells) s s' x y (λ first xs. TakesAllButWaiting o p w xs) Seen records
-        → Appends p q w
-        → w' ≡ [] → WatchedTrace (written_by spells) s s' x y (λ first xs. TakesAllButWaiting o q w' xs) Seen records
-    through_on h wrote none = through_as Seen
+        → WatchedTrace (written_by spells) s s' x y (λ first xs. TakesAllButWaiting o p w xs)
+        (λ inputs. Seen inputs []) records → Appends p q w → w' ≡ []
+        → WatchedTrace (written_by spells) s s' x y (λ first xs. TakesAllButWaiting o q w' xs)
+        (λ inputs. Seen inputs []) records
+    through_on h wrote none = through_as (λ inputs. Seen inputs [])
         (λ first xs less took. TakesAllButWaiting-empty _ _ _ none (TakesAllButWaiting-appended _ _ _ _ _ took wrote))
         (λ inputs seen. seen) h
 
     -- .. or a write of what waits failed
     pub waiting_failed : (late : ℕ) {o : Option (List ℕ)} {b c : SinkState} {w : List ℕ} → length w ≤ late
-        → WatchedTrace (written_by spells) s s' x y (λ first xs. TakesAllButWaiting o b.taken w xs) Seen records
+        → WatchedTrace (written_by spells) s s' x y (λ first xs. TakesAllButWaiting o b.taken w xs)
+        (λ inputs. Seen inputs []) records
         → 0 < length records → FailsAfterPrefix b c w → (0 < length records)
         × WatchedTrace (written_by spells) s s' x y (AppendsBut late o c.taken) (OfFirstInputs Seen) records
     waiting_failed late {o} {b} {c} {w} few p some breaks = (
@@ -218,11 +220,12 @@ module _ (spells : PacketOutput) (Seen : List SessionInput
       where
         -- one record more, for which this is put
         through_more : {Took More : List ℕ → List ℕ → Type 0} (Known : List SessionInput → Type 0)
-            → WatchedTrace (written_by spells) s s' x y Took Seen records
+            → WatchedTrace (written_by spells) s s' x y Took (λ inputs. Seen inputs []) records
             → (q : ActsOn s' s'' shown z r)
             → ((config : GatewayConfig) (now : List Event) → HasHistory config s'.gateway now → (first xs : List ℕ)
             → Took first xs → More xs (xs ++ written_for spells config now q.input))
-            → ((inputs : List SessionInput) → Follows s s' x y inputs → Seen inputs → Known (inputs ++ q.input ∷ []))
+            → ((inputs : List SessionInput) → Follows s s' x y inputs → Seen inputs []
+            → Known (inputs ++ q.input ∷ []))
             → WatchedTrace (written_by spells) s s'' x z More Known (records ++ r ∷ [])
         through_more Known p q more known = (
           record {
@@ -242,12 +245,13 @@ module _ (spells : PacketOutput) (Seen : List SessionInput
         )
 
         -- records that were gone through, and then one more whose answer passes
-        pub through_done : {o : Option (List ℕ)} {a b : Output} (Known : List SessionInput → Type 0)
+        pub through_done : {Shown : List Event → Type 0} {o : Option (List ℕ)} {a b : Output}
+            (Known : List SessionInput → Type 0)
             → WatchedTrace (written_by spells) s s' x y
-            (λ first xs. TakesAllButWaiting o a.sink.taken a.waiting xs) Seen records
-            → (q : InputTrace spells (record { state = s'; tape = shown; output = a })
+            (λ first xs. TakesAllButWaiting o a.sink.taken a.waiting xs) (λ inputs. Seen inputs []) records
+            → (q : InputTrace spells Shown (record { state = s'; tape = shown; output = a })
             (record { state = s''; tape = z; output = b }) r (TakesAllButWaiting a.sink.taken b.sink.taken b.waiting))
-            → ((inputs : List SessionInput) → Follows s s' x y inputs → Seen inputs
+            → ((inputs : List SessionInput) → Follows s s' x y inputs → Seen inputs []
             → Known (inputs ++ q.inputs.input ∷ []))
             → WatchedTrace (written_by spells) s s'' x z
             (λ first xs. TakesAllButWaiting o b.sink.taken b.waiting xs) Known
@@ -256,26 +260,30 @@ module _ (spells : PacketOutput) (Seen : List SessionInput
             (λ config now at first xs took. TakesAllButWaiting-join _ _ _ _ _ _ _ took (q.took config now at)) known
 
         -- a write failed in it, when it was done or when its first octets were heard
-        pub input_failed : (late : ℕ) {o : SinkState} {a b : Output} → length a.waiting ≤ late
+        pub input_failed : {Shown : List Event → Type 0} (Known : List SessionInput → List Event → Type 0) (late : ℕ)
+            {o : SinkState} {a b : Output} → length a.waiting ≤ late
             → WatchedTrace (written_by spells) s s' x y
-            (λ first xs. TakesAllButWaiting o.taken a.sink.taken a.waiting xs) Seen
-            records
-            → InputTrace spells (record { state = s'; tape = shown; output = a })
+            (λ first xs. TakesAllButWaiting o.taken a.sink.taken a.waiting xs) (λ inputs. Seen inputs []) records
+            → ((inputs : List SessionInput) (es : List Event) → Shown es → Follows s s' x y inputs → Seen inputs []
+            → Known inputs es)
+            → InputTrace spells Shown (record { state = s'; tape = shown; output = a })
             (record { state = s''; tape = z; output = b }) r (AppendsPrefix a.sink.taken b.sink.taken)
-            ⊎ ((octets : List ℕ) × (r ≡ Record.Trunk octets) × StopsAt spells s' s'' a b.sink octets)
+            ⊎ ((octets : List ℕ) × (r ≡ Record.Trunk octets) × (t : StopsAt spells s' s'' a b.sink octets)
+            × Shown (events_of_turns t.turns))
             → {w w' : List ℕ} → ((0 < length (records ++ r ∷ []))
-            × WatchedTrace (written_by spells) s s'' x z (AppendsBut late o.taken b.sink.taken) (OfFirstInputs Seen)
+            × WatchedTrace (written_by spells) s s'' x z (AppendsBut late o.taken b.sink.taken) (OfFirstInputs Known)
             (records ++ r ∷ []))
             ⊎ ((c : CutTrace late spells (record { state = s; tape = x; output = record { sink = o; waiting = w } })
             (record { state = s''; tape = z; output = record { sink = b.sink; waiting = w' } }) (records ++ r ∷ []))
-            × Seen c.trace.inputs)
-        input_failed late few p (inl q) = inl (
+            × Known c.trace.inputs (events_of_turns c.stops.turns))
+        input_failed Known late few p known (inl q) = inl (
           omega (arith, length-append records (r ∷ [])),
-          through_more (OfFirstInputs Seen) p q.inputs
+          through_more (OfFirstInputs Known) p q.inputs
               (λ config now at first xs took. AppendsBut-behind late _ _ _ _ _ _ few took (q.took config now at))
-              (λ inputs follows seen. inr (rw (but_last_more inputs q.inputs.input) seen)),
+              (λ inputs follows seen. inr
+              (inputs, q.inputs.input, refl, known inputs (events_in q.inputs.input) q.shown follows seen)),
         )
-        input_failed late {a = a} few p (inr q) = inr (
+        input_failed Known late {a = a} few p known (inr q) = inr (
           record {
             records = records;
             octets = q.0;
@@ -285,7 +293,7 @@ module _ (spells : PacketOutput) (Seen : List SessionInput
             few = few;
             stops = q.2;
           },
-          p.1,
+          known p.0.inputs (events_of_turns q.2.turns) q.3 p.0.follows p.1,
         )
 
 -- where some octets wait there are some records

@@ -30,7 +30,7 @@ pub use Rattle.gw_session.specs.Exchange.{TakesEvent, Exchanges, ActsOn, Inputs,
 pub use Rattle.gw_session.specs.Exchange.{InputTrace}
 pub use Rattle.gw_session.specs.Exchange.{WatchedTrace}
 pub use Rattle.gw_session.specs.Exchange.{ComesInTurn, GoToPorts, OctetTrace, PacketWriteError, TraceToWriteError}
-pub use Rattle.gw_session.specs.Exchange.{IsSilent, packets_held}
+pub use Rattle.gw_session.specs.Exchange.{AreShown, IsSilent, packets_held}
 pub use Rattle.gw_session.specs.Exchange.{Receiving, RecordsBehind, IsGiven, FourCome}
 unfoldable pub use Rattle.gw_session.specs.Exchange.{spelled_for, written_for, most_waiting}
 pub use Rattle.gw_session.specs.PacketPorts.{PacketOutput, in_record, no_ports, silent}
@@ -55,7 +55,8 @@ pub use Rattle.gw_session.specs.Tape.{TapeState, Recorded, RecordedBut, HasEnded
 pub use Rattle.gw_session.specs.Tape.{Taping, taping, Batched, Batches, RecordsAll, Act, Learns, sends_at, answers_at}
 pub use Rattle.gw_session.specs.Tape.{keeps_at}
 pub use Rattle.gw_session.specs.Watch.{Shows, Look, shown_in, IsCalled, code_after, IsCodeAfter, AreTrue, Watched}
-pub use Rattle.gw_session.specs.Watch.{InputsShown, OfFirst, RunsWatched}
+pub use Rattle.gw_session.specs.Watch.{InputsShown, RecordsShown, OfFirst, RunsWatched}
+unfoldable pub use Rattle.gw_session.specs.Watch.{looks_at}
 pub use Rattle.gw_session.specs.World.{Output, World, state_of, SessionState, world_of, output_of, state_with, state_in}
 pub use Rattle.gw_session.specs.World.{world_in, world_with}
 pub use Rattle.gw_switch.specs.Events.{Event, octets}

@@ -15,27 +15,31 @@ use Rattle.gw_session.proofs.Turns.{PortTrace-none, Extends-none, Extends-join, 
 use Rattle.gw_session.proofs.Common.{Bool, true, false, append-nil, HaveCalls, AreCalls, are_held, state_with}
 
 -- an input was done, and behind what passes the rest of all that is put for it was put, or a write failed
-inputs_put : (spells : PacketOutput) (w w' : World) (o : Output) (out : List ℕ) {r : Record}
+inputs_put : (spells : PacketOutput) (Shown : List Event → Type 0) (w w' : World) (o : Output) (out : List ℕ)
+    {r : Record}
     (result : Result (Unit {0}) RunFault) (on : ActsOn w.state w'.state w.tape w'.tape r)
+    → Shown (events_in on.input)
     → ((config : GatewayConfig) (before : List Event) → HasHistory config w.state.gateway before → (first : List ℕ)
     × TakesAllButWaiting w.output.sink.taken o.sink.taken o.waiting first
     × (first ++ out ≡ w.output.waiting ++ written_for spells config before on.input))
     → o.sink.failures ≡ w.output.sink.failures
-    → Puts o.sink w'.output.sink w'.output.waiting (o.waiting ++ out) result → Inputs spells w w' r result
-inputs_put spells w w' o out (Ok u) on first kept puts = (
+    → Puts o.sink w'.output.sink w'.output.waiting (o.waiting ++ out) result → Inputs spells Shown w w' r result
+inputs_put spells Shown w w' o out (Ok u) on shown first kept puts = (
   record {
     inputs = on;
+    shown = shown;
     took = λ config before h.
         let f = first config before h in
         TakesAllButWaiting-same _ _ _ _ _ f.2 (TakesAllButWaiting-join _ _ _ _ _ _ _ f.1 puts.0);
   },
   puts.1 ∙ kept,
 )
-inputs_put spells w w' o out (Err e) on first kept puts = (
+inputs_put spells Shown w w' o out (Err e) on shown first kept puts = (
   puts.0,
   omega (arith, kept, puts.1.counted),
   inl (record {
     inputs = on;
+    shown = shown;
     took = λ config before h.
         let f = first config before h in
         AppendsPrefix-same _ _ _ _ f.2 (AppendsPrefix-behind _ _ _ _ _ _ f.1 puts.1.took);
@@ -51,7 +55,8 @@ answer_told a b c ps p q =
     rw (ended, taken) (Extends-join a.acts b.acts c.acts _ _ p q.told)
 
 -- octets were exchanged, and the record of them was put
-pub trunk_inputs : {spells : PacketOutput} (w w' : World) (tape : TapeState) (r n : ℕ) (o : Output)
+pub trunk_inputs : {spells : PacketOutput} (Shown : List Event → Type 0) (w w' : World) (tape : TapeState) (r n : ℕ)
+    (o : Output)
     {body front answer out : List ℕ}
     (result : Result (Unit {0}) RunFault)
     → (sent : List ℕ) × (x : Exchanges spells
@@ -59,17 +64,18 @@ pub trunk_inputs : {spells : PacketOutput} (w w' : World) (tape : TapeState) (r 
     × (answer ≡ front ++ sent) × Recorded w.tape tape (events_of_turns x.turns)
     × HaveCalls w.state.ports w'.state.ports (AreCalls (are_held w.state.holds x.turns) x.turns)
     × Extends w.tape.acts tape.acts (map (sends_at tape) (held_in w.state.holds x.turns))
+    × Shown (events_of_turns x.turns)
     → Learns tape w'.tape (answers_at tape ∷ [])
     → w'.state.holds ≡ w.state.holds → front ≡ 84 ∷ 0 ∷ big_bytes 2 (length body) → out ≡ answer
     → r ≡ min (w.state.totals.records + 1) (2 ^ 64 - 1)
     → n ≡ min (w.state.totals.octets + length body) (2 ^ 64 - 1) → w.state.totals.octets < 2 ^ 64
     → Puts o.sink w'.output.sink w'.output.waiting (o.waiting ++ out) result
-    → Inputs spells w w' (Record.Trunk body) result
+    → Inputs spells Shown w w' (Record.Trunk body) result
 unfolding written_for answer_to
-trunk_inputs w w' tape r n o result x told holds fronts same counts trunk fits puts =
+trunk_inputs Shown w w' tape r n o result x told holds fronts same counts trunk fits puts =
     let p = x.1 in
     let len = sym (length-map p.turns octet_of) ∙ ap length p.heard in
-    inputs_put _ w w' o _ result (record {
+    inputs_put _ Shown w w' o _ result (record {
       input = SessionInput.Trunk p.turns;
       told_is = ap (λ (xs : List ℕ). Record.Trunk xs) p.heard;
       goes = record {
@@ -92,7 +98,7 @@ trunk_inputs w w' tape r n o result x told holds fronts same counts trunk fits p
       acts = answer_told w.tape tape w'.tape _ x.5 told;
       calls = x.4;
       same = holds;
-    }) (λ config before h. (
+    }) x.6 (λ config before h. (
       _,
       p.passes config before h,
       rw (append_assoc, same, x.2, fronts, p.sent_are config before h, p.lengths),
@@ -109,10 +115,11 @@ no_calls true = ([], refl, refl)
 no_calls false = refl
 
 -- an input of one event was done, and the one answer of its circuit, whose record is on the tape, was put
-pub one_inputs : (input : SessionInput) (event : Event) (u : Totals) (spells : PacketOutput) (w : World) (g : Gateway)
+pub one_inputs : (Shown : List Event → Type 0) (input : SessionInput) (event : Event) (u : Totals)
+    (spells : PacketOutput) (w : World) (g : Gateway)
     (t : Totals)
     (tape tape' : TapeState) (o : Output) {circuit kind code : ℕ} (result : Result (Unit {0}) RunFault)
-    → turns_of input ≡ [] → events_in input ≡ event ∷ []
+    → turns_of input ≡ [] → events_in input ≡ event ∷ [] → Shown (event ∷ [])
     → ((config : GatewayConfig) (before : List Event) → packets_for config before (event ∷ []) ≡ [])
     → ((config : GatewayConfig) (before : List Event) → sent_with_octets config before (event ∷ []) ≡ [])
     → ((config : GatewayConfig) (before : List Event) → answer_to config before input
@@ -124,13 +131,13 @@ pub one_inputs : (input : SessionInput) (event : Event) (u : Totals) (spells : P
     → Puts w.output.sink o.sink o.waiting
     (w.output.waiting ++ written_out (Written.Answered circuit kind code)) result
     → Recorded w.tape tape (events_in input) → tape.acts ≡ w.tape.acts → Learns tape tape' (answers_at tape ∷ [])
-    → Inputs spells w
+    → Inputs spells Shown w
     (record { state = state_with w.state.holds w.state.held w.state.ports g t; tape = tape'; output = o })
     (input_record input) result
 unfolding PortTrace-none written_for spelled_for
-one_inputs input event u spells w g t tape tape' o result none one packets places answer takes others counts dropped
-    puts recorded kept told =
-    inputs_put _ w
+one_inputs Shown input event u spells w g t tape tape' o result none one shown packets places answer takes others
+    counts dropped puts recorded kept told =
+    inputs_put _ Shown w
     (record { state = state_with w.state.holds w.state.held w.state.ports g t; tape = tape'; output = o })
     w.output _ result (record {
       input = input;
@@ -154,7 +161,7 @@ one_inputs input event u spells w g t tape tape' o result none one packets place
           (answer_told w.tape tape tape' [] (rw kept (Extends-none w.tape.acts)) told);
       calls = ([], Extends-none _, rw none (no_calls _));
       same = refl;
-    }) (λ config before h. (
+    }) (rw one shown) (λ config before h. (
       w.output.waiting,
       record { written = []; whole = refl; appended = Appends-none _ },
       rw (one, packets config before, answer config before, (takes config before h).1),

@@ -14,12 +14,13 @@ use Rattle.gw_session.proofs.Common.{dropped_for, answer_to, but_last, SessionTr
 use Rattle.gw_session.proofs.Common.{world_of, spelled_for, written_for, written_by, CutTrace, TraceToWriteError}
 use Rattle.gw_session.proofs.Common.{count_by, take_all, take_at, record_of, AppendsBut-same, AppendsBut-more, five}
 use Rattle.gw_session.proofs.Common.{trunk_octets, run_totals, RunsThrough, AreFirst, RunsUntilWrite, in_record}
-use Rattle.gw_session.proofs.Common.{no_ports, first_four, Shows, Watched, InputsShown, OfFirst, WatchedTrace}
+use Rattle.gw_session.proofs.Common.{no_ports, first_four, Shows, RecordsShown, InputsShown, OfFirst, WatchedTrace}
 use Rattle.gw_session.proofs.Turns.{PortTrace-join, LeavesOut_all, counted_is}
 use Rattle.gw_session.proofs.Attending.{but_last_more}
 use Rattle.gw_session.proofs.Cutting.{answered_first}
 use Rattle.gw_session.proofs.Exchanging.{spelled_for-append}
 use Rattle.gw_session.proofs.ServeLaws.{unmoved}
+use Rattle.gw_session.proofs.Watching.{none_among, shown_alike}
 
 -- turns before which nothing came
 abbrev Plain : List Turn → Type 0
@@ -287,64 +288,71 @@ each_events (input ∷ inputs) p =
     rw (input_events input q.0, each_events inputs q.1)
 
 -- what a watch is shown of inputs is what it is shown of their records
-shown_plain : {W : Type 0} {shows : Shows W} {g : Gateway} {w w' : W} (inputs : List SessionInput)
-    → Plain (turns inputs)
-    → InputsShown shows g w w' inputs
-    → Watched shows g w w' (map input_record inputs) (map events_of (map input_record inputs))
+shown_plain : {W : Type 0} {shows : Shows W} {g : Gateway} {w w' : W} {last : List Event}
+    (inputs : List SessionInput) → Plain (turns inputs) → InputsShown shows g w w' inputs last
+    → RecordsShown shows g w w' (map input_record inputs) last
 shown_plain inputs p seen = rw (each_events inputs p) at seen
 
 -- a session that was watched
 pub seen_plain : {W : Type 0} {shows : Shows W} {w w' : W} {g g' : Gateway} {t : Totals} {x y : TapeState}
     {Took : List ℕ → List ℕ → Type 0} {records : List Record}
     → WatchedTrace (written_by in_record) (at_records g nothing_counted) (at_records g' t) x y Took
-    (InputsShown shows g w w') records
-    → Watched shows g w w' records (map events_of records)
+    (λ inputs. InputsShown shows g w w' inputs []) records
+    → RecordsShown shows g w w' records []
 seen_plain p = rw (p.0.told_are) at (shown_plain p.0.inputs (plain_trades
     (turns p.0.inputs) p.0.follows.goes.trades) p.1)
 
--- the first records of those that were begun, which a watch was shown
+-- the first records of those that were begun, which a watch was shown, and the events of the last one
 seen_first : {W : Type 0} {shows : Shows W} {w w' : W} {g g' : Gateway} {x y : TapeState} {t : Totals}
-    {Took : List ℕ → List ℕ → Type 0} (records : List Record) → 0 < length records
+    {Took : List ℕ → List ℕ → Type 0} (records : List Record) (first : List SessionInput) (last : SessionInput)
     → (p : SessionTrace (written_by in_record) (at_records g nothing_counted) (at_records g' t) x y Took records)
-    → InputsShown shows g w w' (but_last p.inputs)
-    → OfFirst (λ rs. Watched shows g w w' rs (map events_of rs)) records
-seen_first records some p seen =
-    let l = last_of p.inputs (omega (arith, some, ap length p.told_are, length-map p.inputs input_record)) in
+    → p.inputs ≡ first ++ last ∷ [] → InputsShown shows g w w' first (events_in last)
+    → OfFirst (RecordsShown shows g w w') records
+seen_first records first last p all seen =
     let plain = plain_trades (turns p.inputs) p.follows.goes.trades in
-    let early = (plain_parts (turns l.0) (turns_of l.1) (rw (l.2, ← flat_map_more turns_of [] l.0 l.1) at plain)).0 in
+    let parts = plain_parts (turns first) (turns_of last) (rw (all, ← flat_map_more turns_of [] first last) at plain) in
     inr (
-      map input_record l.0,
-      input_record l.1,
-      sym p.told_are ∙ ap (map input_record) l.2 ∙ map_push input_record l.0 l.1,
-      shown_plain l.0 early (rw (l.2, but_last_more l.0 l.1) at seen),
+      map input_record first,
+      input_record last,
+      sym p.told_are ∙ ap (map input_record) all ∙ map_push input_record first last,
+      rw (input_events last parts.1) at (shown_plain first parts.0 seen),
     )
 
 -- where a write failed in the first octets of a record, a watch was shown the records before it
 seen_before : {W : Type 0} {shows : Shows W} {w w' : W} {g g' : Gateway} {x y : TapeState} {t : Totals}
     {s s' : SinkState} (begun : List Record)
     → (p : CutTrace 65536 in_record (world_of no_ports g nothing_counted x s []) (world_of no_ports g' t y s' []) begun)
-    → InputsShown shows g w w' p.trace.inputs
-    → OfFirst (λ rs. Watched shows g w w' rs (map events_of rs)) begun
+    → InputsShown shows g w w' p.trace.inputs (events_of_turns p.stops.turns)
+    → OfFirst (RecordsShown shows g w w') begun
 seen_before begun p seen =
     let k = p.trace in
     let z = p.stops in
     let joined = PortTrace-join no_ports p.between.state.ports no_ports (turns k.inputs) z.turns k.follows.goes.trades
     z.trades in
     let plain = plain_parts (turns k.inputs) z.turns (plain_trades (turns k.inputs ++ z.turns) joined) in
-    inr (p.records, Record.Trunk p.octets, p.all, rw (k.told_are) at (shown_plain k.inputs plain.0 seen))
+    let octets = map octet_of z.turns in
+    let known = rw (k.told_are, turns_events z.turns plain.1) at (shown_plain k.inputs plain.0 seen) in
+    inr (
+      p.records,
+      Record.Trunk p.octets,
+      p.all,
+      shown_alike (map Event.Octet octets) (map Event.Octet p.octets)
+          (λ config now. rw (none_among config now 0 octets, none_among config now 0 p.octets) refl) known,
+    )
 
--- where a write failed, the records begun ran up to that write, and a watch was shown all, or all but the last
+-- where a write failed, the records begun ran up to that write, and a watch was shown all, or all but the last and
+-- the events of that
 pub runs_until : {W : Type 0} {shows : Shows W} {w w' : W} {g g' : Gateway} {x y : TapeState} {s s' : SinkState}
     (records : List Record)
     → TraceToWriteError 65536 in_record (InputsShown shows g w w') (world_of no_ports g nothing_counted x s [])
     (λ totals. world_of no_ports g' totals y s' []) records
-    → RunsUntilWrite g g' s s' records × OfFirst (λ rs. Watched shows g w w' rs (map events_of rs)) records
+    → RunsUntilWrite g g' s s' records × OfFirst (RecordsShown shows g w w') records
 runs_until records v = elim v.1 [
   | inl p ↦ (
     whole_until records p.0 p.1.0,
     elim p.1.1 [
       | inl all ↦ inl (seen_plain (p.1.0, all))
-      | inr first ↦ seen_first records p.0 p.1.0 first
+      | inr (first, last, all, seen) ↦ seen_first records first last p.1.0 all seen
     ],
   )
   | inr p ↦ (cut_until records p.0, seen_before records p.0 p.1)

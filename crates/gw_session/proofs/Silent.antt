@@ -44,7 +44,7 @@ serves_watched Seen records p seen = (serves records p, seen)
 
 -- .. up to the one in which a write failed
 pub serves_watched_until : {s : SessionState} {end : Totals → SessionState} {x y : TapeState} {a b : SinkState}
-    (Seen : List SessionInput → Type 0) (records : List Record)
+    (Seen : List SessionInput → List Event → Type 0) (records : List Record)
     → TraceToWriteError 0 silent Seen (record { state = s; tape = x; output = output_of a [] })
     (λ totals. record { state = end totals; tape = y; output = output_of b [] }) records
     → (totals : Totals) × (t : SessionTrace written s (end totals) x y (AppendsBut 0 a.taken b.taken) records)
@@ -57,7 +57,7 @@ serves_watched_until Seen records p = elim p.1 [
 
 -- .. whatever is known
 pub serves_until : {s : SessionState} {end : Totals → SessionState} {x y : TapeState} {a b : SinkState}
-    (Seen : List SessionInput → Type 0) (records : List Record)
+    (Seen : List SessionInput → List Event → Type 0) (records : List Record)
     → TraceToWriteError 0 silent Seen (record { state = s; tape = x; output = output_of a [] })
     (λ totals. record { state = end totals; tape = y; output = output_of b [] }) records
     → (totals : Totals) × SessionTrace written s (end totals) x y (AppendsBut 0 a.taken b.taken) records

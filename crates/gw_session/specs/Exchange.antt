@@ -18,6 +18,7 @@ use Rattle.gw_session.specs.Serve.{HaveCalls, AreCalls, AreSends, are_held, held
 use Rattle.gw_session.specs.Serve.{of_circuit, coming, first_four, behind_four, LeavesOut}
 use Rattle.gw_session.specs.Serve.{packets_for, octets_for, dropped_for, through, but_last, OfFirstInputs}
 use Rattle.gw_session.specs.Tape.{TapeState, Recorded, Taping, RecordedBut, sends_at}
+use Rattle.gw_session.specs.Watch.{Shows, Look, shown_in, IsCalled, looks_at}
 use Rattle.gw_session.specs.World.{SessionState, Output, World}
 use Rattle.gw_session.specs.declared.held.HeldPacket.{HeldPacket}
 
@@ -69,9 +70,20 @@ pub record RecordsBehind (t t' : Taping) (heard : List ℕ) (recorded recorded' 
   pub within : recorded' ≤ length heard
   pub but : RecordedBut t t' (map Event.Octet (drop recorded heard) ++ happened) (drop recorded' heard)
 
+-- a watch was shown the datagrams among events, and nothing else, when this many octets were heard before
+-- them
+pub record AreShown {W : Type 0} (shows : Shows W) (gateway : Gateway) (w w' : W) (heard : ℕ)
+    (es : List Event)
+    : Type 0 where
+  pub looks : List Look
+  pub calls : IsCalled shows w w' looks
+  pub no_record : flat_map shown_in looks ≡ []
+  pub looks_are : (config : GatewayConfig) (before : List Event) → HasHistory config gateway before
+      → looks ≡ looks_at config before heard es
+
 -- datagrams of the circuit whose slot the next octet sends came from the ports, were recorded or put into the
--- batch behind octets that were heard, and were given to the gateway
-pub record ComesInTurn (s s' : SessionState) (t t' : Taping) (heard : List ℕ)
+-- batch behind octets that were heard, were given to the gateway, and were shown so
+pub record ComesInTurn (Shown : List Event → Type 0) (s s' : SessionState) (t t' : Taping) (heard : List ℕ)
     (recorded recorded' : ℕ) : Type 0 where
   pub circuit : Option ℕ
   pub came : List (List ℕ)
@@ -89,6 +101,7 @@ pub record ComesInTurn (s s' : SessionState) (t t' : Taping) (heard : List ℕ)
   pub kept : KeepsRecords s.totals s'.totals
   pub given : IsGiven s.gateway s'.gateway s.totals s'.totals (of_circuit circuit came)
   pub records : RecordsBehind t t' heard recorded recorded' (coming (of_circuit circuit came))
+  pub shown : Shown (coming (of_circuit circuit came))
   pub in_turn : (config : GatewayConfig) (before : List Event) → HasHistory config s.gateway before
       → circuit ≡ next_circuit (length (octets before))
   pub held : s'.held ≡ s.held
@@ -182,15 +195,17 @@ pub record StopsAt (spells : PacketOutput) (s s' : SessionState) (o : Output) (s
   pub some : 0 < length (spells packet)
 
 -- octets, those to send behind those of the answer; they and the datagrams that came were recorded, before
--- the packets that were held were sent
-abbrev pub ExchangingAll : {T : Type 0} → PacketOutput → World → World → List ℕ → List ℕ → List ℕ
-    → Result T RunFault → Type 0
-ExchangingAll spells w w' octets answer answer' result = MatchResult result
+-- the packets that were held were sent; and the datagrams were shown
+abbrev pub ExchangingAll : PacketOutput → (List Event → Type 0) → World → World → List ℕ → List ℕ → List ℕ
+    → Result (Unit {0}) RunFault → Type 0
+ExchangingAll spells Shown w w' octets answer answer' result = MatchResult result
     (λ _. (sent : List ℕ) × (x : Exchanges spells w.state w'.state w.output w'.output octets sent)
     × (answer' ≡ answer ++ sent) × Recorded w.tape w'.tape (events_of_turns x.turns)
     × HaveCalls w.state.ports w'.state.ports (AreCalls (are_held w.state.holds x.turns) x.turns)
-    × Extends w.tape.acts w'.tape.acts (map (sends_at w'.tape) (held_in w.state.holds x.turns)))
-    (λ e. (e ≡ Write) × StopsAt spells w.state w'.state w.output w'.output.sink octets)
+    × Extends w.tape.acts w'.tape.acts (map (sends_at w'.tape) (held_in w.state.holds x.turns))
+    × Shown (events_of_turns x.turns))
+    (λ e. (e ≡ Write) × (x : StopsAt spells w.state w'.state w.output w'.output.sink octets)
+    × Shown (events_of_turns x.turns))
 
 -- datagrams came so far, with no failed receive
 pub record Receiving (s s' : SessionState) (circuit : ℕ) (came : List (List ℕ)) : Type 0 where
@@ -216,24 +231,27 @@ pub record ActsOn (s s' : SessionState) (tape tape' : TapeState) (r : Record) : 
   pub calls : HaveCalls s.ports s'.ports (AreCalls (are_held s.holds (turns_of input)) (turns_of input))
   pub same : s'.holds ≡ s.holds
 
--- .. and this is known of what waited and of all that is put for it
-pub record InputTrace (spells : PacketOutput) (w w' : World) (r : Record)
+-- .. its datagrams were shown, and this is known of what waited and of all that is put for it
+pub record InputTrace (spells : PacketOutput) (Shown : List Event → Type 0) (w w' : World) (r : Record)
     (Took : List ℕ → Type 0) : Type 0 where
   pub inputs : ActsOn w.state w'.state w.tape w'.tape r
+  pub shown : Shown (events_in inputs.input)
   pub took : (config : GatewayConfig) (before : List Event) → HasHistory config w.state.gateway before
       → Took (w.output.waiting ++ written_for spells config before inputs.input)
 
 -- A record was acted on; or a write failed in it, when it was done or when the first octets of a trunk record
 -- were heard.
-abbrev pub Inputs : PacketOutput → World → World → Record → Result (Unit {0}) RunFault → Type 0
-Inputs spells w w' r result = MatchResult result
-    (λ _. InputTrace spells w w' r (TakesAllButWaiting w.output.sink.taken w'.output.sink.taken
+abbrev pub Inputs : PacketOutput → (List Event → Type 0) → World → World → Record
+    → Result (Unit {0}) RunFault → Type 0
+Inputs spells Shown w w' r result = MatchResult result
+    (λ _. InputTrace spells Shown w w' r (TakesAllButWaiting w.output.sink.taken w'.output.sink.taken
     w'.output.waiting)
     × (w'.output.sink.failures ≡ w.output.sink.failures))
     (λ e. (e ≡ Write) × (w.output.sink.failures < w'.output.sink.failures)
-    × (InputTrace spells w w' r (AppendsPrefix w.output.sink.taken w'.output.sink.taken)
+    × (InputTrace spells Shown w w' r (AppendsPrefix w.output.sink.taken w'.output.sink.taken)
     ⊎ ((octets : List ℕ) × (r ≡ Record.Trunk octets)
-    × StopsAt spells w.state w'.state w.output w'.output.sink octets)))
+    × (x : StopsAt spells w.state w'.state w.output w'.output.sink octets) × Shown
+    (events_of_turns x.turns))))
 
 -- A session but for the last record, in which a write failed when its first octets were received; at most
 -- this many octets waited before it.
@@ -256,11 +274,11 @@ WatchedTrace put s s' tape tape' Took Seen records =
     (t : SessionTrace put s s' tape tape' Took records) × Seen t.inputs
 
 -- a session up to a write that failed, when this many octets waited at most, and this is known of its inputs:
--- of all, or of all but the last one
-abbrev pub TraceToWriteError : ℕ → PacketOutput → (List SessionInput → Type 0) → World → (Totals → World)
-    → List Record
-    → Type 0
+-- of all, or of all but the last one and of the events of that which happened
+abbrev pub TraceToWriteError : ℕ → PacketOutput → (List SessionInput → List Event → Type 0) → World
+    → (Totals → World) → List Record → Type 0
 TraceToWriteError late spells Seen w end records = (totals : Totals) × (((0 < length records)
     × WatchedTrace (written_by spells) w.state (end totals).state w.tape (end totals).tape
     (AppendsBut late w.output.sink.taken (end totals).output.sink.taken) (OfFirstInputs Seen) records)
-    ⊎ ((c : CutTrace late spells w (end totals) records) × Seen c.trace.inputs))
+    ⊎ ((c : CutTrace late spells w (end totals) records)
+    × Seen c.trace.inputs (events_of_turns c.stops.turns)))

@@ -6,12 +6,13 @@ ghost use Rattle.gw_switch.specs.Events.{Event};
 ghost use Rattle.gw_switch.specs.Whole.{reply_to};
 ghost use Rattle.gw_switch.specs.Standing.{HasHistory};
 ghost use Rattle.gw_session.specs.Answers.{code_of};
-ghost use Rattle.gw_session.specs.Exchange.{IsGiven};
+ghost use Rattle.gw_session.specs.Exchange.{AreShown, IsGiven};
 
 use crate::held::{HeldPackets, send_held, send_packet};
 use crate::packet_ports::PacketPorts;
 use crate::receive_room::ReceiveRoom;
 use crate::tape::{Batch, Tape, batch_arrival, record_octets};
+use crate::watch::Watch;
 use g704_cas::CircuitNo;
 use gw_circuit::Datagram;
 use gw_records::{NO_TOTALS, OutputBuffer, RunFault, Sink, Totals, TrunkRecord};
@@ -20,9 +21,9 @@ use gw_switch::Gateway;
 // How many datagrams are received before one octet.
 const MOST_DATAGRAMS: usize = 4;
 
-/// Gives a datagram to its circuit, counts it where it is refused, and returns 0 or the number of the
-/// refusal.
-pub fn give_datagram(
+// Gives a datagram to its circuit, counts it where it is refused, and returns 0 or the number of the
+// refusal.
+fn give_datagram(
     gateway: &mut Gateway,
     circuit: CircuitNo,
     octets: &[u8],
@@ -40,6 +41,28 @@ pub fn give_datagram(
             dropped.code()
         }
     }
+}
+
+/// Gives a datagram to its circuit when this many octets of the record are heard, counts it where it is
+/// refused, shows it to the watch, and returns 0 or the number of the refusal.
+pub fn give_shown<W: Watch>(
+    gateway: &mut Gateway,
+    heard: usize,
+    circuit: CircuitNo,
+    octets: &[u8],
+    totals: &mut Totals,
+    watch: &mut W,
+) -> u8
+    ensures given { IsGiven gateway.old gateway.new totals.old totals.new ((circuit, octets.now) ∷ []) }
+    ensures others { totals.new ≡ record totals.old { dropped = totals.new.dropped } }
+    ensures code { (config : GatewayConfig) (before : List Event) → HasHistory config gateway.old before
+        → result ≡ code_of (reply_to config before (Event.Given circuit (Datagram octets.now))) }
+    ensures shown { AreShown W.shows gateway.old watch.old watch.new heard
+        (Event.Given circuit (Datagram octets.now) ∷ []) }
+{
+    let code = give_datagram(gateway, circuit, octets, totals);
+    watch.datagram(heard, circuit, octets, code);
+    code
 }
 
 /// What a session has done, what it is to write, and where it receives and makes what it sends.
@@ -197,19 +220,20 @@ impl SessionBuffers {
     }
 
     // Receives the datagrams that wait at the circuit whose slot the next octet sends, four at most, puts
-    // them into the batch behind the octets that were heard and gives them to the gateway. (It is inlined,
-    // since mostly nothing waits: then an octet saves no registers for it.)
+    // them into the batch behind the octets that were heard, gives them to the gateway and shows them to the
+    // watch. (It is inlined, since mostly nothing waits: then an octet saves no registers for it.)
     #[inline(always)]
-    fn receive_next<O: PacketPorts, T: Tape>(
+    fn receive_next<O: PacketPorts, T: Tape, W: Watch>(
         &mut self,
         gateway: &mut Gateway,
         packet_ports: &mut O,
         tape: &mut T,
         heard: &[u8],
+        watch: &mut W,
     )
         requires short { length heard.now < 2 ^ 16 }
         requires within { self.old.recorded ≤ length heard.now }
-        ensures comes { ComesInTurn
+        ensures comes { ComesInTurn (AreShown W.shows gateway.old watch.old watch.new (length heard.now))
             (state_with self.old.held.holds (packets_held self.old.held.packets.items)
             (O.tells packet_ports.old) gateway.old self.old.totals)
             (state_with self.old.held.holds (packets_held self.old.held.packets.items)
@@ -234,7 +258,8 @@ impl SessionBuffers {
                     let octets = &room.octets[..n];
                     batch_arrival(tape, &mut self.batch, fresh, circuit, octets);
                     self.recorded = heard.len();
-                    let _ = give_datagram(gateway, circuit, octets, &mut self.totals);
+                    let totals = &mut self.totals;
+                    let _ = give_shown(gateway, heard.len(), circuit, octets, totals, watch);
                 }
                 Ok(None) => return,
                 Err(_) => {
@@ -249,19 +274,20 @@ impl SessionBuffers {
     /// it, and puts the octets to send behind those of the answer. The ports look for datagrams before the
     /// first octet. All are recorded when it returns, mostly in one write: the octets are cut where datagrams
     /// came. The packets of up to 2,048 octets are sent behind that, if this session holds packets.
-    pub fn exchange_all<O: PacketPorts, K: Sink, T: Tape>(
+    pub fn exchange_all<O: PacketPorts, K: Sink, T: Tape, W: Watch>(
         &mut self,
         gateway: &mut Gateway,
         packet_ports: &mut O,
         octets: &[u8],
         sink: &mut K,
         tape: &mut T,
+        watch: &mut W,
     ) -> Result<(), RunFault>
         requires fits { length self.old.answer.items + length octets.now ≤ 65539 }
         requires short { length octets.now < 2 ^ 16 }
         requires writes { CanCount (K.tells sink.old).failures }
         requires silent { self.old.held.holds ≡ true → IsSilent O.spells }
-        ensures exchanges { ExchangingAll O.spells
+        ensures exchanges { ExchangingAll O.spells (AreShown W.shows gateway.old watch.old watch.new 0)
             (world_in self.old.held.holds (O.tells packet_ports.old) gateway.old self.old.totals
             (T.tells tape.old) (K.tells sink.old) self.old.waiting.items)
             (world_in self.old.held.holds (O.tells packet_ports.new) gateway.new self.new.totals
@@ -273,7 +299,7 @@ impl SessionBuffers {
         self.begin_record(packet_ports, octets.len());
         for i in 0..octets.len() {
             let heard = &octets[..i];
-            self.receive_next(gateway, packet_ports, tape, heard);
+            self.receive_next(gateway, packet_ports, tape, heard, watch);
             let sent = self.receive_octet(gateway, packet_ports, octets[i], sink)?;
             self.answer.push(sent);
         }

@@ -9,9 +9,10 @@ ghost use Rattle.gw_session.specs.Answers.{code_of};
 ghost use Rattle.gw_session.specs.Exchange.{TakesEvent, most_waiting};
 ghost use Rattle.gw_session.specs.Tape.{Learns, answers_at};
 
-use crate::exchange::{SessionBuffers, give_datagram};
+use crate::exchange::{SessionBuffers, give_shown};
 use crate::packet_ports::PacketPorts;
 use crate::tape::Tape;
+use crate::watch::Watch;
 use byteorder::{BigEndian, ByteOrder};
 use g704_cas::CircuitNo;
 use g726_codec::CodecKind;
@@ -100,24 +101,25 @@ impl SessionBuffers {
     ghost use Rattle.gw_session.specs.Answers.{written_out};
     ghost use Rattle.gw_session.specs.Answers.Written.{Answered};
     ghost use Rattle.gw_session.specs.Running.{all_kinds};
-    ghost use Rattle.gw_session.specs.Exchange.{Inputs, IsSilent, most_waiting};
+    ghost use Rattle.gw_session.specs.Exchange.{AreShown, Inputs, IsSilent, most_waiting};
     ghost use Rattle.gw_session.specs.Watch.{IsCodeAfter};
     ghost use Rattle.gw_session.specs.Tape.{Learns, answers_at};
     ghost use Rattle.gw_session.specs.World.{world_in};
 
     // Gives the octets of a trunk record to the gateway, and puts the record that answers it.
-    fn handle_trunk_record<O: PacketPorts, K: Sink, T: Tape>(
+    fn handle_trunk_record<O: PacketPorts, K: Sink, T: Tape, W: Watch>(
         &mut self,
         gateway: &mut Gateway,
         packet_ports: &mut O,
         body: &[u8],
         sink: &mut K,
         tape: &mut T,
+        watch: &mut W,
     ) -> Result<(), RunFault>
         requires short { length body.now < 2 ^ 16 }
         requires writes { CanCount (K.tells sink.old).failures }
         requires silent { self.old.held.holds ≡ true → IsSilent O.spells }
-        ensures inputs { Inputs O.spells
+        ensures inputs { Inputs O.spells (AreShown W.shows gateway.old watch.old watch.new 0)
             (world_in self.old.held.holds (O.tells packet_ports.old) gateway.old self.old.totals
             (T.tells tape.old) (K.tells sink.old) self.old.waiting.items)
             (world_in self.old.held.holds (O.tells packet_ports.new) gateway.new self.new.totals
@@ -132,7 +134,7 @@ impl SessionBuffers {
         self.totals.octets = self.totals.octets.saturating_add(body.len() as u64);
         self.answer.clear();
         let _ = self.answer.try_extend_from_slice(&trunk_front(body.len()));
-        self.exchange_all(gateway, packet_ports, body, sink, tape)?;
+        self.exchange_all(gateway, packet_ports, body, sink, tape, watch)?;
         self.code = 0;
         put_out(
             self.answer.as_slice(),
@@ -170,8 +172,8 @@ impl SessionBuffers {
     }
 
     /// Gives a gateway a record, which is recorded before, and puts what answers it behind the octets that
-    /// wait.
-    pub fn handle_record<O: PacketPorts, K: Sink, T: Tape>(
+    /// wait. The datagrams that the gateway is given are shown to a watch.
+    pub fn handle_record<O: PacketPorts, K: Sink, T: Tape, W: Watch>(
         &mut self,
         gateway: &mut Gateway,
         packet_ports: &mut O,
@@ -179,11 +181,12 @@ impl SessionBuffers {
         body: &[u8],
         sink: &mut K,
         tape: &mut T,
+        watch: &mut W,
     ) -> Result<(), RunFault>
         requires good { IsGood all_kinds (named head body.now) }
         requires writes { CanCount (K.tells sink.old).failures }
         requires silent { self.old.held.holds ≡ true → IsSilent O.spells }
-        ensures inputs { Inputs O.spells
+        ensures inputs { Inputs O.spells (AreShown W.shows gateway.old watch.old watch.new 0)
             (world_in self.old.held.holds (O.tells packet_ports.old) gateway.old self.old.totals
             (T.tells tape.old) (K.tells sink.old) self.old.waiting.items)
             (world_in self.old.held.holds (O.tells packet_ports.new) gateway.new self.new.totals
@@ -195,10 +198,12 @@ impl SessionBuffers {
         ensures holds { self.new.held.holds ≡ self.old.held.holds }
     {
         match head {
-            RecordHead::Trunk => self.handle_trunk_record(gateway, packet_ports, body, sink, tape),
+            RecordHead::Trunk => {
+                self.handle_trunk_record(gateway, packet_ports, body, sink, tape, watch)
+            }
             RecordHead::Datagram(circuit) => {
                 tape.put(head, body);
-                let code = give_datagram(gateway, circuit, body, &mut self.totals);
+                let code = give_shown(gateway, 0, circuit, body, &mut self.totals, watch);
                 self.put_answer(circuit, DATAGRAM, code, sink, tape)
             }
             RecordHead::Command(circuit, command) => {

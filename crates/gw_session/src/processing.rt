@@ -18,9 +18,9 @@ use gw_records::{
 };
 use gw_switch::Gateway;
 
-/// Gives a gateway the records of the source, of these kinds, records on a tape what it takes, and shows each
-/// record to a watch when the gateway has acted on it. Before each record the tape is shown the gateway. It
-/// is inlined, so that a session tests for no other kinds than its own.
+/// Gives a gateway the records of the source, of these kinds, records on a tape what it takes, and shows a
+/// watch each datagram and then each record when the gateway has acted on it. Before each record the tape is
+/// shown the gateway. It is inlined, so that a session tests for no other kinds than its own.
 #[inline(always)]
 pub fn process_records<O: PacketPorts, S: Source, K: Sink, T: Tape, W: Watch>(
     kinds: &AcceptedKinds,
@@ -46,7 +46,7 @@ pub fn process_records<O: PacketPorts, S: Source, K: Sink, T: Tape, W: Watch>(
         (state_in session.old.held.holds (O.tells packet_ports.new) gateway.new totals)
         (T.tells tape.old) (T.tells tape.new)
         (λ first. Appends (K.tells sink.old).taken (K.tells sink.new).taken)
-        (InputsShown W.shows gateway.old watch.old watch.new))) }
+        (λ inputs. InputsShown W.shows gateway.old watch.old watch.new inputs []))) }
     ensures fault { IfErr result (EndsUntil kinds.now
         (S.tells source.old) (S.tells source.new) (K.tells sink.old) (K.tells sink.new)
         (λ totals. WatchedTrace (written_by O.spells)
@@ -54,7 +54,7 @@ pub fn process_records<O: PacketPorts, S: Source, K: Sink, T: Tape, W: Watch>(
         (state_in session.old.held.holds (O.tells packet_ports.new) gateway.new totals)
         (T.tells tape.old) (T.tells tape.new)
         (λ first. Appends (K.tells sink.old).taken (K.tells sink.new).taken)
-        (InputsShown W.shows gateway.old watch.old watch.new))
+        (λ inputs. InputsShown W.shows gateway.old watch.old watch.new inputs []))
         (TraceToWriteError (most_waiting session.old.at_once) O.spells
         (InputsShown W.shows gateway.old watch.old watch.new)
         (world_in session.old.held.holds (O.tells packet_ports.old) gateway.old nothing_counted
@@ -67,7 +67,8 @@ pub fn process_records<O: PacketPorts, S: Source, K: Sink, T: Tape, W: Watch>(
             Ok(first) => {
                 tape.keep(gateway);
                 let body = &reader.held()[FRONT_LEN..first.len];
-                session.handle_record(gateway, packet_ports, first.head, body, sink, tape)?;
+                let head = first.head;
+                session.handle_record(gateway, packet_ports, head, body, sink, tape, watch)?;
                 watch.after(&first.head, body, session.code, gateway);
                 reader.pass(first.len);
             }

@@ -155,8 +155,8 @@ pub fn serve_recorded<S: Source, P: Ports, K: Sink, T: Tape>(
 
 /// Serves as [`serve_recorded`] does, but sends the packets of a record of the trunk when all of it is on the
 /// tape, in their order, behind the receives of its octets. (A record of more than 2,048 octets has its
-/// packets sent as they are made.) Each record is shown to a watch when the gateway has acted on it. A record
-/// in which a write fails may not be shown.
+/// packets sent as they are made.) A watch is shown each datagram when the gateway was given it, and each
+/// record when the gateway has acted on it. A record in which a write fails may not be shown.
 ///
 /// # Errors
 ///

@@ -1,5 +1,5 @@
 -- Circuits that are reported one after another.
-use Rattle.std.proofs.Common.{◌≡◌, ◌≤◌, ◌+◌, ◌-◌, ◌++◌, ◌∙◌, ℕ, zero, suc, Bool, true, false, List, []}
+use Rattle.std.proofs.Common.{◌≡◌, ◌≤◌, ◌+◌, ◌-◌, ◌++◌, ◌∙◌, ℕ, zero, suc, Bool, true, false, List, [], ◌∷◌}
 use Rattle.std.proofs.Common.{length, get_or, set, refl, sym, ap, arith, inl, inr, append_assoc, append-nil}
 use Rattle.std.proofs.lemmas.List.{get_or_default, get_or-set_same, get_or-set_other}
 use Rattle.std.proofs.lemmas.Bool.{cases_eq}
@@ -7,10 +7,14 @@ use Rattle.gw_circuit.specs.declared.Status.{Status}
 use Rattle.gw_switch.specs.declared.Alarms.{Alarms}
 use Rattle.gw_records.specs.Records.{Record}
 use Rattle.gw_tell.specs.declared.gateway_status.GatewayStatus.{GatewayStatus}
-use Rattle.gw_tell.specs.Lines.{alarms_line, row_line, event_line}
+use Rattle.std.proofs.lemmas.List.Concat.{flat_map-append}
+use Rattle.std.specs.List.{flat_map}
+use Rattle.gw_tell.specs.Lines.{alarms_line, row_line, event_line, number_line, spaced}
 use Rattle.gw_tell.specs.Reports.{no_status, of_circuit, counted_as, RowStep, RowSteps, AlarmsStep}
 use Rattle.gw_tell.specs.Seizures.{AreCounted}
-use Rattle.gw_tell.specs.Reports.{row_lines, Changes, are_due, place_after}
+use Rattle.gw_tell.specs.Reports.{row_lines, Changes, are_due, place_after, counts_lines, due_lines, told_line}
+use Rattle.gw_tell.specs.Counts.{counts_at, no_counts}
+use Rattle.gw_tell.specs.declared.counts.DatagramCounts.{DatagramCounts}
 
 -- What was reported last of a circuit is what it is, but for its counts.
 pub one_is_true : (due : Bool) (c : ℕ) (was is told : Status) (text text' : List ℕ)
@@ -51,15 +55,17 @@ pub alarms_go_behind : (was is : Alarms) (text text' : List ℕ) → AlarmsStep 
 alarms_go_behind was is text text' (inl s) = (alarms_line is, s.1)
 alarms_go_behind was is text text' (inr s) = ([], s.1 ∙ sym (append-nil text))
 
--- What is reported of a record goes behind the text.
-pub changes_go_behind : (place : ℕ) (r : Record) (code : ℕ) (was is told : GatewayStatus) (text text' : List ℕ)
-    → Changes place r code was is told text text' → (lines : List ℕ) × (text' ≡ text ++ lines)
-changes_go_behind place r code was is told text text' changes =
-    let a = alarms_go_behind was.alarms is.alarms (text ++ event_line r code) changes.between changes.alarms in
-    let due = are_due place (place_after place r) in
-    let b = rows_go_behind due was.rows is.rows told.rows changes.between text' 30 changes.rows in (
-      event_line r code ++ a.0 ++ b.0,
-      b.1 ∙ ap (λ (xs : List ℕ). xs ++ b.0) a.1 ∙ simp append_assoc,
+-- What is reported of a change goes behind the text.
+pub changes_go_behind : {due : Bool} {was is told : GatewayStatus} {counts counts' : List DatagramCounts}
+    {text text' : List ℕ} → Changes due was is told counts counts' text text'
+    → (lines : List ℕ) × (text' ≡ text ++ lines)
+changes_go_behind {due = due} {was = was} {is = is} {told = told} {counts = counts} {text = text} changes =
+    let a = alarms_go_behind was.alarms is.alarms text changes.between changes.alarms in
+    let b = rows_go_behind due was.rows is.rows told.rows changes.between changes.behind 30 changes.rows in (
+      a.0 ++ b.0 ++ due_lines due counts,
+      changes.counts_are
+          ∙ ap (λ (xs : List ℕ). xs ++ due_lines due counts) (b.1 ∙ ap (λ (xs : List ℕ). xs ++ b.0) a.1)
+          ∙ simp append_assoc,
     )
 
 -- The first circuits are reported so, whatever was reported last of the others.
@@ -122,6 +128,32 @@ line_on rows number c i d first text text' some most c_is i_is before after =
     get_or_default rows (number - 1) d no_status (omega arith) in
     after ∙ rw (before, c_is, i_is, one_more_line rows number some, here)
     (append_assoc first (row_lines rows (number - 1)) (row_line number (of_circuit rows number)))
+
+-- A line of a word and of numbers in two parts.
+pub two_parts : (text word : List ℕ) (xs ys : List ℕ)
+    → (((text ++ word) ++ flat_map spaced xs) ++ flat_map spaced ys) ++ 10 ∷ [] ≡ text ++ number_line word (xs ++ ys)
+unfolding number_line
+two_parts text word xs ys = rw (flat_map-append) (simp append_assoc)
+
+-- Before the first line of counts there is none.
+pub no_counts_yet : (all : Bool) (counts : List DatagramCounts) → counts_lines all counts 0 ≡ []
+unfolding counts_lines
+no_counts_yet all counts = refl
+
+-- Behind the lines of counts so far stands that of the next circuit, if it is told.
+pub counts_on : (all : Bool) (counts : List DatagramCounts) (number c i : ℕ) (d : DatagramCounts)
+    (first text text' : List ℕ) → 1 ≤ number → number ≤ length counts → c ≡ number → i ≡ number
+    → text ≡ first ++ counts_lines all counts (number - 1)
+    → text' ≡ text ++ told_line all c (get_or counts (i - 1) d)
+    → text' ≡ first ++ counts_lines all counts (number + 1 - 1)
+unfolding counts_lines
+counts_on all counts number c i d first text text' some most c_is i_is before after =
+    let e : number ≡ suc (number - 1) = omega arith in
+    let e' : number + 1 - 1 ≡ suc (number - 1) = omega arith in
+    let here : get_or counts (number - 1) d ≡ counts_at counts number =
+    get_or_default counts (number - 1) d no_counts (omega arith) in
+    after ∙ rw (before, c_is, i_is, e', ← e, here)
+    (append_assoc first (counts_lines all counts (number - 1)) (told_line all number (counts_at counts number)))
 
 -- The next circuit is reported, by what was read of it.
 pub step_on : (due : Bool) (was told is : List Status) (text between text' : List ℕ) (number c i : ℕ)

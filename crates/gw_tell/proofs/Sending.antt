@@ -1,14 +1,14 @@
 -- What clients are sent.
 use Rattle.std.proofs.Common.{◌≡◌, ◌≤◌, ◌<◌, ◌++◌, ◌∷◌, ℕ, List, [], length, drop, take, refl, arith, false, ◌==◌, ◌∙◌}
-use Rattle.std.proofs.Common.{◌+◌, ◌-◌, ap, sym, length-append, length-drop}
+use Rattle.std.proofs.Common.{◌+◌, ◌-◌, ap, sym, append_assoc, length-append, length-drop}
 use Rattle.std.proofs.lemmas.List.{length-take-le}
 use Rattle.std.proofs.Math.Seq.{drop-append_seam, take-append_seam}
 use Rattle.gw_switch.specs.declared.gateway.Gateway.{Gateway}
 use Rattle.gw_records.specs.Records.{Record}
 use Rattle.gw_tell.specs.declared.teller.Teller.{Teller}
 use Rattle.gw_tell.specs.declared.gateway_status.GatewayStatus.{GatewayStatus}
-use Rattle.gw_tell.specs.Lines.{at_line}
-use Rattle.gw_tell.specs.Reports.{sent_to, last_after, Shows, Changes, IsStatusOf, place_after}
+use Rattle.gw_tell.specs.Lines.{at_line, event_line}
+use Rattle.gw_tell.specs.Reports.{sent_to, last_after, Shows, Changes, IsStatusOf, are_due, place_after}
 use Rattle.gw_tell.specs.Clients.{AllAreTold}
 use Rattle.gw_tell.specs.Telling.{TellsChanges}
 use Rattle.gw_tell.proofs.Reporting.{changes_go_behind}
@@ -32,19 +32,27 @@ front_is line pushed report text front a b c (lines, d) =
       d ∙ ap (λ (xs : List ℕ). xs ++ lines) a ∙ ap (λ (xs : List ℕ). line ++ xs) (sym g),
     )
 
+-- What goes behind the line of a record goes behind what stands before that.
+pub event_behind : {report : List ℕ} (pushed event : List ℕ)
+    → (lines : List ℕ) × (report ≡ (pushed ++ event) ++ lines) → (lines : List ℕ) × (report ≡ pushed ++ lines)
+event_behind pushed event (lines, e) = (event ++ lines, e ∙ append_assoc pushed event lines)
+
 -- The clients were told what changed.
 pub tells : (t t' : Teller) (r : Record) (code : ℕ) (gateway : Gateway) (is : GatewayStatus) (at : ℕ)
     (pushed report text : List ℕ) (front : ℕ) → Shows is gateway → at ≡ place_after t.place r
     → pushed ≡ at_line at → front ≡ length pushed → text ≡ report
-    → Changes t.place r code t.told is t'.told pushed report → IsStatusOf is t'.told
+    → Changes (are_due t.place (place_after t.place r)) t.told is t'.told t.counts t'.counts
+    (pushed ++ event_line r code) report → IsStatusOf is t'.told
     → AllAreTold t.places t'.places at (drop front text) → TellsChanges t t' r code gateway
 tells t t' r code gateway is at pushed report text front shows at_is line len same changes true_picture told_all =
-    let behind = changes_go_behind t.place r code t.told is t'.told pushed report changes in
-    let f = front_is (at_line at) pushed report text front line len same behind in record {
+    let behind = event_behind pushed (event_line r code) (changes_go_behind changes) in
+    let f = front_is (at_line at) pushed report text front line len same behind in
+    let first = line ∙ ap at_line at_is in
+    let all = f.2 ∙ ap (λ (place : ℕ). at_line place ++ drop front text) at_is in record {
       is = is;
       shows = shows;
       lines = drop front text;
-      changes = rw (← at_is, ← f.2, ← line) changes;
+      changes = rw (← all, ← first) changes;
       true_picture = true_picture;
       told_all = rw (← at_is) told_all;
     }

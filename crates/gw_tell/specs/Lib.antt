@@ -1,3 +1,5 @@
+pub mod Headers
+pub mod Counts
 pub mod Lines
 pub mod Reports
 pub mod Backlog

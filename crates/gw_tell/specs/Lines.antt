@@ -1,15 +1,16 @@
 -- The lines that a client gets, each ended by a line feed (e1gw-tell(5)).
-use Rattle.std.specs.Prelude.{◌++◌, ℕ, List, [], ◌∷◌, take, drop, length, codes}
-use Rattle.std.specs.Prelude.{Bool, true, false, if◌then◌else◌, nat_lt}
+use Rattle.std.specs.Prelude.{◌++◌, ◌/◌, ℕ, List, [], ◌∷◌, codes, Bool, true, false}
 use Rattle.std.specs.List.{flat_map}
 use Rattle.std.specs.Fmt.{decimal}
-use Rattle.byteorder.specs.Endian.{big_number}
 use Rattle.e1_g711.specs.declared.Law.{Law}
 use Rattle.e1_g711.specs.declared.Law.TheVariants.{A, Mu}
 use Rattle.gw_circuit.specs.declared.Status.{Status}
 use Rattle.gw_switch.specs.declared.Alarms.{Alarms}
 use Rattle.gw_listing.specs.Row.{row}
 use Rattle.gw_records.specs.Records.{Record}
+use Rattle.gw_tell.specs.declared.counts.DatagramCounts.{DatagramCounts}
+use Rattle.gw_tell.specs.declared.header.RtpHeader.{RtpHeader}
+use Rattle.gw_tell.specs.Headers.{rtp_header}
 
 -- a space and a number in decimal
 unfoldable pub spaced : ℕ → List ℕ
@@ -33,18 +34,15 @@ abbrev pub alarms_line : Alarms → List ℕ
 alarms_line a = number_line (codes "alarms")
     (flag a.frame ∷ flag a.multiframe ∷ flag a.remote_frame ∷ flag a.remote_multiframe ∷ [])
 
--- sequence number, timestamp and synchronization source of the header of an RTP datagram (RFC 3550, 5.1);
--- zeros if it is too short for a header
-abbrev pub rtp_numbers : List ℕ → List ℕ
-rtp_numbers octets = if nat_lt (length octets) 12 then 0 ∷ 0 ∷ 0 ∷ []
-    else big_number 2 (take 2 (drop 2 octets)) ∷ big_number 4 (take 4 (drop 4 octets))
-    ∷ big_number 4 (take 4 (drop 8 octets)) ∷ []
+-- the numbers of a header
+abbrev pub header_numbers : RtpHeader → List ℕ
+header_numbers h = h.sequence ∷ h.timestamp ∷ h.source ∷ []
 
 -- the line of a record that was answered with this code; octets of the trunk have none
 abbrev pub event_line : Record → ℕ → List ℕ
 event_line (Record.Trunk octets) code = []
 event_line (Record.Datagram circuit octets) code =
-    number_line (codes "datagram") (circuit ∷ code ∷ rtp_numbers octets)
+    number_line (codes "datagram") (circuit ∷ code ∷ header_numbers (rtp_header octets))
 event_line (Record.Command circuit command) code =
     number_line (codes "command") (circuit ∷ command ∷ code ∷ [])
 event_line (Record.Codec circuit codec payload_type) code =
@@ -53,6 +51,12 @@ event_line (Record.Codec circuit codec payload_type) code =
 -- the line of a circuit: its row of a listing
 unfoldable pub row_line : ℕ → Status → List ℕ
 row_line circuit status = codes "line " ++ row circuit status ++ 10 ∷ []
+
+-- what is counted of the datagrams of a circuit: those accepted, the packets lost and the jitter in samples,
+-- and those refused for each reason
+abbrev pub counts_line : ℕ → DatagramCounts → List ℕ
+counts_line circuit c = number_line (codes "counts")
+    (circuit ∷ c.accepted ∷ c.stream.lost ∷ c.stream.jitter / 16 ∷ c.refused)
 
 -- how often each of circuits 1 to 30 was seized
 abbrev pub seizures_line : List ℕ → List ℕ

@@ -1,6 +1,6 @@
 -- What is reported, and when (modules `gateway_status` and `report`).
 use Rattle.std.specs.Prelude.{◌≡◌, ◌≢◌, ◌⊎◌, ◌++◌, ◌≤◌, ◌/◌, ◌+◌, ◌-◌, ℕ, zero, suc, List, [], ◌∷◌, length}
-use Rattle.std.specs.Prelude.{Bool, true, false, if◌then◌else◌, ◌==◌, nat_lt, None, slice_index_or}
+use Rattle.std.specs.Prelude.{Bool, true, false, if◌then◌else◌, ◌||◌, ◌==◌, nat_lt, None, slice_index_or}
 use Rattle.e1_g711.specs.declared.Law.{Law}
 use Rattle.e1_g711.specs.declared.Law.TheVariants as laws
 use Rattle.g726_codec.specs.declared.CodecKind.TheVariants as codecs
@@ -16,7 +16,9 @@ use Rattle.gw_switch.specs.Standing.{HasHistory}
 use Rattle.gw_records.specs.Records.{Record}
 use Rattle.gw_records.specs.Streams.{at_most}
 use Rattle.gw_tell.specs.declared.gateway_status.GatewayStatus.{GatewayStatus}
-use Rattle.gw_tell.specs.Lines.{at_line, alarms_line, event_line, row_line, seizures_line, hello_line}
+use Rattle.gw_tell.specs.declared.counts.DatagramCounts.{DatagramCounts}
+use Rattle.gw_tell.specs.Counts.{counts_at, told_at}
+use Rattle.gw_tell.specs.Lines.{at_line, alarms_line, counts_line, row_line, seizures_line, hello_line}
 use Rattle.gw_tell.specs.Lines.{now_line}
 
 -- the status of no circuit
@@ -90,14 +92,32 @@ place_after place r = at_most (place + trunk_len r)
 abbrev pub are_due : ℕ → ℕ → Bool
 are_due place place' = nat_lt (place / 65536) (place' / 65536)
 
--- The lines of a record that was answered with this code go behind a text: its own line, the alarms and the
--- circuits. What was reported last was `was`, and is then `told`.
-pub record Changes (place : ℕ) (r : Record) (code : ℕ) (was is told : GatewayStatus) (text text' : List ℕ)
-    : Type 0 where
+-- the line of a circuit's counts, if all are told or these are new
+abbrev pub told_line : Bool → ℕ → DatagramCounts → List ℕ
+told_line all circuit c = if all || c.is_new then counts_line circuit c else []
+
+-- .. of this many circuits from the first
+unfoldable pub counts_lines : Bool → List DatagramCounts → ℕ → List ℕ
+counts_lines all counts zero = []
+counts_lines all counts (suc n) = counts_lines all counts n ++ told_line all (suc n)
+    (counts_at counts (suc n))
+
+-- .. that are told if they are due
+abbrev pub due_lines : Bool → List DatagramCounts → List ℕ
+due_lines true counts = counts_lines false counts 30
+due_lines false counts = []
+
+-- The lines of what has changed go behind a text: the alarms, the circuits, and the counts that are new, if
+-- they are due. What was reported last was `was`, and is then `told`.
+pub record Changes (due : Bool) (was is told : GatewayStatus) (counts counts' : List DatagramCounts)
+    (text text' : List ℕ) : Type 0 where
   pub between : List ℕ
-  pub alarms : AlarmsStep was.alarms is.alarms (text ++ event_line r code) between
+  pub behind : List ℕ
+  pub alarms : AlarmsStep was.alarms is.alarms text between
   pub alarms_are : told.alarms ≡ is.alarms
-  pub rows : RowSteps (are_due place (place_after place r)) was.rows is.rows told.rows between text' 30
+  pub rows : RowSteps due was.rows is.rows told.rows between behind 30
+  pub counts_are : text' ≡ behind ++ due_lines due counts
+  pub counts_told : (c : ℕ) → 1 ≤ c → c ≤ 30 → counts_at counts' c ≡ told_at due (counts_at counts c)
 
 -- what was reported last is the state of the trunk, but for the counts
 pub record IsStatusOf (is told : GatewayStatus) : Type 0 where
@@ -111,9 +131,10 @@ row_lines rows zero = []
 row_lines rows (suc n) = row_lines rows n ++ row_line (suc n) (of_circuit rows (suc n))
 
 -- the whole state, which a new client gets
-abbrev pub whole_state : Law → ℕ → GatewayStatus → List ℕ → List ℕ
-whole_state law place gateway_status seized = hello_line law ++ at_line place ++ alarms_line gateway_status.alarms
-    ++ row_lines gateway_status.rows 30 ++ seizures_line seized ++ now_line
+abbrev pub whole_state : Law → ℕ → GatewayStatus → List DatagramCounts → List ℕ → List ℕ
+whole_state law place gateway_status counts seized = hello_line law ++ at_line place
+    ++ alarms_line gateway_status.alarms ++ row_lines gateway_status.rows 30 ++ counts_lines true counts 30
+    ++ seizures_line seized ++ now_line
 
 -- what a client is sent whose last `at` was this place: nothing, or the lines with the place before them if
 -- it has changed

@@ -1,5 +1,5 @@
 -- What a call of a Teller does (module `teller`).
-use Rattle.std.specs.Prelude.{◌≡◌, ◌≢◌, ◌⊎◌, ◌<◌, ◌/◌, ◌++◌, ℕ, List, [], ◌∷◌, length, None}
+use Rattle.std.specs.Prelude.{◌≡◌, ◌≢◌, ◌⊎◌, ◌<◌, ◌+◌, ◌/◌, ◌++◌, ℕ, List, [], ◌∷◌, length, replicate, None}
 use Rattle.mio.specs.declared.net.uds.stream.UnixStream.{UnixStream}
 use Rattle.e1_g711.specs.declared.Law.{Law}
 use Rattle.gw_switch.specs.declared.gateway.Gateway.{Gateway}
@@ -8,9 +8,12 @@ use Rattle.gw_trunk.specs.System.{SystemAccepted, SystemHasNobody, SystemWrote}
 use Rattle.gw_tell.specs.declared.teller.Teller.{Teller}
 use Rattle.gw_tell.specs.Clients.{at, AllAreHeard, AllAreTold, AllFree, AllTaken, OnlyAt, Seats}
 use Rattle.gw_tell.specs.declared.gateway_status.GatewayStatus.{GatewayStatus}
-use Rattle.gw_tell.specs.Lines.{at_line}
-use Rattle.gw_tell.specs.Reports.{Changes, IsStatusOf, Shows, place_after, whole_state}
+use Rattle.gw_tell.specs.Lines.{at_line, event_line}
+use Rattle.gw_tell.specs.Reports.{Changes, IsStatusOf, Shows, are_due, place_after, whole_state}
+use Rattle.gw_tell.specs.Counts.{IsCounted, no_counts}
 use Rattle.gw_tell.specs.Seizures.{AreCounted, no_seizures}
+use Rattle.gw_records.specs.Streams.{at_most}
+use Rattle.gw_session.specs.Watch.{Look}
 
 -- a Teller that was shown nothing yet: it has no client, and what was reported last is this gateway's state
 pub record HasBegun (t : Teller) (law : Law) (gateway : Gateway) : Type 0 where
@@ -18,6 +21,7 @@ pub record HasBegun (t : Teller) (law : Law) (gateway : Gateway) : Type 0 where
   pub place_is : t.place ≡ 0
   pub free : AllFree t.places
   pub shows : Shows t.told gateway
+  pub none_counted : t.counts ≡ replicate 30 no_counts
   pub none_seized : t.seized ≡ no_seizures
 
 -- a Teller sent its clients what changed with a record, after which the gateway is in this state
@@ -25,20 +29,17 @@ pub record TellsChanges (t t' : Teller) (r : Record) (code : ℕ) (gateway : Gat
   pub is : GatewayStatus
   pub shows : Shows is gateway
   pub lines : List ℕ
-  pub changes : Changes t.place r code t.told is t'.told (at_line (place_after t.place r))
-      (at_line (place_after t.place r) ++ lines)
+  pub changes : Changes (are_due t.place (place_after t.place r)) t.told is t'.told t.counts t'.counts
+      (at_line (place_after t.place r) ++ event_line r code) (at_line (place_after t.place r) ++ lines)
   pub true_picture : IsStatusOf is t'.told
   pub told_all : AllAreTold t.places t'.places (place_after t.place r) lines
-
--- What a new client gets is what was reported last, or if there was no client the gateway's present state.
-abbrev pub IsShown : Gateway → Teller → Teller → Type 0
-IsShown gateway t t' = (AllFree t.places × Shows t'.told gateway)
-    ⊎ ((AllFree t.places → ⊥) × (t'.told ≡ t.told))
 
 -- what a Teller keeps while it looks at its clients
 pub record KeepsPlace (t t' : Teller) : Type 0 where
   pub law_is : t'.law ≡ t.law
   pub place_is : t'.place ≡ t.place
+  pub told_is : t'.told ≡ t.told
+  pub counts_is : t'.counts ≡ t.counts
   pub seized_is : t'.seized ≡ t.seized
   pub door_is : t'.door ≡ t.door
 
@@ -47,8 +48,9 @@ pub record HasPlace (gateway : Gateway) (stream : UnixStream) (t t' : Teller) : 
   pub place : ℕ
   pub is_place : place < 8
   pub was_free : at t.places place ≡ None
-  pub shown : IsShown gateway t t'
-  pub seated : Seats SystemWrote stream t.place (whole_state t.law t.place t'.told t.seized)
+  pub is : GatewayStatus
+  pub shows : Shows is gateway
+  pub seated : Seats SystemWrote stream t.place (whole_state t.law t.place is t.counts t.seized)
       (at t'.places place)
   pub others : OnlyAt place t.places t'.places
   pub same : KeepsPlace t t'
@@ -79,7 +81,6 @@ pub record Looks (gateway : Gateway) (t t' : Teller) : Type 0 where
   pub heard : Teller
   pub hears : AllAreHeard t.places heard.places
   pub same : KeepsPlace t heard
-  pub told_is : heard.told ≡ t.told
   pub lets_in : LetsIn gateway heard t'
 
 -- A Teller was shown a record, with the code of its answer and the gateway behind it. It counted seizures,
@@ -92,3 +93,13 @@ pub record TellsRecord (t t' : Teller) (r : Record) (code : ℕ) (gateway : Gate
   pub counted : AreCounted t.seized t.told.rows behind.told.rows behind.seized
   pub looks : (IsLook r t.place behind × Looks gateway behind t')
       ⊎ ((IsLook r t.place behind → ⊥) × (t' ≡ behind))
+
+-- A Teller was shown a datagram of a circuit, when this many octets of its record were heard: it counted it.
+pub record CountsDatagram (t t' : Teller) (heard circuit : ℕ) (octets : List ℕ) (code : ℕ) : Type 0 where
+  pub others : t' ≡ record t { counts = t'.counts }
+  pub counted : IsCounted circuit (at_most (t.place + heard)) octets code t.counts t'.counts
+
+-- what a Teller does with what it is shown
+abbrev pub Tells : Teller → Teller → Look → Type 0
+Tells t t' (Look.Came heard circuit octets code) = CountsDatagram t t' heard circuit octets code
+Tells t t' (Look.Behind r code gateway) = TellsRecord t t' r code gateway

@@ -3,7 +3,9 @@
 
 mod backlog;
 mod client;
+mod counts;
 mod gateway_status;
+mod header;
 mod lines;
 mod place;
 mod report;

@@ -1,24 +1,22 @@
-//! The text of each line that a client of `--tell` gets: alarms, events, circuits, seizures.
+//! The text of each line that a client of `--tell` gets: alarms, events, circuits, counts, seizures.
 
 ghost use Rattle.std.specs.Prelude.{◌≡◌, ◌≤◌, ◌+◌, ◌++◌, length};
 ghost use Rattle.gw_records.specs.Records.{named};
-ghost use Rattle.gw_tell.specs.Lines.{at_line, flag, alarms_line, rtp_numbers, event_line, row_line};
+ghost use Rattle.gw_tell.specs.Lines.{at_line, flag, alarms_line, counts_line, event_line, row_line};
 ghost use Rattle.gw_tell.specs.Lines.{hello_line, seizures_line};
 
-use crate::text::{Text, push, push_line};
-use byteorder::{BigEndian, ByteOrder};
+use crate::counts::DatagramCounts;
+use crate::header::rtp_header;
+use crate::text::{Text, push, push_line, push_numbers};
 use e1_g711::Law;
 use g704_cas::CircuitNo;
 use gw_circuit::Status;
 use gw_records::{RecordHead, octet_of_codec, octet_of_command};
 use gw_switch::Alarms;
 
-// The length of the fixed header of an RTP datagram (RFC 3550, 5.1).
-const HEADER_LEN: usize = 12;
-
 /// Adds the line `at` of a place on the trunk.
 pub fn push_at(text: &mut Text, place: u64)
-    requires { length text.old.items + 24 ≤ 3200 }
+    requires { length text.old.items + 24 ≤ 13500 }
     ensures line { text.new.items ≡ text.old.items ++ at_line place }
     ensures len { length text.new.items ≤ length text.old.items + 24 }
 {
@@ -34,7 +32,7 @@ fn flag(alarm: bool) -> u64
 
 /// Adds the line of the alarms.
 pub fn push_alarms(text: &mut Text, alarms: &Alarms)
-    requires { length text.old.items + 91 ≤ 3200 }
+    requires { length text.old.items + 91 ≤ 13500 }
     ensures line { text.new.items ≡ text.old.items ++ alarms_line alarms.now }
     ensures len { length text.new.items ≤ length text.old.items + 91 }
 {
@@ -47,23 +45,9 @@ pub fn push_alarms(text: &mut Text, alarms: &Alarms)
     push_line(text, b"alarms", &numbers);
 }
 
-// Sequence number, timestamp and synchronization source of a datagram; zeros if it is too short.
-fn rtp_numbers(octets: &[u8]) -> [u64; 3]
-    ensures { result ≡ rtp_numbers octets.now }
-{
-    if octets.len() < HEADER_LEN {
-        return [0, 0, 0];
-    }
-    [
-        u64::from(BigEndian::read_u16(&octets[2..4])),
-        u64::from(BigEndian::read_u32(&octets[4..8])),
-        u64::from(BigEndian::read_u32(&octets[8..12])),
-    ]
-}
-
 /// Adds the line of a record that was answered with this code, if it has one.
 pub fn push_event(text: &mut Text, head: &RecordHead, body: &[u8], code: u8)
-    requires { length text.old.items + 114 ≤ 3200 }
+    requires { length text.old.items + 114 ≤ 13500 }
     ensures line { text.new.items ≡ text.old.items ++ event_line (named head.now body.now) code }
     ensures len { length text.new.items ≤ length text.old.items + 114 }
 {
@@ -71,8 +55,14 @@ pub fn push_event(text: &mut Text, head: &RecordHead, body: &[u8], code: u8)
     match *head {
         RecordHead::Trunk => {}
         RecordHead::Datagram(circuit) => {
-            let [sequence, timestamp, source] = rtp_numbers(body);
-            let numbers = [u64::from(circuit.get()), code, sequence, timestamp, source];
+            let header = rtp_header(body);
+            let numbers = [
+                u64::from(circuit.get()),
+                code,
+                u64::from(header.sequence),
+                u64::from(header.timestamp),
+                u64::from(header.source),
+            ];
             push_line(text, b"datagram", &numbers);
         }
         RecordHead::Command(circuit, command) => {
@@ -95,7 +85,7 @@ pub fn push_event(text: &mut Text, head: &RecordHead, body: &[u8], code: u8)
 /// Adds the line of a circuit.
 #[tactic(auto, unfolding(crate::specs::Lines::row_line))]
 pub fn push_row(text: &mut Text, circuit: CircuitNo, status: &Status)
-    requires { length text.old.items + 80 ≤ 3200 }
+    requires { length text.old.items + 80 ≤ 13500 }
     ensures line { text.new.items ≡ text.old.items ++ row_line circuit status.now }
     ensures len { length text.new.items ≡ length text.old.items + 80 }
 {
@@ -104,9 +94,28 @@ pub fn push_row(text: &mut Text, circuit: CircuitNo, status: &Status)
     push(text, b"\n");
 }
 
+/// Adds the line of what is counted of a circuit's datagrams.
+pub fn push_counts(text: &mut Text, circuit: CircuitNo, counts: &DatagramCounts)
+    requires { length text.old.items + 343 ≤ 13500 }
+    ensures line { text.new.items ≡ text.old.items ++ counts_line circuit counts.now }
+    ensures len { length text.new.items ≤ length text.old.items + 343 }
+{
+    let stream = &counts.stream;
+    let numbers = [
+        u64::from(circuit.get()),
+        counts.accepted,
+        stream.lost,
+        stream.jitter / 16,
+    ];
+    push(text, b"counts");
+    push_numbers(text, &numbers);
+    push_numbers(text, &counts.refused);
+    text.push(b'\n');
+}
+
 /// Adds the line of how often each circuit was seized.
 pub fn push_seizures(text: &mut Text, counts: &[u64; 30])
-    requires { length text.old.items + 639 ≤ 3200 }
+    requires { length text.old.items + 639 ≤ 13500 }
     ensures line { text.new.items ≡ text.old.items ++ seizures_line counts.now }
     ensures len { length text.new.items ≤ length text.old.items + 639 }
 {

@@ -9,6 +9,7 @@ ghost use Rattle.gw_tell.specs.Clients.{AllAreHeard, AllAreTold, AllFree, AllHav
 ghost use Rattle.gw_tell.specs.Clients.{Gets, IsOpen};
 
 use crate::backlog::Backlog;
+use crate::counts::{DatagramCounts, NO_COUNTS, count_datagram};
 use crate::gateway_status::GatewayStatus;
 use crate::lines::push_at;
 use crate::place::ClientSlot;
@@ -16,6 +17,7 @@ use crate::report::{place_after, report, whole_state};
 use crate::seizures::count_seizures;
 use crate::text::Text;
 use e1_g711::Law;
+use g704_cas::CircuitNo;
 use gw_records::RecordHead;
 use gw_session::Watch;
 use gw_switch::Gateway;
@@ -44,6 +46,8 @@ pub struct Teller {
     place: u64,
     // What was reported last, even if there was no client.
     told: GatewayStatus,
+    // What became of the datagrams of each circuit since the session began.
+    counts: [DatagramCounts; 30],
     // How often each line was seized since the session began.
     seized: [u64; 30],
     text: Text,
@@ -112,7 +116,7 @@ fn open_places(alloc: Global) -> io::Result<[ClientSlot<UnixStream>; 8]>
 
 impl Teller {
     ghost use Rattle.gw_tell.specs.Clients.{OnlyAt, Seats};
-    ghost use Rattle.gw_tell.specs.Telling.{HasBegun, IsLook, IsShown, KeepsPlace, LetsIn};
+    ghost use Rattle.gw_tell.specs.Telling.{HasBegun, IsLook, KeepsPlace, LetsIn};
     ghost use Rattle.gw_tell.specs.Telling.{TellsChanges, Welcomes};
     ghost use Rattle.gw_tell.specs.Reports.{place_after, whole_state};
     ghost use Rattle.gw_tell.specs.Seizures.{AreCounted};
@@ -134,6 +138,7 @@ impl Teller {
             law,
             place: 0,
             told: GatewayStatus::of(gateway),
+            counts: [NO_COUNTS; 30],
             seized: [0u64; 30],
             text: Text::new(),
         })
@@ -160,38 +165,28 @@ impl Teller {
             code,
             &mut self.told,
             &is,
+            &mut self.counts,
             &mut self.text,
         );
         tell_all(&mut self.places, self.text.as_slice(), front, at);
         self.place = at;
     }
 
-    // Takes the gateway's present state for what was reported last, if there is no client.
-    fn refresh(&mut self, gateway: &Gateway)
-        ensures shown { IsShown gateway.now self.old self.new }
-        ensures same { KeepsPlace self.old self.new }
-        ensures places { self.new.places ≡ self.old.places }
-    {
-        if are_free(&self.places) {
-            self.told = GatewayStatus::of(gateway);
-        }
-    }
-
-    // Gives a free place to a client, and sends it the whole state.
-    fn seat_at(&mut self, free: usize, stream: UnixStream)
+    // Gives a free place to a client, and sends it the whole state, of which this is the gateway's.
+    fn seat_at(&mut self, free: usize, stream: UnixStream, is: &GatewayStatus)
         requires place { free < 8 }
         requires free { at self.old.places free ≡ None }
         ensures seated { Seats SystemWrote stream self.old.place (whole_state self.old.law self.old.place
-            self.old.told self.old.seized) (at self.new.places free) }
+            is.now self.old.counts self.old.seized) (at self.new.places free) }
         ensures others { OnlyAt free self.old.places self.new.places }
         ensures same { KeepsPlace self.old self.new }
-        ensures told { self.new.told ≡ self.old.told }
     {
         self.text.clear();
         whole_state(
             self.law,
             self.place,
-            &self.told,
+            is,
+            &self.counts,
             &self.seized,
             &mut self.text,
         );
@@ -206,8 +201,7 @@ impl Teller {
         let Some(free) = free_place(&self.places) else {
             return;
         };
-        self.refresh(gateway);
-        self.seat_at(free, stream);
+        self.seat_at(free, stream, &GatewayStatus::of(gateway));
     }
 
     // Whether clients are looked at behind a record that began at this place: if it is of the trunk, each
@@ -227,7 +221,6 @@ impl Teller {
     fn listen(&mut self)
         ensures heard { AllAreHeard self.old.places self.new.places }
         ensures same { KeepsPlace self.old self.new }
-        ensures told { self.new.told ≡ self.old.told }
     {
         for place in 0..MOST_CLIENTS {
             self.places[place].listen();
@@ -257,9 +250,14 @@ impl Teller {
 }
 
 impl Watch for Teller {
-    ghost use Rattle.gw_tell.specs.Telling.{TellsRecord};
+    ghost use Rattle.gw_tell.specs.Telling.{Tells};
 
-    ghost shows = { λ old new r code gateway. TellsRecord old new r code gateway };
+    ghost shows = { λ old new look. Tells old new look };
+
+    fn datagram(&mut self, heard: usize, circuit: CircuitNo, octets: &[u8], code: u8) {
+        let place = self.place.saturating_add(heard as u64);
+        count_datagram(&mut self.counts, circuit, place, octets, code);
+    }
 
     fn after(&mut self, head: &RecordHead, body: &[u8], code: u8, gateway: &Gateway) {
         let before = self.place;

@@ -1,11 +1,11 @@
 use Rattle.gw_session.proofs.Common.{sym, inl, ◌++◌, [], ◌∷◌, length, ap, ◌∙◌, refl, length-append, arith}
-use Rattle.gw_session.proofs.Common.{record_at, held}
+use Rattle.gw_session.proofs.Common.{record_at, held, InputsShown, SessionInput, List}
 use Rattle.gw_session.proofs.Common.{goes_up, starts, first_held, record_taken, stops_in, stops_behind, reads_more}
 use Rattle.gw_session.proofs.Common.{ended, gives_up, ends_so}
 use Rattle.gw_records.specs.declared.outcome.RunFault.TheVariants as faults
 use Rattle.gw_session.proofs.Attending.{record_is, good_in_all, through_none, through_done, through_all, through_on}
 use Rattle.gw_session.proofs.Attending.{waiting_failed, some_records, input_failed}
-use Rattle.gw_session.proofs.Watching.{none_shown, shown_more}
+use Rattle.gw_session.proofs.Watching.{none_shown, shown_last, shown_more}
 use Rattle.gw_session.proofs.processing.process_records.Goals as goal
 
 pub handling-init : goal.handling-init
@@ -39,7 +39,10 @@ returns-in_err-handle_record-in-Ok-clause-fault g c =
     let found = first_held f c.held.ensures c.in-Ok.ensures.good in
     let q = rw (record_is f (held c.handling.reader) _ found.more c.held-in-Ok.ensures, w.2.holds) at
     c.in_err-handle_record-in-Ok.ensures.inputs in
-    let stopped = input_failed _ _ c.keep.ensures _ w.2.few w.2.through q.2 in
+    let seen = InputsShown g.W.Watch.shows c.args.gateway.now c.args.watch.now c.handling.watch in
+    let known = InputsShown g.W.Watch.shows c.args.gateway.now c.args.watch.now c.handle_record.new.watch in
+    let stopped = input_failed _ seen c.keep.ensures known _ w.2.few w.2.through
+    (λ inputs es came follows seen. shown_last came follows seen) q.2 in
     goes_up _ _ faults.Write c.from_residual.ensures.1 q.0 (stops_in f w.2.stage found q.1 (_, stopped))
 
 pub handling-preserved-in-Ok : goal.handling-preserved-in-Ok
@@ -52,12 +55,16 @@ handling-preserved-in-Ok g c =
     let code = rw (record_is f (held c.handling.reader) _ found.more c.held-in-Ok.ensures) at
     c.in_ok-handle_record-in-Ok.ensures.code in
     let shown = rw (record_is f (held c.handling.reader) _ found.more c.held-in-Ok.ensures) at c.after.ensures in
+    let seen = InputsShown g.W.Watch.shows c.args.gateway.now c.args.watch.now c.handling.watch in
+    let known : List SessionInput → Type 0 = λ inputs.
+    InputsShown g.W.Watch.shows c.args.gateway.now c.args.watch.now c.after.new.self inputs [] in
     let more = length-append w.1 (record_at f (held c.handling.reader) ∷ []) in (
       w.0,
       w.1 ++ record_at f (held c.handling.reader) ∷ [],
       record {
         stage = record_taken f w.2.stage found c.pass.ensures.holds c.pass.ensures.turns q.1;
-        through = through_done _ _ c.keep.ensures _ w.2.through q.0 (λ inputs. shown_more q.0.inputs code shown);
+        through = through_done _ seen c.keep.ensures known w.2.through q.0
+            (λ inputs. shown_more q.0.inputs code q.0.shown shown);
         none_waits = λ none. absurd (omega (arith, none, more));
         few = rw w.2.at_once at c.in_ok-handle_record-in-Ok.ensures.few;
         at_once = c.handle_record.ensures.at_once ∙ w.2.at_once;
@@ -69,10 +76,11 @@ pub returns-in_err-flush-in-Err-clause-fault : goal.returns-in_err-flush-in-Err-
 returns-in_err-flush-in-Err-clause-fault g c =
     let w = c.handling.invariant in
     let fault = c.in_err-flush-in-Err.ensures.writes in
+    let seen = InputsShown g.W.Watch.shows c.args.gateway.now c.args.watch.now c.handling.watch in
     goes_up _ _ faults.Write c.from_residual-in_err-flush-in-Err.ensures.1 fault.0 (stops_behind w.2.stage
     fault.1.counted (
       _,
-      inl (waiting_failed _ _ _ w.2.few w.2.through
+      inl (waiting_failed _ seen _ w.2.few w.2.through
           (some_records _ _ w.2.none_waits c.in_err-flush-in-Err.ensures.some) fault.1),
     ))
 
@@ -80,12 +88,13 @@ pub handling-preserved : goal.handling-preserved
 handling-preserved g c =
     let w = c.handling.invariant in
     let r = rw c.if-not-branch.false at c.in_ok-read_on-in-Err.ensures.ok in
-    let flushed = c.in_ok-flush-in-Err.ensures in (
+    let flushed = c.in_ok-flush-in-Err.ensures in
+    let seen = InputsShown g.W.Watch.shows c.args.gateway.now c.args.watch.now c.handling.watch in (
       w.0 ++ r.octets,
       w.1,
       record {
         stage = reads_more w.2.stage r c.requires.begins.turns flushed.writes.1;
-        through = through_on _ _ w.2.through flushed.writes.0 flushed.empty;
+        through = through_on _ seen w.2.through flushed.writes.0 flushed.empty;
         none_waits = λ none. ap length flushed.empty;
         few = omega (arith, ap length flushed.empty);
         at_once = w.2.at_once;
@@ -96,9 +105,10 @@ handling-preserved g c =
 pub returns-then-not-branch : goal.returns-then-not-branch
 returns-then-not-branch g c =
     let w = c.handling.invariant in
+    let seen = InputsShown g.W.Watch.shows c.args.gateway.now c.args.watch.now c.handling.watch in
     let r = rw c.if-not-branch.true at c.in_ok-read_on-in-Err.ensures.ok in
     let e = ended c.handling.session.totals w.2.stage r c.held.ensures c.in-Err.ensures.end
-    c.in_ok-flush-in-Err.ensures.writes.1 (through_all _ _ _ w.2.through c.in_ok-flush-in-Err.ensures.writes.0) in
+    c.in_ok-flush-in-Err.ensures.writes.1 (through_all _ seen _ w.2.through c.in_ok-flush-in-Err.ensures.writes.0) in
     record {
       ok = (ends_so (λ records. Unit {0}) _ _ _ e.0 r.ended e.1 c.answer.ensures).0;
       fault = (ends_so _ _ _ _ e.0 r.ended e.1 c.answer.ensures).1;
@@ -108,6 +118,7 @@ pub returns-in_err-read_on-in-Err-clause-fault : goal.returns-in_err-read_on-in-
 returns-in_err-read_on-in-Err-clause-fault g c =
     let w = c.handling.invariant in
     let fault = c.in_err-read_on-in-Err.ensures.fault in
+    let seen = InputsShown g.W.Watch.shows c.args.gateway.now c.args.watch.now c.handling.watch in
     goes_up _ _ faults.Read c.from_residual-in_err-read_on-in-Err.ensures.1 fault.0
     (gives_up c.handling.session.totals w.2.stage fault.1 c.held.ensures c.in-Err.ensures.end
-    c.in_ok-flush-in-Err.ensures.writes.1 (through_all _ _ _ w.2.through c.in_ok-flush-in-Err.ensures.writes.0))
+    c.in_ok-flush-in-Err.ensures.writes.1 (through_all _ seen _ w.2.through c.in_ok-flush-in-Err.ensures.writes.0))

@@ -1,4 +1,4 @@
-use Rattle.gw_session.proofs.Common.{◌≡◌, ◌≤◌, List, ℕ, length, Record, TakesAllButWaiting, written_by}
+use Rattle.gw_session.proofs.Common.{◌≡◌, ◌≤◌, List, [], ℕ, length, Record, TakesAllButWaiting, written_by}
 use Rattle.gw_session.proofs.Common.{most_waiting}
 use Rattle.gw_session.proofs.Common.{WatchedTrace, InputsShown, nothing_counted, state_in, work_left, Stage}
 use Rattle.gw_session.proofs.processing.process_records.Given as goal
@@ -14,7 +14,7 @@ invariant-handling g l = (octets : List ℕ) × (records : List Record) × recor
       (g.T.Tape.tells l.initial.tape) (g.T.Tape.tells l.tape)
       (λ first xs. TakesAllButWaiting (g.K.Sink.tells l.initial.sink).taken (g.K.Sink.tells l.sink).taken
       l.session.waiting.items xs)
-      (InputsShown g.W.Watch.shows l.initial.gateway l.initial.watch l.watch) records;
+      (λ inputs. InputsShown g.W.Watch.shows l.initial.gateway l.initial.watch l.watch inputs []) records;
   none_waits : length records ≡ 0 → length l.session.waiting.items ≡ 0;
   few : length l.session.waiting.items ≤ most_waiting l.initial.session.at_once;
   at_once : l.session.at_once ≡ l.initial.session.at_once;

@@ -9,6 +9,7 @@ use Rattle.gw_session.specs.declared.held.HeldPackets.{HeldPackets}
 use Rattle.gw_session.proofs.PacketsSent.{exchange_is, stops_once}
 use Rattle.gw_session.proofs.Exchanging.{heard_none, heard_more, heard_all, held_few, none_before}
 use Rattle.gw_session.proofs.Exchanging.{some_now, stops_after}
+use Rattle.gw_session.proofs.Watching.{shown_heard}
 use Rattle.gw_session.proofs.exchange.SessionBuffers.exchange_all.Goals as goal
 
 -- the first octets, one more, and the rest
@@ -20,7 +21,7 @@ split_at xs i h =
 pub loop-i-init : goal.loop-i-init
 loop-i-init g c = record {
   heard = rw (c.begin_record.ensures.empty, ap (λ (s : SessionBuffers). s.recorded) c.begin_record.ensures.others)
-      (heard_none _ _ _ _ _ _ c.begin_record.ensures.batch);
+      (heard_none _ _ _ _ _ _ _ _ c.begin_record.ensures.batch);
   at_once = refl;
   holds = refl;
   holding = c.begin_record.ensures.holding ∙ ap (λ (h : Bool). h && nat_le (length c.args.octets.now) 2048)
@@ -76,11 +77,9 @@ returns-in_err-sent-clause-exchanges g c =
       ap (λ (s : SessionBuffers). s.waiting) o,
       ap (λ (s : SessionBuffers). s.answer) o,
     ) at c.loop-i.invariant.heard in
-    rw (p.1, p.2) (
-      hears.0,
-      stops_after (drop (i + 1) octets) (split_at octets i c.loop-i-test.true) heard.so.0
-          (stops_once (rw holds at c.receive_next.ensures.comes) hears.1),
-    )
+    let stops = stops_once (shown_heard _) (rw holds at c.receive_next.ensures.comes) hears.1 in
+    let behind = stops_after (drop (i + 1) octets) (split_at octets i c.loop-i-test.true) heard.so.0 heard.so.3 stops in
+    rw (p.1, p.2) (hears.0, behind.0, behind.1)
 
 pub loop-i-preserved : goal.loop-i-preserved
 loop-i-preserved g c =
@@ -95,7 +94,8 @@ loop-i-preserved g c =
     let holding = ap (λ (s : SessionBuffers). s.holding) c.receive_octet.ensures.others ∙ same_mode in
     let holds = c.loop-i.invariant.holds in
     let q = exchange_is (none_before c.args.octets.now c.loop-i.i c.loop-i.self.recorded c.loop-i.invariant.heard refl)
-    (rw holds at c.receive_next.ensures.comes) (rw (waits, same_mode, held, holds) at c.in_ok-sent.ensures.hears) in
+    (shown_heard _) (rw holds at c.receive_next.ensures.comes)
+    (rw (waits, same_mode, held, holds) at c.in_ok-sent.ensures.hears) in
     record {
       heard = rw (same, batch, holding) (heard_more c.args.octets.now c.loop-i.i c.loop-i.self.recorded _
           c.in_ok-sent.sent c.loop-i.invariant.heard c.loop-i-test.true q (rw kept at c.push.ensures.items));

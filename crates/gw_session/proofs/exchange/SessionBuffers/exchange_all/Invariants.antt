@@ -4,7 +4,7 @@ use Rattle.gw_session.proofs.exchange.SessionBuffers.exchange_all.Given as goal
 
 abbrev pub invariant-loop-i : goal.invariant-loop-i
 invariant-loop-i g l = record {
-  heard : HeardSo l.self.holding g.O.PacketPorts.spells
+  heard : HeardSo g.W.Watch.shows l.initial.watch l.watch l.self.holding g.O.PacketPorts.spells
       (world_in l.initial.self.held.holds (g.O.PacketPorts.tells l.initial.packet_ports) l.initial.gateway
       l.initial.self.totals
       (g.T.Tape.tells l.initial.tape) (g.K.Sink.tells l.initial.sink) l.initial.self.waiting.items)

@@ -1,5 +1,5 @@
 use Rattle.gw_session.proofs.Common.{◌≡◌, ℕ, List, length, Some, of_circuit, coming, Receiving, RecordsBehind}
-use Rattle.gw_session.proofs.Common.{state_with, packets_held, taping}
+use Rattle.gw_session.proofs.Common.{state_with, packets_held, taping, AreShown}
 use Rattle.gw_session.proofs.exchange.SessionBuffers.receive_next.Given as goal
 
 abbrev pub invariant-receiving : goal.invariant-receiving
@@ -11,6 +11,8 @@ invariant-receiving g l = record {
       (g.O.PacketPorts.tells l.packet_ports) l.gateway l.self.totals) l.circuit came
       × RecordsBehind (taping (g.T.Tape.tells l.initial.tape) l.initial.self.batch.items)
       (taping (g.T.Tape.tells l.tape) l.self.batch.items) l.heard l.initial.self.recorded l.self.recorded
+      (coming (of_circuit (Some l.circuit) came))
+      × AreShown g.W.Watch.shows l.initial.gateway l.initial.watch l.watch (length l.heard)
       (coming (of_circuit (Some l.circuit) came));
   others : l.self ≡ record l.initial.self {
     totals = l.self.totals;

@@ -10,6 +10,7 @@ invariant-loop-place l = record {
   heard : (k : ℕ) → k < l.place → IsHeard SystemRead SystemWrote (at l.fn.self.places k) (at l.self.places k);
   law : l.self.law ≡ l.fn.self.law;
   place : l.self.place ≡ l.fn.self.place;
+  counts : l.self.counts ≡ l.fn.self.counts;
   seized : l.self.seized ≡ l.fn.self.seized;
   door : l.self.door ≡ l.fn.self.door;
   told : l.self.told ≡ l.fn.self.told;

@@ -24,7 +24,6 @@ returns-then-is_look c = record {
       heard = c.listen.new.self;
       hears = c.listen.ensures.heard;
       same = c.listen.ensures.same;
-      told_is = c.listen.ensures.told;
       lets_in = c.let_in.ensures;
     },
   );
