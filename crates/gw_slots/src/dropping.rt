@@ -81,8 +81,9 @@ impl BegunFrame {
     fn pass_all(&mut self, octets: &[u8], returned: &mut ArrayVec<u8, 512>)
         requires few { length octets.now ≤ 512 }
         requires none { returned.old.items ≡ [] }
-        ensures { (place : ℕ) (taken before : List ℕ) → HasFramed self.old place taken before
+        ensures framed { (place : ℕ) (taken before : List ℕ) → HasFramed self.old place taken before
             → HasFramed self.new place (taken ++ octets.now) (before ++ returned.new.items) }
+        ensures whole { length returned.new.items % 31 ≡ 0 }
     {
         for octet in octets {
             self.octet(*octet, returned);

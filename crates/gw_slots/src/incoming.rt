@@ -136,7 +136,8 @@ fn give(held: &mut ArrayVec<u8, 2112>, room: &mut [u8], log: &mut Log) -> usize
 
 // How many octets of a device are read for a room: what comes of them fits, unless it is very small.
 fn most_read(room: usize) -> usize
-    ensures { result ≡ most_read room }
+    ensures most { result ≡ most_read room }
+    ensures blocks { (frames : ℕ) → frames ≤ 64 → 32 * frames ≤ room → 31 * frames ≤ result }
 {
     (room / 32 * 31).max(1).min(MOST_READ)
 }

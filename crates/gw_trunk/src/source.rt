@@ -1,10 +1,11 @@
 //! Whether octets of the trunk or a client's command are the next record (`TrunkRecordSource`).
 
 ghost use Rattle.std.specs.Prelude.{◌≡◌, ◌<◌, ◌≤◌, ◌^◌, ◌++◌, ◌∷◌, [], length, take, IfOk, IfSome, IfNone};
-ghost use Rattle.std.specs.Prelude.{Some, None, true, false, Ok, OnErr, ◌≢◌, ◌-◌, min};
+ghost use Rattle.std.specs.Prelude.{Some, None, true, false, Ok, OnErr, ◌≢◌, ◌+◌, ◌-◌, ℕ, min};
 ghost use Rattle.std.specs.Io.KnownBytes.{ReadConsumes, WriteAppends};
 ghost use Rattle.gw_records.specs.Streams.{CountsRead, CountsTurn};
 ghost use Rattle.byteorder.specs.Endian.{big_bytes};
+ghost use Rattle.gw_trunk.specs.Device.{HadRoomFor};
 ghost use Rattle.gw_trunk.specs.Pieces.{GivesWoven, ReadsRecord, AsksRecord, LacksRecord};
 
 use crate::device::{DeviceRead, TrunkInput};
@@ -152,6 +153,9 @@ impl<I: TrunkInput> Source for TrunkRecordSource<I> {
         ensures offers { IfOk result (λ n. I.came self.new.incoming ≢ I.came self.old.incoming → (before : I)
             × I.reads before self.new.incoming (min (length buf.new) 2052 - 4)
             (Ok (DeviceRead.Octets (n - 4)))) }
+        ensures blocks { IfOk result (λ n. I.came self.new.incoming ≢ I.came self.old.incoming → (block : ℕ)
+            → block ≤ 2048 → block + 4 ≤ length buf.new → (before : I)
+            × HadRoomFor (I.reads before self.new.incoming) block (Ok (DeviceRead.Octets (n - 4)))) }
     {
         match next_record(&mut self.incoming, &mut self.turn, buf) {
             Ok(n) => {

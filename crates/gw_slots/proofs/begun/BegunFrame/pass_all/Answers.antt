@@ -26,7 +26,7 @@ loop-octet-preserved c = record {
   whole = c.octet.ensures.whole ∙ c.loop-octet.invariant.whole;
 }
 
-pub returns : goal.returns
-returns c place taken before h = framed-same _ _ _ _ _ _
+pub returns-clause-framed : goal.returns-clause-framed
+returns-clause-framed c place taken before h = framed-same _ _ _ _ _ _
     (ap (λ xs. taken ++ xs) (take_all c.loop-octet.octet-index c.args.octets.now (omega arith))) refl
     (c.loop-octet.invariant.framed place taken before h)
