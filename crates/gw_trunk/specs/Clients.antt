@@ -321,12 +321,16 @@ abbrev pub CanRead : Clients → Clients → Bool → Type 0
 CanRead clients clients' is_ready =
     ((clients.is_waited_for ≡ false) × (is_ready ≡ true) × (clients' ≡ clients))
     ⊎ ((clients.is_waited_for ≡ true) × ((between : Clients) × LooksForOctets clients between
-    × (is_ready ≡ between.octets) × (clients' ≡ record between { octets = false; is_drained = false })))
+    × (is_ready ≡ between.octets)
+    × (clients' ≡ record between { octets = false; is_drained = false; is_refused = false })))
 
--- The system was asked to wait for events without an end. It was not if some are noted.
+-- The system was asked to wait for events without an end; for a millisecond, and not for octets of the trunk
+-- that came before, if the last read gave none of those. It was not if some are noted.
 abbrev pub Waits : Clients → Clients → Type 0
 Waits clients clients' = ((clients.octets || clients.knocks ≡ true) × (clients' ≡ clients))
-    ⊎ ((clients.octets || clients.knocks ≡ false) × LooksAnew None clients clients')
+    ⊎ ((clients.octets || clients.knocks ≡ false)
+    × (((clients.is_refused ≡ false) × LooksAnew None clients clients')
+    ⊎ ((clients.is_refused ≡ true) × Looks (Some 1000000) clients clients')))
 
 -- The answer to the last record of a client is given to it, if one is to come.
 abbrev pub GivesAnswer : Clients → Clients → Type 0
@@ -345,7 +349,7 @@ pub record AreOpened (descriptor : ℤ) (door : UnixListener) (answers : UnixStr
   pub door_is : clients.door ≡ door
   pub answers_are : clients.answers.reader ≡ answers
   pub nobody : (k : ℕ) → k < 8 → at clients.places k ≡ None
-  pub unread : (clients.octets ≡ false) × (clients.is_drained ≡ false)
+  pub unread : (clients.octets ≡ false) × (clients.is_drained ≡ false) × (clients.is_refused ≡ false)
   pub knocks : clients.knocks ≡ true
   pub goes_on : clients.ends ≡ false
   pub unasked : clients.asker ≡ None

@@ -23,6 +23,11 @@ abbrev pub has_drained : ℕ → Result ℕ ErrorKind → Bool
 has_drained room (Ok n) = nat_lt 0 n && nat_lt n room
 has_drained room (Err kind) = false
 
+-- a read gave none yet
+abbrev pub is_refusal : Result ℕ ErrorKind → Bool
+is_refusal (Ok n) = false
+is_refusal (Err kind) = is_for_later kind
+
 -- Nothing comes any more. Or the clients were asked whether the trunk can be read; it was read if so, with
 -- all of the room, and this is told of it.
 abbrev pub ReadsTrunk : {R : Type 0} {m : _} → (R → ℕ → Result ℕ ErrorKind → Type 0)
@@ -34,7 +39,10 @@ ReadsTrunk has_read d d' answered room told =
     × (d'.ended ≡ false) × (d'.clients ≡ looked))
     ⊎ ((is_ready ≡ true) × ((read : Result ℕ ErrorKind) × has_read d'.reader.reader room read
     × (told ≡ read_told read)
-    × (d'.clients ≡ record looked { is_drained = has_drained room read || looked.is_drained }))))))
+    × (d'.clients ≡ record looked {
+      is_drained = has_drained room read || looked.is_drained;
+      is_refused = is_refusal read || looked.is_refused;
+    }))))))
 
 -- In a read the answer to the last record of a client is given before the trunk is read.
 pub record ReadsInTurn {R : Type 0} {m : _} (has_read : R → ℕ → Result ℕ ErrorKind → Type 0)

@@ -31,6 +31,9 @@ const MOST_CLIENTS: usize = 8;
 // How many waiting connections are accepted before the trunk is looked at again.
 const MOST_KNOCKS: usize = 8;
 
+// How long it is waited for a device that gives none of what has come.
+const A_MOMENT_MS: u64 = 1;
+
 // The longest answer to a record of a client.
 const ANSWER_LEN: usize = 64;
 
@@ -54,6 +57,8 @@ pub struct Clients {
     octets: bool,
     // Whether the last read took all octets that had come.
     is_drained: bool,
+    // Whether it gave none, though octets had come: a device has an event that somebody else takes.
+    is_refused: bool,
     door: UnixListener,
     knocks: bool,
     // Whether the end is asked for.
@@ -247,6 +252,7 @@ impl Clients {
             is_waited_for,
             octets: false,
             is_drained: false,
+            is_refused: false,
             door,
             knocks: true,
             ends: false,
@@ -301,12 +307,18 @@ impl Clients {
     }
 
     /// Waits until something may have come, for the trunk or from a client. It does not wait if an event has
-    /// come since the trunk was read and a client was looked for.
+    /// come since the trunk was read and a client was looked for, and only for a moment if the trunk gave
+    /// none of what had come.
     pub fn wait(&mut self)
         requires { list_all is_quiet self.old.places ≡ true }
         ensures { Waits self.old self.new }
     {
-        if !self.octets && !self.knocks {
+        if self.octets || self.knocks {
+            return;
+        }
+        if self.is_refused {
+            self.look(Some(Duration::from_millis(A_MOMENT_MS)));
+        } else {
             self.sleep();
         }
     }
@@ -317,6 +329,13 @@ impl Clients {
         ensures { self.new ≡ record self.old { is_drained = true } }
     {
         self.is_drained = true;
+    }
+
+    /// Notes that a read of the trunk gave none.
+    pub fn note_refused(&mut self)
+        ensures { self.new ≡ record self.old { is_refused = true } }
+    {
+        self.is_refused = true;
     }
 
     // Has the system report octets of the trunk, unless some are noted or a read took all.
@@ -338,6 +357,7 @@ impl Clients {
         }
         self.look_for_octets();
         self.is_drained = false;
+        self.is_refused = false;
         let octets = self.octets;
         self.octets = false;
         octets

@@ -175,6 +175,7 @@ impl<R: DeviceReader> TrunkInput for WithClients<R> {
                 Ok(DeviceRead::Octets(n))
             }
             Err(kind) if is_for_later(kind) => {
+                self.clients.note_refused();
                 self.empty = true;
                 Ok(DeviceRead::NoneNow)
             }
