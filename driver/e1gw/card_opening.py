@@ -12,18 +12,16 @@ from .dahdi import Blocks, CardFault, DahdiChannel, is_channel
 from .faults import named, words_of_fault
 from .trunks import Stream, open_files
 
-FOLDER, MAJOR = '/dev/dahdi/', 196      # of DAHDI's devices, with its driver and without
+FOLDER = '/dev/dahdi/'                  # of DAHDI's devices, with its driver and without
 NO_CARD = 'no card has it now; is its driver loaded (lsdahdi), and was dahdi_cfg run? it is opened once it is there'
-ADVICE = {errno.ENOENT: NO_CARD, errno.ENXIO: NO_CARD, errno.ENODEV: NO_CARD}
+ADVICE = {errno.ENOENT: NO_CARD, errno.ENXIO: NO_CARD, errno.ENODEV: NO_CARD,
+          errno.EPERM: 'the unit was started before the driver was there: restart it'}
+RULE = 'only root may: e1gw.rules of the package goes to /etc/udev/rules.d'
 
 
 def is_card(path: str) -> bool:
     """Whether a device is DAHDI's, or would be."""
-    with suppress(OSError):
-        about = os.stat(path)
-        if stat.S_ISCHR(about.st_mode) and os.major(about.st_rdev) == MAJOR:
-            return True
-    return os.path.abspath(path).startswith(FOLDER)
+    return os.path.realpath(path).startswith(FOLDER)
 
 
 def holders(path: str) -> list[str]:
@@ -52,9 +50,8 @@ def advice(path: str, number: int) -> str:
             who = ', '.join(holders(path)) or 'another program, or the channel is one of a bundle: give its first one'
             return f'in use by {who}'
         if number == errno.EACCES:
-            return f'no permission: SupplementaryGroups={group_of(path)} in the unit, or be in that group'
-        if number == errno.EPERM:
-            return f'no permission: DeviceAllow={path} rw in the unit'
+            who = f'be in the group {group_of(path)} (SupplementaryGroups= of the unit)'
+            return who if os.stat(path).st_mode & stat.S_IWGRP else RULE
     return ADVICE.get(number, '')
 
 

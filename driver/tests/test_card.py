@@ -120,7 +120,7 @@ class SetUpTests(unittest.TestCase):
         for number in errno.ENXIO, errno.ENOENT, errno.EBUSY, errno.EPERM:
             fault = OSError(number, os.strerror(number), '/dev/e1')
             self.assertIs(card_opening.with_advice(fault, '/dev/e1'), fault)
-        for number, words in (errno.ENXIO, 'lsdahdi'), (errno.ENOENT, 'lsdahdi'), (errno.EPERM, 'DeviceAllow='):
+        for number, words in (errno.ENXIO, 'lsdahdi'), (errno.ENOENT, 'lsdahdi'), (errno.EPERM, 'restart it'):
             fault = OSError(number, os.strerror(number), '/dev/dahdi/7')
             self.assertRegex(card_opening.with_advice(fault, '/dev/dahdi/7').strerror or '', words)
         with open(os.devnull, 'rb'):
@@ -128,6 +128,8 @@ class SetUpTests(unittest.TestCase):
             self.assertIn(f'{name} ({os.getpid()})', card_opening.holders(os.devnull))
             self.assertIn(name, card_opening.advice(os.devnull, errno.EBUSY))
         self.assertIn('SupplementaryGroups=', card_opening.advice(os.devnull, errno.EACCES))
+        with tempfile.NamedTemporaryFile() as alone:
+            self.assertIn('e1gw.rules', card_opening.advice(alone.name, errno.EACCES))
 
 
 class CardWatchTests(unittest.TestCase):

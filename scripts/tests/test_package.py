@@ -15,7 +15,7 @@ def run(script: str, words: tuple[str, ...], units: str) -> tuple[list[str], str
     which these units run; and what the script prints."""
     with tempfile.TemporaryDirectory() as folder:
         said = os.path.join(folder, 'said')
-        for name in ('deb-systemd-invoke', 'systemctl', 'systemd-sysusers', 'rmdir'):
+        for name in ('deb-systemd-invoke', 'systemctl', 'systemd-sysusers', 'rmdir', 'udevadm'):
             with open(os.path.join(folder, name), 'w', encoding='ascii') as file:
                 file.write(f'#!/bin/sh\necho {name} "$@" >> {said}\n'
                            f'case "$*" in *list-units*) printf %s "{units}" ;; esac\n')
@@ -127,6 +127,12 @@ class Units(unittest.TestCase):
             said = purged(folder)
         for word in (*left.values(), 'recordings of calls, with speech: 3.'):
             self.assertIn(word, said)
+
+    def test_cards_that_are_there_are_given(self) -> None:
+        """By events of `add`: those of `change` would take links away."""
+        said = asked('postinst', 'configure')
+        self.assertLess(said.index('--reload'), said.index('--subsystem-match=dahdi_channels'))
+        self.assertIn('--action=add', said)
 
     def test_units_are_read_anew(self) -> None:
         for script, word in (('postinst', 'configure'), ('postrm', 'remove')):
