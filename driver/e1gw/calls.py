@@ -30,6 +30,11 @@ def moment(seconds: float | None) -> str:
     return time.strftime('%Y-%m-%dT%H:%M:%S', time.gmtime(seconds)) + f'.{int(seconds * 1000) % 1000:03}Z'
 
 
+def is_another_gateway(before: Mapping[str, int], now: Mapping[str, int]) -> bool:
+    """Whether a circuit was begun as new between these counts: there are none, or one of them has fallen."""
+    return not any(now.values()) or any(now.get(word, 0) < count for word, count in before.items())
+
+
 @dataclass
 class CallRecord:
     """One call: when it was seized, answered and ended, and who ended it."""
@@ -90,8 +95,7 @@ class CallLog:
 
     def _unwatched(self, call: CallRecord) -> str:
         """Who ended a call while nobody told: a reload begins a circuit that is configured otherwise as new."""
-        now, before = self._now(call.circuit), call.counts or {}
-        is_new = not any(now.values()) or any(now.get(word, 0) < count for word, count in before.items())
+        is_new = is_another_gateway(call.counts or {}, self._now(call.circuit))
         return 'reload' if is_new and call.circuit in self.changed else 'unwatched'
 
     def _who(self, call: CallRecord, was: State, state: State) -> str:

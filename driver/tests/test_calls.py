@@ -5,13 +5,15 @@ import csv
 import json
 import os
 import unittest
+from typing import Any
 from unittest import mock
 
 from . import support
+from .properties import PropertyCase
 from e1gw.call_names import CallNames
-from e1gw.calls import FIELDS, KEPT, CallLog
-from e1gw.counts import DatagramCounts
-from e1gw.lines import Line, Role, State
+from e1gw.calls import FIELDS, KEPT, MOST_OCTETS, CallLog, is_another_gateway, moment
+from e1gw.counts import CircuitCounts, DatagramCounts
+from e1gw.lines import IN_CALL, Line, Role, State
 from e1gw.service import events
 
 
@@ -65,11 +67,122 @@ class CallEndTests(unittest.TestCase):
             self.calls.look()
             self.assertEqual(self.rows.pop()[8:12], [str(packets), str(packets - 3), '2', '3'])
 
+    def test_another_gateway(self) -> None:
+        before = {'sent': 5, 'admitted': 0, 'Late': 1}
+        for now, found in (({'sent': 0, 'admitted': 0}, True), (before, False), ({**before, 'admitted': 1}, False),
+                           ({**before, 'sent': 4}, True), ({'sent': 6, 'admitted': 1}, True),
+                           ({'sent': 5, 'admitted': 0, 'Late': 1, 'Full': 1}, False)):
+            self.assertEqual(is_another_gateway(before, now), found, now)
+        self.assertEqual([is_another_gateway({}, {'sent': n}) for n in (0, 1)], [True, False])
+
     def test_the_trunk_ends_before_the_call(self) -> None:
         self.counts.ended = 'it fell behind'
         self.states(2, 'idle', 'acked', 'answered')
         self.calls.finish()
         self.assertEqual([(row[4] != '', row[6], row[8:12]) for row in self.rows], [(True, 'stop', [''] * 4)])
+
+
+class CalledTrunk:
+    """Two lines that come into any states, packets, and one who tells of them and is away now and then. Each call is
+    to be a line behind its end, in their order: `wanted` has those that are still to come."""
+
+    def __init__(self, states: tuple[State, State]) -> None:
+        self.lines = {n: Line(n, role, state=state) for n, role, state in zip((1, 2), [*Role], states)}
+        self.counts, self.day = DatagramCounts(), 1_000_000_000.25
+        self.open, self.wanted = dict[int, dict[str, str]](), list[dict[str, str]]()
+        self.calls = CallLog('west', self.lines, self.counts, self.put, lambda: self.day)
+        self.takes(1, 4)
+        self.calls.begun('life')
+        self.since = {n: self.numbers(n) for n in self.lines}
+        for n, line in self.lines.items():
+            self.begins(n, '') if line.state in IN_CALL else None
+
+    def numbers(self, n: int) -> list[int]:
+        its = self.counts.circuits[n]
+        return [its.sent, its.admitted, its.stream.lost, its.refused.get('Late', 0)]
+
+    def put(self, line: str) -> None:
+        row = dict(zip(FIELDS, next(csv.reader([line]))))
+        n, by = int(row['circuit']), row['by']
+        found = self.before[n] if by == 'reload' else self.numbers(n)
+        told = [str(max(0, new - old)) for new, old in zip(found, self.since[n])]
+        if by != 'reload' and self.counts.ended:
+            told = [''] * 4
+        told[2:] = ['', ''] if by == 'unwatched' else told[2:]
+        self.since[n] = self.numbers(n)
+        assert row == {**self.wanted.pop(0), **dict(zip(FIELDS[8:12], told))}, (row, told)
+
+    def begins(self, n: int, seized: str) -> None:
+        line = self.lines[n]
+        self.open[n] = {'trunk': 'west', 'circuit': str(n), 'direction': str(line.role), 'seized': seized,
+                        'answered': moment(self.day) if line.state is State.ANSWERED else ''}
+
+    def ends(self, n: int, by: str, codec: str) -> None:
+        self.wanted.append({**self.open.pop(n), 'ended': moment(self.day), 'by': by, 'codec': codec,
+                            'call': f'life-{n}-{self.lines[n].seizures}'})
+
+    def moves(self, n: int, state: State, away: str = '') -> None:
+        """A line comes into a state; `away`: who has ended its call where nobody saw it."""
+        line, was = self.lines[n], self.lines[n].state
+        line.state, first = state, was not in IN_CALL and state in IN_CALL
+        line.seizures += first
+        if first:
+            self.begins(n, '' if away else moment(self.day))
+        elif state is State.ANSWERED and n in self.open:
+            self.open[n]['answered'] = self.open[n]['answered'] or moment(self.day)
+        is_refused = was is State.SEIZED and state in (State.RELEASING, State.IDLE) and not away
+        line.unacknowledged += is_refused
+        if n in self.open and state not in IN_CALL:
+            ours = (n == 1) is (was is not State.CLEAREDBACK)
+            self.ends(n, away or ('fault' if state is State.FAULT else 'not acknowledged' if is_refused else
+                                  'gateway' if ours else 'exchange'), 'before' if away else line.codec)
+        self.calls.took({'circuit': n, 'was': was, 'state': state, **({'unwatched': True} if away else {})})
+
+    def leaves(self, states: tuple[State, State], is_reload: bool) -> None:
+        """Nobody tells, and then one does. With a reload circuit 1 is begun as new meanwhile."""
+        for line in self.lines.values():
+            line.codec = 'before'
+        self.counts.ended, self.before = 'nobody tells', {n: self.numbers(n) for n in self.lines}
+        self.calls.left()
+        self.takes(2, 3)
+        if is_reload:
+            self.counts.circuits[1], self.calls.changed = CircuitCounts(), frozenset((1,))
+        for line, state in zip(self.lines.values(), (State.IDLE, states[1]) if is_reload else states):
+            line.codec = 'after'
+            if state is not line.state:
+                self.moves(line.circuit, state, 'reload' if is_reload and line.circuit == 1 else 'unwatched')
+        self.counts.ended, self.calls.changed = None, frozenset()
+        self.calls.begun('life')
+        self.since = {n: [min(each) for each in zip(its, self.numbers(n))] for n, its in self.since.items()}
+
+    def takes(self, n: int, count: int) -> None:
+        its = self.counts.circuits[n]
+        its.sent, its.admitted, its.stream.lost = its.sent + count, its.admitted + 1, its.stream.lost + count // 2
+        its.refused['Late'] = its.refused.get('Late', 0) + 2
+
+    def stops(self) -> None:
+        for n in [*self.open]:
+            self.ends(n, 'stop', self.lines[n].codec)
+        self.calls.finish()
+        assert not self.wanted
+
+
+class CallPropertyTests(PropertyCase):
+    def test_each_call_is_one_line(self) -> None:
+        state, circuit, st = self.st.sampled_from(list(State)), self.st.sampled_from((1, 2)), self.st
+        states = st.tuples(state, state)
+
+        def check(first: tuple[State, State], steps: list[tuple[str, Any]]) -> None:
+            trunk = CalledTrunk(first)
+            for what, words in steps:
+                trunk.day += 1
+                trunk.calls.look() if what == 'look' else getattr(trunk, what)(*words)
+            trunk.stops()
+        self.holds(check, states, st.lists(st.one_of(
+            st.tuples(st.just('moves'), st.tuples(circuit, state)),
+            st.tuples(st.just('takes'), st.tuples(circuit, st.integers(0, 9))),
+            st.tuples(st.just('leaves'), st.tuples(states, st.booleans())),
+            st.tuples(st.just('look'), st.none())), max_size=40))
 
 
 class CallFileTests(support.FolderCase):
@@ -81,6 +194,8 @@ class CallFileTests(support.FolderCase):
                 file.put(f'line of {number}')
             file.close()
         names = sorted(os.listdir(self.folder))
+        self.assertIn(f'A file of {MOST_OCTETS >> 20} MiB is renamed', support.text_of(
+            f'{support.TOP}/dist/man/e1gw-trunk.1'))
         self.assertEqual(names, ['calls.csv', *(f'calls.csv.{n}' for n in range(1, KEPT + 1))])
         for name, line in (('calls.csv', '39'), ('calls.csv.1', '37'), (f'calls.csv.{KEPT}', '21')):
             with open(self.path(name), encoding='ascii') as held:

@@ -4,15 +4,16 @@ from __future__ import annotations
 import unittest
 
 from . import support
-from e1gw.clock import TICK, Clock, ClockFinding
+from .properties import PropertyCase
+from e1gw.clock import DRIFT, STEADY, TICK, Clock, ClockFinding
 from e1gw.counts import ReceiverStatistics
 
 assert support.TOP
-RECORD = 0.001
+RECORD = 0.004
 
 
 class ClockedTrunk:
-    """Octets in records of 256, a millisecond each, with a look each TICK."""
+    """Octets in records of 1,024, four milliseconds each, with a look each TICK."""
 
     def __init__(self, gap: float = 0.1) -> None:
         self.now = 1000.0
@@ -24,7 +25,7 @@ class ClockedTrunk:
         """Octets come, at this rate."""
         for _ in range(round(seconds / RECORD)):
             self._wait(RECORD / rate)
-            self.clock.took(256, self.now)
+            self.clock.took(1024, self.now)
 
     def looked_late(self, seconds: float) -> None:
         """Nobody looks for so long, and then one does."""
@@ -35,7 +36,7 @@ class ClockedTrunk:
     def at_once(self, seconds: float) -> None:
         """Octets of this time come at one moment."""
         for _ in range(round(seconds / RECORD)):
-            self.clock.took(256, self.now)
+            self.clock.took(1024, self.now)
 
     def quiet(self, seconds: float) -> None:
         """No octets come."""
@@ -81,6 +82,39 @@ class ClockTests(unittest.TestCase):
                 self.assertAlmostEqual(trunk.clock.ppm or 0.0, ppm, delta=20 if words else 5)
                 for finding in trunk.found:
                     self.assertAlmostEqual(finding.value, -500, delta=20)
+
+
+class ClockPropertyTests(PropertyCase):
+    def test_what_was_lost_is_found(self) -> None:
+        """Whatever is lost, late or too early, and whoever stands still: once octets flow, what was found is what is
+        missing, to within a gap and what is followed as a clock's drift. No octet that only waited counts."""
+        st = self.st
+        seconds = st.floats(0.0, 0.5)
+        steps = st.one_of(st.tuples(st.sampled_from(('quiet', 'at_once', 'late', 'looked_late')), seconds),
+                          st.tuples(st.just('go'), st.floats(0.2, 2.0)))
+
+        def check(chosen: list[tuple[str, float]], gap: float) -> None:
+            trunk, lost = ClockedTrunk(gap), 0.0
+            trunk.go(0.5)
+            for what, length in chosen:
+                length = RECORD * round(length / RECORD)
+                lost += {'quiet': length, 'at_once': -length}.get(what, 0.0)
+                if what == 'late':
+                    trunk.quiet(length)
+                    trunk.at_once(length)
+                elif what == 'looked_late':
+                    trunk.looked_late(length)
+                    trunk.at_once(length)
+                else:
+                    getattr(trunk, what)(length)
+            before = len(trunk.found)
+            trunk.go(0.3)
+            found = sum(each.value if each.what == 'gap' else -each.value for each in trunk.found)
+            self.assertLessEqual(abs(lost - found), gap + DRIFT * (trunk.now - 1000.0) + STEADY, trunk.found)
+            self.assertLessEqual(len(trunk.found) - before, 2)
+            self.assertAlmostEqual(trunk.clock.lost_seconds, sum(
+                each.value for each in trunk.found if each.what == 'gap'))
+        self.holds(check, st.lists(steps, max_size=8), st.sampled_from((0.05, 0.1, 0.3)))
 
 
 class ReceiverStatisticsTests(unittest.TestCase):

@@ -1,6 +1,7 @@
 """The ring of kept sessions, by the time of the trunk: no step of the clock of the day and no zstd loses anything."""
 from __future__ import annotations
 
+import itertools
 import json
 import os
 import stat
@@ -10,6 +11,7 @@ from collections import deque
 from unittest import mock
 
 from . import support
+from .properties import PropertyCase
 from e1gw.recording_ring import MOST_EARLIER, MOST_OWN, MOST_SLIPS, Ring
 from e1gw.session import OCTETS_A_SECOND
 from e1gw.session_files import kept, note_of
@@ -19,7 +21,9 @@ KEPT = 60           # seconds, in files of five
 EACH = 5
 
 
-class RingTests(support.FolderCase):
+class RingCase(support.FolderCase):
+    """A ring, and the clock of the day by which its files have their names."""
+
     def setUp(self) -> None:
         super().setUp()
         self.ring, self.day = self.path('ring'), 1_800_000_000.0
@@ -29,6 +33,11 @@ class RingTests(support.FolderCase):
         self.addCleanup(patched.stop)
         self.zstd = ''
 
+    def begins(self, ring: Ring, second: int, state: bytes = b'') -> str:
+        """A file of a ring; returns its path without the ending."""
+        ring.begin(front := ring.next(second * OCTETS_A_SECOND), {'place': second * OCTETS_A_SECOND}, state)
+        return front
+
     def play(self, seconds: int, steps: dict[int, float] | None = None, first: int = 0, state: bytes = b'',
              each: int = EACH) -> Ring:
         """A session of this number of seconds, a line for each, while the clock of the day is set by these steps."""
@@ -36,8 +45,7 @@ class RingTests(support.FolderCase):
         ring.zstd = self.zstd or None
         for second in range(first, first + seconds):
             if (second - first) % each == 0:
-                front = ring.next(second * OCTETS_A_SECOND)
-                ring.begin(front, {'place': second * OCTETS_A_SECOND}, state)
+                front = self.begins(ring, second, state)
             with open(f'{front}.e1gw', 'a', encoding='ascii') as file:
                 file.write(f'{second}\n')
             self.day += 1 + (steps or {}).get(second, 0)
@@ -59,6 +67,8 @@ class RingTests(support.FolderCase):
         self.assertEqual(len(found), len(self.files('.json')))
         return [second for place in sorted(found) for second in found[place]]
 
+
+class RingTests(RingCase):
     def test_steps_of_the_clock(self) -> None:
         hour = 3600.0
         rows: list[tuple[str, dict[int, float]]] = [
@@ -148,3 +158,27 @@ class RingTests(support.FolderCase):
         for name in others:
             os.unlink(os.path.join(self.ring, name))
         self.assertEqual(len(self.kept()), 13 * EACH)
+
+
+class RingPropertyTests(RingCase, PropertyCase):
+    def test_what_is_kept(self) -> None:
+        """However long files are, and however the clock of the day is set: all of the time that is kept is there, and
+        one file at most that begins before it; of earlier sessions as many as may be, until it is all of this one."""
+        st, folders = self.st, itertools.count()
+
+        def check(sessions: list[list[tuple[int, int]]]) -> None:
+            self.ring, place, earlier = self.path(f'{next(folders)}'), 0, 0
+            for files in sessions:
+                ring, own = Ring(self.ring, 'we.st', KEPT), list[int]()
+                for seconds, step in files:
+                    self.begins(ring, place)
+                    own = [*(at for at, end in zip(own, [*own[1:], place]) if end + KEPT > place), place]
+                    earlier = 0 if own[0] + KEPT <= place else min(earlier, MOST_EARLIER)
+                    found = [note_of(os.path.join(self.ring, name[:-5]))['place'] for name in self.files('.json')]
+                    self.assertEqual(sorted(found)[-len(own):], [at * OCTETS_A_SECOND for at in own])
+                    self.assertEqual(len(found), len(own) + earlier)
+                    place, self.day = place + seconds, self.day + seconds + step
+                earlier += len(own)
+                ring.close()
+        self.holds(check, st.lists(st.lists(st.tuples(st.integers(1, 70), st.sampled_from((0, 0, 3600, -7, -3600))),
+                                            min_size=1, max_size=8), max_size=4))

@@ -7,11 +7,12 @@ from itertools import product
 from typing import Any
 
 from . import support
+from .properties import PropertyCase
 from e1gw.clock import TICK, Clock
 from e1gw.events import words_of
 from e1gw.exchange import ACKNOWLEDGED, ANSWERED, IDLE, ServeProcess
 from e1gw.lines import Event
-from e1gw.resyncs import REFUSED, Resyncs
+from e1gw.resyncs import APART, REFUSED, Resyncs
 from e1gw.session import (FRAME, MULTIFRAME, Codec, Command, DatagramRefusal, Kind, Packet, codec_record,
                           command_record, datagram_record, trunk_record)
 
@@ -121,6 +122,78 @@ class ResyncRuleTests(unittest.TestCase):
         self.assertEqual(len(self.restarted), 4)
         self.assertEqual([words_of(event) for event in self.told],
                          [f'jitter buffer resynchronised, {REFUSED}: circuits 1, 2'] * 2)
+
+
+class RememberedCall:
+    """All that has come to a call since it was restarted, and when that was: what Resyncs is to know by less."""
+
+    def __init__(self) -> None:
+        self.come = list[tuple[int, bool]]()            # places of datagrams, and which of them were refused
+        self.good = list[int]()                         # places of those since one was refused
+        self.fresh, self.since, self.wanted = False, 0, ''
+        self.at = {'lost': -APART, REFUSED: -APART}     # when it was restarted last for what
+
+    def comes(self, place: int, refused: bool) -> None:
+        if place >= self.since:
+            self.fresh = True
+            self.come.append((place, refused))
+            if refused and self.good and self.good[-1] - self.good[0] >= SECOND:
+                self.at[REFUSED] = -APART
+            self.good = [] if refused else [*self.good, place]
+
+    def due(self, now: float, counts: bool) -> str | None:
+        """Why it is restarted."""
+        last = [(at, bad) for at, bad in self.come if at > self.come[-1][0] - SECOND // 2]
+        bad = [at for at, refused in last if refused]
+        half = self.fresh and len(bad) >= max(3, len(last) / 2) and bad[-1] - bad[0] >= SECOND // 4
+        found = 'lost' if self.wanted and now - self.at['lost'] >= APART else REFUSED if (
+            counts and half and now - self.at[REFUSED] >= APART) else None
+        self.fresh = False
+        return found
+
+    def restarted(self, why: str, now: float, place: int) -> None:
+        self.at[why], self.since, self.wanted = now, place, ''
+        self.come.clear()
+
+
+class ResyncPropertyTests(PropertyCase):
+    def test_whatever_comes(self) -> None:
+        """Each look restarts the calls that all which has come to them says, and no others. The place of a look may be
+        ahead of what was told of datagrams."""
+        st = self.st
+        steps = st.one_of(
+            st.tuples(st.just('come'), st.sampled_from((0, LATE, FULL, 13)), st.sampled_from((0.0, 0.02, 0.1, 0.25))),
+            st.tuples(st.just('burst'), st.lists(st.sampled_from((0, LATE)), min_size=1, max_size=4),
+                      st.sampled_from((0.3, 0.52, 0.6, 1.02, 1.2))),
+            st.tuples(st.just('want'), st.just(0), st.sampled_from((0.0, 0.5))),
+            st.tuples(st.just('wait'), st.booleans(), st.sampled_from((0.02, 4.0, 10.0))),
+            st.tuples(st.just('close'), st.booleans(), st.just(0.02)))
+
+        def check(chosen: list[tuple[str, Any, float]], ahead: int) -> None:
+            restarted, call = list[int](), RememberedCall()
+            rule, now = Resyncs(restarted.extend, lambda event: None), 0.0
+            for what, how, seconds in chosen:
+                count = round(seconds / 0.02) if what == 'burst' else 1
+                for n in range(count):
+                    now += seconds / count
+                    code = how[n % len(how)] if what == 'burst' else how
+                    place = round(now * SECOND)
+                    if what in ('come', 'burst'):
+                        rule.counted(1, code, place)
+                        if code != 13:
+                            call.comes(place, code != 0)
+                    elif what == 'want':
+                        rule.want([1], 'lost')
+                        call.wanted = 'lost'
+                    call = RememberedCall() if what == 'close' else call
+                    counts = what != 'wait' or bool(how)
+                    why = call.due(now, counts)
+                    rule.look(now, place + ahead, [] if what == 'close' else [1], counts)
+                    assert restarted == [1] * bool(why), (restarted, why)
+                    if why:
+                        call.restarted(why, now, place + ahead)
+                        restarted.clear()
+        self.holds(check, st.lists(steps, max_size=30), st.sampled_from((0, SECOND // 4)))
 
 
 STEP = 0.002                # a multiframe

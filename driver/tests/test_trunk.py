@@ -17,7 +17,6 @@ from . import support
 from .manager import Manager
 from .support import SECONDS
 from .world import World, config_of, trunk_command
-from e1gw.clearing import DisconnectPolicy, DisconnectWatch, OutageWatch
 from e1gw.exchange import IDLE, SEIZED
 from e1gw.service.options import DIGITS, wants_of
 from e1gw.service.program import MOST_PATH
@@ -325,58 +324,3 @@ class RefusedOptionsTests(support.FolderCase):
             with self.subTest(host=host, option=option):
                 status, told = self.run_driver('--config', config, *words, *option)
                 self.assertEqual((status, told.count(f'({said})')), (0, 1), told)
-
-
-def each_tenth(first: float, last: float, cleared: list[bool]) -> list[tuple[Any, Any]]:
-    """What is cleared up to each tenth of a second."""
-    return [(n / 10, cleared) for n in range(round(10 * first), round(10 * last) + 1)]
-
-
-class DisconnectWatchTests(unittest.TestCase):
-    # By a clock of their own: what clients ask, when they leave, and what is cleared up to a moment.
-    ROWS: dict[str, list[tuple[Any, Any]]] = {
-        'the last one is gone': [
-            ('first', ['clear', '3']), ('second', ['block', '3']), ('third', ['keep']), ('third', 100.0), (1100.0, []),
-            ('first', 101.0), (1101.0, []), ('second', 2000.0), (2002.9, []), (2003.0, [True]), (2010.0, [True])],
-        'one comes again in time': [('first', []), (99.0, []), ('first', 100.0), ('second', []), (1104.0, []),
-                                    ('second', 104.0), (108.9, []), (109.0, [False])],
-        'calls are kept': [('client', ['clear', '0']), ('client', ['keep']), ('client', 100.0), (1000.0, [])],
-        # (its last word is 5 s old then; one that goes on in time, and does not stay, has 5 s from there on)
-        'one stands still': [('tie', ['block', '5', 'alive', '2']), *each_tenth(0, 2, []), ('tie', None),
-                             *each_tenth(2, 6.8, []), *each_tenth(7, 9, [True])],
-        'one goes on': [('tie', ['block', '5', 'alive', '2']), *each_tenth(0, 4, []), ('tie', None),
-                        *each_tenth(4, 8.8, []), ('tie', None), *each_tenth(8.9, 9.5, []), ('tie', 9.5),
-                        *each_tenth(9.6, 14.4, []), *each_tenth(14.6, 15, [True])],
-        'this process stands still': [('tie', ['block', '1', 'alive', '2']), *each_tenth(0, 1, []), (60.0, []),
-                                      ('tie', None), *each_tenth(60.1, 61.9, [])]}
-
-    def test_when_calls_are_cleared(self) -> None:
-        for name, steps in self.ROWS.items():
-            cleared, now = list[bool](), 0.0
-            watch = DisconnectWatch(DisconnectPolicy(5.0), lambda _, blocks: cleared.append(blocks))
-            for who, what in steps:
-                with self.subTest(name, step=(who, what)):
-                    if isinstance(who, float):
-                        now = who
-                        watch.look(who)
-                        self.assertEqual(cleared, what)
-                    elif what is None:
-                        watch.said(who, now)
-                    elif isinstance(what, float):
-                        watch.left(who, what)
-                    else:
-                        self.assertEqual(watch.asked(who, what, now), 'on-loss: done')
-
-
-class OutageWatchTests(unittest.TestCase):
-    def test_seconds(self) -> None:
-        """Once in each outage that lasts so long."""
-        cleared: list[str] = []
-        watch, never = OutageWatch(3.0, cleared.append), OutageWatch(None, cleared.append)
-        for now, outage in ((100.0, 'dark'), (102.0, None), (103.0, 'dark'), (105.9, 'dark')):
-            watch.look(now, outage)
-            never.look(now + 1000 * now, outage)
-        self.assertEqual(cleared, [])
-        for now in (106.0, 120.0):
-            watch.look(now, 'dark')
-        self.assertEqual(cleared, ['the trunk has been dark for 3 s'])

@@ -1,0 +1,85 @@
+"""The thirty lines of a trunk: what is counted of them, and what a configuration says of them."""
+from __future__ import annotations
+
+import tomllib
+import unittest
+from typing import Any
+
+from .properties import PropertyCase
+from e1gw.lines import (IN_CALL, OPEN, SEIZURE_WAIT, WAIT, Line, Role, State, config_text, law_of, lines_of, no_peer,
+                        no_peers, tables_of, wait_words, with_wait)
+from e1gw.session import Command
+
+
+class LineTests(unittest.TestCase):
+    def test_an_outgoing_call(self) -> None:
+        """Seizures are the commands, answers the exchange's; the path is open from the acknowledgement."""
+        line, now = Line(3), 0.0
+        line.begin(State.IDLE, now)
+        line.commanded(Command.SEIZE)
+        line.commanded(Command.ANSWER)
+        for state in (State.SEIZED, State.ACKED, State.ANSWERED, State.CLEAREDBACK, State.ANSWERED, State.RELEASING,
+                      State.FAULT):
+            now, before, line.state = now + 1.0, line.state, state
+            line.changed(before, now)
+        self.assertEqual((line.seizures, line.answers, line.faults, line.since, line.opened, line.open_for),
+                         (1, 2, 1, 7.0, None, 4.0))
+        self.assertEqual({key: line.status(9.25)[key] for key in ('for', 'open', 'state', 'role', 'sent')},
+                         {'for': 2.25, 'open': 4.0, 'state': 'fault', 'role': 'outgoing', 'sent': '--'})
+
+    def test_an_incoming_call(self) -> None:
+        """Seizures are the exchange's. What was before the state of the begin is not known."""
+        line = Line(3, Role.INCOMING, prefill=320)
+        line.begin(State.ACKED, 1.0)
+        found = line.status(2.5)
+        self.assertEqual((line.opened, found['open'], found['jitter_buffer_ms']), (1.0, 1.5, 40.0))
+        for now, (before, line.state) in enumerate(((State.ACKED, State.IDLE), (State.IDLE, State.ACKED),
+                                                    (State.ACKED, State.ANSWERED)), 2):
+            line.changed(before, now)
+        self.assertEqual((line.seizures, line.answers, line.opened, line.open_for), (1, 0, 3, 1.0))
+        line.begin(State.IDLE, 8.0)
+        self.assertEqual((line.opened, line.since), (None, 8.0))
+        self.assertEqual((OPEN | {State.SEIZED}, SEIZURE_WAIT), (IN_CALL, 200))
+
+
+class ConfigLineTests(unittest.TestCase):
+    def test_lines(self) -> None:
+        config: dict[str, Any] = {'law': 'mu', 'circuit': [
+            {'number': 2, 'role': 'incoming', 'codec': 'g726-16', 'payload': 96, 'prefill': 160, 'local_port': 4000}]}
+        lines = lines_of(config)
+        self.assertEqual([*lines], [*range(1, 31)])
+        self.assertEqual(lines[2], Line(2, Role.INCOMING, 'g726-16', 96, 160, 4000, configured=('g726-16', 96)))
+        self.assertEqual(lines[1], Line(1, codec='pcmu', payload=0, configured=('pcmu', 0)))
+        self.assertEqual(lines_of({})[30], Line(30, codec='pcma', payload=8, configured=('pcma', 8)))
+        self.assertEqual((law_of({}), law_of(config)), ('A', 'mu'))
+        self.assertEqual(tables_of(config), {2: ('mu', config['circuit'][0])})
+        self.assertEqual((with_wait({'law': 'A', WAIT: 1}, 7), wait_words(200), wait_words(7)),
+                         ({'law': 'A', WAIT: 7}, [], ['--seizure-wait', '7']))
+
+    def test_peers(self) -> None:
+        for host, why in (('192.0.2.1', ''), ('peer.example', ''), ('::1', ''), ('224.0.0.1', 'is a multicast address'),
+                          ('ff02::1', 'is a multicast address'), ('0.0.0.0', 'is the address of no machine'),
+                          ('::', 'is the address of no machine'), ('255.255.255.255', 'is the address of no machine')):
+            self.assertEqual(no_peer(host), why, host)
+        circuits = [{'number': 9, 'peer_host': '::'}, {'number': 4, 'peer_host': '0.0.0.0'}, {'number': 2}]
+        self.assertEqual(no_peers({'circuit': circuits}), 'circuit 4: peer_host 0.0.0.0 is the address of no machine')
+        self.assertEqual(no_peers({'circuit': circuits[2:]}), '')
+
+    def test_what_no_configuration_has(self) -> None:
+        for value in (True, 1.5, None, [1]):
+            with self.assertRaisesRegex(ValueError, '^key is neither a text nor a whole number$'):
+                config_text({'key': value})
+
+
+class ConfigPropertyTests(PropertyCase):
+    def test_text(self) -> None:
+        """A configuration as a text is that configuration, whatever keys and texts it has."""
+        st = self.st
+        text = st.text(st.characters(blacklist_categories=('Cs',)))
+        table = st.dictionaries(text.filter(lambda key: key != 'circuit') | st.sampled_from(('law', 'peer_host')),
+                                text | st.integers(-2 ** 63, 2 ** 63 - 1), max_size=4)
+
+        def check(top: dict[str, object], circuits: list[dict[str, object]]) -> None:
+            config = top | ({'circuit': circuits} if circuits else {})
+            self.assertEqual(tomllib.loads(config_text(config)), config)
+        self.holds(check, table, st.lists(table, max_size=3))
