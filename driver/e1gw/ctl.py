@@ -21,7 +21,7 @@ from contextlib import suppress
 from pathlib import Path
 from typing import BinaryIO
 
-from .ctl_all import SOCKETS, connected, overview, trunks_here
+from .ctl_all import PATIENCE, SOCKETS, connected, overview, trunks_here
 from .faults import words_of_fault
 from .session import CIRCUITS
 
@@ -47,10 +47,11 @@ def circuits_of(word: str) -> list[str]:
     found: list[str] = []
     for part in word.split(','):
         first, dash, last = part.partition('-')
-        if not (first.isdecimal() and (last.isdecimal() or not dash)) or len(part) > 7:
+        last = last if dash else first
+        if not (first.isdecimal() and last.isdecimal() and int(first) <= int(last)) or len(part) > 5:
             return [word]
-        found += map(str, range(int(first), int(last or first) + 1)) if len(part) < 6 else [part]
-    return found or [word]
+        found += map(str, range(int(first), int(last) + 1))
+    return found
 
 
 def each_circuit(command: str) -> list[str]:
@@ -103,12 +104,12 @@ def run(path: str, words: list[str]) -> int:
     return 0 if all(done) else 1
 
 
-def run_all(words: list[str]) -> int:
+def run_all(words: list[str], patience: float) -> int:
     """Gives each trunk of this machine a command; a line of an answer begins with the trunk's name."""
     status = 0
     for name, path in trunks_here():
         try:
-            with connected(path) as line:
+            with connected(path, patience) as line:
                 stream: BinaryIO = line.makefile('rb')
                 done = [ask(stream, line, each, f'{name}: ') for each in each_circuit(' '.join(words))]
                 status |= not all(done)
@@ -124,7 +125,7 @@ def move(name: str, node: str) -> int:
     return max(subprocess.run(['crm_resource', '--resource', name, *words], check=False).returncode for words in steps)
 
 
-def started(asked: argparse.Namespace, parser: argparse.ArgumentParser) -> int:
+def started(asked: argparse.Namespace, parser: argparse.ArgumentParser, patience: float) -> int:
     """What the words ask for."""
     words = [asked.path] * bool(asked.path) + asked.command
     if asked.path == '' or not all(word.strip() and word.isprintable() for word in asked.command):
@@ -132,12 +133,12 @@ def started(asked: argparse.Namespace, parser: argparse.ArgumentParser) -> int:
     if asked.all and (not words or words == ['events']):
         parser.error('--all wants a command that is answered at once')
     if asked.all:
-        return run_all(words)
-    if asked.command[:1] and asked.command[0] in [name for name, _ in trunks_here()]:
+        return run_all(words, patience)
+    if asked.command and asked.command[0] in [name for name, _ in trunks_here()]:
         parser.error(f'{asked.command[0]} is a trunk: a command goes to one of them, and with --all to each')
-    if asked.command[:1] == ['move'] and len(asked.command) == 2:
+    if len(asked.command) == 2 and asked.command[0] == 'move':
         return move(asked.path, asked.command[1])
-    return run(path_of(asked.path), asked.command) if asked.path else overview()
+    return run(path_of(asked.path), asked.command) if asked.path else overview(patience)
 
 
 def next_words(parsed_args: argparse.Namespace, **_: object) -> list[str]:
@@ -162,7 +163,7 @@ def next_words(parsed_args: argparse.Namespace, **_: object) -> list[str]:
     return []
 
 
-def main() -> None:
+def main(patience: float = PATIENCE) -> None:
     parser = argparse.ArgumentParser(prog='e1gw-ctl', description=__doc__, usage='e1gw-ctl [PATH | --all] [COMMAND..]',
                                      formatter_class=argparse.RawDescriptionHelpFormatter)
     parser.add_argument('--all', action='store_true', help='each trunk of this machine')
@@ -171,7 +172,7 @@ def main() -> None:
         setattr(each, 'completer', next_words)
     asked = parser.parse_args()
     try:
-        status = started(asked, parser)
+        status = started(asked, parser, patience)
         sys.stdout.flush()
     except BrokenPipeError:
         os.dup2(os.open(os.devnull, os.O_WRONLY), 1)

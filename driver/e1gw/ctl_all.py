@@ -36,23 +36,24 @@ def units_here() -> list[str]:
     return [name.removesuffix('.options') for name in names if name.endswith('.options')]
 
 
-def connected(path: str) -> socket.socket:
-    """A connection to a trunk, within PATIENCE, which each answer has, too. OSError if there is none."""
+def connected(path: str, patience: float) -> socket.socket:
+    """A connection to a trunk, within these seconds, which each answer has, too. OSError if there is none."""
     line = socket.socket(socket.AF_UNIX)
     try:
         # connect waits for a place only if the socket blocks; settimeout would have it refused at once.
-        line.setsockopt(socket.SOL_SOCKET, socket.SO_SNDTIMEO, struct.pack('ll', int(PATIENCE), 0))
+        until = divmod(round(patience * 1e6), 1_000_000)
+        line.setsockopt(socket.SOL_SOCKET, socket.SO_SNDTIMEO, struct.pack('ll', *until))
         line.connect(path)
-        line.settimeout(PATIENCE)
+        line.settimeout(patience)
     except OSError:
         line.close()
         raise
     return line
 
 
-def status_of(path: str) -> dict[str, Any]:
+def status_of(path: str, patience: float) -> dict[str, Any]:
     """The status that a trunk answers. OSError or ValueError where it answers none."""
-    with connected(path) as line:
+    with connected(path, patience) as line:
         stream: BinaryIO = line.makefile('rb')
         line.sendall(b'status json\n')
         found = json.loads(stream.readline())
@@ -76,13 +77,13 @@ def line_of(name: str, status: Mapping[str, Any]) -> str:
             f'{state_of(status)}{alarms}{told}')
 
 
-def overview() -> int:
+def overview(patience: float) -> int:
     """Prints a line for each trunk of this machine; returns the status."""
     here, status = trunks_here(), 0
     print(HEAD)
     for name, path in here:
         try:
-            print(line_of(name, status_of(path)), flush=True)
+            print(line_of(name, status_of(path, patience)), flush=True)
         except (OSError, ValueError, KeyError) as fault:
             print(f'{name:12} does not answer: {words_of_fault(fault, path)}', flush=True)
             status = 1

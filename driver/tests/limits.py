@@ -27,8 +27,7 @@ LIMITS: dict[str, Any] = {
     'service.standby.MOST_AGE': LONG, 'service.recordings.FLUSH': LONG, 'service.satop_trunk.GRACE': LONG,
     'service.connection.NEXT': LONG, 'service.trunk.MOST_PAUSE': 0.01, 'service.pages.SECONDS': LONG,
     'service.pages.EVERY': 0.0,
-    'ctl_all.PATIENCE': LONG,
-    'programs.PATIENCE': LONG, 'tie.trunk.PATIENCE': LONG, 'writers.OPENS': LONG,
+    'programs.PATIENCE': LONG, 'writers.OPENS': LONG,
     'service.pair.GRACE': LONG, 'service.service.GRACE': LONG, 'service.handover.GRACE': LONG,
     'service.events.FLUSH': LONG, 'service.journal.FLUSH': LONG,
     # (A process that gets what others leave gets next to nothing on a loaded machine.)

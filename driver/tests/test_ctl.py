@@ -1,17 +1,23 @@
 """e1gw-ctl: several circuits, one row of the status, and all trunks of a machine."""
 from __future__ import annotations
 
+import argparse
 import contextlib
 import io
+import json
 import os
 import re
+import shutil
 import socket
 import sys
 import tempfile
+import threading
 import unittest
 from unittest import mock
 
 from . import support
+from .limits import LONG
+from .test_texts import STATUS
 from .test_trunk import FOUR, aligned
 from .world import World, config_of
 from e1gw import ctl, ctl_all
@@ -25,6 +31,18 @@ class CtlWordTests(unittest.TestCase):
                               ('seize', ['seize']), ('status', ['status']), ('on-loss clear 3', ['on-loss clear 3'])):
             self.assertEqual(ctl.each_circuit(command), each)
 
+        for word, circuits in (('1-3', 3), ('98-99', 2), ('1-999', 999), ('001-3', 3), ('1-9999', 1), ('12345', 1),
+                               ('1,123456', 1), ('3-1', 1), ('3-3', 1), ('-3', 1), ('3-', 1), ('1--2', 1), ('', 1)):
+            self.assertEqual(len(ctl.circuits_of(word)), circuits, word)
+        for word in ('7,1,123456', '4,3-1', '4,-1'):        # (of which no circuit is meant)
+            self.assertEqual(ctl.circuits_of(word), [word])
+
+    def test_paths(self) -> None:
+        """The name of a trunk, unless it has a / or is that of a socket here."""
+        with tempfile.TemporaryDirectory() as folder, contextlib.chdir(folder), support.listening('west'):
+            self.assertEqual([ctl.path_of(word) for word in ('west', 'east', './east', '/east')],
+                             ['west', f'{ctl_all.SOCKETS}/east/control', './east', '/east'])
+
     def test_a_trunk_that_is_not_in_service(self) -> None:
         """Where a folder has its name."""
         said, here = io.StringIO(), '/run/e1gw/no-such-trunk/control: No such file or directory'
@@ -37,6 +55,192 @@ class CtlWordTests(unittest.TestCase):
         self.assertEqual(said.getvalue(), f'e1gw-ctl: {here} (systemctl status e1gw-trunk@no-such-trunk; '
                          'e1gw-ctl alone lists the trunks)\n')
         self.assertEqual(ctl.unit_words('./west.control', FileNotFoundError()), '')
+
+
+class StandInTrunk:
+    """Answers commands at a control socket by what a test gives; without an answer it closes the connection."""
+
+    def __init__(self, path: str, answers: dict[str, str]) -> None:
+        self.path, self.answers, self.asked = path, answers, list[str]()
+        self.listener = support.listening(path)
+        self.listener.listen(8)
+        threading.Thread(target=self.serve, daemon=True).start()
+
+    def serve(self) -> None:
+        with contextlib.suppress(OSError):
+            while True:
+                line, _ = self.listener.accept()
+                with line, line.makefile('r') as lines:
+                    for command in map(str.strip, lines):
+                        self.asked.append(command)
+                        line.sendall(self.answers.get(command, '').encode())
+                        if command in ('events', 'reload force') or command not in self.answers:
+                            break
+
+
+class Told(io.StringIO):
+    """What is printed; `lines` has how many lines could be read each time that it was flushed."""
+
+    def __init__(self) -> None:
+        super().__init__()
+        self.lines = list[int]()
+
+    def flush(self) -> None:
+        self.lines.append(self.getvalue().count('\n'))
+
+
+class CtlAnswerTests(support.FolderCase):
+    """What is printed of answers, and the status, by trunks that answer what a test gives."""
+
+    def setUp(self) -> None:
+        super().setUp()
+        for name, folder in (('SOCKETS', 'run'), ('UNITS', 'etc')):
+            for module in (ctl, ctl_all):
+                patch = mock.patch.object(module, name, self.path(folder), create=True)
+                patch.start()
+                self.addCleanup(patch.stop)
+        os.mkdir(self.path('run'))
+        self.trunks = {name: self.trunk(name) for name in ('west', 'east')}
+
+    def trunk(self, name: str) -> StandInTrunk:
+        os.mkdir(self.path(f'run/{name}'))
+        trunk = StandInTrunk(self.path(f'run/{name}/control'), {
+            'seize 1': 'seize 1: done\n\n', 'seize 2': 'seize 2: not idle\n\n', 'status': f'trunk {name}\nrows\n\n',
+            'status 40': 'status 40: circuits are 1 to 30\n\n', 'status x': 'x: help\n\n',
+            'reload': 'a\nreload: done\n\n', 'reload force': 'reload: d',
+            'events': 'events: done\n\n{"event": 1}\n{"event": 2}\n'})
+        self.addCleanup(trunk.listener.close)
+        return trunk
+
+    def ctl(self, *words: str, given: str = '', patience: float = LONG) -> tuple[int | str | None, list[str], str]:
+        self.told, err = Told(), io.StringIO()
+        with mock.patch.object(sys, 'argv', ['e1gw-ctl', *words]), contextlib.redirect_stdout(self.told), \
+                contextlib.redirect_stderr(err), mock.patch.object(sys, 'stdin', io.StringIO(given)), \
+                self.assertRaises(SystemExit) as ended:
+            ctl.main(patience)
+        return ended.exception.code, self.told.getvalue().splitlines(), err.getvalue()
+
+    def test_one_trunk(self) -> None:
+        """0 where all was done, 1 where something was refused or not answered; questions are done once answered."""
+        for words, status, told in (
+                ('seize 1', 0, ['seize 1: done']), ('seize 2', 1, ['seize 2: not idle']),
+                ('seize 1-2', 1, ['seize 1: done', 'seize 2: not idle']), ('status', 0, ['trunk west', 'rows']),
+                ('status 40', 1, ['status 40: circuits are 1 to 30']), ('status x', 1, ['x: help']),
+                ('reload', 0, ['a', 'reload: done'])):
+            with self.subTest(words):
+                self.assertEqual(self.ctl('west', *words.split()), (status, told, ''))
+                self.assertEqual(self.ctl(self.path('run/west/control'), *words.split())[:2], (status, told))
+        self.assertEqual(self.ctl('west', given='seize 1\n\n  seize 2 \nstatus\n'),
+                         (1, ['seize 1: done', 'seize 2: not idle', 'trunk west', 'rows'], ''))
+        self.assertEqual(self.ctl('west', given='seize 1\n')[0], 0)
+        self.assertEqual(self.ctl('west', 'none'), (1, [], 'e1gw-ctl: the trunk has ended\n'))
+
+    def test_told_at_once(self) -> None:
+        """Each answer can be read before the next one is waited for."""
+        self.ctl('west', 'seize', '1-2')
+        self.assertEqual(self.told.lines, [1, 2, 2])
+        self.ctl('west', 'events')
+        self.assertEqual(self.told.lines, [1, 2, 2])
+        del self.trunks['east'].answers['seize 1']
+        self.ctl('--all', 'seize', '1')
+        self.assertEqual(self.told.lines, [1, 2, 2])
+        self.trunks['west'].answers['status json'] = json.dumps(STATUS) + '\n\n'
+        self.ctl()
+        self.assertEqual(self.told.lines, [2, 3, 3])
+
+    def test_until_the_trunk_ends(self) -> None:
+        """Events are printed as they come; half an answer is one."""
+        self.assertEqual(self.ctl('west', 'events'), (0, ['{"event": 1}', '{"event": 2}'], ''))
+        self.assertEqual(self.ctl('west', 'reload', 'force'), (1, ['reload: d'], ''))
+
+    def test_all_trunks(self) -> None:
+        self.assertEqual(self.ctl('--all', 'seize', '1'), (0, ['east: seize 1: done', 'west: seize 1: done'], ''))
+        self.assertEqual(self.ctl('--all', 'seize', '1-2')[0], 1)
+        self.trunks['east'].answers = {}
+        status, told, _ = self.ctl('--all', 'seize', '1')
+        self.assertEqual((status, told[1:]), (1, ['west: seize 1: done']))
+        self.assertRegex(told[0], '^east: it does not answer: ')
+
+    def test_trunks_that_do_not_answer(self) -> None:
+        """Nobody is waited for longer than that: to be let in, or for an answer."""
+        for trunk in self.trunks.values():
+            trunk.answers['seize 9'] = ''
+        status, told, _ = self.ctl('--all', 'seize', '9', patience=0.05)
+        self.assertEqual((status, [line[-9:] for line in told]), (1, ['timed out'] * 2))
+        with support.listening(self.path('full')), contextlib.ExitStack() as waiting:
+            with self.assertRaises(BlockingIOError):
+                for _ in range(9):
+                    waiting.enter_context(ctl_all.connected(self.path('full'), 0.05))
+
+    def test_lines_of_trunks(self) -> None:
+        os.mkdir(self.path('etc'))
+        for name in ('west', 'north', 'example'):
+            open(self.path(f'etc/{name}.options'), 'w', encoding='utf-8').close()
+        open(self.path('etc/west.toml'), 'w', encoding='utf-8').close()
+        self.trunks['west'].answers['status json'] = json.dumps(STATUS) + '\n\n'
+        self.trunks['east'].answers['status json'] = '[]\n\n'
+        self.assertEqual(self.ctl(), (1, [
+            ctl_all.HEAD, f'east         does not answer: {self.trunks["east"].path}: its answer is no status',
+            ctl_all.line_of('west', STATUS),
+            'north        not in service: systemctl status e1gw-trunk@north'], ''))
+        self.trunks['east'].answers = self.trunks['west'].answers
+        self.assertEqual(self.ctl()[0], 0)
+        shutil.rmtree(self.path('run'))
+        shutil.rmtree(self.path('etc'))
+        self.assertEqual(self.ctl(), (0, [ctl_all.HEAD], ''))
+
+    def test_other_ends(self) -> None:
+        """Who reads no more is not told of it; nor is who ends it by a key."""
+        for fault, status, said in ((BrokenPipeError, 1, ''), (KeyboardInterrupt, 0, ''),
+                                    (UnicodeError, 2, 'e1gw-ctl: a command cannot be read\n')):
+            with mock.patch.object(ctl, 'started', side_effect=fault), mock.patch('os.dup2') as put:
+                self.assertEqual(self.ctl('west', 'status'), (status, [], said))
+            for null, file in (each.args for each in put.call_args_list):
+                self.assertEqual((os.path.samestat(os.fstat(null), os.stat(os.devnull)), file), (True, 1))
+                os.close(null)
+            self.assertEqual(put.call_count, fault is BrokenPipeError)
+
+    def test_words_that_are_refused(self) -> None:
+        """Before anything is asked."""
+        for words, why in ((['west', 'seize', ' '], 'a word is empty, or cannot be printed'),
+                           (['west', 'seize', 'a\nb'], 'a word is empty, or cannot be printed'),
+                           (['west', 'seize', '\udcff'], 'a word is empty, or cannot be printed'),
+                           (['', 'status'], 'a word is empty, or cannot be printed'),
+                           (['--all'], '--all wants a command that is answered at once'),
+                           (['--all', 'events'], '--all wants a command that is answered at once'),
+                           (['seize', 'west'], 'west is a trunk: a command goes to one of them, and with --all to '
+                            'each'),
+                           (['west', 'east', '1'], 'east is a trunk: a command goes to one of them, and with --all to '
+                            'each')):
+            status, told, said = self.ctl(*words)
+            self.assertEqual((status, told, said.splitlines()[-1]), (2, [], f'e1gw-ctl: error: {why}'), words)
+        self.assertEqual([trunk.asked for trunk in self.trunks.values()], [[], []])
+
+    def test_move(self) -> None:
+        """Three steps of Pacemaker's; the worst of their statuses."""
+        ran = list[list[str]]()
+
+        def runs(words: list[str], check: bool) -> mock.Mock:
+            self.assertFalse(check)         # (the next step is done, too)
+            ran.append(words)
+            return mock.Mock(returncode=len(ran) % 3)
+        with mock.patch('e1gw.ctl.subprocess.run', runs):
+            self.assertEqual(self.ctl('west', 'move', 'b')[0], 2)
+        front = ['crm_resource', '--resource', 'west']
+        self.assertEqual(ran, [[*front, *words] for words in (['--move', '--promoted', '--node', 'b'], ['--wait'],
+                                                              ['--clear'])])
+
+    def test_next_words(self) -> None:
+        parser = argparse.Namespace
+        for path, command, is_all, words in (
+                (None, [], False, ['east', 'west']), ('west', [], False, ['seize', 'clear']),
+                (None, [], True, ['seize', 'clear']), ('west', ['status'], False, ['json', '1']),
+                ('status', [], True, ['json', '1']), ('west', ['reload'], False, ['force']),
+                ('west', ['on-loss'], False, ['keep', 'clear']), ('west', ['seize'], False, ['1', '2']),
+                ('seize', [], True, ['1', '2']), ('west', ['codec', '1'], False, ['pcma', 'pcmu']),
+                ('west', ['quit'], False, []), ('west', None, False, ['seize', 'clear'])):
+            found = ctl.next_words(parser(path=path, command=command, all=is_all))
+            self.assertEqual(found[:2], words, (path, command))
 
 
 class CtlMachineTests(unittest.TestCase):
@@ -62,7 +266,7 @@ class CtlMachineTests(unittest.TestCase):
         said = io.StringIO()
         with mock.patch.object(sys, 'argv', ['e1gw-ctl', *words]), contextlib.redirect_stdout(said), \
                 self.assertRaises(SystemExit) as ended:
-            ctl.main()
+            ctl.main(LONG)
         return ended.exception.code, said.getvalue().splitlines()
 
     def test_each_trunk_and_one(self) -> None:

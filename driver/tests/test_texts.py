@@ -1,0 +1,275 @@
+"""What is read of a trunk: its table, its line among others, its metrics, events and refusals in words."""
+from __future__ import annotations
+
+import argparse
+import contextlib
+import io
+import os
+import unittest
+from typing import Any
+from unittest import mock
+
+from e1gw import ctl_all, metrics
+from e1gw.events import words_of
+from e1gw.faults import Parser, checked, named, number, options_words, words_of_fault, words_of_refusal
+from e1gw.lines import Event, Role
+from e1gw.session import CommandRefusal
+
+ROW: dict[str, Any] = {
+    'circuit': 7, 'role': 'incoming', 'state': 'answered', 'sent': '01', 'recognised': '00', 'for': 12.34,
+    'seizures': 5, 'answers': 4, 'unacknowledged': 3, 'faults': 2, 'open': 67.89, 'codec': 'g726-32',
+    'jitter_buffer_ms': 40.0, 'datagrams': {'sent': 101, 'admitted': 102, 'Late': 6, 'Full': 8}, 'lost': 9,
+    'jitter_ms': 1.2344,
+    'socket': {'waiting': 13, 'dropped': 14}}
+IDLE: dict[str, Any] = ROW | {'circuit': 8, 'state': 'idle', 'datagrams': {'sent': 0, 'admitted': 0}, 'socket': None}
+# (86,400 s and some: 1970-01-02 00:01:40 UTC)
+STATUS: dict[str, Any] = {
+    'name': 'west', 'version': '1.2', 'time': 86_500.0, 'uptime': 100.0, 'octets': 512_000, 'trunk_up': True,
+    'fault': None, 'shadow': True, 'shadow_since': 86_400.0, 'program': True, 'program_since': 86_401.0,
+    'alarm': {'frame': False, 'multiframe': False}, 'remote_alarm': {'frame': False, 'multiframe': False},
+    'losses': {'frame': 21, 'multiframe': 22}, 'clock': {'stalled': False, 'stalls': 23}, 'circuits': [ROW, IDLE],
+    'stale': False, 'renewed': 24, 'ended': {'json': None, 'session': None},
+    'commands': [{'command': 'seize', 'answer': 'done', 'count': 25}]}
+CRC4 = {'aligned': True, 'submultiframes': 31, 'errored': 32, 'far_end_errored': 33, 'multiframes_found': 34,
+        'multiframes_lost': 35, 'given_up': 36}
+CARD = {'span': 2, 'red': True, 'yellow': False, 'blue': False, 'recovering': False, 'loopback': True,
+        'not_open': False, 'block': 8, 'buffers': 4, 'events': 37}
+FULL = STATUS | {
+    'alarm': {'frame': False, 'multiframe': True}, 'remote_alarm': {'frame': True, 'multiframe': True}, 'stale': True,
+    'clock': {'stalled': False, 'stalls': 23, 'gaps': 26, 'gap_seconds': 27.26, 'ppm': -28.6}, 'transport': CARD,
+    'crc4': CRC4, 'role': 'active', 'fed': False, 'feed_age': 29.5, 'feed_fault': 'its link', 'differs': [3, 4],
+    'ended': {'json': 'no room', 'session': None}}
+
+SAMPLES = '''e1gw_trunk_up 1
+e1gw_alarm{end="this",alignment="frame"} 0
+e1gw_alarm{end="this",alignment="multiframe"} 1
+e1gw_alarm{end="other",alignment="frame"} 1
+e1gw_alarm{end="other",alignment="multiframe"} 1
+e1gw_alignment_losses_total{alignment="frame"} 21
+e1gw_alignment_losses_total{alignment="multiframe"} 22
+e1gw_trunk_stalled 0
+e1gw_trunk_stalls_total 23
+e1gw_connected{to="program"} 1
+e1gw_connected{to="shadow"} 1
+e1gw_trunk_octets_total 512000
+e1gw_role 1
+e1gw_fed 0
+e1gw_feed_age_seconds 29.5
+e1gw_trunk_gaps_total 26
+e1gw_trunk_gap_seconds_total 27.26
+e1gw_trunk_rate_ppm -28.6
+e1gw_transport{what="span"} 2
+e1gw_transport{what="block"} 8
+e1gw_transport{what="buffers"} 4
+e1gw_transport{what="events"} 37
+e1gw_crc4_aligned 1
+e1gw_crc4_submultiframes_total 31
+e1gw_crc4_errored_total{end="this"} 32
+e1gw_crc4_errored_total{end="other"} 33
+e1gw_crc4_alignments_total 34
+e1gw_crc4_alignment_losses_total 35
+e1gw_crc4_given_up_total 36
+e1gw_circuit_state{circuit="7",role="incoming",state="answered"} 1
+e1gw_circuit_state{circuit="8",role="incoming",state="idle"} 1
+e1gw_circuit_state_seconds{circuit="7"} 12.34
+e1gw_circuit_seizures_total{circuit="7"} 5
+e1gw_circuit_answers_total{circuit="7"} 4
+e1gw_circuit_unacknowledged_total{circuit="7"} 3
+e1gw_circuit_faults_total{circuit="7"} 2
+e1gw_circuit_open_seconds_total{circuit="7"} 67.89
+e1gw_rtp_lost{circuit="7"} 9
+e1gw_rtp_jitter_seconds{circuit="7"} 0.001234
+e1gw_jitter_buffer_seconds{circuit="7"} 0.04
+e1gw_rtp_packets_total{circuit="7",direction="sent"} 101
+e1gw_rtp_packets_total{circuit="7",direction="received"} 102
+e1gw_rtp_packets_total{circuit="8",direction="sent"} 0
+e1gw_rtp_packets_total{circuit="8",direction="received"} 0
+e1gw_rtp_discarded_total{circuit="7",cause="Late"} 6
+e1gw_rtp_discarded_total{circuit="7",cause="Full"} 8
+e1gw_counts_stale 1
+e1gw_socket_dropped_total{circuit="7"} 14
+e1gw_socket_waiting_octets{circuit="7"} 13
+e1gw_commands_total{command="seize",answer="done"} 25
+e1gw_jitter_buffer_resyncs_total 24
+e1gw_ended{what="json"} 1
+e1gw_ended{what="session"} 0
+e1gw_uptime_seconds 100.0
+e1gw_build_info{version="1.2"} 1'''
+TABLE = '''trunk west, e1gw 1.2, up 100 s
+2.0 s of the trunk at 00:01:40 UTC, loss of multiframe alignment; the other end: not heard
+alignment lost: frame 21, multiframe 22; stalls 23, slips 26 (27.3 s), rate -29 ppm
+two machines: the standby is not fed: its link; configured otherwise there: circuits 3, 4
+card: span 2, LOOPBACK, RED; 4 blocks of 8 frames, 1 ms each
+CRC-4: multiframe alignment, lost 35, of it 36 for 915 errored of 1000; errored 32 of 31 submultiframes, the other end \
+reports 33
+ended: json: no room
+the counts of packets are not those of now
+''' + metrics.COLUMNS + '''
+ 7 incoming answered    01   00       12.3      5        4      67.9  g726-32     40       101       102     9     1.2\
+  6 Late, 8 Full
+ 8 incoming idle        01   00       12.3      5        4      67.9  g726-32     40         0         0     9     1.2
+'''
+
+
+class TrunkTextTests(unittest.TestCase):
+    def test_metrics(self) -> None:
+        """Each number is another one. Of a circuit's row that is idle only what differs is looked at."""
+        found = metrics.exposition(FULL).splitlines()
+        lines = [line for line in found if not line.startswith('#')]
+        states = [line for line in lines if line.startswith('e1gw_circuit_state{') and line.endswith(' 0')]
+        self.assertEqual(len(states), 2 * 7)
+        rest = [line for line in lines if line not in states and 'circuit="8"' not in line.replace(
+            'rtp_packets_total{circuit="8"', '').replace('state{circuit="8"', '')]
+        self.assertEqual(rest, SAMPLES.split('\n'))
+        kinds = {line.split()[2]: line.split()[3] for line in found if line.startswith('# TYPE')}
+        self.assertEqual([kinds[name] for name in ('e1gw_trunk_up', 'e1gw_ended', 'e1gw_transport',
+                                                   'e1gw_trunk_octets_total')],
+                         ['gauge', 'gauge', 'untyped', 'counter'])
+        self.assertEqual(len(kinds), sum(line.startswith('# HELP') for line in found))
+
+    def test_metrics_of_what_is_not_there(self) -> None:
+        few = metrics.exposition(STATUS, 'w"\\\n')
+        self.assertIn('e1gw_trunk_up{trunk="w\\"\\\\\\n"} 1\n', few)
+        for name in ('role', 'fed', 'gaps', 'rate', 'transport', 'crc4'):
+            self.assertNotIn(f'e1gw_{name}', few.replace('trunk_', ''))
+        few = metrics.exposition({key: value for key, value in FULL.items() if key != 'shadow'} | {
+            'role': 'standby', 'feed_age': None, 'crc4': CRC4 | {'aligned': None}, 'clock': {
+                'stalled': True, 'stalls': 0, 'gaps': 1, 'gap_seconds': 2.0, 'ppm': None}})
+        for line in ('e1gw_trunk_stalled 1', 'e1gw_role 0', 'e1gw_trunk_gaps_total 1'):
+            self.assertIn(f'{line}\n', few)
+        for name in ('connected', 'feed_age_seconds', 'crc4_aligned', 'rate_ppm'):
+            self.assertNotIn(f'\ne1gw_{name}', few.replace('trunk_', ''))
+
+    def test_table(self) -> None:
+        self.assertEqual(metrics.table(FULL), TABLE)
+        few = metrics.table(STATUS | {'circuits': []}).splitlines()
+        self.assertEqual(few, ['trunk west, e1gw 1.2, up 100 s', '2.0 s of the trunk at 00:01:40 UTC, aligned; the '
+                               'other end: no alarm', 'alignment lost: frame 21, multiframe 22; stalls 23',
+                               metrics.COLUMNS])
+        self.assertEqual(metrics.circuit_table(FULL, 8).splitlines(), [metrics.COLUMNS, TABLE.splitlines()[-1]])
+        self.assertEqual(metrics.circuit_table(STATUS, 9).splitlines()[1],
+                         ' 9 has no table in the configuration, and no call yet')
+
+    def test_lines_of_the_table(self) -> None:
+        slips = {'stalled': False, 'stalls': 0, 'gaps': 0, 'gap_seconds': 0.0, 'ppm': None}
+        rows: tuple[tuple[dict[str, Any], int, str], ...] = (
+                ({'fault': 'no card'}, 0, 'trunk west, e1gw 1.2, not open'),
+                ({'clock': slips}, 2, 'alignment lost: frame 21, multiframe 22; stalls 0, slips 0 (0.0 s)'),
+                ({'remote_alarm': {'frame': True, 'multiframe': True}}, 1, '2.0 s of the trunk at 00:01:40 UTC, '
+                 'aligned; the other end: RAI (bit A), distant multiframe alarm (bit y)'),
+                ({'role': 'standby', 'fed': True}, 3, 'two machines: standby, fed'),
+                ({'role': 'active', 'fed': True, 'differs': []}, 3, 'two machines: the standby is fed'),
+                ({'transport': {'packets': 1}}, 3, metrics.COLUMNS), ({'transport': None}, 3, metrics.COLUMNS),
+                ({'transport': CARD | {'red': False, 'loopback': False}}, 3, 'card: span 2, no alarm; 4 blocks of 8 '
+                 'frames, 1 ms each'),
+                ({'crc4': CRC4 | {'aligned': False, 'given_up': 0}}, 3, 'CRC-4: no multiframe alignment, lost 35; '
+                 'errored 32 of 31 submultiframes, the other end reports 33'),
+                ({'crc4': CRC4 | {'aligned': None, 'given_up': 0}}, 3, 'CRC-4: not counted yet, lost 35; errored 32 '
+                 'of 31 submultiframes, the other end reports 33'))
+        for more, at, line in rows:
+            self.assertEqual(metrics.table(STATUS | more).splitlines()[at], line)
+
+    def test_state(self) -> None:
+        """The first of these that holds."""
+        status, stalled = {**STATUS, 'alarm': {'frame': True, 'multiframe': True}}, {'stalled': True}
+        steps: tuple[tuple[dict[str, Any], str], ...] = (
+            ({}, 'loss of frame alignment (LFA), loss of multiframe alignment'), ({'clock': stalled}, 'stalled'),
+            ({'trunk_up': False}, 'no trunk'), ({'shadow': False}, 'no connection to the shadow since 00:00:00 UTC'),
+            ({'program': False}, 'no connection to the program since 00:00:01 UTC'), ({'fault': 'no card'}, 'no card'))
+        for more, words in steps:
+            status |= more
+            self.assertEqual(metrics.state_of(status), words)
+        others = {key: value for key, value in STATUS.items() if key not in ('program', 'shadow')}
+        self.assertEqual(metrics.state_of(others), 'aligned')
+
+    def test_line_among_trunks(self) -> None:
+        late = ROW | {'circuit': 9, 'datagrams': {'sent': 1, 'admitted': 1, 'Late': 40}}
+        rows: tuple[tuple[dict[str, Any], str], ...] = (
+                ({}, 'west         1.2      1970-01-02 00:00      1       18        6  aligned'),
+                ({'circuits': [ROW, late]}, 'west         1.2      1970-01-02 00:00      2       18       46  aligned'),
+                ({'fault': 'no card', 'circuits': []},
+                 'west         1.2                            0        0        0  no card'),
+                ({'remote_alarm': {'frame': True, 'multiframe': False}, 'circuits': [], 'fed': True},
+                 'west         1.2      1970-01-02 00:00      0        0        0  aligned; the other end: RAI (bit '
+                 'A)'),
+                ({'remote_alarm': {'frame': True, 'multiframe': False}, 'circuits': [], 'trunk_up': False,
+                  'fed': False, 'ended': {'json': 'no room', 'session': 'x', 'calls': None}},
+                 'west         1.2      1970-01-02 00:00      0        0        0  no trunk; ended: json, session; '
+                 'not fed'))
+        for more, line in rows:
+            self.assertEqual(ctl_all.line_of('west', STATUS | more), line)
+
+
+class EventTextTests(unittest.TestCase):
+    def test_each(self) -> None:
+        rows: list[tuple[Event, str]] = [
+            ({'event': 'state', 'circuit': 3, 'state': 'seized', 'was': 'idle'}, '3: seized, was idle'),
+            ({'event': 'alarm', 'what': 'frame', 'on': True}, 'alarm: loss of frame alignment (LFA)'),
+            ({'event': 'alarm', 'what': 'multiframe', 'on': False}, 'alarm over: loss of multiframe alignment'),
+            ({'event': 'remote alarm', 'what': 'frame', 'on': True}, 'alarm of the other end: RAI (bit A)'),
+            ({'event': 'cleared', 'why': 'it is dark', 'circuits': [1, 2]}, 'calls cleared, it is dark: circuits 1, 2'),
+            ({'event': 'stalled', 'seconds': 1.0}, 'no octets of the trunk for 1.0 s'),
+            ({'event': 'flows', 'seconds': 2.5}, 'octets again after 2.5 s'),
+            ({'event': 'gap', 'seconds': 0.5}, 'slip: 0.5 s of the trunk were lost'),
+            ({'event': 'ahead', 'seconds': 0.5}, 'burst: 0.5 s of the trunk came too early'),
+            ({'event': 'rate', 'ppm': 250.0}, "rate: +250.0 ppm relative to this machine's clock"),
+            ({'event': 'ended', 'what': 'json', 'why': 'no room'}, 'json ended, the calls go on: no room'),
+            ({'event': 'role', 'role': 'active'}, 'this machine is to be active'),
+            ({'event': 'fed', 'by': 'b', 'program': 'p'}, 'fed by b, program p there'),
+            ({'event': 'not fed', 'by': 'b', 'why': 'w'}, 'not fed by b: w'),
+            ({'event': 'card', 'what': 'NOT OPEN', 'on': True},
+             'card: NOT OPEN alarm: the span is not started: dahdi_cfg'),
+            ({'event': 'card', 'what': 'RED', 'on': False}, 'card: RED alarm over'),
+            ({'event': 'slots', 'what': 'moved', 'by': 3}, 'slots moved by 3: slot 16 found again, speech goes on'),
+            ({'event': 'trunk', 'trunk': '/dev/e1'}, 'trunk open: /dev/e1'), ({'event': 'trunk'}, 'trunk open: '),
+            ({'event': 'trunk lost', 'why': 'w'}, 'trunk lost: w'),
+            ({'event': 'connected', 'to': 'program'}, 'connected to the program'),
+            ({'event': 'disconnected', 'from': 'program', 'why': 'w'}, 'no connection to the program: w'),
+            ({'event': 'crc4', 'what': 'given up', 'on': True, 'count': 2},
+             'false frame alignment: 915 of 1000 submultiframes errored, 2 times'),
+            ({'event': 'crc4', 'what': 'lost and found', 'on': True, 'count': 1},
+             'CRC multiframe alignment lost and found again'),
+            ({'event': 'crc4', 'what': 'errored', 'on': False, 'count': 0, 'of': 500},
+             'CRC-4 errors over: 0 of 500 submultiframes'),
+            ({'event': 'satop', 'what': 'no packets', 'on': True}, 'satop: no packets')]
+        for event, words in rows:
+            self.assertEqual(words_of(event), words)
+
+
+class FaultTextTests(unittest.TestCase):
+    def test_faults(self) -> None:
+        none = FileNotFoundError(2, 'No such file', '/a')
+        for fault, what, words in (
+                (none, '', '/a: No such file'), (none, 'b', 'b: No such file'),
+                (OSError(2, 'No /a', '/a'), '', 'No /a'), (OSError(2, 'No b'), 'b', 'No b'),
+                (OSError('odd'), '', 'odd'), (TimeoutError(), '', 'TimeoutError'),
+                (OSError(9, 'Bad', 7), '', 'Bad'), (ValueError('c'), '', 'c'), (ValueError('c'), 'b', 'b: c')):
+            self.assertEqual(words_of_fault(fault, what), words)
+        for fault in (none, OSError('odd')):
+            found = named(fault, 'b')
+            self.assertEqual((found.errno, found.strerror), (fault.errno or 0, words_of_fault(fault, 'b')))
+
+    def test_refusals(self) -> None:
+        for refusal, role, words in (
+                (CommandRefusal.NOT_IDLE, Role.INCOMING, 'not idle'),
+                (CommandRefusal.WRONG_ROLE, Role.INCOMING, 'wrong role (circuit 3 is incoming; the exchange seizes and '
+                 'clears it)'),
+                (CommandRefusal.WRONG_ROLE, Role.OUTGOING, 'wrong role (circuit 3 is outgoing; the exchange answers, '
+                 'clears back and blocks it)')):
+            self.assertEqual(words_of_refusal(refusal, 3, role), words)
+
+    def test_options(self) -> None:
+        for path, words in ((os.devnull, f'; its options are in {os.devnull}'), ('', ''),
+                            ('/none', '; /none, which has its options, is missing')):
+            with mock.patch.dict(os.environ, {'E1GW_OPTIONS': path}):
+                self.assertEqual(options_words(), words)
+                with self.assertRaises(SystemExit), contextlib.redirect_stderr(io.StringIO()) as said:
+                    Parser('a').error('b')
+                self.assertEqual(said.getvalue().splitlines()[-1], f'a: error: b{words}')
+        for read, text, value in ((number(1, 3), '1', 1), (number(1, 3), '3', 3), (number(0, 1, float), '0.5', 0.5),
+                                  (checked(int), '7', 7)):
+            self.assertEqual(read(text), value)
+        for read, text, words in ((number(1, 3), '0', '1 to 3'), (number(1, 3), '4', '1 to 3'),
+                                  (checked(int, 'a number'), 'x', 'x is not a number'),
+                                  (checked(int), 'x', r"invalid literal for int\(\) with base 10: 'x'")):
+            self.assertRaisesRegex(argparse.ArgumentTypeError, f'^{words}$', read, text)
