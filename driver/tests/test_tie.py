@@ -13,18 +13,18 @@ from unittest import mock
 from e1gw.lines import Role, State
 from e1gw.session import CIRCUITS
 from e1gw.testing.ports import free_port
-from e1gw.tie import site as site_module
 from e1gw.tie.blocked import BlockedCircuits
 from e1gw.tie.circuit import CircuitEnd
 from e1gw.tie.coding import Coding
 from e1gw.tie.main import ANYBODY, parser
 from e1gw.tie.messages import BadMessage, Greeting, Message, SiteState, encode_message, message_of
-from e1gw.tie.pairs import agreed, pairs_of
-from e1gw.tie.site import Site, has_name
+from e1gw.tie.pairs import Pairs, agreed, pairs_of
+from e1gw.tie.site import Reasons, Site, has_name, one_too_many
 from e1gw.tie.status import serve_status, texts_of
 from e1gw.tie.tie import AGAIN, Tie
 from e1gw.tie.trunk import LOOK
 from e1gw.tls import context_of, is_exposed, is_loopback
+from tests.properties import PropertyCase
 from tests.support import SECONDS
 from tests.test_tie_circuit import CALLED
 from tests.ties import ANSWER, G726, HELD, IDLE, SEIZED, TieCase
@@ -53,7 +53,7 @@ class TieMessageTests(unittest.TestCase):
     def test_there_and_back(self) -> None:
         end = CircuitEnd(Role.INCOMING, State.ACKED, 'a.1', True, 'a.0')
         sent: list[Message] = [
-            Greeting('ab', None), Greeting('ab', {1: 30}), SiteState(True, {30: end}, all=True),
+            Greeting('a' * 100, None), Greeting('ab', {1: 30}), SiteState(True, {30: end}, all=True),
             SiteState(False, {}, 'pcma', all=True), SiteState(None, {1: end}), SiteState(False, {}), None,
             SiteState(None, {2: CircuitEnd(Role.OUTGOING, State.FAULT, None)})]
         for message in sent:
@@ -61,13 +61,70 @@ class TieMessageTests(unittest.TestCase):
 
     def test_no_message(self) -> None:
         for line in (b'', b'\xff\n', b'[]', b'{}', b'{"tie": 2, "run": "a", "pairs": null}', b'{"dark": 1}',
-                     b'{"tie": 1, "run": 7}', b'{"tie": 1, "run": "a", "pairs": {"1": 2, "2": 2}}', b'{"circuit": 1}',
+                     b'{"tie": 1, "run": 7}', b'{"tie": 1, "run": "a", "pairs": []}',
+                     b'{"tie": 1, "run": "a", "pairs": {"1": 2, "2": 2}}', b'{"circuit": 1}',
                      b'{"circuit": true, "end": {}}', b'{"circuit": 31, "end": {}}', b'{"all": [], "dark": true}',
                      b'{"all": {"1": {"role": "both"}}, "dark": true}', b'[' * 100_000,
                      b'{"all": {}, "dark": true, "until_answer": 8}',
-                     b'{"tie": 1, "run": "' + b'a' * 200 + b'", "pairs": null}'):
+                     b'{"tie": 1, "run": "' + b'a' * 101 + b'", "pairs": null}'):
             with self.subTest(line=line[:60]), self.assertRaises(BadMessage):
                 message_of(line)
+
+
+class TiePropertyTests(PropertyCase):
+    def test_pairs(self) -> None:
+        """Both sites join the same circuits, whatever each of them was told."""
+        st = self.st
+        pairs = st.none() | st.dictionaries(st.integers(1, 6), st.integers(1, 6)).map(
+            lambda its: {here: there for there, here in {there: here for here, there in its.items()}.items()})
+
+        def check(west: Pairs | None, east: Pairs | None) -> None:
+            joined = agreed(west, east)
+            self.assertEqual(agreed(east, west), {there: here for here, there in joined.items()})
+            for told in (west, None if east is None else {ours: theirs for theirs, ours in east.items()}):
+                self.assertLessEqual(joined.items(), (joined if told is None else told).items())
+        self.holds(check, pairs, pairs)
+
+    def test_messages(self) -> None:
+        """What is sent is understood as it was meant, and all else is no message."""
+        st, name = self.st, self.st.sampled_from(('', 'a.1', 'é' * 100))
+        circuit = st.integers(1, 30)
+        end = st.builds(CircuitEnd, st.sampled_from(list(Role)), st.sampled_from(list(State)), st.none() | name,
+                        st.booleans(), name)
+        pairs = st.none() | st.lists(circuit, max_size=4, unique=True).map(lambda its: dict(zip(CIRCUITS, its)))
+        sent = st.one_of(st.none(), st.builds(Greeting, name, pairs),
+                         st.builds(SiteState, st.booleans(), st.dictionaries(circuit, end, max_size=3),
+                                   st.none() | name, st.just(True)),
+                         st.builds(SiteState, st.booleans(), st.just({})),
+                         st.builds(SiteState, st.none(), st.dictionaries(circuit, end, min_size=1, max_size=1)))
+
+        def there_and_back(message: Message) -> None:
+            self.assertEqual(message_of(encode_message(message)), message)
+        self.holds(there_and_back, sent)
+        word = st.sampled_from(('tie', 'run', 'pairs', 'all', 'dark', 'until_answer', 'circuit', 'end', 'alive', '1',
+                                'role', 'state', 'over', 'passed', 'call', 'idle', 'incoming', 1, True, None,
+                                'x' * 101))
+        junk = st.recursive(word, lambda its: st.lists(its, max_size=3) | st.dictionaries(word.filter(
+            lambda key: isinstance(key, str)), its, max_size=5), max_leaves=12)
+
+        def junk_is_none(value: object) -> None:
+            with suppress(BadMessage):
+                there_and_back(message_of(json.dumps(value).encode()))
+        self.holds(junk_is_none, junk)
+
+
+class TieSiteTests(unittest.TestCase):
+    def test_reasons(self) -> None:
+        """Why nobody is let in is told once a minute for each reason, and for ten of them at most."""
+        reasons, names = Reasons(), [f'{n}' for n in range(12)] * 2
+        self.assertEqual([reasons.is_told(name, 7.0) for name in names], [True] * 10 + [False] * 14)
+        self.assertEqual([reasons.is_told('3', at) for at in (66.9, 67.0, 68.0)], [False, True, False])
+
+    def test_one_too_many(self) -> None:
+        """The oldest of the address that has most; of those that have as many, the oldest of all."""
+        self.assertIsNone(one_too_many({n: 'a' for n in range(7)}))
+        for addresses, last in (('abcdefgh', 0), ('abbcdefg', 1), ('abccabab', 0), ('abcdeffe', 4), ('aaabbbbc', 3)):
+            self.assertEqual(one_too_many(dict(enumerate(addresses))), last, addresses)
 
 
 class TieOptionTests(unittest.TestCase):
@@ -274,6 +331,15 @@ class TieCallTests(TieCase):
         await self.until(lambda: passed() == ['seize 3', 'clear 3', 'seize 3'])
         await self.until(self.at(3, State.ACKED, State.ACKED))
 
+    async def test_trunk_does_not_answer(self) -> None:
+        """It is given up after PATIENCE, and found again."""
+        await self.both()
+        self.west.silent = True
+        await self.until(lambda: bool(self.told('west', 'trunk gone')))
+        self.assertRegex(self.told('west', 'trunk gone')[0]['why'], '/west.ctl: the trunk does not answer$')
+        self.west.silent = False
+        await self.until(lambda: len(self.told('west', 'trunk')) == 2)
+
     async def test_map(self) -> None:
         """One site's map suffices; circuits that it does not name are left alone."""
         self.east.roles[2] = Role.OUTGOING
@@ -388,18 +454,6 @@ class TieConnectionTests(TieCase):
             await self.kill(tasks, east[1])
             await self.until(lambda: len(self.told('west', 'site gone')) == number)
         self.assertLessEqual(len(self.told('west', 'no connection')), 10)
-
-    async def test_reasons(self) -> None:
-        """Why nobody is let in is reported once a minute for each reason, and for ten of them at most."""
-        _, site = self.tie('west')
-        with mock.patch.object(site_module, 'MINUTE', 0.6):
-            for n in [*range(12)] * 2:
-                site.turned_away(f'reason {n}')
-            self.assertEqual([each['why'] for each in self.told('west', 'no connection')],
-                             [f'reason {n}' for n in range(10)])
-            await asyncio.sleep(0.61)
-            site.turned_away('reason 3')
-            self.assertEqual(self.told('west', 'no connection')[10]['why'], 'reason 3')
 
 
 class TieStatusTests(TieCase):

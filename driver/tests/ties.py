@@ -58,13 +58,14 @@ class StandInDriver:
 
     def __init__(self, path: str, roles: dict[int, Role]) -> None:
         self.path, self.roles = path, roles
-        self.states = dict.fromkeys(CIRCUITS, State.IDLE)
-        self.since = dict.fromkeys(CIRCUITS, 0.0)
-        self.pairs = dict.fromkeys(CIRCUITS, IDLE)
-        self.seizures = dict.fromkeys(CIRCUITS, 0)
-        self.codecs = dict.fromkeys(CIRCUITS, G726)
-        self.configured = dict.fromkeys(CIRCUITS, G726)
+        self.states = dict.fromkeys(roles, State.IDLE)
+        self.since = dict.fromkeys(roles, 0.0)
+        self.pairs = dict.fromkeys(roles, IDLE)
+        self.seizures = dict.fromkeys(roles, 0)
+        self.codecs = dict.fromkeys(roles, G726)
+        self.configured = dict.fromkeys(roles, G726)
         self.refuses = False            # changes of codec
+        self.silent = False             # it answers nothing
         self.law = 'A'
         self.alarm = self.acknowledges = False
         self.asked: list[str] = []
@@ -92,7 +93,8 @@ class StandInDriver:
                 words = line.decode().split()
                 if words == ['events']:
                     self.clients.append(writer)
-                writer.write(f'{self.obey(words)}\n\n'.encode())
+                if not self.silent:
+                    writer.write(f'{self.obey(words)}\n\n'.encode())
                 if words[0] == 'status' and self.behind:
                     self.behind.pop()()
         if writer in self.clients:
@@ -124,7 +126,7 @@ class StandInDriver:
              'for': asyncio.get_running_loop().time() - self.since[n],
              'codec': self.codecs[n].codec, 'payload': self.codecs[n].payload,
              'configured_codec': self.configured[n].codec, 'configured_payload': self.configured[n].payload}
-            for n in CIRCUITS]}
+            for n in self.roles]}
 
     def configure(self, n: int, coding: Coding) -> None:
         self.codecs[n] = self.configured[n] = coding
@@ -151,7 +153,7 @@ class StandInDriver:
         self.recognise()
 
     def recognise(self) -> None:
-        for n in CIRCUITS:
+        for n in self.roles:
             table = INCOMING if self.roles[n] is Role.INCOMING else OUTGOING
             self.move(n, table[self.states[n]][COLUMN[self.pairs[n]]])
 

@@ -34,6 +34,14 @@ class CircuitCoding:
     refused: Coding | None = None
     is_changing: bool = False
 
+    def wanted(self, state: State, own: str | None, far: str | None) -> Coding | None:
+        """The codec to give it in this state, where the sites have these until the answer; None if it has it, or was
+        refused it: a refused change is retried only when another was needed."""
+        found = self.configured
+        if own and far == own and state not in ANSWERED and found.codec != own:
+            found = SIGNALLING[own]
+        return None if self.is_changing or found in (self.present, self.refused) else found
+
 
 class CodecChanges:
     """Gives each circuit here the codec that it needs, by one change at a time. `asked` is the codec until the answer;
@@ -80,17 +88,12 @@ class CodecChanges:
             circuit.present = Coding(row['codec'], row['payload'])
 
     def give(self, n: int, state: State) -> None:
-        """Gives a circuit in this state the codec that it needs; none before the other site is connected. A refused
-        change is retried only when another was needed."""
+        """Gives a circuit in this state the codec that it needs; none before the other site is connected."""
         circuit = self._circuits.get(n)
-        if not circuit or circuit.is_changing or not self._trunk.is_up or not self._heard:
-            return
-        wanted = circuit.configured
-        if self.own and self._heard == [self.own] and state not in ANSWERED and wanted.codec != self.own:
-            wanted = SIGNALLING[self.own]
-        if wanted not in (circuit.present, circuit.refused):
-            circuit.is_changing = True
-            self._trunk.begin(self._change(n, circuit, wanted))
+        if circuit and self._trunk.is_up and self._heard:
+            if wanted := circuit.wanted(state, self.own, self._heard[0]):
+                circuit.is_changing = True
+                self._trunk.begin(self._change(n, circuit, wanted))
 
     async def _change(self, n: int, circuit: CircuitCoding, coding: Coding) -> None:
         answer = await self._trunk.answer(f'codec {n} {coding.codec} {coding.payload}')

@@ -6,7 +6,7 @@ import ipaddress
 import os
 import ssl
 from collections import Counter
-from typing import TYPE_CHECKING, Any
+from typing import TYPE_CHECKING, Any, Mapping, TypeVar
 
 from ..faults import words_of_fault
 from .messages import MOST, BadMessage, Greeting, Message, encode_message, message_of
@@ -21,6 +21,7 @@ HANDSHAKE = 5.0             # seconds for a connection until it has greeted
 STRANGERS = 8               # connections that have not greeted, and those that the system queues
 MOST_WAITING = 1 << 20      # octets not yet taken by the other site
 MINUTE, MOST_REASONS = 60.0, 10     # seconds in which a reason for no connection is reported once, and how many are
+T = TypeVar('T')
 
 
 class SiteRefused(Exception):
@@ -37,6 +38,27 @@ def has_name(certificate: dict[str, Any] | None, name: str) -> bool:
         return ('DNS', name.lower()) in [(kind, text.lower()) for kind, text in names]
 
 
+class Reasons:
+    """Which reasons for no connection are told: each once a minute, ten of them at most."""
+
+    def __init__(self) -> None:
+        self._told: dict[str, float] = {}       # when each was
+
+    def is_told(self, why: str, now: float) -> bool:
+        """Whether this one is told now."""
+        self._told = {each: at for each, at in self._told.items() if now < at + MINUTE}
+        if why in self._told or len(self._told) >= MOST_REASONS:
+            return False
+        self._told[why] = now
+        return True
+
+
+def one_too_many(strangers: Mapping[T, str]) -> T | None:
+    """Which stranger is closed for another one, if there are too many: the oldest of the address that has most."""
+    crowd = Counter(strangers.values())
+    return max(strangers, key=lambda each: crowd[strangers[each]]) if len(strangers) >= STRANGERS else None
+
+
 class Site:
     """The other site."""
 
@@ -47,7 +69,7 @@ class Site:
         self._writer: asyncio.StreamWriter | None = None    # the present connection
         self._run = ''                                      # the program at its other end
         self._strangers: dict[asyncio.Task[Any], str] = {}  # the address of each, the oldest first
-        self._reasons: dict[str, float] = {}                # when each was told
+        self._reasons = Reasons()
 
     def send(self, message: Message) -> None:
         """Sends to the other site if it is connected. A site that does not read is given up."""
@@ -65,11 +87,8 @@ class Site:
             self._writer.transport.abort()
 
     def turned_away(self, why: str) -> None:
-        """Tells why nobody is connected: each reason once a minute, ten of them at most."""
-        now = asyncio.get_running_loop().time()
-        self._reasons = {each: at for each, at in self._reasons.items() if now < at + MINUTE}
-        if why not in self._reasons and len(self._reasons) < MOST_REASONS:
-            self._reasons[why] = now
+        """Tells why nobody is connected."""
+        if self._reasons.is_told(why, asyncio.get_running_loop().time()):
             self._tell('no connection', why=why)
 
     async def run(self) -> None:
@@ -94,9 +113,7 @@ class Site:
         """A connection that comes. For one too many the oldest of the address that has most is closed."""
         task = asyncio.current_task()
         assert task
-        if len(self._strangers) >= STRANGERS:
-            crowd = Counter(self._strangers.values())
-            last = max(self._strangers, key=lambda each: crowd[self._strangers[each]])
+        if last := one_too_many(self._strangers):
             last.cancel()
             del self._strangers[last]
             self.turned_away('too many connections that have not greeted')
@@ -154,7 +171,7 @@ class Site:
                 raise SiteRefused('another one is connected')
             self._writer.transport.abort()
             self._gone('closed')
-        self._writer, self._run, self._reasons = writer, greeting.run, {}
+        self._writer, self._run, self._reasons = writer, greeting.run, Reasons()
         self._tie.came(greeting)
         self._sign(writer)
 

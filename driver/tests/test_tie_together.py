@@ -1,0 +1,182 @@
+"""Two whole ties in one process, by a clock that goes on when there is nothing to do: whatever happens to exchanges,
+trunks, connection and programs, both ends of each circuit agree soon after it."""
+from __future__ import annotations
+
+import asyncio
+import itertools
+from collections import deque
+from typing import Any
+
+from .properties import PropertyCase
+from .test_tie_circuit import TieCircuitWorld, disagreement
+from .ties import ANSWER, G726, HELD, IDLE, SEIZED, StandInDriver
+from e1gw.lines import Role, State
+from e1gw.tie.blocked import BlockedCircuits
+from e1gw.tie.coding import SIGNALLING
+from e1gw.tie.messages import encode_message, message_of
+from e1gw.tie.tie import Tie, TieOptions
+
+JOINED = range(1, 5)        # on odd ones the west calls, on even ones the east
+HOLD, REST = 3.0, 12.0      # seconds
+RUNS = itertools.count()
+
+
+class PlayedLoop(asyncio.SelectorEventLoop):
+    """An event loop whose clock goes on once there is nothing to do."""
+
+    def __init__(self) -> None:
+        super().__init__()
+        self.now = 0.0
+        setattr(getattr(self, '_selector'), 'select', self.select)
+
+    def time(self) -> float:
+        return self.now
+
+    def select(self, timeout: float | None = None) -> list[Any]:
+        assert timeout is not None, 'nothing will ever happen'
+        self.now += timeout
+        return []
+
+
+class JoinedTrunk(StandInDriver):
+    """A trunk of four circuits, whose tie talks to it and to the other site without a socket."""
+
+    def __init__(self, side: int, until: str | None) -> None:
+        super().__init__('', {n: Role.OUTGOING if n % 2 == side else Role.INCOMING for n in JOINED})
+        self.acknowledges, self.until = True, until
+        self.other: JoinedTrunk | None = None           # while the sites are connected
+        self.kept, self.events = BlockedCircuits(None), list[dict[str, Any]]()
+        self.on_way = deque[tuple[Tie, bytes]]()
+        self.follows: asyncio.Task[None] | None = None
+        self.starts()
+
+    def starts(self) -> None:
+        """A tie is started, which knows no more than what was blocked."""
+        self.down() if self.follows else None
+        self.apart()
+        options = TieOptions('', None, HOLD, False, self.until)
+        self.tie = Tie(options, f'{next(RUNS)}', self.kept, lambda event, **more: self.events.append(
+            {'event': event, **more}))
+        setattr(self.tie, 'site', self)
+        setattr(self.tie.trunk, 'ask', self.asks)
+        self.tie._hold()
+        self.up()
+
+    def up(self) -> None:
+        """The tie finds its trunk."""
+        self.follows = self.follows or asyncio.create_task(self.tie.trunk._look())
+
+    def down(self) -> None:
+        """It loses it."""
+        if self.follows:
+            self.follows.cancel()
+        self.follows, self.tie.trunk.is_up = None, False
+        self.tie.lost()
+
+    async def asks(self, line: str) -> str:
+        await asyncio.sleep(0.001)
+        if not self.follows:
+            raise EOFError
+        return self.obey(line.split())
+
+    def tell(self, **event: Any) -> None:
+        if self.tie.trunk.is_up:
+            asyncio.get_running_loop().call_soon(self.tie.told, event)
+
+    def joins(self, other: JoinedTrunk) -> None:
+        """The sites are connected."""
+        if self.other is None:
+            self.other, other.other = other, self
+            self.tie.came(other.tie.own_greeting)
+            other.tie.came(self.tie.own_greeting)
+
+    def apart(self) -> None:
+        """They are no more."""
+        for each in (self, self.other) if self.other else ():
+            each.other = None
+            each.tie.gone('closed')
+
+    def send(self, message: Any, pair: int = -1) -> None:
+        """The tie sends to the other site; or the exchange sends bits of a circuit."""
+        if pair >= 0:
+            super().send(message, pair)
+        elif self.other:
+            self.on_way.append((self.other.tie, encode_message(message)))
+            asyncio.get_running_loop().call_later(0.001, self.comes)
+
+    def comes(self) -> None:
+        """The next message is there, if the sites are connected as they were."""
+        tie, octets = self.on_way.popleft()
+        if self.other and self.other.tie is tie:
+            tie.heard(message_of(octets))
+
+
+class TogetherPropertyTests(PropertyCase):
+    """`happens` is done to a side; then all is well, and at rest both ends agree."""
+
+    async def rests(self, trunks: list[JoinedTrunk], seconds: float) -> None:
+        """Exchanges go on meanwhile, whose bits are recognised."""
+        loop = asyncio.get_running_loop()
+        until = loop.time() + seconds
+        while loop.time() < until:
+            await asyncio.sleep(0.05)
+            for trunk in trunks:
+                trunk.recognise()
+
+    async def play(self, until: str | None, steps: list[tuple[str, int, int, Any]]) -> None:
+        trunks = [JoinedTrunk(side, until) for side in (0, 1)]
+        trunks[0].joins(trunks[1])
+        await self.rests(trunks, 1.0)
+        for what, side, n, how in steps:
+            trunk = trunks[side]
+            if what == 'send':
+                trunk.send(n, how)
+            elif what == 'operator':
+                trunk.obey([how, str(n)])
+            elif what == 'alarm':
+                trunk.alarm = how
+                trunk.tell(event='alarm', what='frame', on=how)
+            elif what == 'wait':
+                await self.rests(trunks, how)
+            elif what == 'joins':
+                trunk.joins(trunks[1 - side])
+            else:
+                getattr(trunk, what)()
+        for trunk in trunks:
+            trunk.alarm = False
+            trunk.up()
+        trunks[0].joins(trunks[1])
+        await self.rests(trunks, REST)
+        self.look(trunks, until)
+        for trunk in trunks:
+            trunk.down()
+        await asyncio.sleep(1.0)
+
+    def look(self, trunks: list[JoinedTrunk], until: str | None) -> None:
+        west, east = trunks
+        for n in JOINED:
+            near, far = (each.tie.circuits[n] for each in (trunks if west.roles[n] is Role.INCOMING else trunks[::-1]))
+            self.assertIsNone(disagreement(TieCircuitWorld(near, far), strictly=False), (near, far))
+            self.assertEqual((west.states[n], east.states[n]), (west.tie.circuits[n].state, east.tie.circuits[n].state))
+            for trunk in trunks:
+                speaks = trunk.states[n] in (State.ANSWERED, State.CLEAREDBACK)
+                self.assertEqual(trunk.codecs[n], SIGNALLING[until] if until and not speaks else G726)
+        self.assertEqual({trunk.tie.link.value for trunk in trunks}, {'good'})
+
+    def test_both_ends_agree(self) -> None:
+        st = self.st
+        side, circuit = st.sampled_from((0, 1)), st.sampled_from(list(JOINED))
+
+        def step(what: str, how: Any) -> Any:
+            return st.tuples(st.just(what), side, circuit, how)
+        steps = st.one_of(
+            step('send', st.sampled_from((IDLE, SEIZED, ANSWER, HELD))),
+            step('send', st.sampled_from((SEIZED, ANSWER))),
+            step('wait', st.sampled_from((0.01, 0.3, 1.0, 4.0))), step('alarm', st.booleans()),
+            step('operator', st.sampled_from(('block', 'unblock'))),
+            *(step(what, st.none()) for what in ('joins', 'apart', 'up', 'down', 'starts')))
+
+        def check(until: str | None, chosen: list[tuple[str, int, int, Any]]) -> None:
+            with asyncio.Runner(loop_factory=PlayedLoop) as runner:
+                runner.run(self.play(until, chosen))
+        self.holds(check, st.sampled_from((None, 'pcma')), st.lists(steps, max_size=15), examples=100)
