@@ -52,17 +52,12 @@ class OpenCall:
             seen.popleft()
         if refused:
             self.refused.append(place)
-            self._drop_refused(first)
-
-    def _drop_refused(self, first: int) -> None:
-        while self.refused and self.refused[0] <= first:
-            self.refused.popleft()
 
     def is_refused(self) -> bool:
         """Whether half of the datagrams are refused, for more than a moment."""
         refused = self.refused
-        if refused:
-            self._drop_refused(self.seen[-1] - _SPAN)
+        while refused and refused[0] <= self.seen[-1] - _SPAN:
+            refused.popleft()
         if not self.fresh or len(refused) < FEWEST or 2 * len(refused) < len(self.seen):
             return False
         return refused[-1] - refused[0] >= _SPAN // 2

@@ -120,7 +120,7 @@ class RememberedClients:
     def goes_on(self, seconds: float, now: float) -> None:
         """This process has looked, or has stood still, for so long up to now."""
         for who, its in self.there.items():
-            if seconds > LOOK:
+            if seconds > 0.5:
                 self.there[who] = HeardClient(its.wish, its.heard + seconds)
             elif its.is_silent(now) and not its.is_silent(now - seconds):
                 self.lost(its.wish, its.heard, now)
@@ -134,7 +134,8 @@ class ClearingPropertyTests(PropertyCase):
         asks = st.sampled_from(('keep', 'clear 1', 'block 2', 'clear 1 alive 1', 'block 3 alive 2', ''))
         steps = st.one_of(
             st.tuples(st.just('asks'), who, asks), st.tuples(st.sampled_from(('says', 'leaves')), who, st.just('')),
-            st.tuples(st.sampled_from((1, 7, 13, 32)), st.just(LOOK), st.just('')), st.just((1, 30.0, '')))
+            st.tuples(st.sampled_from((1, 7, 13, 32)), st.just(LOOK), st.just('')),
+            st.sampled_from(((1, 30.0, ''), (1, 0.75, ''), (2, 0.5, ''))))
 
         def check(chosen: list[tuple[Any, Any, str]]) -> None:
             clients, cleared, now = RememberedClients(DisconnectPolicy(2.0, True)), list[bool](), 0.0

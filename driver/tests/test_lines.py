@@ -6,8 +6,8 @@ import unittest
 from typing import Any
 
 from .properties import PropertyCase
-from e1gw.lines import (IN_CALL, OPEN, SEIZURE_WAIT, WAIT, Line, Role, State, config_text, law_of, lines_of, no_peer,
-                        no_peers, tables_of, wait_words, with_wait)
+from e1gw.lines import (IN_CALL, OPEN, PAIRS, SEIZURE_WAIT, WAIT, Line, Role, State, config_text, law_of, lines_of,
+                        no_peer, no_peers, tables_of, wait_words, with_wait)
 from e1gw.session import Command
 
 
@@ -37,6 +37,9 @@ class LineTests(unittest.TestCase):
                                                     (State.ACKED, State.ANSWERED)), 2):
             line.changed(before, now)
         self.assertEqual((line.seizures, line.answers, line.opened, line.open_for), (1, 0, 3, 1.0))
+        line.sent, line.recognised = 0, 3
+        self.assertEqual((line.status(2.5)['sent'], line.status(2.5)['recognised'], PAIRS[1], PAIRS[2]),
+                         ('00', '11', '01', '10'))
         line.begin(State.IDLE, 8.0)
         self.assertEqual((line.opened, line.since), (None, 8.0))
         self.assertEqual((OPEN | {State.SEIZED}, SEIZURE_WAIT), (IN_CALL, 200))
@@ -75,7 +78,7 @@ class ConfigPropertyTests(PropertyCase):
     def test_text(self) -> None:
         """A configuration as a text is that configuration, whatever keys and texts it has."""
         st = self.st
-        text = st.text(st.characters(blacklist_categories=('Cs',)))
+        text = st.text('aB_9é√"\'\\\n\t\0\x1f\x7f =.#', max_size=6)
         table = st.dictionaries(text.filter(lambda key: key != 'circuit') | st.sampled_from(('law', 'peer_host')),
                                 text | st.integers(-2 ** 63, 2 ** 63 - 1), max_size=4)
 

@@ -55,6 +55,34 @@ class ResyncRuleTests(unittest.TestCase):
         self.go(3, LATE)
         self.assertEqual(self.restarted, [])
 
+    def come(self, code: int, *moments: float) -> None:
+        """Datagrams with this answer, and a look behind each."""
+        for self.now in moments:
+            self.rule.counted(1, code, round(self.now * SECOND))
+            self.rule.look(self.now, round(self.now * SECOND), [1], True)
+
+    def test_limits(self) -> None:
+        """Of half a second what came in it, without its first moment; half of it, three at least, over a quarter; and
+        again after ten seconds. What came before a restart for another reason does not count."""
+        self.come(0, 1.0, 1.01)
+        self.come(LATE, 1.25)
+        self.come(0, 1.3, 1.375)
+        self.come(LATE, 1.4375)
+        self.assertEqual(self.restarted, [])
+        self.come(LATE, 1.5)
+        self.assertEqual(self.restarted, [(1.5, 1)])
+        self.come(LATE, 11.0, 11.25, 11.4375, 11.499)
+        self.assertEqual(len(self.restarted), 1)
+        self.come(LATE, 11.5)
+        self.assertEqual(self.restarted[1:], [(11.5, 1)])
+        self.come(0, *(30 + n / 200 for n in range(80)))
+        self.rule.want([1], 'gap')
+        self.come(0, 30.5)
+        self.come(LATE, 30.5625, 30.625, 30.75)
+        self.assertEqual(len(self.restarted), 3)
+        self.come(LATE, 30.8125)
+        self.assertEqual(self.restarted[2:], [(30.5, 1), (30.8125, 1)])
+
     def test_a_burst_that_was_held_back(self) -> None:
         for _ in range(12):
             self.rule.counted(1, LATE, 1000)
@@ -74,7 +102,7 @@ class ResyncRuleTests(unittest.TestCase):
 
     def test_refusals_of_another_cause(self) -> None:
         """Behind a second without any it is restarted at once; one that is refused now and then waits."""
-        for between, count in ((1.2, 2), (4.0, 2), (0.8, 1)):
+        for between, count in ((1.2, 2), (4.0, 2), (0.8, 1), (1.02, 2), (1.0, 1)):
             with self.subTest(between):
                 self.setUp()
                 self.go(0.4, LATE)

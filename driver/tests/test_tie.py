@@ -42,6 +42,15 @@ class TiePairsTests(unittest.TestCase):
             with self.subTest(text=text), self.assertRaises(ValueError):
                 pairs_of(text)
 
+    def test_why(self) -> None:
+        for text, why in (('1 2\n\n3 # 4', 'line 3: a line needs a circuit here and one there'),
+                          ('1 2\n1-2 3-5', 'line 2: 1-2 and 3-5 have different lengths'),
+                          ('1 2\n3 2', 'line 2: circuit 3 here or 2 there is repeated'),
+                          ('#', 'there are no circuits')):
+            with self.assertRaises(ValueError) as fault:
+                pairs_of(text)
+            self.assertEqual(str(fault.exception), why)
+
     def test_agreed(self) -> None:
         self.assertEqual(agreed(None, None), {n: n for n in CIRCUITS})
         self.assertEqual(agreed({1: 2}, None), {1: 2})

@@ -1,0 +1,147 @@
+"""Which codec a circuit of a tie is given, and when: one change at a time, without a clock."""
+from __future__ import annotations
+
+import asyncio
+import unittest
+from typing import Any, Coroutine
+
+from e1gw.lines import State
+from e1gw.tie.coding import CircuitCoding, CodecChanges, Coding
+
+G726, PCMA, OWN = Coding('g726-16', 96), Coding('pcma', 8), Coding('pcma', 100)
+TALKS, SILENT = (State.ANSWERED, State.CLEAREDBACK), (State.IDLE, State.ACKED, State.RELEASING, State.BLOCKED)
+
+
+class WantedCodingTests(unittest.TestCase):
+    def test_what_is_needed(self) -> None:
+        """G.711 until the answer where both sites have it; what is there, was refused or is under way is not asked."""
+        rows: list[tuple[CircuitCoding, str | None, str | None, Coding | None, Coding | None]] = [
+            (CircuitCoding(G726, G726), 'pcma', 'pcma', PCMA, None),
+            (CircuitCoding(G726, G726), 'pcmu', 'pcmu', Coding('pcmu', 0), None),
+            (CircuitCoding(G726, PCMA), 'pcma', 'pcma', None, G726),
+            (CircuitCoding(G726, PCMA), 'pcma', None, G726, G726), (CircuitCoding(G726, PCMA), None, None, G726, G726),
+            (CircuitCoding(G726, PCMA), 'pcma', 'pcmu', G726, G726),
+            (CircuitCoding(OWN, OWN), 'pcma', 'pcma', None, None),
+            (CircuitCoding(G726, G726, PCMA), 'pcma', 'pcma', None, None),
+            (CircuitCoding(G726, PCMA, G726), 'pcma', 'pcma', None, None),
+            (CircuitCoding(G726, OWN, is_changing=True), 'pcma', 'pcma', None, None)]
+        for circuit, own, far, silent, talks in rows:
+            for states, wanted in ((SILENT, silent), (TALKS, talks)):
+                self.assertEqual({circuit.wanted(state, own, far) for state in states}, {wanted}, circuit)
+
+
+class CodecChangesTests(unittest.TestCase):
+    """A trunk that answers at once; `events` has what is told, `looked` which circuits are looked at again."""
+
+    is_up = True
+
+    def setUp(self) -> None:
+        self.asked, self.events = list[str](), list[tuple[str, Any]]()
+        self.looked, self.answers = list[int](), ['done'] * 9
+
+    def begin(self, task: Coroutine[Any, Any, None]) -> None:
+        with self.assertRaises(StopIteration):
+            task.send(None)
+
+    async def answer(self, command: str) -> str | None:
+        self.asked.append(command)
+        return self.answers.pop(0) or None
+
+    def tell(self, event: str, **fields: Any) -> None:
+        self.events.append((event, fields.get('about') or (fields['circuit'], fields['codec'], fields['payload'],
+                                                           fields['answer'])))
+
+    def changes(self, asked: str | None = 'pcma', law: str = 'A', far: str | None = 'pcma',
+                **codings: Coding) -> CodecChanges:
+        trunk: Any = self
+        made = CodecChanges(asked, trunk, self.tell, self.looked.append)
+        made.begin({'law': law, 'circuits': [
+            {'circuit': int(n[1:]), 'configured_codec': its.codec, 'configured_payload': its.payload,
+             'codec': 'pcmu', 'payload': 0} for n, its in codings.items()]})
+        made.heard(far)
+        return made
+
+    def test_warnings(self) -> None:
+        wrong = 'calls use their configured codec from the start: '
+        rows: tuple[tuple[dict[str, Any], str | None, str | None], ...] = (
+                ({'asked': None}, None, None), ({}, 'pcma', None),
+                ({'law': 'mu'}, None, 'pcma does not match the law of this trunk'),
+                ({'c1': Coding('g726-16', 8), 'c2': G726, 'c3': PCMA, 'c4': Coding('pcmu', 0)}, None,
+                 'the payload type of circuits 1, 4 is not in 96 to 127'),
+                ({'far': None}, 'pcma', 'the other site has no --until-answer'),
+                ({'far': 'pcmu'}, 'pcma', 'the other site has --until-answer pcmu'))
+        for more, own, about in rows:
+            self.setUp()
+            made = self.changes(**more)
+            made.heard(more.get('far', 'pcma'))
+            self.assertEqual((made.own, self.events), (own, [('warning', wrong + about)] if about else []), more)
+
+    def test_changes(self) -> None:
+        """Each is told, and the circuit is looked at again; a refused one is asked again once another was needed."""
+        made = self.changes(c1=G726, c2=G726)
+        made.give(1, State.IDLE)
+        made.give(1, State.ACKED)
+        made.give(3, State.IDLE)
+        self.answers[:2] = ['not now', 'done']
+        made.give(1, State.ANSWERED)
+        made.give(1, State.CLEAREDBACK)
+        made.give(1, State.IDLE)
+        self.assertEqual(self.asked, ['codec 1 pcma 8', 'codec 1 g726-16 96'])
+        made.stands({'circuit': 1, 'codec': 'pcmu', 'payload': 0})
+        made.stands({'circuit': 9, 'codec': 'pcmu', 'payload': 0})
+        made.give(1, State.IDLE)
+        made.give(1, State.ANSWERED)
+        self.assertEqual(self.asked[2:], ['codec 1 pcma 8', 'codec 1 g726-16 96'])
+        self.assertEqual(self.events, [('codec', (1, 'pcma', 8, 'done')), ('codec', (1, 'g726-16', 96, 'not now')),
+                                       ('codec', (1, 'pcma', 8, 'done')), ('codec', (1, 'g726-16', 96, 'done'))])
+        self.assertEqual(self.looked, [1] * 4)
+        made.stands({'circuit': 1, 'codec': 'pcma', 'payload': 8})
+        made.give(1, State.IDLE)
+        self.assertEqual(len(self.asked), 4)
+
+    def test_another_trunk(self) -> None:
+        made = self.changes()
+        made.begin({'law': 'mu', 'circuits': []})
+        self.assertIsNone(made.own)
+
+    def test_without_a_trunk_or_a_site(self) -> None:
+        """Nothing is asked; without an answer it is as if it had not been."""
+        made = self.changes(c1=G726)
+        self.is_up = False
+        made.give(1, State.IDLE)
+        self.is_up, self.answers[:1] = True, ['']
+        made.give(1, State.IDLE)
+        self.assertEqual((self.asked, self.events, self.looked), (['codec 1 pcma 8'], [], []))
+        made.give(1, State.IDLE)
+        self.assertEqual(self.looked, [1])
+        trunk: Any = self
+        alone = CodecChanges('pcma', trunk, self.tell, self.looked.append)
+        alone.begin({'law': 'A', 'circuits': [{'circuit': 1, 'configured_codec': 'g726-16', 'configured_payload': 96,
+                                               'codec': 'g726-16', 'payload': 96}]})
+        alone.give(1, State.IDLE)
+        self.assertEqual(len(self.asked), 2)
+
+    def test_one_at_a_time(self) -> None:
+        made = self.changes(c1=G726)
+        tasks = list[Coroutine[Any, Any, None]]()
+        setattr(self, 'begin', tasks.append)
+        made.give(1, State.IDLE)
+        made.give(1, State.ANSWERED)
+        made.stands({'circuit': 1, 'codec': 'pcma', 'payload': 8})       # (it is of before the answer)
+        self.assertEqual(len(tasks), 1)
+        self.answers[:1] = ['not now']
+        with self.assertRaises(StopIteration):
+            tasks[0].send(None)
+        made.give(1, State.ANSWERED)
+        self.assertEqual(len(tasks), 2)
+        tasks[1].close()
+
+    def test_leave(self) -> None:
+        made = self.changes(c1=G726, c2=G726, c3=Coding('pcmu', 0), c4=G726)
+        asyncio.run(made.leave([1, 3, 4, 5]))
+        self.assertEqual(self.asked, ['codec 1 g726-16 96', 'codec 4 g726-16 96'])
+        made.give(2, State.IDLE)
+        self.assertEqual((len(self.asked), self.looked), (2, [1, 4]))
+        self.is_up = False
+        asyncio.run(self.changes(c1=G726).leave([1]))
+        self.assertEqual(len(self.asked), 2)
