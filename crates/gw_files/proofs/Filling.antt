@@ -1,20 +1,15 @@
 -- What writes behind an octet leave before it.
-use Rattle.std.proofs.Common.{◌≡◌, ◌∙◌, ◌≤◌, ◌+◌, ◌++◌, ℕ, List, length, take, drop, ap, refl, arith}
+use Rattle.std.proofs.Common.{◌≡◌, ◌∙◌, ◌≤◌, ◌+◌, ◌++◌, ℕ, List, length, take, drop, ap, arith}
 use Rattle.std.proofs.lemmas.List.{length-append, length-take-le, take-append-le, take-take}
-use Rattle.log_files.specs.Stores.{IsWritten}
-use Rattle.gw_files.specs.LogFolder.{FillsFrom}
+use Rattle.log_files.specs.Stores.{IsWrittenAt}
 
 -- octets were written up to an octet, and what is before the first of them stays, if there are as many
 abbrev pub FillsUpTo : ℕ → ℕ → List ℕ → List ℕ → Type 0
 FillsUpTo from at start now = from ≤ length start → (at ≤ length now) × (take from now ≡ take from start)
 
--- .. none at first
-pub fills_none : (from : ℕ) (start : List ℕ) → FillsUpTo from from start start
-fills_none from start there = (there, refl)
-
 -- .. and more
 pub fills_on : (from at : ℕ) (octets start old new : List ℕ) → from ≤ at → FillsUpTo from at start old
-    → IsWritten at octets old new → FillsUpTo from (at + length octets) start new
+    → IsWrittenAt at octets old new → FillsUpTo from (at + length octets) start new
 fills_on from at octets start old new behind fills w there =
     let f = fills there in
     let rest = drop (at + length octets) old in
@@ -25,8 +20,3 @@ fills_on from at octets start old new behind fills w there =
       omega (arith, ap length w.is, length-append (take at old) (octets ++ rest), length-append octets rest, count),
       first ∙ take-take from at old behind ∙ f.1,
     )
-
--- all that is before the first of them stays
-pub fills_from : (from at : ℕ) (start now : List ℕ) → from ≤ at → FillsUpTo from at start now
-    → FillsFrom from start now
-fills_from from at start now behind fills there = let f = fills there in (omega (arith, behind, f.0), f.1)

@@ -3,7 +3,7 @@ use Rattle.std.specs.Prelude.{◌≡◌, ◌⊎◌, ◌+◌, ◌*◌, ◌≤◌,
 use Rattle.std.specs.declared.fs.File.{File}
 use Rattle.std.specs.declared.io.Error.{Error}
 use Rattle.gw_state.specs.Memory.{MemoryIsRefused}
-use Rattle.log_files.specs.Stores.{IsWritten}
+use Rattle.log_files.specs.Stores.{IsWrittenAt}
 use Rattle.gw_machine.specs.Files.{SystemHasLocked, SystemKeeps, SystemLocks, SystemRefusesFile}
 use Rattle.gw_machine.specs.Log.{in_folder}
 use Rattle.gw_machine.specs.Status.{SaysRefused}
@@ -47,7 +47,7 @@ FillsFrom from old new = from ≤ length old → (from ≤ length new) × (take 
 
 -- so many octets were written from an octet on
 abbrev pub WritesSome : ℕ → ℕ → List ℕ → List ℕ → Type 0
-WritesSome at len old new = (octets : List ℕ) × (length octets ≡ len) × IsWritten at octets old new
+WritesSome at len old new = (octets : List ℕ) × (length octets ≡ len) × IsWrittenAt at octets old new
 
 -- a file at a path has all its room: behind what it had there are zeros
 pub record HasRoomAt (path : List ℕ) (room : ℕ) : Type 0 where

@@ -117,7 +117,8 @@ impl LogContents {
     ///
     /// # Errors
     ///
-    /// [`ProgramFault::BadLog`] if something was kept and nothing is whole, or it is not known which is newer.
+    /// [`ProgramFault::BadLog`] if something was kept and nothing is whole, or it is not known which is
+    /// newer.
     pub(crate) fn newest(&self) -> Result<Option<Loaded<'_>>, ProgramFault>
         ensures ok { IfOk result (IsFoundIn (contents_of self.now.first) (contents_of self.now.second)) }
         ensures counted { IfOk result (λ found. IfSome found loading.IsCounted) }

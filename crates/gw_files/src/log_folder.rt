@@ -1,13 +1,14 @@
 //! The folder of a trunk's log: who has it, and the room of its files (`lock_log`).
 
-ghost use Rattle.std.specs.Prelude.{◌≡◌, ◌≤◌, ◌+◌, IfOk, IfErr, OnOk, OnErr, codes, string_bytes, true, false};
+ghost use Rattle.std.specs.Prelude.{◌≡◌, ◌≤◌, ◌+◌, IfOk, IfErr, OnOk, OnErr, true, false};
+ghost use Rattle.std.specs.Prelude.{codes, string_bytes};
 ghost use Rattle.gw_state.specs.Memory.{MemoryIsRefused};
 ghost use Rattle.log_files.specs.Stores.{WhereKnown};
 ghost use Rattle.gw_files.specs.Files.{SystemHasLocked, SystemKeeps, SystemLocks, SystemRefusesFile};
 ghost use Rattle.gw_machine.specs.Log.{in_folder};
-ghost use Rattle.gw_files.specs.LogFolder.{FillsFrom, HasLogRoom, HasRoomAt, IsLockOf};
-ghost use Rattle.gw_files.specs.LogFolder.{FailsToLock, HasLocked, LacksLock, LacksLogRoom, LacksRoom, SystemFills};
-ghost use Rattle.gw_files.specs.LogFolder.{SystemFailsToFill, SystemFailsToLock, SystemShowsLen, WritesSome};
+ghost use Rattle.gw_files.specs.LogFolder.{FillsFrom, HasLogRoom, HasRoomAt, IsLockOf, WritesSome};
+ghost use Rattle.gw_files.specs.LogFolder.{FailsToLock, HasLocked, LacksLock, LacksLogRoom, LacksRoom};
+ghost use Rattle.gw_files.specs.LogFolder.{SystemFailsToFill, SystemFailsToLock, SystemFills, SystemShowsLen};
 
 use crate::files::open_file;
 use gw_machine::{Machine, ProgramFault};

@@ -1,7 +1,7 @@
 //! How the log of a trunk is begun or goes on (`begin_log`).
 
 ghost use Rattle.std.specs.Prelude.{◌≡◌, IfOk, IfErr};
-ghost use Rattle.gw_log.specs.Logs.{GoesOnWith, IsUnused};
+ghost use Rattle.gw_log.specs.Logs.{HasBegunLog, IsUnused};
 ghost use Rattle.gw_files.specs.LogTape.{LacksLogFiles, LacksStores, LacksTrunkLog, checkpoint_trouble};
 
 use crate::log_contents::log_contents;
@@ -98,7 +98,7 @@ pub fn begin_log(
     config: &GatewayConfig,
     gateway: &Gateway,
 ) -> Result<TrunkLog<FileStore>, ProgramFault>
-    ensures ok { IfOk result (GoesOnWith config.now gateway.now) }
+    ensures ok { IfOk result (HasBegunLog config.now gateway.now) }
     ensures err { IfErr result (LacksTrunkLog folder.now gateway.now) }
 {
     let mut log = log_behind(rt, folder, config)?;

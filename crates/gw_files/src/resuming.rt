@@ -5,7 +5,8 @@ ghost use Rattle.gw_state.specs.Memory.{MemoryIsRefused};
 ghost use Rattle.gw_state.specs.declared.loading.Loaded.{Loaded};
 ghost use Rattle.log_files.specs.Loading.{kept_of};
 ghost use Rattle.gw_machine.specs.Log.{FailsToGive, FailsToRenew, FailsToResume, GoesOnWith};
-ghost use Rattle.gw_machine.specs.Log.{HaveSameCircuits, IsFromLog, IsNewLog, IsReplayed, IsResumed, LacksLogged, WasGivenAll};
+ghost use Rattle.gw_machine.specs.Log.{HaveSameCircuits, IsFromLog, IsNewLog, IsReplayed, IsResumed};
+ghost use Rattle.gw_machine.specs.Log.{LacksLogged, WasGivenAll};
 ghost use Rattle.gw_machine.specs.State.{WasLoaded};
 ghost use Rattle.gw_files.specs.Resuming.{run_trouble};
 

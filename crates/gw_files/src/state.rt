@@ -298,8 +298,9 @@ pub fn begin_gateway(
     place: Option<u64>,
     wait: Option<u16>,
 ) -> Result<Gateway, ProgramFault>
-    ensures ok { IfOk result (BeginsWaiting (BeginsFrom config.now (option_map (λ folder. folder.now) log.entry)
-        (option_map (λ path. path.now) path.entry) (λ asked. asked ≡ place)) (λ asked. asked ≡ wait)) }
+    ensures ok { IfOk result (BeginsWaiting (BeginsFrom config.now
+        (option_map (λ folder. folder.now) log.entry) (option_map (λ path. path.now) path.entry)
+        (λ asked. asked ≡ place)) (λ asked. asked ≡ wait)) }
     ensures err { IfErr result (LacksFirst config.now (option_map (λ folder. folder.now) log.entry)
         (option_map (λ path. path.now) path.entry) (λ asked. asked ≡ place)) }
 {

@@ -10,7 +10,7 @@ use Rattle.gw_records.specs.declared.outcome.RunFault.{RunFault}
 use Rattle.gw_session.specs.Tape.{WritesRecords}
 use Rattle.gw_session.proofs.Taping.{records_over, records_written}
 use Rattle.log_files.proofs.Logs.{stands_left}
-use Rattle.gw_log.specs.Logs.{Appended, EndsFor, Keeps, LeavesOf, TrunkLogState, kept_of, told_by}
+use Rattle.gw_log.specs.Logs.{Appended, EndsFor, Keeps, LeavesOf, TrunkLogState, kept_as, told_by}
 
 -- files that stay have what is kept still
 pub left_still : {log log' : TrunkLogState} {place : ℕ} {gateway : Gateway} {records : List ℕ}
@@ -37,7 +37,7 @@ ends_broken log log' octets (Err e) is going left fault same =
       left = λ place gateway records k.
           ⊎_elim (λ l. inl (record { turn = log.files.turn; left = rw config l }))
           (λ l. inr (record { turn = log.files.turn; left = rw config l }))
-          (left (kept_of log.files.turn log.config place gateway records) k.stands);
+          (left (kept_as log.files.turn log.config place gateway records) k.stands);
     }))
 
 -- a log as a sink of octets

@@ -11,5 +11,5 @@ unfoldable pub checkpoint : ℕ → List ℕ → List ℕ
 checkpoint place state = checkpoint_mark ++ (big_bytes 8 place ++ state)
 
 -- the octet of the log behind which a checkpoint is; 0 of octets that are too few for one
-abbrev pub place_in : List ℕ → ℕ
-place_in octets = if nat_lt (length octets) 12 then 0 else big_number 8 (drop 4 octets)
+abbrev pub checkpoint_place : List ℕ → ℕ
+checkpoint_place octets = if nat_lt (length octets) 12 then 0 else big_number 8 (drop 4 octets)

@@ -14,7 +14,7 @@ use Rattle.log_files.specs.declared.loading.KeptContents.{KeptContents}
 use Rattle.log_files.specs.declared.loading.Loaded.{Loaded}
 use Rattle.log_files.specs.declared.loading.Loaded.TheVariants.{First, Second}
 use Rattle.log_files.specs.Stores.{WhereKnown}
-use Rattle.gw_log.specs.Checkpoints.{checkpoint, place_in}
+use Rattle.gw_log.specs.Checkpoints.{checkpoint, checkpoint_place}
 use Rattle.gw_log.specs.declared.file_log.LogFault.{LogFault}
 use Rattle.gw_log.specs.declared.file_log.LogFault.TheVariants as faults
 
@@ -35,14 +35,14 @@ abbrev pub told_by : TrunkLogState → TapeState
 told_by log = record { ended = log.ended; failures = log.failures; taken = Some log.taken; acts = None }
 
 -- a gateway at this place, and octets of records behind it, as they are kept in a turn
-abbrev pub kept_of : ℕ → GatewayConfig → ℕ → Gateway → List ℕ → Kept
-kept_of turn config place gateway records =
+abbrev pub kept_as : ℕ → GatewayConfig → ℕ → Gateway → List ℕ → Kept
+kept_as turn config place gateway records =
     record { turn = turn; state = checkpoint place (state_file config gateway); records = records }
 
 -- the files have this gateway at this place, and behind it these octets of records, which are the last that
 -- the log took
 pub record Keeps (log : TrunkLogState) (place : ℕ) (gateway : Gateway) (records : List ℕ) : Type 0 where
-  pub stands : StandsFor log.files (kept_of log.files.turn log.config place gateway records)
+  pub stands : StandsFor log.files (kept_as log.files.turn log.config place gateway records)
   pub at : log.place ≡ place + length records
   pub before : List ℕ
   pub took : log.taken ≡ before ++ records
@@ -51,7 +51,7 @@ pub record Keeps (log : TrunkLogState) (place : ℕ) (gateway : Gateway) (record
 -- this is loaded of the files
 pub record LeavesOf (log : TrunkLogState) (place : ℕ) (gateway : Gateway) (records : List ℕ) : Type 0 where
   pub turn : ℕ
-  pub left : LeavesKept log.files (kept_of turn log.config place gateway records)
+  pub left : LeavesKept log.files (kept_as turn log.config place gateway records)
 
 -- so many octets of records can be appended
 pub record CanAppend (log : TrunkLogState) (len : ℕ) : Type 0 where
@@ -71,14 +71,14 @@ pub record Takes (log log' : TrunkLogState) (octets : List ℕ) : Type 0 where
       → Keeps log' place gateway (records ++ octets)
 
 -- the octet of a log behind what was kept: that of its checkpoint, and the octets of records behind it
-abbrev pub place_behind : KeptContents → ℕ
-place_behind kept = at_most (place_in kept.state.now + length kept.records.now)
+abbrev pub place_after_kept : KeptContents → ℕ
+place_after_kept kept = at_most (checkpoint_place kept.state.now + length kept.records.now)
 
 -- the log behind what was loaded, if there was something
 abbrev pub place_of : Option Loaded → ℕ
 place_of None = 0
-place_of (Some (First kept)) = place_behind kept
-place_of (Some (Second kept)) = place_behind kept
+place_of (Some (First kept)) = place_after_kept kept
+place_of (Some (Second kept)) = place_after_kept kept
 
 -- the files of which one pair has what was kept
 abbrev pub files_of : PairState → PairState → KeptContents → LogState
@@ -137,7 +137,7 @@ pub record HalfCheckpointed (log log' : TrunkLogState) (gateway : Gateway) : Typ
   pub left : (kept : Kept) → StandsFor log.files kept
       → LeavesKept log'.files kept ⊎ LeavesOf log' log.place gateway []
   pub written : WhereKnown log.files.other.contents log'.files.other.contents
-      (MayLeave (kept_of (log.files.turn + 1) log.config log.place gateway []))
+      (MayLeave (kept_as (log.files.turn + 1) log.config log.place gateway []))
   pub same : log' ≡ record log { files = record log.files { other = log'.files.other }; broken = true }
   pub failed : log'.files.other.failed ≡ true
 
@@ -163,7 +163,7 @@ pub record IsUnused (config : GatewayConfig) (log : TrunkLogState) : Type 0 wher
   pub new : told_by log ≡ record { ended = false; failures = 0; taken = Some []; acts = None }
 
 -- A log that goes on: nothing was appended to it yet, and a checkpoint of this gateway was written.
-pub record GoesOnWith (config : GatewayConfig) (gateway : Gateway) (log : TrunkLogState) : Type 0 where
+pub record HasBegunLog (config : GatewayConfig) (gateway : Gateway) (log : TrunkLogState) : Type 0 where
   pub before : TrunkLogState
   pub unused : IsUnused config before
   pub checkpointed : Checkpointed before log gateway

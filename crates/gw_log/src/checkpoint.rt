@@ -4,7 +4,7 @@ ghost use Rattle.std.specs.Prelude.{◌≡◌, ◌++◌, IfOk, OnErr};
 ghost use Rattle.byteorder.specs.Endian.{big_bytes};
 ghost use Rattle.gw_state.specs.Layout.{state_file};
 ghost use Rattle.gw_state.specs.Memory.{MemoryIsRefused};
-ghost use Rattle.gw_log.specs.Checkpoints.{checkpoint, checkpoint_mark, place_in};
+ghost use Rattle.gw_log.specs.Checkpoints.{checkpoint, checkpoint_mark, checkpoint_place};
 
 use byteorder::{BigEndian, ByteOrder};
 use gw_state::state_file;
@@ -24,8 +24,8 @@ fn checkpoint_head(place: u64) -> [u8; HEAD_LEN]
 }
 
 // The place of a checkpoint; 0 of what is none.
-pub(crate) fn place_in(octets: &[u8]) -> u64
-    ensures { result ≡ place_in octets.now }
+pub(crate) fn checkpoint_place(octets: &[u8]) -> u64
+    ensures { result ≡ checkpoint_place octets.now }
 {
     if octets.len() < HEAD_LEN {
         return 0;

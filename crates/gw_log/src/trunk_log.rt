@@ -8,9 +8,9 @@ ghost use Rattle.gw_session.specs.Running.{all_kinds};
 ghost use Rattle.gw_session.specs.Tape.{HasEnded, Learns, Recorded, WritesRecords};
 ghost use Rattle.gw_session.specs.Tape.{answers_at, keeps_at, sends_at};
 ghost use Rattle.gw_log.specs.Logs.{Appended, Checkpointed, Shown, Uncheckpointed, files_over};
-ghost use Rattle.gw_log.specs.Logs.{place_behind, place_of, told_by};
+ghost use Rattle.gw_log.specs.Logs.{place_after_kept, place_of, told_by};
 
-use crate::checkpoint::place_in;
+use crate::checkpoint::checkpoint_place;
 use crate::file_log::{FileLog, LogFault};
 use g704_cas::CircuitNo;
 use gw_records::RecordHead;
@@ -21,10 +21,10 @@ use std::alloc::Global;
 use std::marker::Model;
 
 // The place behind what was kept: that of its checkpoint, and the octets of records behind it.
-fn place_behind(kept: &KeptContents<'_>) -> u64
-    ensures { result ≡ place_behind kept.now }
+fn place_after_kept(kept: &KeptContents<'_>) -> u64
+    ensures { result ≡ place_after_kept kept.now }
 {
-    place_in(kept.state).saturating_add(kept.records.len() as u64)
+    checkpoint_place(kept.state).saturating_add(kept.records.len() as u64)
 }
 
 // The files of a log of whose pairs this was loaded.
@@ -48,7 +48,7 @@ fn place_of(loaded: &Option<Loaded<'_>>) -> u64
     ensures { result ≡ place_of loaded.now }
 {
     match loaded {
-        Some(Loaded::First(kept)) | Some(Loaded::Second(kept)) => place_behind(kept),
+        Some(Loaded::First(kept)) | Some(Loaded::Second(kept)) => place_after_kept(kept),
         None => 0,
     }
 }

@@ -18,7 +18,7 @@ use Rattle.gw_records.specs.Records.{Reads, Record, is_open}
 use Rattle.gw_session.specs.Answers.{events}
 use Rattle.gw_session.specs.Running.{all_kinds}
 use Rattle.log_files.specs.Area.{IsBlank}
-use Rattle.log_files.specs.Pairs.{Contents, HasNothing, HaveSameTurn, IsNewest, Kept}
+use Rattle.log_files.specs.Pairs.{Contents, HasNothingWhole, HaveSameTurn, IsNewest, Kept}
 use Rattle.gw_machine.specs.Renewals.{AreTold}
 use Rattle.gw_machine.specs.Setup.{IsUnreadAt, PathGives}
 use Rattle.gw_machine.specs.State.{HasBegun, IsNoState, LacksGateway, WasLoaded, load_trouble}
@@ -40,7 +40,8 @@ pub record FolderGives (folder : List ℕ) (first second : Contents) : Type 0 wh
 -- why the files in a folder are not read: the system refuses one, or memory was refused
 abbrev pub LacksFiles : List ℕ → ProgramFault → Type 0
 LacksFiles folder fault =
-    SaysRefused (λ error. (name : List ℕ) × IsUnreadAt (in_folder folder name) error) program_faults.NoLog fault
+    SaysRefused (λ error. (name : List ℕ) × IsUnreadAt (in_folder folder name) error)
+    program_faults.NoLog fault
     ⊎ ((fault ≡ program_faults.OutOfMemory) × MemoryIsRefused)
 
 -- the log in a folder has this, and nothing newer
@@ -53,7 +54,7 @@ pub record IsInLog (folder : List ℕ) (kept : Kept) : Type 0 where
 -- in neither pair of files anything was ever kept
 abbrev pub AreNewFiles : Contents → Contents → Type 0
 AreNewFiles first second =
-    HasNothing first × HasNothing second × IsBlank first.state × IsBlank second.state
+    HasNothingWhole first × HasNothingWhole second × IsBlank first.state × IsBlank second.state
 
 -- in the log in a folder nothing was ever kept
 pub record IsNewLog (folder : List ℕ) : Type 0 where
@@ -65,10 +66,10 @@ pub record IsNewLog (folder : List ℕ) : Type 0 where
 -- nothing is whole in two pairs of files, though something was kept, or it is not known which is newer
 abbrev pub AreDamaged : Contents → Contents → Type 0
 AreDamaged first second = HaveSameTurn first second
-    ⊎ (HasNothing first × HasNothing second × ¬ (IsBlank first.state × IsBlank second.state))
+    ⊎ (HasNothingWhole first × HasNothingWhole second × ¬ (IsBlank first.state × IsBlank second.state))
 
 -- so is it in the log in a folder
-pub record IsDamaged (folder : List ℕ) : Type 0 where
+pub record IsDamagedLog (folder : List ℕ) : Type 0 where
   pub first : Contents
   pub second : Contents
   pub gives : FolderGives folder first second
@@ -151,7 +152,7 @@ pub record IsFromLog (folder : List ℕ) (config : GatewayConfig) (gateway : Gat
 -- why there is none: a file is not read, nothing in the log is whole, or what was kept is refused
 abbrev pub LacksLogged : List ℕ → ProgramFault → Type 0
 LacksLogged folder fault = LacksFiles folder fault
-    ⊎ ((fault ≡ program_faults.BadLog) × IsDamaged folder)
+    ⊎ ((fault ≡ program_faults.BadLog) × IsDamagedLog folder)
     ⊎ ((kept : Kept) × IsInLog folder kept × FailsToResume kept fault)
 
 -- What a session begins with: the gateway that goes on from the log, if one is named in which something was

@@ -112,8 +112,8 @@ impl ProgramFault {
         }
     }
 
-    /// The exit status: 1 for a fault of a session, a socket or a trunk, if a state is not saved or a log has too
-    /// little room, 2 if the
+    /// The exit status: 1 for a fault of a session, a socket or a trunk, if a state is not saved or a log has
+    /// too little room, 2 if the
     /// command line, a file or the configuration is refused, and 3 if out of memory.
     pub fn status(&self) -> u8
         ensures { result ≡ program_fault_status self.now }

@@ -1,5 +1,6 @@
 -- Why a session or a trunk that the command line names was not begun.
-use Rattle.std.specs.Prelude.{◌≡◌, ◌≢◌, ◌⊎◌, ⊤, Bool, List, ℕ, Option, Some, None, IsSomeAnd, string_bytes, codes}
+use Rattle.std.specs.Prelude.{◌≡◌, ◌≢◌, ◌⊎◌, ⊤, Bool, List, ℕ, Option, Some, None, IsSomeAnd, codes}
+use Rattle.std.specs.Prelude.{string_bytes}
 use Rattle.std.specs.declared.io.Error.{Error}
 use Rattle.gw_config.specs.declared.config.Config.{Config}
 use Rattle.gw_command.specs.Command.{text_in}

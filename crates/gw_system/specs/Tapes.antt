@@ -9,9 +9,10 @@ use Rattle.gw_files.specs.declared.recording.Recording.{Recording}
 use Rattle.gw_machine.specs.declared.program_fault.ProgramFault.{ProgramFault}
 use Rattle.gw_machine.specs.declared.program_fault.ProgramFault.TheVariants as program_faults
 
--- a session is recorded on the log of a trunk if a folder is named for one, and otherwise on what is asked for
-abbrev pub BeginsTape : {A B X : Type 0} → Option (List ℕ) → Option X → (A → Type 0) → (B → Type 0) → OneOf A B
-    → Type 0
+-- a session is recorded on the log of a trunk if a folder is named for one, and otherwise on what is asked
+-- for
+abbrev pub BeginsTape : {A B X : Type 0} → Option (List ℕ) → Option X → (A → Type 0) → (B → Type 0)
+    → OneOf A B → Type 0
 BeginsTape None recording Records Keeps (First tape) = Records tape
 BeginsTape (Some folder) recording Records Keeps (Second log) = (recording ≡ None) × Keeps log
 BeginsTape _ recording Records Keeps _ = ⊥

@@ -1,6 +1,7 @@
 //! What the command line says of senders, of repeats and of the recording.
 
-ghost use Rattle.std.specs.Prelude.{◌≡◌, IfErr, IfOk, IfSome, IsSomeAnd, MatchOption, None, option_map, codes};
+ghost use Rattle.std.specs.Prelude.{◌≡◌, IfErr, IfOk, IfSome, IsSomeAnd, MatchOption, None, option_map};
+ghost use Rattle.std.specs.Prelude.{codes};
 ghost use Rattle.clap.specs.Words.{subcommand_rows_of};
 ghost use Rattle.gw_command.specs.Command.{HasFlag, text_in};
 ghost use Rattle.gw_machine.specs.CommandLine.{AsksPlace, log_in};

@@ -95,7 +95,7 @@ impl<R: Machine> System for Local<'_, R> {
     ghost use Rattle.gw_system.specs.Lacking.{LacksTeller};
     ghost use Rattle.gw_system.specs.Opening.{IsOfOpening};
     ghost use Rattle.gw_system.specs.Tapes.{BeginsTape, LacksTape};
-    ghost use Rattle.gw_log.specs.Logs.{GoesOnWith};
+    ghost use Rattle.gw_log.specs.Logs.{HasBegunLog};
     ghost use Rattle.gw_system.specs.Telling.{AreToldEnd, TellsAsked};
     ghost use Rattle.gw_udp.specs.Calls.{IsFresh};
     ghost use Rattle.gw_repeat.specs.Words.{HasPacketWords};
@@ -130,7 +130,7 @@ impl<R: Machine> System for Local<'_, R> {
         × MatchOption s.recording (tape ≡ None)
         (λ asked. IsSomeAnd tape (λ recorder. IsSomeAnd recorder.sink.writer
         (IsOpenedFor asked.path.now asked.over asked.waits))))
-        (GoesOnWith config.gateway gateway) tape };
+        (HasBegunLog config.gateway gateway) tape };
 
     ghost opens = { λ s config ports. HasEndpoints (TakesFrom ⟦<Resting<SystemSocket> as Socket>⟧.is_bound
         ⟦<Resting<SystemSocket> as Socket>⟧.is_open s.senders) SystemLooksUp

@@ -3,7 +3,7 @@ use Rattle.std.proofs.Common.{◌≡◌, ◌∙◌, ◌+◌, ◌<◌, ◌++◌, 
 use Rattle.std.proofs.Common.{inl, inr, ⊎_elim, ◌⊎◌, Option, Some, None, IfSome, length-append}
 use Rattle.log_files.specs.Adler.{Sums, sum_of, sums_of}
 use Rattle.log_files.specs.Area.{IsBlank, IsNoArea, head, head_of}
-use Rattle.log_files.specs.Pairs.{Contents, Counts, Has, HasMore, HasNothing, IsBefore, IsNewer, IsNewest}
+use Rattle.log_files.specs.Pairs.{Contents, Counts, Has, HasMore, HasNothingWhole, IsBefore, IsNewer, IsNewest}
 use Rattle.log_files.specs.Pairs.{Kept, LeavesKept, LogState, MayHaveMore, MayLeave, StandsFor, begun, with_more}
 use Rattle.log_files.specs.Stores.{AreKnown, WhereKnown}
 use Rattle.log_files.proofs.Heads.{area_head, one_content, same_head}
@@ -178,7 +178,7 @@ module _ {first second : Contents} where
   newest_second n kept (inr m) = one_kept n.0 m.0
 
   -- where neither has anything, nothing is newest
-  pub newest_none : HasNothing first → HasNothing second → (kept : Kept) → IsNewest first second kept → ⊥
+  pub newest_none : HasNothingWhole first → HasNothingWhole second → (kept : Kept) → IsNewest first second kept → ⊥
   newest_none none nor kept (inl m) = none kept m.0
   newest_none none nor kept (inr m) = nor kept m.0
 
@@ -191,7 +191,7 @@ module _ {first second : Contents} where
       let one = same_turn k m.0 in let other = m.1 a h in omega arith
 
 -- a pair that has something is newer than one that has nothing
-pub newer_than_none : {pair other : Contents} {kept : Kept} → Has pair kept → HasNothing other → IsNewer pair other kept
+pub newer_than_none : {pair other : Contents} {kept : Kept} → Has pair kept → HasNothingWhole other → IsNewer pair other kept
 newer_than_none h none = (h, λ kept k. absurd (none kept k))
 
 -- what stands is left

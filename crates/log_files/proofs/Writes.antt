@@ -5,7 +5,7 @@ use Rattle.std.proofs.lemmas.List.{drop_at, take_at, length-append}
 use Rattle.std.proofs.lemmas.List.Elements.{All-replicate}
 use Rattle.log_files.specs.Area.{IsArea, IsBlank, head, head_of}
 use Rattle.log_files.specs.Pairs.{Counts, Has, HasMore, Kept, MayHaveMore, MayLeave, begun, both}
-use Rattle.log_files.specs.Stores.{IsWritten, WhereKnown, WritesHead}
+use Rattle.log_files.specs.Stores.{IsWrittenAt, WhereKnown, WritesHead}
 use Rattle.log_files.specs.declared.store.StoreFault.{StoreFault}
 use Rattle.log_files.proofs.Known.{where_both, where_same, where_so, where_then}
 
@@ -15,7 +15,7 @@ unfolding head_of
 length-head turn octets = refl
 
 -- what a head that was written is before
-front : (turn : ℕ) (octets : List ℕ) {old new : List ℕ} → IsWritten 0 (head turn octets) old new
+front : (turn : ℕ) (octets : List ℕ) {old new : List ℕ} → IsWrittenAt 0 (head turn octets) old new
     → new ≡ head turn octets ++ drop 24 old
 front turn octets {old = old} w =
     let n : 0 + length (head turn octets) ≡ 24 = omega (arith, length-head turn octets) in
@@ -27,16 +27,16 @@ pub record IsHidden (content octets : List ℕ) : Type 0 where
   pub content_is : content ≡ replicate 24 0 ++ (octets ++ behind)
 
 -- a head is taken away
-pub hidden : {old new : List ℕ} → IsWritten 0 (replicate 24 0) old new → IsHidden new []
+pub hidden : {old new : List ℕ} → IsWrittenAt 0 (replicate 24 0) old new → IsHidden new []
 hidden {old = old} w = record { behind = drop 24 old; content_is = w.is }
 
 -- .. in a store
-pub hides_head : {a b : Option (List ℕ)} → WhereKnown a b (IsWritten 0 (replicate 24 0))
+pub hides_head : {a b : Option (List ℕ)} → WhereKnown a b (IsWrittenAt 0 (replicate 24 0))
     → WhereKnown a b (λ _ new. IsHidden new [])
 hides_head w = where_so (λ _ new. IsHidden new []) w (λ x y is. hidden is)
 
 -- octets are written behind where it was
-pub hidden_more : {old new octets before : List ℕ} → IsHidden old before → IsWritten 24 octets old new
+pub hidden_more : {old new octets before : List ℕ} → IsHidden old before → IsWrittenAt 24 octets old new
     → IsHidden new octets
 hidden_more {old = old} {octets = octets} h w = record {
   behind = drop (24 + length octets) old;
@@ -50,7 +50,7 @@ hidden_blank h = rw h.content_is (All-replicate (λ (x : ℕ). x ≡ 0) 24 0 ref
 module _ {turn : ℕ} (turn_fits : turn < 2 ^ 64) where
   -- the head of octets that are there is written
   pub shown : {old new octets : List ℕ} → length octets < 2 ^ 32 → IsHidden old octets
-      → IsWritten 0 (head turn octets) old new → IsArea new turn octets
+      → IsWrittenAt 0 (head turn octets) old new → IsArea new turn octets
   shown {octets = octets} few h w = record {
     behind = h.behind;
     content_is = front turn octets w ∙ ap (λ (xs : List ℕ). head turn octets ++ drop 24 xs) h.content_is;
@@ -59,7 +59,7 @@ module _ {turn : ℕ} (turn_fits : turn < 2 ^ 64) where
   }
 
   -- the head of no octet is written
-  pub emptied : {old new : List ℕ} → IsWritten 0 (head turn []) old new → IsArea new turn []
+  pub emptied : {old new : List ℕ} → IsWrittenAt 0 (head turn []) old new → IsArea new turn []
   emptied {old = old} w = record {
     behind = drop 24 old;
     content_is = front turn [] w;
@@ -69,7 +69,7 @@ module _ {turn : ℕ} (turn_fits : turn < 2 ^ 64) where
 
   -- octets are written behind those of an area, which stay
   pub behind_them : {old new octets : List ℕ} (more : List ℕ) → IsArea old turn octets
-      → IsWritten (24 + length octets) more old new
+      → IsWrittenAt (24 + length octets) more old new
       → (behind : List ℕ) × (new ≡ head turn octets ++ (octets ++ (more ++ behind)))
   behind_them {old = old} {octets = octets} more a w =
       let before = head turn octets ++ octets in
@@ -92,26 +92,26 @@ Hides a b octets = WhereKnown a b (λ _ new. IsHidden new octets)
 module _ {turn : ℕ} (turn_fits : turn < 2 ^ 64) (state : List ℕ) (few : length state < 2 ^ 32) where
   -- a state's head was taken away, or was not
   pub leaves_first : {a b : Option (List ℕ)} (r : Option (List ℕ))
-      → WhereKnown a b (λ old new. (new ≡ old) ⊎ (IsWritten 0 (replicate 24 0) old new))
+      → WhereKnown a b (λ old new. (new ≡ old) ⊎ (IsWrittenAt 0 (replicate 24 0) old new))
       → WhereKnown (both a r) (both b r) (MayLeave (begun turn state))
   leaves_first r w = where_both (MayLeave (begun turn state)) w (where_same r (λ x y. y ≡ x) (λ x. refl))
       (λ a b x y p q. ⊎_elim (λ (same : b ≡ a). inl (cc))
-      (λ (is : IsWritten 0 (replicate 24 0) a b). inr (inl (hidden_blank (hidden is)))) p)
+      (λ (is : IsWrittenAt 0 (replicate 24 0) a b). inr (inl (hidden_blank (hidden is)))) p)
 
   -- it was, and octets are behind it
   pub leaves_none : {a b r r' : Option (List ℕ)} (octets head : List ℕ) → Hides a b octets
-      → WhereKnown r r' (λ old new. (new ≡ old) ⊎ IsWritten 0 head old new)
+      → WhereKnown r r' (λ old new. (new ≡ old) ⊎ IsWrittenAt 0 head old new)
       → WhereKnown (both a r) (both b r') (MayLeave (begun turn state))
   leaves_none octets head h w = where_both (MayLeave (begun turn state)) h w (λ a b x y p q. inr (inl (hidden_blank p)))
 
   -- octets are written behind it
   pub hides : {a b c : Option (List ℕ)} {before : List ℕ} (octets : List ℕ) → Hides a b before
-      → WhereKnown b c (λ old new. IsWritten 24 octets old new) → Hides a c octets
+      → WhereKnown b c (λ old new. IsWrittenAt 24 octets old new) → Hides a c octets
   hides octets h w = where_then (λ _ new. IsHidden new octets) h w (λ x y z p q. hidden_more p q)
 
   -- .. or some of them
   pub hides_some : {a b c : Option (List ℕ)} {before octets : List ℕ} (r : Option (List ℕ)) → Hides a b before
-      → WhereKnown b c (λ old new. (n : ℕ) × (n ≤ length octets) × (IsWritten 24 (take n octets) old new))
+      → WhereKnown b c (λ old new. (n : ℕ) × (n ≤ length octets) × (IsWrittenAt 24 (take n octets) old new))
       → WhereKnown (both a r) (both c r) (MayLeave (begun turn state))
   hides_some {octets = octets} r h w = where_both (MayLeave (begun turn state))
       (where_then (λ _ new. (n : ℕ) × IsHidden new (take n octets)) h w (λ x y z p q. (q.0, hidden_more p q.2)))
@@ -119,8 +119,8 @@ module _ {turn : ℕ} (turn_fits : turn < 2 ^ 64) (state : List ℕ) (few : leng
 
   -- a state is behind, no record was written, and then the state's head
   pub has_begun : {a c d r r' : Option (List ℕ)} → Hides a c state
-      → WhereKnown r r' (λ old new. IsWritten 0 (head turn []) old new)
-      → WhereKnown c d (λ old new. IsWritten 0 (head turn state) old new)
+      → WhereKnown r r' (λ old new. IsWrittenAt 0 (head turn []) old new)
+      → WhereKnown c d (λ old new. IsWrittenAt 0 (head turn state) old new)
       → WhereKnown (both a r) (both d r') (λ _ pair. Has pair (begun turn state))
   has_begun h w v = where_both (λ _ pair. Has pair (begun turn state))
       (where_then (λ _ new. IsArea new turn state) h v (λ x y z p q. shown turn_fits few p q)) w
@@ -128,26 +128,26 @@ module _ {turn : ℕ} (turn_fits : turn < 2 ^ 64) (state : List ℕ) (few : leng
 
   -- .. or that failed
   pub may_have_begun : {a c d r r' : Option (List ℕ)} → Hides a c state
-      → WhereKnown r r' (λ old new. IsWritten 0 (head turn []) old new)
-      → WhereKnown c d (λ old new. (new ≡ old) ⊎ (IsWritten 0 (head turn state) old new))
+      → WhereKnown r r' (λ old new. IsWrittenAt 0 (head turn []) old new)
+      → WhereKnown c d (λ old new. (new ≡ old) ⊎ (IsWrittenAt 0 (head turn state) old new))
       → WhereKnown (both a r) (both d r') (MayLeave (begun turn state))
   may_have_begun h w v = where_both (MayLeave (begun turn state))
       (where_then (λ _ new. IsHidden new state ⊎ IsArea new turn state) h v (λ x y z p q.
       ⊎_elim (λ (same : z ≡ y). inl (rw same p))
-      (λ (is : IsWritten 0 (head turn state) y z). inr (shown turn_fits few p is)) q)) w
+      (λ (is : IsWrittenAt 0 (head turn state) y z). inr (shown turn_fits few p is)) q)) w
       (λ a b x y p q. ⊎_elim (λ (hid : IsHidden b state). inr (inl (hidden_blank hid)))
       (λ (is : IsArea b turn state). inr (inr (record { state = is; records = emptied turn_fits q }))) p)
 
   -- .. as the result of that call says
   pub begins : {a c d r r' : Option (List ℕ)} (result : Result (Unit {0}) StoreFault) → Hides a c state
-      → WhereKnown r r' (λ old new. IsWritten 0 (head turn []) old new)
+      → WhereKnown r r' (λ old new. IsWrittenAt 0 (head turn []) old new)
       → WhereKnown c d (WritesHead (head turn state) result)
       → OnOk result (WhereKnown (both a r) (both d r') (λ _ pair. Has pair (begun turn state)))
   begins (Ok x) h w v = has_begun h w v
   begins (Err e) h w v = tt
 
   pub may_begin : {a c d r r' : Option (List ℕ)} (result : Result (Unit {0}) StoreFault) → Hides a c state
-      → WhereKnown r r' (λ old new. IsWritten 0 (head turn []) old new)
+      → WhereKnown r r' (λ old new. IsWrittenAt 0 (head turn []) old new)
       → WhereKnown c d (WritesHead (head turn state) result)
       → OnErr result (WhereKnown (both a r) (both d r') (MayLeave (begun turn state)))
   may_begin (Ok x) h w v = tt
@@ -172,14 +172,14 @@ longer_has {more = more} l = record {
 
 -- octets are written behind those of an area
 pub longer : {old new octets more : List ℕ} {turn : ℕ} → IsArea old turn octets
-    → IsWritten (24 + length octets) more old new → IsLonger new turn octets more
+    → IsWrittenAt (24 + length octets) more old new → IsLonger new turn octets more
 longer {more = more} a w =
     let b = behind_them a.turn_fits more a w in
     record { behind = b.0; content_is = b.1; turn_fits = a.turn_fits; len_fits = a.len_fits }
 
 -- .. and then the head of all
 pub has_longer : {old new octets more : List ℕ} {turn : ℕ} → length (octets ++ more) < 2 ^ 32
-    → IsLonger old turn octets more → IsWritten 0 (head turn (octets ++ more)) old new
+    → IsLonger old turn octets more → IsWrittenAt 0 (head turn (octets ++ more)) old new
     → IsArea new turn (octets ++ more)
 has_longer {old = old} {octets = octets} {more = more} {turn = turn} few l w = record {
   behind = l.behind;
@@ -206,7 +206,7 @@ module _ (turn len sum : ℕ) (octets : List ℕ) (few : len + length octets < 2
 
   -- octets were written behind the others, all or some
   pub has_still : {r r' : Option (List ℕ)} (s : Option (List ℕ))
-      → WhereKnown r r' (λ old new. (n : ℕ) × (n ≤ length octets) × IsWritten (24 + len) (take n octets) old new)
+      → WhereKnown r r' (λ old new. (n : ℕ) × (n ≤ length octets) × IsWrittenAt (24 + len) (take n octets) old new)
       → WhereKnown (both s r) (both s r') (MayHaveMore turn len octets sum)
   has_still s w = where_both (MayHaveMore turn len octets sum) (where_same s (λ x y. y ≡ x) (λ x. refl)) w
       (λ a b x y same v kept k h. inl (record {
@@ -214,13 +214,13 @@ module _ (turn len sum : ℕ) (octets : List ℕ) (few : len + length octets < 2
         records = longer_has (longer h.records (rw (← k.counted) at v.2));
       }))
 
-  module _ {r r' r'' : Option (List ℕ)} (w : WhereKnown r r' (IsWritten (24 + len) octets)) (s : Option (List ℕ)) where
+  module _ {r r' r'' : Option (List ℕ)} (w : WhereKnown r r' (IsWrittenAt (24 + len) octets)) (s : Option (List ℕ)) where
     -- all, and then the head
-    pub has_more : WhereKnown r' r'' (IsWritten 0 (head_of turn (len + length octets) sum))
+    pub has_more : WhereKnown r' r'' (IsWrittenAt 0 (head_of turn (len + length octets) sum))
         → WhereKnown (both s r) (both s r'') (HasMore turn len octets sum)
     has_more v = where_both (HasMore turn len octets sum) (where_same s (λ x y. y ≡ x) (λ x. refl))
-        (where_then (λ old new. (content : List ℕ) × IsWritten (24 + len) octets old content
-        × IsWritten 0 (head_of turn (len + length octets) sum) content new) w v (λ x y z p q. (y, p, q)))
+        (where_then (λ old new. (content : List ℕ) × IsWrittenAt (24 + len) octets old content
+        × IsWrittenAt 0 (head_of turn (len + length octets) sum) content new) w v (λ x y z p q. (y, p, q)))
         (λ a b x z same m kept k h. record {
           state = rw same h.state;
           records = has_longer (few_of kept k) (longer h.records (rw (← k.counted) at m.1))
@@ -228,16 +228,16 @@ module _ (turn len sum : ℕ) (octets : List ℕ) (few : len + length octets < 2
         })
 
     pub may_have_more : WhereKnown r' r'' (λ old new. (new ≡ old)
-        ⊎ IsWritten 0 (head_of turn (len + length octets) sum) old new)
+        ⊎ IsWrittenAt 0 (head_of turn (len + length octets) sum) old new)
         → WhereKnown (both s r) (both s r'') (MayHaveMore turn len octets sum)
     may_have_more v = where_both (MayHaveMore turn len octets sum) (where_same s (λ x y. y ≡ x) (λ x. refl))
-        (where_then (λ old new. (content : List ℕ) × IsWritten (24 + len) octets old content
-        × ((new ≡ content) ⊎ IsWritten 0 (head_of turn (len + length octets) sum) content new)) w v
+        (where_then (λ old new. (content : List ℕ) × IsWrittenAt (24 + len) octets old content
+        × ((new ≡ content) ⊎ IsWrittenAt 0 (head_of turn (len + length octets) sum) content new)) w v
         (λ x y z p q. (y, p, q)))
         (λ a b x z same m kept k h.
         let long = longer h.records (rw (← k.counted) at m.1) in
         ⊎_elim (λ (e : z ≡ m.0). inl (record { state = rw same h.state; records = rw e (longer_has long) }))
-        (λ (w : IsWritten 0 (head_of turn (len + length octets) sum) m.0 z). inr (record {
+        (λ (w : IsWrittenAt 0 (head_of turn (len + length octets) sum) m.0 z). inr (record {
           state = rw same h.state;
           records = has_longer (few_of kept k) long (rw (head_is kept k) at w);
         })) m.2)

@@ -43,8 +43,8 @@ pub record HasHead (content : List ℕ) (turn len sum : ℕ) : Type 0 where
 abbrev pub IsBlank : List ℕ → Type 0
 IsBlank content = All (λ octet. octet ≡ 0) (take 24 content)
 
--- These octets are the first ones of a content, and have what was written to its area: its head, and what this
--- says is behind.
+-- These octets are the first ones of a content, and have what was written to its area: its head, and what
+-- this says is behind.
 pub record HasAreaOf (content octets : List ℕ) : Type 0 where
   pub behind : List ℕ
   pub content_is : content ≡ octets ++ behind

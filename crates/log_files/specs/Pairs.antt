@@ -22,8 +22,8 @@ pub record Has (pair : Contents) (kept : Kept) : Type 0 where
   pub records : IsArea pair.records kept.turn kept.records
 
 -- a pair of files has nothing whole
-abbrev pub HasNothing : Contents → Type 0
-HasNothing pair = (kept : Kept) → ¬ Has pair kept
+abbrev pub HasNothingWhole : Contents → Type 0
+HasNothingWhole pair = (kept : Kept) → ¬ Has pair kept
 
 -- what a pair has, if anything, is of an earlier turn than this
 abbrev pub IsBefore : ℕ → Contents → Type 0

@@ -13,18 +13,18 @@ pub record WhereKnown {X : Type 0} (old new : Option X) (P : X → X → Type 0)
   pub fact : AreKnown old new P
 
 -- these octets are in their place from an octet on, and all others are as they were
-pub record IsWritten (at : ℕ) (octets old new : List ℕ) : Type 0 where
+pub record IsWrittenAt (at : ℕ) (octets old new : List ℕ) : Type 0 where
   pub is : new ≡ take at old ++ (octets ++ drop (at + length octets) old)
 
 -- octets were written there, all of them; or, if the write failed, the first ones
 abbrev pub WritesAt : {F : Type 0} → ℕ → List ℕ → Result (Unit {0}) F → List ℕ → List ℕ → Type 0
-WritesAt at octets result old new = MatchResult result (λ _. IsWritten at octets old new)
-    (λ _. (n : ℕ) × (n ≤ length octets) × IsWritten at (take n octets) old new)
+WritesAt at octets result old new = MatchResult result (λ _. IsWrittenAt at octets old new)
+    (λ _. (n : ℕ) × (n ≤ length octets) × IsWrittenAt at (take n octets) old new)
 
 -- octets were written at the front, all of them; or, if the write failed, all or none
 abbrev pub WritesHead : {F : Type 0} → List ℕ → Result (Unit {0}) F → List ℕ → List ℕ → Type 0
-WritesHead octets result old new = MatchResult result (λ _. IsWritten 0 octets old new)
-    (λ _. (new ≡ old) ⊎ IsWritten 0 octets old new)
+WritesHead octets result old new = MatchResult result (λ _. IsWrittenAt 0 octets old new)
+    (λ _. (new ≡ old) ⊎ IsWrittenAt 0 octets old new)
 
 -- a write tells whether one failed, this one or an earlier one
 abbrev pub TellsFault : {F : Type 0} → Bool → Bool → Result (Unit {0}) F → Type 0

@@ -1,7 +1,7 @@
 //! Which of two pairs of files is loaded, and what it has (`newest`).
 
 ghost use Rattle.std.specs.Prelude.{◌≡◌, IfSome, IfNone, IfOk, OnErr, MatchOption};
-ghost use Rattle.log_files.specs.Pairs.{Has, HasNothing, HaveSameTurn, IsNewest, Kept};
+ghost use Rattle.log_files.specs.Pairs.{Has, HasNothingWhole, HaveSameTurn, IsNewest, Kept};
 ghost use Rattle.log_files.specs.Loading.{IsCounted, IsLoadedOf, Loads, NamesNewer, contents_of, kept_of};
 
 use crate::area::area_in;
@@ -55,7 +55,7 @@ pub struct SameTurn;
 // What a pair of files has, if anything is whole.
 fn kept_in<'a>(pair: &PairContents<'a>) -> Option<KeptContents<'a>>
     ensures some { IfSome result (λ kept. Has (contents_of pair.now) (kept_of kept)) }
-    ensures none { IfNone result (HasNothing (contents_of pair.now)) }
+    ensures none { IfNone result (HasNothingWhole (contents_of pair.now)) }
 {
     let state = area_in(pair.state)?;
     let records = area_in(pair.records)?;
@@ -75,7 +75,7 @@ pub fn newest<'a>(
     second: &PairContents<'a>,
 ) -> Result<Option<Loaded<'a>>, SameTurn>
     ensures ok { IfOk result (λ found. MatchOption found
-        (HasNothing (contents_of first.now) × HasNothing (contents_of second.now))
+        (HasNothingWhole (contents_of first.now) × HasNothingWhole (contents_of second.now))
         (NamesNewer (contents_of first.now) (contents_of second.now))) }
     ensures counted { IfOk result (λ found. IfSome found IsCounted) }
     ensures err { OnErr result (HaveSameTurn (contents_of first.now) (contents_of second.now)) }

@@ -10,7 +10,8 @@ use std::io::{self, Read};
 
 // Reads so many octets.
 fn read_octets<R: Read>(alloc: Global, reader: &mut R, len: usize) -> io::Result<Vec<u8>>
-    ensures read { IfOk result (λ octets. Consumes (R.remaining reader.old) (R.remaining reader.new) octets.items) }
+    ensures read { IfOk result (λ octets.
+        Consumes (R.remaining reader.old) (R.remaining reader.new) octets.items) }
     ensures len { IfOk result (λ octets. length octets.items ≡ len) }
 {
     let mut octets = Vec::new(alloc);
@@ -21,7 +22,8 @@ fn read_octets<R: Read>(alloc: Global, reader: &mut R, len: usize) -> io::Result
 
 /// Reads the octets of an area: its head, and what this says is behind it. Nothing more is read.
 pub fn read_area<R: Read>(alloc: Global, reader: &mut R) -> io::Result<Vec<u8>>
-    ensures { IfOk result (λ octets. IfSome (R.remaining reader.old) (λ content. HasAreaOf content octets.items)) }
+    ensures { IfOk result (λ octets. IfSome (R.remaining reader.old) (λ content.
+        HasAreaOf content octets.items)) }
 {
     let mut octets = read_octets(alloc, reader, HEAD_LEN)?;
     let len = len_behind(octets.as_slice());

@@ -13,8 +13,8 @@ returns-in_default g c = inr (refl, inl (sym (rw c.in_default.is at c.path_of.en
 pub run_on_log-requires : goal.run_on_log-requires
 run_on_log-requires g c =
     takes_asked _ _ _ _ _ _ _ (rw c.local_of-system.ensures.path (sym c.in-Some.ensures))
-    c.local_of-system.ensures.log c.local_of-system.ensures.load c.local_of-system.ensures.save c.local_of-system.ensures.place
-    c.local_of-system.ensures.wait
+    c.local_of-system.ensures.log c.local_of-system.ensures.load c.local_of-system.ensures.save
+    c.local_of-system.ensures.place c.local_of-system.ensures.wait
 
 pub returns : goal.returns
 returns g c =

@@ -28,5 +28,5 @@ returns g c =
 pub serve-requires : goal.serve-requires
 serve-requires g c =
     takes_asked _ _ _ _ _ _ _ (rw c.local_of-system.ensures.path (sym c.in-Some.ensures))
-    c.local_of-system.ensures.log c.local_of-system.ensures.load c.local_of-system.ensures.save c.local_of-system.ensures.place
-    c.local_of-system.ensures.wait
+    c.local_of-system.ensures.log c.local_of-system.ensures.load c.local_of-system.ensures.save
+    c.local_of-system.ensures.place c.local_of-system.ensures.wait
