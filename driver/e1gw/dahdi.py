@@ -9,7 +9,6 @@ import enum
 import errno
 import fcntl
 import os
-import re
 import stat
 import struct
 from contextlib import suppress
@@ -17,7 +16,8 @@ from dataclasses import dataclass
 
 from .slots import SLOTS
 
-DRIVERS = frozenset(('dahdi', 'dahdi_channels'))        # by their names in /proc/devices
+CHANNELS = 'dahdi_channels'         # what the driver calls its devices
+DEVICES, SLAVE = '/sys/bus/dahdi_channels/devices', 'Slave'     # (a unit does not see /proc/dahdi)
 PARAMETERS, BUFFERS = struct.Struct('=12i40s11iI'), struct.Struct('=6i')
 SPAN = struct.Struct('=i20s40s7i5I7i40s40s40s40s2i6s')
 NUMBER = struct.Struct('=i')
@@ -147,27 +147,21 @@ def buffers_of(blocks: Blocks) -> bytes:
     return BUFFERS.pack(0, 0, blocks.buffers, blocks.octets(), 0, 0)
 
 
-def majors_of(devices: str) -> set[int]:
-    """The numbers of the driver's devices, by the text of /proc/devices."""
-    lines = map(str.split, devices.partition('Block devices:')[0].splitlines())
-    return {int(words[0]) for words in lines if len(words) == 2 and words[1] in DRIVERS}
-
-
-def is_alone(span: str, number: int) -> bool:
-    """Whether a channel has no others behind it, by the text of /proc/dahdi/SPAN."""
-    rows = re.findall(rf'^\s*{number} .*$', span, re.MULTILINE)
-    return bool(rows) and ' Master ' not in rows[0]
-
-
 # ---- the channel ----
+
+def signalling_of(path: str) -> str:
+    with open(path, encoding='ascii', errors='replace') as text:
+        return text.read().strip()
+
 
 def is_channel(file: int) -> bool:
     """Whether a descriptor is of such a card, by its driver."""
     about = os.fstat(file)
     if not stat.S_ISCHR(about.st_mode):
         return False
-    with suppress(OSError), open('/proc/devices', encoding='ascii', errors='replace') as devices:
-        return os.major(about.st_rdev) in majors_of(devices.read())
+    number = f'{os.major(about.st_rdev)}:{os.minor(about.st_rdev)}'
+    with suppress(OSError):
+        return os.path.basename(os.readlink(f'/sys/dev/char/{number}/subsystem')) == CHANNELS
     return False
 
 
@@ -194,11 +188,12 @@ class DahdiChannel:
         """Takes the next event."""
         return int(NUMBER.unpack(self.ask(Request.GET_EVENT, bytes(NUMBER.size)))[0])
 
-    def is_alone(self, span: int) -> bool:
-        """Whether it gives one time slot; False if that is not known."""
-        with suppress(OSError), open(f'/proc/dahdi/{span}', encoding='utf-8', errors='replace') as text:
-            return is_alone(text.read(), self.facts().number)
-        return False
+    def is_bundle(self, span: int) -> bool:
+        """Whether it gives all slots of its span: all others are its slaves; True if that is not known."""
+        others = (f'{DEVICES}/dahdi!chan!{span:03}!{place:03}/sig' for place in range(2, SLOTS + 1))
+        with suppress(OSError):
+            return all(signalling_of(path) == SLAVE for path in others)
+        return True
 
     def write(self, octets: bytes) -> None:
         os.write(self.file, octets)
@@ -207,7 +202,7 @@ class DahdiChannel:
         """Octets go and come as they are, by whole frames, and a block of ones goes first: it is what is ahead of the
         line. CardFault if it gives others than slots 1 to 31."""
         facts, span = self.facts(), self.span()
-        if facts.signalling != CLEAR or self.is_alone(facts.span):
+        if facts.signalling != CLEAR or not self.is_bundle(facts.span):
             raise CardFault(f'channel {facts.number} is one of 64 kbit/s: {CONFIGURES}')
         if span.channels != SLOTS or facts.place != 1:
             raise CardFault(f'channel {facts.number} is number {facts.place} of {span.channels} of span {span.number}: '

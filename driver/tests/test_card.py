@@ -14,13 +14,11 @@ from unittest import mock
 from . import support    # noqa: F401 (makes e1gw known)
 from e1gw import card_opening, dahdi
 from e1gw.dahdi import (BUFFERS, NUMBER, PARAMETERS, SPAN, Alarm, Blocks, CardFault, DahdiChannel, Request,
-                        channel_facts, majors_of, span_facts)
+                        channel_facts, span_facts)
 from e1gw.events import words_of
 from e1gw.lines import Event
 from e1gw.service.card import GONE, CardWatch
 
-DEVICES = 'Character devices:\n  1 mem\n196 dahdi\n246 dahdi_channels\n\nBlock devices:\n 7 loop\n 9 dahdi\n'
-BUNDLE = 'Span 1: X "x"  RED\n\n\t   1 X/1 Clear Master (In use) \n\t   2 X/2 Clear \n\t  12 X/12 Clear \n'
 
 
 def at(octets: bytes, *values: tuple[int, int]) -> bytes:
@@ -37,7 +35,7 @@ class FakeChannel(DahdiChannel):
     def __init__(self, file: int = -1) -> None:
         super().__init__(file)
         self.asked: list[tuple[str, bytes]] = []
-        self.signalling, self.place, self.channels, self.alarms, self.alone = 128, 1, 31, 0, False
+        self.signalling, self.place, self.channels, self.alarms, self.bundle = 128, 1, 31, 0, True
         self.events: list[int] = []
         self.is_away = False
 
@@ -55,8 +53,8 @@ class FakeChannel(DahdiChannel):
         self.asked.append((request.name, octets))
         return octets
 
-    def is_alone(self, span: int) -> bool:
-        return self.alone
+    def is_bundle(self, span: int) -> bool:
+        return self.bundle
 
     def write(self, octets: bytes) -> None:
         self.asked.append(('write', octets))
@@ -80,14 +78,18 @@ class RequestTests(unittest.TestCase):
         self.assertEqual(dahdi.buffers_of(Blocks(16, 8)), at(bytes(BUFFERS.size), (8, 8), (12, 496)))
 
     def test_devices(self) -> None:
-        self.assertEqual(majors_of(DEVICES), {196, 246})
-        self.assertFalse(dahdi.is_alone(BUNDLE, 1))
-        self.assertTrue(dahdi.is_alone(BUNDLE, 2))
-        self.assertFalse(dahdi.is_alone(BUNDLE, 3))
+        """By the driver of a device, and by the signalling of the other channels of its span."""
         with open(os.devnull, 'rb') as device, tempfile.TemporaryFile() as file:
             self.assertFalse(dahdi.is_channel(device.fileno()) or dahdi.is_channel(file.fileno()))
-            with mock.patch('builtins.open', mock.mock_open(read_data=DEVICES.replace('196', '1'))):
+            with mock.patch('e1gw.dahdi.CHANNELS', 'mem'):
                 self.assertTrue(dahdi.is_channel(device.fileno()))
+        with tempfile.TemporaryDirectory() as folder, mock.patch('e1gw.dahdi.DEVICES', folder):
+            for place in range(2, 32):
+                os.mkdir(each := f'{folder}/dahdi!chan!003!{place:03}')
+                Path(each, 'sig').write_text('Slave\n', encoding='ascii')
+            self.assertTrue(DahdiChannel(-1).is_bundle(3) and DahdiChannel(-1).is_bundle(4))
+            Path(each, 'sig').write_text('Clear\n', encoding='ascii')
+            self.assertFalse(DahdiChannel(-1).is_bundle(3))
 
     def test_blocks(self) -> None:
         for frames, buffers in (16, 8), (64, 16), (1, 2), (32, 32):
@@ -107,7 +109,7 @@ class SetUpTests(unittest.TestCase):
 
     def test_refusals(self) -> None:
         """No other channel is changed."""
-        for name, value, words in (('signalling', 1 << 15, '64 kbit/s'), ('alone', True, '64 kbit/s'),
+        for name, value, words in (('signalling', 1 << 15, '64 kbit/s'), ('bundle', False, '64 kbit/s'),
                                    ('channels', 24, 'number 1 of 24'), ('place', 2, 'number 2 of 31')):
             channel = FakeChannel()
             setattr(channel, name, value)
