@@ -12,18 +12,24 @@ from e1gw.session import Command
 
 
 class LineTests(unittest.TestCase):
+    def test_a_new_one(self) -> None:
+        self.assertEqual(Line(3).status(2.0), {
+            'circuit': 3, 'role': 'outgoing', 'state': 'fault', 'sent': '--', 'recognised': '--', 'for': 2.0,
+            'seizures': 0, 'answers': 0, 'unacknowledged': 0, 'faults': 0, 'open': 0.0, 'codec': 'pcma', 'payload': 8,
+            'configured_codec': 'pcma', 'configured_payload': 8, 'prefill': 0, 'jitter_buffer_ms': 0.0})
+
     def test_an_outgoing_call(self) -> None:
         """Seizures are the commands, answers the exchange's; the path is open from the acknowledgement."""
         line, now = Line(3), 0.0
         line.begin(State.IDLE, now)
-        line.commanded(Command.SEIZE)
-        line.commanded(Command.ANSWER)
+        for command in (Command.SEIZE, Command.ANSWER, Command.ANSWER, Command.BLOCK):
+            line.commanded(command)
         for state in (State.SEIZED, State.ACKED, State.ANSWERED, State.CLEAREDBACK, State.ANSWERED, State.RELEASING,
                       State.FAULT):
             now, before, line.state = now + 1.0, line.state, state
             line.changed(before, now)
         self.assertEqual((line.seizures, line.answers, line.faults, line.since, line.opened, line.open_for),
-                         (1, 2, 1, 7.0, None, 4.0))
+                         (1, 3, 1, 7.0, None, 4.0))
         self.assertEqual({key: line.status(9.25)[key] for key in ('for', 'open', 'state', 'role', 'sent')},
                          {'for': 2.25, 'open': 4.0, 'state': 'fault', 'role': 'outgoing', 'sent': '--'})
 

@@ -340,4 +340,16 @@ class TieCommandTests(unittest.TestCase):
         circuit = TieCircuit(Role.INCOMING, ACKED, 'call 2', far=CircuitEnd(Role.OUTGOING, IDLE, 'call 1'))
         circuit = circuit.marked_over(GIVEN_UP)
         self.assertTrue(circuit.end().over)
+        self.assertTrue(circuit.moved(ANSWERED).moved(CLEAREDBACK).end().over)
         self.assertFalse(circuit.moved(IDLE).moved(ACKED, 'call 3').end().over)
+
+    def test_who_knows_which_call(self) -> None:
+        """The incoming end names it and remembers which one the other has named; the other learns that if it has
+        forgotten its own."""
+        circuit = TieCircuit(Role.INCOMING, IDLE, 'call 1').moved(ACKED, 'call 2')
+        for named, passed in (('call 1', 'call 1'), (None, 'call 1'), ('call 2', 'call 2')):
+            circuit = circuit.heard(CircuitEnd(Role.OUTGOING, SEIZED, named))
+            self.assertEqual((circuit.call, circuit.end().passed), ('call 2', passed))
+        for known, call in ((None, 'call 2'), ('call 7', 'call 7')):
+            far = TieCircuit(Role.OUTGOING, SEIZED, known).heard(circuit.end())
+            self.assertEqual((far.call, far.tried('call 8').call), (call, 'call 8'))

@@ -14,6 +14,7 @@ from e1gw.lines import Role, State
 from e1gw.tie.blocked import BlockedCircuits
 from e1gw.tie.coding import SIGNALLING
 from e1gw.tie.messages import encode_message, message_of
+from e1gw.tie.pairs import Pairs
 from e1gw.tie.tie import Tie, TieOptions
 
 JOINED = range(1, 5)        # on odd ones the west calls, on even ones the east
@@ -41,9 +42,9 @@ class PlayedLoop(asyncio.SelectorEventLoop):
 class JoinedTrunk(StandInDriver):
     """A trunk of four circuits, whose tie talks to it and to the other site without a socket."""
 
-    def __init__(self, side: int, until: str | None) -> None:
+    def __init__(self, side: int, until: str | None, pairs: Pairs | None) -> None:
         super().__init__('', {n: Role.OUTGOING if n % 2 == side else Role.INCOMING for n in JOINED})
-        self.acknowledges, self.until = True, until
+        self.acknowledges, self.until, self.told_pairs = True, until, pairs
         self.other: JoinedTrunk | None = None           # while the sites are connected
         self.kept, self.events = BlockedCircuits(None), list[dict[str, Any]]()
         self.on_way = deque[tuple[Tie, bytes]]()
@@ -54,7 +55,7 @@ class JoinedTrunk(StandInDriver):
         """A tie is started, which knows no more than what was blocked."""
         self.down() if self.follows else None
         self.apart()
-        options = TieOptions('', None, HOLD, False, self.until)
+        options = TieOptions('', self.told_pairs, HOLD, False, self.until)
         self.tie = Tie(options, f'{next(RUNS)}', self.kept, lambda event, **more: self.events.append(
             {'event': event, **more}))
         setattr(self.tie, 'site', self)
@@ -73,11 +74,19 @@ class JoinedTrunk(StandInDriver):
         self.follows, self.tie.trunk.is_up = None, False
         self.tie.lost()
 
+    def anew(self) -> None:
+        """The trunk has forgotten how often each line was seized."""
+        self.down()
+        self.life, self.seizures = f'{self.life}a', dict.fromkeys(JOINED, 0)
+        self.up()
+
     async def asks(self, line: str) -> str:
         await asyncio.sleep(0.001)
         if not self.follows:
             raise EOFError
-        return self.obey(line.split())
+        answer = self.obey(line.split())
+        await asyncio.sleep(0)          # (events that were told before come before it)
+        return answer
 
     def tell(self, **event: Any) -> None:
         if self.tie.trunk.is_up:
@@ -123,8 +132,8 @@ class TogetherPropertyTests(PropertyCase):
             for trunk in trunks:
                 trunk.recognise()
 
-    async def play(self, until: str | None, steps: list[tuple[str, int, int, Any]]) -> None:
-        trunks = [JoinedTrunk(side, until) for side in (0, 1)]
+    async def play(self, until: str | None, pairs: Pairs | None, steps: list[tuple[str, int, int, Any]]) -> None:
+        trunks = [JoinedTrunk(0, until, pairs), JoinedTrunk(1, until, None)]
         trunks[0].joins(trunks[1])
         await self.rests(trunks, 1.0)
         for what, side, n, how in steps:
@@ -147,21 +156,36 @@ class TogetherPropertyTests(PropertyCase):
             trunk.up()
         trunks[0].joins(trunks[1])
         await self.rests(trunks, REST)
-        self.look(trunks, until)
+        self.look(*trunks, until, pairs or {n: n for n in JOINED})
+        await self.call(trunks)
         for trunk in trunks:
             trunk.down()
         await asyncio.sleep(1.0)
 
-    def look(self, trunks: list[JoinedTrunk], until: str | None) -> None:
-        west, east = trunks
-        for n in JOINED:
-            near, far = (each.tie.circuits[n] for each in (trunks if west.roles[n] is Role.INCOMING else trunks[::-1]))
+    async def call(self, trunks: list[JoinedTrunk]) -> None:
+        """Calls on all circuits, from their seizure to their end, once nothing keeps them up."""
+        for trunk, n in itertools.product(trunks, JOINED):
+            trunk.obey(['unblock', str(n)])
+            trunk.send(n, IDLE)
+        await self.rests(trunks, 3.0)
+        for role, pair, state in ((Role.INCOMING, SEIZED, State.ACKED), (Role.OUTGOING, ANSWER, State.ANSWERED),
+                                  (Role.OUTGOING, HELD, State.CLEAREDBACK), (Role.INCOMING, IDLE, State.IDLE)):
+            for trunk, n in itertools.product(trunks, JOINED):
+                if trunk.roles[n] is role:
+                    trunk.send(n, pair)
+            await self.rests(trunks, 1.0)
+            self.assertEqual([{*trunk.states.values()} for trunk in trunks], [{state}] * 2)
+
+    def look(self, west: JoinedTrunk, east: JoinedTrunk, until: str | None, pairs: Pairs) -> None:
+        for here, there in pairs.items():
+            ends = west.tie.circuits[here], east.tie.circuits[there]
+            near, far = ends if west.roles[here] is Role.INCOMING else ends[::-1]
             self.assertIsNone(disagreement(TieCircuitWorld(near, far), strictly=False), (near, far))
-            self.assertEqual((west.states[n], east.states[n]), (west.tie.circuits[n].state, east.tie.circuits[n].state))
-            for trunk in trunks:
-                speaks = trunk.states[n] in (State.ANSWERED, State.CLEAREDBACK)
-                self.assertEqual(trunk.codecs[n], SIGNALLING[until] if until and not speaks else G726)
-        self.assertEqual({trunk.tie.link.value for trunk in trunks}, {'good'})
+            self.assertEqual((west.states[here], east.states[there]), (ends[0].state, ends[1].state))
+        for trunk, n in itertools.product((west, east), JOINED):
+            speaks = trunk.states[n] in (State.ANSWERED, State.CLEAREDBACK)
+            self.assertEqual(trunk.codecs[n], SIGNALLING[until] if until and not speaks else G726)
+        self.assertEqual({trunk.tie.link.value for trunk in (west, east)}, {'good'})
 
     def test_both_ends_agree(self) -> None:
         st = self.st
@@ -174,9 +198,10 @@ class TogetherPropertyTests(PropertyCase):
             step('send', st.sampled_from((SEIZED, ANSWER))),
             step('wait', st.sampled_from((0.01, 0.3, 1.0, 4.0))), step('alarm', st.booleans()),
             step('operator', st.sampled_from(('block', 'unblock'))),
-            *(step(what, st.none()) for what in ('joins', 'apart', 'up', 'down', 'starts')))
+            *(step(what, st.none()) for what in ('joins', 'apart', 'up', 'down', 'anew', 'starts')))
 
-        def check(until: str | None, chosen: list[tuple[str, int, int, Any]]) -> None:
+        def check(until: str | None, pairs: Pairs | None, chosen: list[tuple[str, int, int, Any]]) -> None:
             with asyncio.Runner(loop_factory=PlayedLoop) as runner:
-                runner.run(self.play(until, chosen))
-        self.holds(check, st.sampled_from((None, 'pcma')), st.lists(steps, max_size=15), examples=100)
+                runner.run(self.play(until, pairs, chosen))
+        pairs = st.sampled_from((None, {1: 3, 2: 4, 3: 1, 4: 2}))
+        self.holds(check, st.sampled_from((None, 'pcma')), pairs, st.lists(steps, max_size=15), examples=80)

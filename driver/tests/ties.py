@@ -66,7 +66,7 @@ class StandInDriver:
         self.configured = dict.fromkeys(roles, G726)
         self.refuses = False            # changes of codec
         self.silent = False             # it answers nothing
-        self.law = 'A'
+        self.law, self.life = 'A', 'a'
         self.alarm = self.acknowledges = False
         self.asked: list[str] = []
         self.behind: list[Callable[[], None]] = []      # what happens behind a status
@@ -119,7 +119,7 @@ class StandInDriver:
 
     def status(self) -> dict[str, Any]:
         none = {'frame': False, 'multiframe': False}
-        trunk = {'life': 'a', 'trunk_up': True, 'shadow': True, 'clock': {'stalled': False}, 'law': self.law,
+        trunk = {'life': self.life, 'trunk_up': True, 'shadow': True, 'clock': {'stalled': False}, 'law': self.law,
                  'alarm': {**none, 'frame': self.alarm}, 'remote_alarm': none}
         return trunk | {'circuits': [
             {'circuit': n, 'role': str(self.roles[n]), 'state': str(self.states[n]), 'seizures': self.seizures[n],
