@@ -1,39 +1,36 @@
 """What became of the datagrams of each circuit."""
 from __future__ import annotations
 
-from dataclasses import dataclass, field
+from dataclasses import dataclass, replace
+from operator import add, sub
 from typing import Any, Callable
 
-from .session import CIRCUITS, name_of
+from .session import CIRCUITS, DatagramRefusal
 
-SAMPLE = 32                     # octets of the trunk
+REASONS = (*DatagramRefusal,)       # why datagrams are refused, in the order of a line `counts` (e1gw-tell(5))
+NONE_REFUSED = (0,) * len(REASONS)
+UNWATCHED = 'Unwatched'             # why datagrams were refused of which nobody was told
+SAMPLES = 8                         # in a millisecond
 
 
-@dataclass(slots=True)
-class ReceiverStatistics:
-    """What the receiver of a stream can tell of it (RFC 3550): lost packets by sequence number, jitter in samples."""
+@dataclass(frozen=True, slots=True)
+class ToldCounts:
+    """The datagrams that a session was given for a circuit, as a line `counts` has them. ValueError if it has not a
+    number for each reason."""
 
-    ssrc: int = -1
-    last: int = 0
-    transit: int = 0
+    accepted: int = 0
     lost: int = 0
-    jitter: float = 0.0
+    jitter: int = 0                         # samples
+    refused: tuple[int, ...] = NONE_REFUSED
 
-    def take(self, sequence: int, timestamp: int, ssrc: int, now: int) -> None:
-        """An admitted packet, at this sample of the trunk."""
-        transit = (now - timestamp) & 0xFFFFFFFF
-        if ssrc != self.ssrc:
-            self.ssrc, self.last, self.transit, self.jitter = ssrc, sequence, transit, 0.0
-            return
-        step = (sequence - self.last) & 0xFFFF
-        if 0 < step < 0x8000:
-            self.lost += step - 1
-            self.last = sequence
-        elif step:
-            self.lost = max(0, self.lost - 1)       # one that was thought lost has come
-        change = (transit - self.transit + 0x80000000) % 0x100000000 - 0x80000000
-        self.jitter += (abs(change) - self.jitter) / 16
-        self.transit = transit
+    def __post_init__(self) -> None:
+        if len(self.refused) != len(REASONS):
+            raise ValueError(f'{len(self.refused)} reasons')
+
+    def behind(self, before: ToldCounts) -> ToldCounts:
+        """These and those of sessions before."""
+        return ToldCounts(before.accepted + self.accepted, before.lost + self.lost, self.jitter,
+                          tuple(map(add, before.refused, self.refused)))
 
 
 @dataclass(slots=True)
@@ -42,16 +39,32 @@ class CircuitCounts:
 
     sent: int = 0
     admitted: int = 0
-    refused: dict[str, int] = field(default_factory=dict)   # by the reason
-    stream: ReceiverStatistics = field(default_factory=ReceiverStatistics)
+    refused: int = 0            # for any reason, since the gateway was new
+    unwatched: int = 0          # of these, those of which nobody was told why
+    before: ToldCounts = ToldCounts()       # of the sessions before this one
+    told: ToldCounts = ToldCounts()         # of this session
+
+    @property
+    def stream(self) -> ToldCounts:
+        """Those of all sessions that told of them."""
+        return self.told.behind(self.before)
+
+    def settle(self) -> None:
+        """All of this is of one moment: what else was refused, nobody was told."""
+        if self.refused < self.unwatched + sum(self.stream.refused):
+            self.before = replace(self.before, refused=NONE_REFUSED)    # (they were of another gateway)
+        self.unwatched = self.refused - sum(self.stream.refused)
 
     def counts(self) -> dict[str, int]:
-        """How many were sent, admitted and refused, by the reports of them."""
-        return {'sent': self.sent, 'admitted': self.admitted, **self.refused}
+        """How many were sent, admitted and refused, by the reason."""
+        refused = {reason.label: count for reason, count in zip(REASONS, self.stream.refused)}
+        found = {word: count for word, count in (refused | {UNWATCHED: self.unwatched}).items() if count}
+        return {'sent': self.sent, 'admitted': self.admitted, **found}
 
 
 class DatagramCounts:
-    """Counts datagrams. `counted(circuit, code, place)` is called with what became of each, and where on the trunk."""
+    """Counts datagrams. `counted(circuit, code, place)` is called for each, with what became of it, and where on the
+    trunk that was told."""
 
     def __init__(self, counted: Callable[[int, int, int], None] | None = None) -> None:
         self.circuits = {n: CircuitCounts() for n in CIRCUITS}
@@ -62,19 +75,30 @@ class DatagramCounts:
         """Whether the counts are not those of now."""
         return self.ended is not None
 
-    def count(self, circuit: int, code: int, place: int, sequence: int, timestamp: int, ssrc: int) -> None:
-        """What became of a datagram that came at a place of the trunk, with three numbers of its header."""
-        row = self.circuits[circuit]
-        if code == 0:
-            row.admitted += 1
-            row.stream.take(sequence, timestamp, ssrc, place // SAMPLE)
-        else:
-            word = name_of(code)
-            row.refused[word] = row.refused.get(word, 0) + 1
-        self._counted(circuit, code, place)
+    def begin(self) -> None:
+        """Another session counts, from 0."""
+        for row in self.circuits.values():
+            row.before, row.told = row.stream, ToldCounts()
+
+    def settle(self) -> None:
+        for row in self.circuits.values():
+            row.settle()
+
+    def take(self, circuit: int, told: ToldCounts) -> None:
+        """What a session has counted for a circuit up to now, of which nothing is known one by one."""
+        self.circuits[circuit].told = told
+
+    def count(self, circuit: int, told: ToldCounts, place: int) -> None:
+        """What a session has counted for a circuit up to this place of the trunk."""
+        before = self.circuits[circuit].told
+        self.take(circuit, told)
+        for code, more in zip((0, *REASONS), map(sub, (told.accepted, *told.refused),
+                                                 (before.accepted, *before.refused))):
+            for _ in range(more):
+                self._counted(circuit, int(code), place)
 
     def status(self, circuit: int) -> dict[str, Any]:
         """The counts of a circuit, as plain values."""
         row = self.circuits[circuit]
         return {'datagrams': row.counts(), 'lost': row.stream.lost,
-                'jitter_ms': round(row.stream.jitter / 8, 2), 'stale': self.stale()}
+                'jitter_ms': round(row.stream.jitter / SAMPLES, 2), 'stale': self.stale()}

@@ -4,13 +4,12 @@ from __future__ import annotations
 import time
 from typing import Any, Callable, Mapping
 
-from .counts import DatagramCounts
+from .counts import DatagramCounts, ToldCounts
 from .lines import LEADS, OPEN, PAIRS, Alignment, Line, Role, State, Tell, law_of, lines_of
 from .session import Codec, Command, codec_record, command_record
 
 VERSION = '1'
 MOST_LINE = 4096            # octets of a line
-UNWATCHED = 'Unwatched'     # why datagrams were refused while nobody was told
 BITS = {text: pair for pair, text in PAIRS.items()}
 
 
@@ -40,7 +39,7 @@ class TrunkState:
         self._greeting: dict[str, Callable[..., None]] = {'e1gw': self._greet}
         self._changes: dict[str, Callable[..., None]] = {
             'at': self._at, 'alarms': self._alarms, 'line': self._row, 'seizures': self._seizures, 'now': self._now,
-            'datagram': self._datagram, 'command': self._command, 'codec': self._change}
+            'counts': self._counts, 'command': self._command, 'codec': self._change}
         self._words = self._greeting        # those that may come now
 
     def outage(self) -> str | None:
@@ -65,12 +64,12 @@ class TrunkState:
     def begin(self, place: int | None = None) -> None:
         """A follower is there that will tell the whole state; its session has begun at this place, by default that of
         now."""
+        if place is None or place != self._before:
+            self.counts.begin()
         self._before = self.place if place is None else place
         self._held, self.live, self._words = '', False, self._greeting
         self._led.clear()
         self.seizures = {}
-        for row in self.counts.circuits.values():
-            row.stream.ssrc = -1            # of what came meanwhile nothing is known
 
     def lost(self) -> None:
         """Nobody tells any more."""
@@ -106,6 +105,7 @@ class TrunkState:
 
     def _now(self) -> None:
         self.live, self.known, self.counts.ended = True, True, None
+        self.counts.settle()
         self.began()
 
     def _alarms(self, frame: str, multiframe: str, far_frame: str, far_multiframe: str) -> None:
@@ -123,8 +123,12 @@ class TrunkState:
             alarms[what] = on
             self._event(event, what=str(what), on=on)
 
-    def _datagram(self, circuit: str, code: str, sequence: str, timestamp: str, ssrc: str) -> None:
-        self.counts.count(int(circuit), int(code), self.place, int(sequence), int(timestamp), int(ssrc))
+    def _counts(self, circuit: str, accepted: str, lost: str, jitter: str, *refused: str) -> None:
+        told = ToldCounts(int(accepted), int(lost), int(jitter), tuple(map(int, refused)))
+        if self.live:
+            self.counts.count(int(circuit), told, self.place)
+        else:
+            self.counts.take(int(circuit), told)
 
     def _command(self, circuit: str, command: str, code: str) -> None:
         line, given = self.lines[int(circuit)], Command(int(command))
@@ -138,10 +142,10 @@ class TrunkState:
 
     def _row(self, circuit: str, role: str, state: str, sent: str, recognised: str, *counts: str) -> None:
         """The row of a circuit in the listing."""
-        made, admitted, refused, codec, payload_type = counts
-        line = self.lines[int(circuit)]
+        *numbers, codec, payload_type = counts
+        line, row = self.lines[int(circuit)], self.counts.circuits[int(circuit)]
         line.role, line.sent, line.recognised = Role(role), BITS[sent], BITS[recognised]
-        self._count(line.circuit, int(made), int(admitted), int(refused))
+        row.sent, row.admitted, row.refused = map(int, numbers)
         if not self.known:
             line.codec, line.payload = codec, int(payload_type)
             return line.begin(State(state), self._clock())
@@ -163,13 +167,3 @@ class TrunkState:
 
     def _event(self, event: str, **fields: Any) -> None:
         self.tell({'event': event, **fields, 'place': self.place})
-
-    def _count(self, circuit: int, sent: int, admitted: int, refused: int) -> None:
-        """All datagrams of a circuit since its gateway was new."""
-        row = self.counts.circuits[circuit]
-        row.sent, row.admitted = sent, admitted
-        unwatched = refused - sum(row.refused.values())
-        if unwatched < 0:
-            row.refused, unwatched = {}, refused        # of another gateway
-        if unwatched:
-            row.refused[UNWATCHED] = row.refused.get(UNWATCHED, 0) + unwatched

@@ -12,7 +12,7 @@ from . import support
 from .properties import PropertyCase
 from e1gw.call_names import CallNames
 from e1gw.calls import FIELDS, KEPT, MOST_OCTETS, CallLog, is_another_gateway, moment
-from e1gw.counts import CircuitCounts, DatagramCounts
+from e1gw.counts import REASONS, CircuitCounts, DatagramCounts, ToldCounts
 from e1gw.lines import IN_CALL, Line, Role, State
 from e1gw.service import events
 
@@ -61,8 +61,8 @@ class CallEndTests(unittest.TestCase):
         for packets in (50, 70):
             counts.sent += packets
             counts.admitted += packets - 3
-            counts.refused['Late'] = counts.refused.get('Late', 0) + 3
-            counts.stream.lost += 2
+            late = tuple(3 * (reason.label == 'Late') for reason in REASONS)
+            counts.told = ToldCounts(lost=2, refused=late).behind(counts.told)
             self.states(1, 'idle', 'seized', 'acked', 'answered', 'releasing', 'idle')
             self.calls.look()
             self.assertEqual(self.rows.pop()[8:12], [str(packets), str(packets - 3), '2', '3'])

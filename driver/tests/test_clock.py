@@ -6,7 +6,6 @@ import unittest
 from . import support
 from .properties import PropertyCase
 from e1gw.clock import DRIFT, STEADY, TICK, Clock, ClockFinding
-from e1gw.counts import ReceiverStatistics
 
 assert support.TOP
 RECORD = 0.004
@@ -115,16 +114,3 @@ class ClockPropertyTests(PropertyCase):
             self.assertAlmostEqual(trunk.clock.lost_seconds, sum(
                 each.value for each in trunk.found if each.what == 'gap'))
         self.holds(check, st.lists(steps, max_size=8), st.sampled_from((0.05, 0.1, 0.3)))
-
-
-class ReceiverStatisticsTests(unittest.TestCase):
-    def test_lost_ones_and_jitter(self) -> None:
-        """RFC 3550, 6.4.1 and A.8: the difference of transit times, of which each has a sixteenth."""
-        stream = ReceiverStatistics()
-        for n in (0, 1, 2, 5, 4, 6):
-            stream.take(65_534 + n & 0xFFFF, 160 * n, 7, 160 * n)
-        self.assertEqual((stream.lost, stream.jitter), (1, 0.0))
-        stream.take(65_541 & 0xFFFF, 160 * 7, 7, 160 * 7 + 32)
-        self.assertEqual((stream.lost, stream.jitter), (1, 2.0))
-        stream.take(9, 0, 8, 5)
-        self.assertEqual((stream.lost, stream.jitter), (1, 0.0))

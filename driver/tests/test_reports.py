@@ -9,10 +9,18 @@ from unittest import mock
 from . import support
 from e1gw.counts import DatagramCounts
 from e1gw.reports import BadTelling, TrunkState
+from e1gw.session import DatagramRefusal
 from e1gw.service import status
 
 IDLE = [f'{n:2} outgoing idle        10 10          0          0          0 pcma      8' for n in range(1, 31)]
 BEGIN = ['e1gw tell 1 A', 'at 512', 'alarms 0 0 0 0', *(f'line {each}' for each in IDLE)]
+
+
+def counts(circuit: int, accepted: int, *rest: int, **refused: int) -> str:
+    """The line of a circuit's counts; `rest` are lost packets and jitter."""
+    lost, jitter = rest or (0, 0)
+    reasons = [refused.get(reason.label, 0) for reason in DatagramRefusal]
+    return ' '.join(['counts', *map(str, [circuit, accepted, lost, jitter, *reasons])])
 
 
 def row(circuit: int, state: str, bits: str = '10 10', counts: tuple[int, int, int] = (0, 0, 0),
@@ -39,8 +47,9 @@ class ToldTests(unittest.TestCase):
         self.told.lost()
         self.told.begin(begun)
         rows = {line[5:7]: line for line in (*BEGIN[3:], *changed) if line.startswith('line')}
+        counted = [line for line in changed if line.startswith('counts')]
         alarms = [line for line in changed if line.startswith('alarms')] or [BEGIN[2]]
-        self.take(BEGIN[0], f'at {place}', *alarms, *rows.values(), 'now')
+        self.take(BEGIN[0], f'at {place}', *alarms, *rows.values(), *counted, 'now')
 
     def circuit(self, number: int = 1) -> dict[str, Any]:
         found: dict[str, Any] = self.told.status()['circuits'][number - 1] | self.counts.status(number)
@@ -115,27 +124,40 @@ class ToldTests(unittest.TestCase):
             ('remote alarm', 'frame', True)])
 
     def test_datagrams(self) -> None:
-        for number, code in enumerate((0, 0, 14, 11, 11, 0)):
-            self.take(f'at {1024 + 5120 * number}', f'datagram 1 {code} {number} {number * 160} 7')
-        self.take(row(1, 'idle', counts=(9, 3, 3)))
+        self.take('at 65536', row(1, 'idle', counts=(4, 1, 1)), counts(1, 1, Late=1))
+        self.take('at 131072', row(1, 'idle', counts=(9, 3, 3)), counts(1, 3, 2, 5, Late=1, PayloadType=2))
         found = self.circuit()
         self.assertEqual(found['datagrams'], {'sent': 9, 'admitted': 3, 'Late': 1, 'PayloadType': 2})
-        # of sequence numbers 0, 1 and 5 three are lost between; each came when it was due
-        self.assertEqual([found[key] for key in ('lost', 'jitter_ms', 'stale')], [3, 0.0, False])
-        self.assertEqual((len(self.counted), self.counted[2]), (6, (1, 14, 1024 + 5120 * 2)))
+        self.assertEqual([found[key] for key in ('lost', 'jitter_ms', 'stale')], [2, 0.62, False])
+        self.assertEqual(self.counted, [(1, 0, 65536), (1, 14, 65536), (1, 0, 131072), (1, 0, 131072),
+                                        (1, 11, 131072), (1, 11, 131072)])
+
+    def test_a_row_is_told_before_its_counts(self) -> None:
+        self.take(row(1, 'blocked', '11 10', counts=(0, 0, 3)))
+        self.assertEqual(self.circuit()['datagrams'], {'sent': 0, 'admitted': 0})
+        self.take(counts(1, 0, NotOpen=3))
+        self.assertEqual(self.circuit()['datagrams'], {'sent': 0, 'admitted': 0, 'NotOpen': 3})
 
     def test_what_was_refused_while_nobody_was_told(self) -> None:
-        self.take('datagram 1 14 0 0 0')
+        self.take(counts(1, 0, Late=1))
         self.again(row(1, 'idle', counts=(5, 2, 8)))
         self.assertEqual(self.circuit()['datagrams'], {'sent': 5, 'admitted': 2, 'Late': 1, 'Unwatched': 7})
         self.again(row(1, 'idle', counts=(1, 0, 2)))      # a new gateway
         self.assertEqual(self.circuit()['datagrams'], {'sent': 1, 'admitted': 0, 'Unwatched': 2})
 
-    def test_numbers_that_nobody_was_told_are_not_lost(self) -> None:
-        self.take('datagram 1 0 10 0 7')
-        self.again()
-        self.take('datagram 1 0 500 9999 7', 'datagram 1 0 502 9999 7')
-        self.assertEqual(self.circuit()['lost'], 1)
+    def test_counts_of_one_session_and_of_two(self) -> None:
+        self.again(begun=0)
+        self.take(counts(1, 4, 2, 16, Late=1))
+        self.counted.clear()
+        self.again(row(1, 'idle', counts=(0, 7, 1)), counts(1, 7, 3, 24, Late=1), begun=0)
+        found = self.circuit()
+        self.assertEqual((found['datagrams'], found['lost'], found['jitter_ms']),
+                         ({'sent': 0, 'admitted': 7, 'Late': 1}, 3, 3.0))
+        self.again(row(1, 'idle', counts=(0, 8, 2)), counts(1, 1, 1, 8, Late=1), begun=4096)
+        found = self.circuit()
+        self.assertEqual((found['datagrams'], found['lost'], found['jitter_ms']),
+                         ({'sent': 0, 'admitted': 8, 'Late': 2}, 4, 1.0))
+        self.assertEqual(self.counted, [])      # (of none of these is it known when it came)
 
     def test_changes_that_nobody_was_told(self) -> None:
         self.take(row(1, 'answered', '00 01'))
@@ -170,7 +192,7 @@ class ToldTests(unittest.TestCase):
 
     def test_what_is_not_understood(self) -> None:
         for line in ('line 1', row(1, 'asleep'), row(31, 'idle'), 'alarms 1 1', 'alarms a b c d', 'at x',
-                     'datagram 1 0', 'datagram 99 0 1 1 1', 'command 1 9 0'):
+                     'counts 1 0', counts(1, 0) + ' 0', counts(99, 0), 'command 1 9 0'):
             with self.subTest(line), self.assertRaises(BadTelling):
                 self.told.begin()
                 self.take(*BEGIN[:1], line)
