@@ -17,17 +17,24 @@ TREE = {
     'crates/gw_config/src/table.rt': 'const TOP_KEYS: [&str; 1] = ["law"];\nconst LAMP_KEYS: [&str; 1] = [\n"watt"];\n',
     'crates/gw_satop/src/counts.rt': '#[error("satop blinks={blinks}")]\n',
     'crates/gw_tell/src/lines.rt': '    push_line(text, b"at", &[place]);\n    push(text, b"now\\n");\n',
-    'crates/gw_command/src/options.rt': '''const OF_LAMP: &[OptionName] = &[OptionName::Colour, OptionName::Place];
+    'crates/gw_command/src/options.rt': '''const COLOUR: OptionRow = OptionRow {
+    name: "colour",
+    kind: Kind::Listed(&["red", BLUE]),
+    help: "Colour, of the light",
+    ..OPTION
+};
+const PLACE: OptionRow = OptionRow {
+    name: "place",
+    value_names: &["PLACE"],
+    kind: Kind::Argument,
+    help: "Where",
+    ..OPTION
+};
+const OF_LAMP: &[OptionRow] = &[COLOUR, PLACE];
     Subcommand {
         name: "shine",
         options: OF_LAMP,
     },
-fn colour_option<'a>(alloc: Global) -> Arg<'a> {
-    option(alloc, "colour", "Colour").value_parser(["red", BLUE].as_slice())
-}
-        OptionName::Colour => colour_option(alloc),
-        OptionName::Place => place(alloc, "place", "PLACE", "Where"),
-    }
 ''',
     'crates/g726_codec/src/names.rt': 'pub const BLUE: &str = "blue";\n',
     'driver/e1gw/__main__.py': "COMMANDS = {'lamp': 'lamp', 'say': 'say'}\n",

@@ -257,6 +257,33 @@ fn text_of<'m>(matches: &'m ArgMatches<'_>, id: &str) -> Option<&'m str>
     options.get_str(id)
 }
 
+// The number of 8 bits of an option of the subcommand, the first if it is given several times.
+fn u8_of(matches: &ArgMatches<'_>, id: &str) -> Option<u8>
+    ensures found { IfSome result (SaysNumberIn 8 id.now (subcommand_rows_of matches.now)) }
+    ensures none { IfNone result ((n : ℕ) → ¬ SaysNumberIn 8 id.now (subcommand_rows_of matches.now) n) }
+{
+    let (_, options) = matches.subcommand()?;
+    options.get_one(id)
+}
+
+// The number of 16 bits of an option of the subcommand, the first if it is given several times.
+fn u16_of(matches: &ArgMatches<'_>, id: &str) -> Option<u16>
+    ensures found { IfSome result (SaysNumberIn 16 id.now (subcommand_rows_of matches.now)) }
+    ensures none { IfNone result ((n : ℕ) → ¬ SaysNumberIn 16 id.now (subcommand_rows_of matches.now) n) }
+{
+    let (_, options) = matches.subcommand()?;
+    options.get_one(id)
+}
+
+// The number of 64 bits of an option of the subcommand, the first if it is given several times.
+fn u64_of(matches: &ArgMatches<'_>, id: &str) -> Option<u64>
+    ensures found { IfSome result (SaysNumberIn 64 id.now (subcommand_rows_of matches.now)) }
+    ensures none { IfNone result ((n : ℕ) → ¬ SaysNumberIn 64 id.now (subcommand_rows_of matches.now) n) }
+{
+    let (_, options) = matches.subcommand()?;
+    options.get_one(id)
+}
+
 /// The path of the configuration that the matches name: the first one.
 pub fn path_of<'m>(matches: &'m ArgMatches<'_>) -> Option<&'m str>
     ensures { option_map (λ path. path.now) result
@@ -279,8 +306,7 @@ pub fn repeat_of(matches: &ArgMatches<'_>) -> Option<u8>
     ensures none { IfNone result ((n : ℕ)
         → ¬ SaysNumberIn 8 (codes "repeat") (subcommand_rows_of matches.now) n) }
 {
-    let (_, options) = matches.subcommand()?;
-    options.get_one("repeat")
+    u8_of(matches, "repeat")
 }
 
 // The number of signals, one of which comes every 2 ms, in a wait of this many milliseconds; None unless
@@ -311,8 +337,7 @@ fn seizure_ms_of(matches: &ArgMatches<'_>) -> Option<u16>
     ensures none { IfNone result ((n : ℕ)
         → ¬ SaysNumberIn 16 (codes "seizure-wait") (subcommand_rows_of matches.now) n) }
 {
-    let (_, options) = matches.subcommand()?;
-    options.get_one("seizure-wait")
+    u16_of(matches, "seizure-wait")
 }
 
 /// The path of the recording that the matches name, the first one, if they name one.
@@ -337,8 +362,7 @@ pub fn end_of(matches: &ArgMatches<'_>) -> Option<u16>
     ensures none { IfNone result ((n : ℕ)
         → ¬ SaysNumberIn 16 (codes "end") (subcommand_rows_of matches.now) n) }
 {
-    let (_, options) = matches.subcommand()?;
-    options.get_one("end")
+    u16_of(matches, "end")
 }
 
 /// The path of the socket whose clients are sent the state of the trunk, the first one, if the matches name
@@ -378,8 +402,7 @@ pub fn from_of(matches: &ArgMatches<'_>) -> Option<u64>
     ensures none { IfNone result ((n : ℕ)
         → ¬ SaysNumberIn 64 (codes "from") (subcommand_rows_of matches.now) n) }
 {
-    let (_, options) = matches.subcommand()?;
-    options.get_one("from")
+    u64_of(matches, "from")
 }
 
 /// The path of the state that a session begins with, the first one, if the matches name one.
@@ -493,8 +516,7 @@ pub fn size_of(matches: &ArgMatches<'_>) -> Option<u16>
     ensures none { IfNone result ((n : ℕ)
         → ¬ SaysNumberIn 16 (codes "size") (subcommand_rows_of matches.now) n) }
 {
-    let (_, options) = matches.subcommand()?;
-    options.get_one("size")
+    u16_of(matches, "size")
 }
 
 /// How many later packets are waited for, by the matches.
@@ -503,8 +525,7 @@ pub fn jitter_of(matches: &ArgMatches<'_>) -> Option<u16>
     ensures none { IfNone result ((n : ℕ)
         → ¬ SaysNumberIn 16 (codes "jitter") (subcommand_rows_of matches.now) n) }
 {
-    let (_, options) = matches.subcommand()?;
-    options.get_one("jitter")
+    u16_of(matches, "jitter")
 }
 
 /// The payload type of the RTP header that the matches ask for, if they do.
@@ -513,8 +534,7 @@ pub fn rtp_of(matches: &ArgMatches<'_>) -> Option<u8>
     ensures none { IfNone result ((n : ℕ)
         → ¬ SaysNumberIn 8 (codes "rtp") (subcommand_rows_of matches.now) n) }
 {
-    let (_, options) = matches.subcommand()?;
-    options.get_one("rtp")
+    u8_of(matches, "rtp")
 }
 
 /// The number of the first packet that the matches ask for, if they do.
@@ -523,6 +543,5 @@ pub fn sequence_of(matches: &ArgMatches<'_>) -> Option<u16>
     ensures none { IfNone result ((n : ℕ)
         → ¬ SaysNumberIn 16 (codes "sequence") (subcommand_rows_of matches.now) n) }
 {
-    let (_, options) = matches.subcommand()?;
-    options.get_one("sequence")
+    u16_of(matches, "sequence")
 }

@@ -1,6 +1,7 @@
 //! The options as declared to `clap` (names, help, defaults, allowed values), and matched by it.
 
-use clap::{Arg, ArgAction, ArgMatches, Command, Error, value_parser};
+use clap::builder::ValueParser;
+use clap::{Arg, ArgAction, ArgMatches, Command, Error};
 use g726_codec::names::{G726_16, G726_24, G726_32, G726_40};
 use std::alloc::{AllocError, Global};
 
@@ -92,206 +93,414 @@ at most once a second.
 
 Example: e1gw satop 0.0.0.0:5000 192.0.2.2:5000 < trunk.in > trunk.out";
 
-const CRC4_CHECK_TEXT: &str = "Pass octets as they come, and count errored submultiframes";
+/// G.711 in the law of `--law`.
+pub const G711: &str = "g711";
 
-const REPORTS_TEXT: &str =
-    "FIFO through which errored submultiframes are reported to the\nfar end, by E bits";
-
-const LIVE_TEXT: &str =
-    "Where CRC-4 multiframes are checked: tell the counts after each\nsecond of the trunk";
-
-const CODEC_TEXT: &str =
-    "Coding of the datagrams [possible values: g711, g726-16,\ng726-24, g726-32, g726-40]";
-
-const PAYLOAD_TEXT: &str =
-    "RTP payload type, 0 to 127 [default: 8 for g711 in law a,\n0 for g711 in law mu, else 96]";
-
-const RECORD_TEXT: &str = "Record what the gateway takes in a new file, for replay and check";
-
-const LOAD_TEXT: &str = "Begin with the state that an earlier session saved";
-
-const SAVE_TEXT: &str = "Save the state at the end, for --load";
-
-const SENDERS_TEXT: &str =
-    "Senders let in: any, host for the peer's address at any port,\npeer for its address and port";
-
-const REPEAT_TEXT: &str =
-    "Datagrams of a circuit after which each is sent again, 0 to 8;\n0 for never";
-
-const SEIZURE_WAIT_TEXT: &str =
-    "Milliseconds after which a seizure that is not acknowledged is\nreleased, 200 to 8000 \
-     [default: 200, or that of the state]";
-
-const CONTROL_TEXT: &str =
-    "Unix socket at which clients connect, who give C and K records\nand get R records";
-
-const END_TEXT: &str =
-    "With --control: descriptor, 0 to 65535, of a pipe or a socket; when\nit is closed at its other end, or \
-     has octets, the trunk ends";
-
-const LOG_TEXT: &str =
-    "Folder of the log, which a program that is started again goes on\nwith";
-
-const TELL_TEXT: &str =
-    "Unix socket at which clients are told how the trunk stands and\nwhat changes";
-
-const FOLLOW_TEXT: &str = "Read records from this log as it grows, until standard input ends";
-
-const FROM_TEXT: &str = "With --follow: the octet of the log at which its first record\nbegins";
-
-const CHECKPOINT_TEXT: &str =
-    "File to which the state is written after each 5 s of the trunk,\nwith its place in the input";
-
-const ALIGN_TEXT: &str = "Take octets whose bits stand at any offset, as e1gw align";
-
-const CRC4_TEXT: &str = "Check what comes as e1gw crc4 --check, and send as e1gw crc4";
-
-const SLOTS_TEXT: &str =
-    "The device has time slots 1 to 31 alone: 1-31, 31 octets a frame,\nboth ways";
-
-const SIZE_TEXT: &str = "Octets in a packet, 32 to 1280, a multiple of 32";
-
-const JITTER_TEXT: &str = "Packets waited for after one that is due, 0 to 500";
-
-const RTP_TEXT: &str = "Payload type of an RTP header in each packet, 0 to 127; none\nwithout it";
-
-const NUMBER_TEXT: &str =
-    "Sequence number of the first packet, 0 to 65535; a random one\nwithout it";
-
-const FILL_TEXT: &str =
-    "What replaces lost packets: again, the octets one multiframe\nbefore; or ones";
-
-const CLOCK_TEXT: &str =
-    "What times the packets: packets, those that come; or own, this\nmachine's clock";
-
-// The options.
+// What an option is given.
 #[derive(Clone, Copy)]
-enum OptionName {
-    Law,
-    Codec,
-    Payload,
-    Ptime,
-    Ssrc,
-    Sequence,
-    Timestamp,
-    Totals,
-    Config,
-    Load,
-    Save,
-    Record,
-    RecordOver,
-    Senders,
-    Repeat,
-    SeizureWait,
-    Control,
-    End,
-    Align,
-    Crc4,
-    Slots,
-    Log,
-    Tell,
-    Checkpoint,
-    Follow,
-    From,
-    Crc4Check,
-    Live,
-    Reports,
-    Local,
-    Peer,
-    Size,
-    Jitter,
-    Rtp,
-    Number,
-    Fill,
-    Clock,
+enum Kind {
+    // Nothing: it is there or not.
+    Flag,
+    // Any text.
+    Text,
+    // Any text, and it has to be given.
+    Required,
+    // Any text, which has to be given and stands without the option's name.
+    Argument,
+    // One of these words, which are listed behind the help.
+    Listed(&'static [&'static str]),
+    // One of these words, which the help names.
+    Named(&'static [&'static str]),
+    // A number from the first to the second.
+    Number(i64, i64),
+    // A number of 64 bits.
+    Place,
 }
+
+// An option as it is declared.
+#[derive(Clone, Copy)]
+struct OptionRow {
+    name: &'static str,
+    // What the help calls its value; none for its name.
+    value_names: &'static [&'static str],
+    kind: Kind,
+    // Its value if it is not given.
+    defaults: &'static [&'static str],
+    // The options that it is refused without.
+    needs: &'static [&'static str],
+    help: &'static str,
+}
+
+// What a row leaves out.
+const OPTION: OptionRow = OptionRow {
+    name: "",
+    value_names: &[],
+    kind: Kind::Text,
+    defaults: &[],
+    needs: &[],
+    help: "",
+};
+
+const LAW: OptionRow = OptionRow {
+    name: "law",
+    kind: Kind::Listed(&["a", "mu"]),
+    defaults: &["a"],
+    help: "Law of the octets",
+    ..OPTION
+};
+
+const CODEC: OptionRow = OptionRow {
+    name: "codec",
+    kind: Kind::Named(&[G711, G726_16, G726_24, G726_32, G726_40]),
+    defaults: &[G711],
+    help: "Coding of the datagrams [possible values: g711, g726-16,\ng726-24, g726-32, g726-40]",
+    ..OPTION
+};
+
+const PAYLOAD: OptionRow = OptionRow {
+    name: "payload",
+    kind: Kind::Number(0, 127),
+    help: "RTP payload type, 0 to 127 [default: 8 for g711 in law a,\n0 for g711 in law mu, else 96]",
+    ..OPTION
+};
+
+const PTIME: OptionRow = OptionRow {
+    name: "ptime",
+    kind: Kind::Listed(&["10", "20", "30"]),
+    defaults: &["20"],
+    help: "Milliseconds in a packet",
+    ..OPTION
+};
+
+const SSRC: OptionRow = OptionRow {
+    name: "ssrc",
+    kind: Kind::Number(0, 4294967295),
+    defaults: &["0"],
+    help: "Synchronization source, 0 to 4294967295",
+    ..OPTION
+};
+
+const SEQUENCE: OptionRow = OptionRow {
+    name: "sequence",
+    kind: Kind::Number(0, 65535),
+    defaults: &["0"],
+    help: "Sequence number of the first datagram, 0 to 65535",
+    ..OPTION
+};
+
+const TIMESTAMP: OptionRow = OptionRow {
+    name: "timestamp",
+    kind: Kind::Number(0, 4294967295),
+    defaults: &["0"],
+    help: "Timestamp of the first datagram, 0 to 4294967295",
+    ..OPTION
+};
+
+const TOTALS: OptionRow = OptionRow {
+    name: "totals",
+    kind: Kind::Flag,
+    help: "Print the totals on standard error at the end",
+    ..OPTION
+};
+
+const CONFIG: OptionRow = OptionRow {
+    name: "config",
+    value_names: &["FILE"],
+    kind: Kind::Required,
+    help: "Configuration of the gateway, in TOML",
+    ..OPTION
+};
+
+const LOAD: OptionRow = OptionRow {
+    name: "load",
+    value_names: &["STATE"],
+    kind: Kind::Text,
+    help: "Begin with the state that an earlier session saved",
+    ..OPTION
+};
+
+const SAVE: OptionRow = OptionRow {
+    name: "save",
+    value_names: &["STATE"],
+    kind: Kind::Text,
+    help: "Save the state at the end, for --load",
+    ..OPTION
+};
+
+const RECORD: OptionRow = OptionRow {
+    name: "record",
+    value_names: &["RECORDING"],
+    kind: Kind::Text,
+    help: "Record what the gateway takes in a new file, for replay and check",
+    ..OPTION
+};
+
+const RECORD_OVER: OptionRow = OptionRow {
+    name: "record-over",
+    kind: Kind::Flag,
+    help: "Let the recording be written over an old file",
+    ..OPTION
+};
+
+const SENDERS: OptionRow = OptionRow {
+    name: "senders",
+    kind: Kind::Named(&["any", "host", "peer"]),
+    defaults: &["any"],
+    help: "Senders let in: any, host for the peer's address at any port,\npeer for its address and port",
+    ..OPTION
+};
+
+const REPEAT: OptionRow = OptionRow {
+    name: "repeat",
+    kind: Kind::Number(0, 8),
+    defaults: &["0"],
+    help: "Datagrams of a circuit after which each is sent again, 0 to 8;\n0 for never",
+    ..OPTION
+};
+
+const SEIZURE_WAIT: OptionRow = OptionRow {
+    name: "seizure-wait",
+    value_names: &["MS"],
+    kind: Kind::Number(200, 8000),
+    help: "Milliseconds after which a seizure that is not acknowledged is\nreleased, 200 to 8000 \
+     [default: 200, or that of the state]",
+    ..OPTION
+};
+
+const CONTROL: OptionRow = OptionRow {
+    name: "control",
+    value_names: &["SOCKET"],
+    kind: Kind::Text,
+    help: "Unix socket at which clients connect, who give C and K records\nand get R records",
+    ..OPTION
+};
+
+const END: OptionRow = OptionRow {
+    name: "end",
+    value_names: &["FD"],
+    kind: Kind::Number(0, 65535),
+    needs: &["control"],
+    help: "With --control: descriptor, 0 to 65535, of a pipe or a socket; when\n\
+           it is closed at its other end, or has octets, the trunk ends",
+    ..OPTION
+};
+
+const LOG: OptionRow = OptionRow {
+    name: "log",
+    value_names: &["FOLDER"],
+    kind: Kind::Text,
+    help: "Folder of the log, which a program that is started again goes on\nwith",
+    ..OPTION
+};
+
+const TELL: OptionRow = OptionRow {
+    name: "tell",
+    value_names: &["SOCKET"],
+    kind: Kind::Text,
+    help: "Unix socket at which clients are told how the trunk stands and\nwhat changes",
+    ..OPTION
+};
+
+const ALIGN: OptionRow = OptionRow {
+    name: "align",
+    kind: Kind::Flag,
+    help: "Take octets whose bits stand at any offset, as e1gw align",
+    ..OPTION
+};
+
+const CRC4: OptionRow = OptionRow {
+    name: "crc4",
+    kind: Kind::Flag,
+    help: "Check what comes as e1gw crc4 --check, and send as e1gw crc4",
+    ..OPTION
+};
+
+const SLOTS: OptionRow = OptionRow {
+    name: "slots",
+    value_names: &["SLOTS"],
+    kind: Kind::Named(&["1-31"]),
+    help: "The device has time slots 1 to 31 alone: 1-31, 31 octets a frame,\nboth ways",
+    ..OPTION
+};
+
+const CHECKPOINT: OptionRow = OptionRow {
+    name: "checkpoint",
+    value_names: &["FILE"],
+    kind: Kind::Text,
+    help: "File to which the state is written after each 5 s of the trunk,\nwith its place in the input",
+    ..OPTION
+};
+
+const FOLLOW: OptionRow = OptionRow {
+    name: "follow",
+    value_names: &["LOG"],
+    kind: Kind::Text,
+    help: "Read records from this log as it grows, until standard input ends",
+    ..OPTION
+};
+
+const FROM: OptionRow = OptionRow {
+    name: "from",
+    value_names: &["OCTET"],
+    kind: Kind::Place,
+    defaults: &["0"],
+    help: "With --follow: the octet of the log at which its first record\nbegins",
+    ..OPTION
+};
+
+const CHECK: OptionRow = OptionRow {
+    name: "check",
+    kind: Kind::Flag,
+    help: "Pass octets as they come, and count errored submultiframes",
+    ..OPTION
+};
+
+const LIVE: OptionRow = OptionRow {
+    name: "live",
+    kind: Kind::Flag,
+    help: "Where CRC-4 multiframes are checked: tell the counts after each\nsecond of the trunk",
+    ..OPTION
+};
+
+const REPORTS: OptionRow = OptionRow {
+    name: "reports",
+    value_names: &["FIFO"],
+    kind: Kind::Text,
+    help: "FIFO through which errored submultiframes are reported to the\nfar end, by E bits",
+    ..OPTION
+};
+
+const LOCAL: OptionRow = OptionRow {
+    name: "local",
+    value_names: &["LOCAL:PORT"],
+    kind: Kind::Argument,
+    help: "Address and port of the socket",
+    ..OPTION
+};
+
+const PEER: OptionRow = OptionRow {
+    name: "peer",
+    value_names: &["PEER:PORT"],
+    kind: Kind::Argument,
+    help: "Address and port of the far end",
+    ..OPTION
+};
+
+const SIZE: OptionRow = OptionRow {
+    name: "size",
+    value_names: &["OCTETS"],
+    kind: Kind::Number(32, 1280),
+    defaults: &["256"],
+    help: "Octets in a packet, 32 to 1280, a multiple of 32",
+    ..OPTION
+};
+
+const JITTER: OptionRow = OptionRow {
+    name: "jitter",
+    value_names: &["PACKETS"],
+    kind: Kind::Number(0, 500),
+    defaults: &["4"],
+    help: "Packets waited for after one that is due, 0 to 500",
+    ..OPTION
+};
+
+const RTP: OptionRow = OptionRow {
+    name: "rtp",
+    value_names: &["TYPE"],
+    kind: Kind::Number(0, 127),
+    help: "Payload type of an RTP header in each packet, 0 to 127; none\nwithout it",
+    ..OPTION
+};
+
+const NUMBER: OptionRow = OptionRow {
+    name: "sequence",
+    value_names: &["NUMBER"],
+    kind: Kind::Number(0, 65535),
+    help: "Sequence number of the first packet, 0 to 65535; a random one\nwithout it",
+    ..OPTION
+};
+
+const FILL: OptionRow = OptionRow {
+    name: "fill",
+    kind: Kind::Named(&["again", "ones"]),
+    defaults: &["again"],
+    help: "What replaces lost packets: again, the octets one multiframe\nbefore; or ones",
+    ..OPTION
+};
+
+const CLOCK: OptionRow = OptionRow {
+    name: "clock",
+    kind: Kind::Named(&["packets", "own"]),
+    defaults: &["packets"],
+    help: "What times the packets: packets, those that come; or own, this\nmachine's clock",
+    ..OPTION
+};
 
 // A subcommand, and the options that it takes, in the order of its help.
 struct Subcommand {
     name: &'static str,
     about: &'static str,
     after_help: &'static str,
-    options: &'static [OptionName],
+    options: &'static [OptionRow],
 }
 
 // The options of a stream of speech.
-const OF_A_STREAM: &[OptionName] = &[
-    OptionName::Law,
-    OptionName::Codec,
-    OptionName::Payload,
-    OptionName::Ptime,
-    OptionName::Ssrc,
-    OptionName::Sequence,
-    OptionName::Timestamp,
-    OptionName::Totals,
+const OF_A_STREAM: &[OptionRow] = &[
+    LAW, CODEC, PAYLOAD, PTIME, SSRC, SEQUENCE, TIMESTAMP, TOTALS,
 ];
 
 // The options of a session from records to records.
-const OF_REPLAY: &[OptionName] = &[
-    OptionName::Config,
-    OptionName::Load,
-    OptionName::Save,
-    OptionName::Totals,
-    OptionName::SeizureWait,
-    OptionName::Tell,
-    OptionName::Checkpoint,
-    OptionName::Follow,
-    OptionName::From,
+const OF_REPLAY: &[OptionRow] = &[
+    CONFIG,
+    LOAD,
+    SAVE,
+    TOTALS,
+    SEIZURE_WAIT,
+    TELL,
+    CHECKPOINT,
+    FOLLOW,
+    FROM,
 ];
 
 // The options of a session whose answers are not written.
-const OF_CHECK: &[OptionName] = &[
-    OptionName::Config,
-    OptionName::Load,
-    OptionName::Totals,
-    OptionName::SeizureWait,
-];
+const OF_CHECK: &[OptionRow] = &[CONFIG, LOAD, TOTALS, SEIZURE_WAIT];
 
 // The options of a session over UDP.
-const OF_SERVE: &[OptionName] = &[
-    OptionName::Record,
-    OptionName::RecordOver,
-    OptionName::Config,
-    OptionName::Load,
-    OptionName::Save,
-    OptionName::Totals,
-    OptionName::Senders,
-    OptionName::Repeat,
-    OptionName::SeizureWait,
+const OF_SERVE: &[OptionRow] = &[
+    RECORD,
+    RECORD_OVER,
+    CONFIG,
+    LOAD,
+    SAVE,
+    TOTALS,
+    SENDERS,
+    REPEAT,
+    SEIZURE_WAIT,
 ];
 
 // The options of a trunk in service.
-const OF_TRUNK: &[OptionName] = &[
-    OptionName::Record,
-    OptionName::RecordOver,
-    OptionName::Config,
-    OptionName::Load,
-    OptionName::Save,
-    OptionName::Totals,
-    OptionName::Senders,
-    OptionName::Repeat,
-    OptionName::SeizureWait,
-    OptionName::Log,
-    OptionName::Tell,
-    OptionName::Control,
-    OptionName::End,
-    OptionName::Align,
-    OptionName::Crc4,
-    OptionName::Live,
-    OptionName::Slots,
+const OF_TRUNK: &[OptionRow] = &[
+    RECORD,
+    RECORD_OVER,
+    CONFIG,
+    LOAD,
+    SAVE,
+    TOTALS,
+    SENDERS,
+    REPEAT,
+    SEIZURE_WAIT,
+    LOG,
+    TELL,
+    CONTROL,
+    END,
+    ALIGN,
+    CRC4,
+    LIVE,
+    SLOTS,
 ];
 
 // The options of an emulated circuit.
-const OF_SATOP: &[OptionName] = &[
-    OptionName::Local,
-    OptionName::Peer,
-    OptionName::Size,
-    OptionName::Jitter,
-    OptionName::Rtp,
-    OptionName::Number,
-    OptionName::Fill,
-    OptionName::Clock,
-];
+const OF_SATOP: &[OptionRow] = &[LOCAL, PEER, SIZE, JITTER, RTP, NUMBER, FILL, CLOCK];
 
 const SUBCOMMANDS: [Subcommand; 9] = [
     Subcommand {
@@ -334,18 +543,13 @@ const SUBCOMMANDS: [Subcommand; 9] = [
         name: "align",
         about: "A trunk at any bit offset to the octets of its time slots",
         after_help: ALIGN_HELP,
-        options: &[OptionName::Totals],
+        options: &[TOTALS],
     },
     Subcommand {
         name: "crc4",
         about: "A trunk as it is sent to the same with CRC-4 multiframes",
         after_help: CRC4_HELP,
-        options: &[
-            OptionName::Crc4Check,
-            OptionName::Live,
-            OptionName::Reports,
-            OptionName::Totals,
-        ],
+        options: &[CHECK, LIVE, REPORTS, TOTALS],
     },
     Subcommand {
         name: "satop",
@@ -355,332 +559,90 @@ const SUBCOMMANDS: [Subcommand; 9] = [
     },
 ];
 
-/// G.711 in the law of `--law`.
-pub const G711: &str = "g711";
-
-// An option with a value, of this name.
-fn option<'a>(alloc: Global, name: &'a str, help: &'a str) -> Arg<'a> {
-    Arg::new(alloc, name).long(name).help(help)
-}
-
-// An option without a value, which is there or not.
-fn flag<'a>(alloc: Global, name: &'a str, help: &'a str) -> Arg<'a> {
-    option(alloc, name, help).action(ArgAction::SetTrue)
-}
-
-// The law of the octets of speech.
-fn law_option<'a>(alloc: Global) -> Arg<'a> {
-    option(alloc, "law", "Law of the octets")
-        .value_parser(["a", "mu"].as_slice())
-        .default_value("a")
-}
-
-// The coding of the datagrams.
-fn codec_option<'a>(alloc: Global) -> Arg<'a> {
-    option(alloc, "codec", CODEC_TEXT)
-        .value_parser([G711, G726_16, G726_24, G726_32, G726_40].as_slice())
-        .default_value(G711)
-        .hide_possible_values(true)
-}
-
-// The payload type of the datagrams.
-fn payload_option<'a>(alloc: Global) -> Arg<'a> {
-    option(alloc, "payload", PAYLOAD_TEXT).value_parser(value_parser!(u8).range(0..=127))
-}
-
-// The time of a packet.
-fn ptime_option<'a>(alloc: Global) -> Arg<'a> {
-    option(alloc, "ptime", "Milliseconds in a packet")
-        .value_parser(["10", "20", "30"].as_slice())
-        .default_value("20")
-}
-
-// The source of the datagrams.
-fn ssrc_option<'a>(alloc: Global) -> Arg<'a> {
-    option(alloc, "ssrc", "Synchronization source, 0 to 4294967295")
-        .value_parser(value_parser!(u32))
-        .default_value("0")
-}
-
-// The number of the first datagram.
-fn sequence_option<'a>(alloc: Global) -> Arg<'a> {
-    option(
-        alloc,
-        "sequence",
-        "Sequence number of the first datagram, 0 to 65535",
-    )
-    .value_parser(value_parser!(u16))
-    .default_value("0")
-}
-
-// The sample at which the first datagram begins.
-fn timestamp_option<'a>(alloc: Global) -> Arg<'a> {
-    option(
-        alloc,
-        "timestamp",
-        "Timestamp of the first datagram, 0 to 4294967295",
-    )
-    .value_parser(value_parser!(u32))
-    .default_value("0")
-}
-
-// Whether the totals are printed.
-fn totals_option<'a>(alloc: Global) -> Arg<'a> {
-    flag(
-        alloc,
-        "totals",
-        "Print the totals on standard error at the end",
-    )
-}
-
-// The file of the configuration.
-fn config_option<'a>(alloc: Global) -> Arg<'a> {
-    option(alloc, "config", "Configuration of the gateway, in TOML")
-        .value_name("FILE")
-        .required(true)
-}
-
-// The file of a state to begin with.
-fn load_option<'a>(alloc: Global) -> Arg<'a> {
-    option(alloc, "load", LOAD_TEXT).value_name("STATE")
-}
-
-// The file for the state at the end.
-fn save_option<'a>(alloc: Global) -> Arg<'a> {
-    option(alloc, "save", SAVE_TEXT).value_name("STATE")
-}
-
-// The file of a recording.
-fn record_option<'a>(alloc: Global) -> Arg<'a> {
-    option(alloc, "record", RECORD_TEXT).value_name("RECORDING")
-}
-
-// Whether an old file may be a recording's.
-fn over_option<'a>(alloc: Global) -> Arg<'a> {
-    flag(
-        alloc,
-        "record-over",
-        "Let the recording be written over an old file",
-    )
-}
-
-// The option `--senders`: whose datagrams are accepted.
-fn senders_option<'a>(alloc: Global) -> Arg<'a> {
-    option(alloc, "senders", SENDERS_TEXT)
-        .value_parser(["any", "host", "peer"].as_slice())
-        .default_value("any")
-        .hide_possible_values(true)
-}
-
-// After how many datagrams each is sent again.
-fn repeat_option<'a>(alloc: Global) -> Arg<'a> {
-    option(alloc, "repeat", REPEAT_TEXT)
-        .value_parser(value_parser!(u8).range(0..=8))
-        .default_value("0")
-}
-
-// After which time a seizure is released. If it is not given, a state keeps its own.
-fn seizure_wait_option<'a>(alloc: Global) -> Arg<'a> {
-    option(alloc, "seizure-wait", SEIZURE_WAIT_TEXT)
-        .value_name("MS")
-        .value_parser(value_parser!(u16).range(200..=8000))
-}
-
-// The option `--control`: where clients connect.
-fn control_option<'a>(alloc: Global) -> Arg<'a> {
-    option(alloc, "control", CONTROL_TEXT).value_name("SOCKET")
-}
-
-// The descriptor that asks for the end of a trunk.
-fn end_option<'a>(alloc: Global) -> Arg<'a> {
-    option(alloc, "end", END_TEXT)
-        .value_name("FD")
-        .value_parser(value_parser!(u16))
-}
-
-// The folder of the log of a trunk.
-fn log_option<'a>(alloc: Global) -> Arg<'a> {
-    option(alloc, "log", LOG_TEXT).value_name("FOLDER")
-}
-
-// The socket whose clients are sent the state of the trunk.
-fn tell_option<'a>(alloc: Global) -> Arg<'a> {
-    option(alloc, "tell", TELL_TEXT).value_name("SOCKET")
-}
-
-// The file of checkpoints.
-fn checkpoint_option<'a>(alloc: Global) -> Arg<'a> {
-    option(alloc, "checkpoint", CHECKPOINT_TEXT).value_name("FILE")
-}
-
-// The log that is followed.
-fn follow_option<'a>(alloc: Global) -> Arg<'a> {
-    option(alloc, "follow", FOLLOW_TEXT).value_name("LOG")
-}
-
-// The octet of the log from which on it is read.
-fn from_option<'a>(alloc: Global) -> Arg<'a> {
-    option(alloc, "from", FROM_TEXT)
-        .value_name("OCTET")
-        .value_parser(value_parser!(u64))
-        .default_value("0")
-}
-
-// A place that has to be named, without a word before it.
-fn place<'a>(alloc: Global, name: &'a str, value: &'a str, help: &'a str) -> Arg<'a> {
-    Arg::new(alloc, name)
-        .value_name(value)
-        .help(help)
-        .required(true)
-}
-
-// The FIFO of reports.
-fn reports_option<'a>(alloc: Global) -> Arg<'a> {
-    option(alloc, "reports", REPORTS_TEXT).value_name("FIFO")
-}
-
-// The octets of a packet.
-fn size_option<'a>(alloc: Global) -> Arg<'a> {
-    option(alloc, "size", SIZE_TEXT)
-        .value_name("OCTETS")
-        .value_parser(value_parser!(u16).range(32..=1280))
-        .default_value("256")
-}
-
-// The depth of the jitter buffer.
-fn jitter_option<'a>(alloc: Global) -> Arg<'a> {
-    option(alloc, "jitter", JITTER_TEXT)
-        .value_name("PACKETS")
-        .value_parser(value_parser!(u16).range(0..=500))
-        .default_value("4")
-}
-
-// The payload type of the RTP header.
-fn rtp_option<'a>(alloc: Global) -> Arg<'a> {
-    option(alloc, "rtp", RTP_TEXT)
-        .value_name("TYPE")
-        .value_parser(value_parser!(u8).range(0..=127))
-}
-
-// The number of the first packet.
-fn number_option<'a>(alloc: Global) -> Arg<'a> {
-    option(alloc, "sequence", NUMBER_TEXT)
-        .value_name("NUMBER")
-        .value_parser(value_parser!(u16))
-}
-
-// The option `--slots`: those that the device has.
-fn slots_option<'a>(alloc: Global) -> Arg<'a> {
-    option(alloc, "slots", SLOTS_TEXT)
-        .value_name("SLOTS")
-        .value_parser(["1-31"].as_slice())
-        .hide_possible_values(true)
-}
-
-// The option `--fill`: what replaces lost packets.
-fn fill_option<'a>(alloc: Global) -> Arg<'a> {
-    option(alloc, "fill", FILL_TEXT)
-        .value_parser(["again", "ones"].as_slice())
-        .default_value("again")
-        .hide_possible_values(true)
-}
-
-// The option `--clock`: what times the circuit.
-fn clock_option<'a>(alloc: Global) -> Arg<'a> {
-    option(alloc, "clock", CLOCK_TEXT)
-        .value_parser(["packets", "own"].as_slice())
-        .default_value("packets")
-        .hide_possible_values(true)
-}
-
-// The option of this name as it is declared.
-fn declared<'a>(alloc: Global, option: OptionName) -> Arg<'a> {
-    match option {
-        OptionName::Law => law_option(alloc),
-        OptionName::Codec => codec_option(alloc),
-        OptionName::Payload => payload_option(alloc),
-        OptionName::Ptime => ptime_option(alloc),
-        OptionName::Ssrc => ssrc_option(alloc),
-        OptionName::Sequence => sequence_option(alloc),
-        OptionName::Timestamp => timestamp_option(alloc),
-        OptionName::Totals => totals_option(alloc),
-        OptionName::Config => config_option(alloc),
-        OptionName::Load => load_option(alloc),
-        OptionName::Save => save_option(alloc),
-        OptionName::Record => record_option(alloc),
-        OptionName::RecordOver => over_option(alloc),
-        OptionName::Senders => senders_option(alloc),
-        OptionName::Repeat => repeat_option(alloc),
-        OptionName::SeizureWait => seizure_wait_option(alloc),
-        OptionName::Control => control_option(alloc),
-        OptionName::End => end_option(alloc),
-        OptionName::Align => flag(alloc, "align", ALIGN_TEXT),
-        OptionName::Crc4 => flag(alloc, "crc4", CRC4_TEXT),
-        OptionName::Slots => slots_option(alloc),
-        OptionName::Log => log_option(alloc),
-        OptionName::Tell => tell_option(alloc),
-        OptionName::Checkpoint => checkpoint_option(alloc),
-        OptionName::Follow => follow_option(alloc),
-        OptionName::From => from_option(alloc),
-        OptionName::Crc4Check => flag(alloc, "check", CRC4_CHECK_TEXT),
-        OptionName::Live => flag(alloc, "live", LIVE_TEXT),
-        OptionName::Reports => reports_option(alloc),
-        OptionName::Local => place(
-            alloc,
-            "local",
-            "LOCAL:PORT",
-            "Address and port of the socket",
-        ),
-        OptionName::Peer => place(
-            alloc,
-            "peer",
-            "PEER:PORT",
-            "Address and port of the far end",
-        ),
-        OptionName::Size => size_option(alloc),
-        OptionName::Jitter => jitter_option(alloc),
-        OptionName::Rtp => rtp_option(alloc),
-        OptionName::Number => number_option(alloc),
-        OptionName::Fill => fill_option(alloc),
-        OptionName::Clock => clock_option(alloc),
+// An argument by itself, or an option behind its name.
+fn with_name<'a>(arg: Arg<'a>, row: &OptionRow) -> Arg<'a> {
+    match row.kind {
+        Kind::Argument => arg,
+        _ => arg.long(row.name),
     }
 }
 
-// An option with those that it needs.
-fn needing(option: OptionName, arg: Arg<'_>) -> Result<Arg<'_>, AllocError> {
-    if let OptionName::End = option {
-        return arg.requires_arg("control");
+// What a value of a kind may be.
+fn parser_of(kind: Kind) -> ValueParser<'static> {
+    match kind {
+        Kind::Flag => ValueParser::Bool,
+        Kind::Text | Kind::Required | Kind::Argument => ValueParser::String,
+        Kind::Listed(words) | Kind::Named(words) => ValueParser::Names(words),
+        Kind::Number(first, last) => ValueParser::Signed(first, last),
+        Kind::Place => ValueParser::Unsigned(0, u64::MAX),
     }
-    Ok(arg)
+}
+
+// What a use of a kind does.
+fn action_of(kind: Kind) -> ArgAction {
+    match kind {
+        Kind::Flag => ArgAction::SetTrue,
+        _ => ArgAction::Set,
+    }
+}
+
+// The option or argument of a row.
+fn declared<'a>(alloc: Global, row: &OptionRow) -> Result<Arg<'a>, AllocError> {
+    let arg = Arg::new(alloc, row.name)
+        .help(row.help)
+        .value_names(row.value_names)
+        .default_values(row.defaults)
+        .action(action_of(row.kind))
+        .value_parser(parser_of(row.kind))
+        .required(matches!(row.kind, Kind::Required | Kind::Argument))
+        .hide_possible_values(matches!(row.kind, Kind::Named(_)));
+    with_name(arg, row).requires_all(row.needs)
+}
+
+// The options and arguments of rows.
+fn all_declared<'a>(alloc: Global, rows: &[OptionRow]) -> Result<Vec<Arg<'a>>, AllocError> {
+    let mut args = Vec::new(alloc);
+    for row in rows {
+        args.push(declared(alloc, row)?)?;
+    }
+    Ok(args)
 }
 
 // A subcommand with its options.
 fn with_options<'a>(alloc: Global, asked: &Subcommand) -> Result<Command<'a>, AllocError> {
-    let mut command = Command::new(alloc, asked.name)
+    let args = all_declared(alloc, asked.options)?;
+    Command::new(alloc, asked.name)
         .about(asked.about)
         .after_help(asked.after_help)
-        .next_line_help(true);
-    for option in asked.options {
-        command = command.arg(needing(*option, declared(alloc, *option))?)?;
-    }
-    Ok(command)
+        .next_line_help(true)
+        .args(args)
 }
 
-// The command line of the program, without its subcommands.
-fn program<'a>(alloc: Global) -> Command<'a> {
-    Command::new(alloc, "e1gw")
-        .about("E1 trunk to RTP gateway, from standard input to standard output")
-        .version(VERSION)
-        .subcommand_required(true)
+// The subcommands of rows.
+fn subcommands<'a>(
+    alloc: Global,
+    all_asked: &[Subcommand],
+) -> Result<Vec<Command<'a>>, AllocError> {
+    let mut commands = Vec::new(alloc);
+    for asked in all_asked {
+        commands.push(with_options(alloc, asked)?)?;
+    }
+    Ok(commands)
+}
+
+// All subcommands. (This is the one step, since each step beside their table is slow to prove.)
+fn all_subcommands<'a>(alloc: Global) -> Result<Vec<Command<'a>>, AllocError> {
+    subcommands(alloc, &SUBCOMMANDS)
 }
 
 // The command line of the program, with its subcommands.
 fn whole<'a>(alloc: Global) -> Result<Command<'a>, AllocError> {
-    let mut command = program(alloc);
-    for asked in &SUBCOMMANDS {
-        command = command.subcommand(with_options(alloc, asked)?)?;
-    }
-    Ok(command)
+    let commands = all_subcommands(alloc)?;
+    Command::new(alloc, "e1gw")
+        .about("E1 trunk to RTP gateway, from standard input to standard output")
+        .version(VERSION)
+        .subcommand_required(true)
+        .subcommands(commands)
 }
 
 /// The arguments matched against the declared subcommands and options.
