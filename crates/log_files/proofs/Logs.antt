@@ -191,7 +191,8 @@ module _ {first second : Contents} where
       let one = same_turn k m.0 in let other = m.1 a h in omega arith
 
 -- a pair that has something is newer than one that has nothing
-pub newer_than_none : {pair other : Contents} {kept : Kept} → Has pair kept → HasNothingWhole other → IsNewer pair other kept
+pub newer_than_none : {pair other : Contents} {kept : Kept} → Has pair kept → HasNothingWhole other
+    → IsNewer pair other kept
 newer_than_none h none = (h, λ kept k. absurd (none kept k))
 
 -- what stands is left

@@ -214,7 +214,8 @@ module _ (turn len sum : ℕ) (octets : List ℕ) (few : len + length octets < 2
         records = longer_has (longer h.records (rw (← k.counted) at v.2));
       }))
 
-  module _ {r r' r'' : Option (List ℕ)} (w : WhereKnown r r' (IsWrittenAt (24 + len) octets)) (s : Option (List ℕ)) where
+  module _ {r r' r'' : Option (List ℕ)} (w : WhereKnown r r' (IsWrittenAt (24 + len) octets)) (s : Option (List ℕ))
+    where
     -- all, and then the head
     pub has_more : WhereKnown r' r'' (IsWrittenAt 0 (head_of turn (len + length octets) sum))
         → WhereKnown (both s r) (both s r'') (HasMore turn len octets sum)
