@@ -15,8 +15,7 @@ fills_on from at octets start old new behind fills w there =
     let rest = drop (at + length octets) old in
     let count : length (take at old) ≡ at = length-take-le at old f.0 in
     let first : take from new ≡ take from (take at old) = ap (take from) w.is
-    ∙ take-append-le from (take at old) (octets ++ rest) (omega (arith, count, behind)) in
-    (
+    ∙ take-append-le from (take at old) (octets ++ rest) (omega (arith, count, behind)) in (
       omega (arith, ap length w.is, length-append (take at old) (octets ++ rest), length-append octets rest, count),
       first ∙ take-take from at old behind ∙ f.1,
     )

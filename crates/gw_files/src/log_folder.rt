@@ -220,11 +220,7 @@ fn open_lock(rt: &impl Machine, folder: &str) -> Result<File, ProgramFault>
 }
 
 // Locks a file, unless another process has locked it. Whether it did is returned, or the system's error.
-#[tactic(auto, unfolding(
-    crate::specs::Files::SystemLocks,
-    crate::specs::Files::SystemHasLocked,
-    crate::specs::LogFolder::SystemFailsToLock,
-))]
+#[tactic(auto, unfolding(crate::specs::Files::SystemLocks, crate::specs::Files::SystemHasLocked, crate::specs::LogFolder::SystemFailsToLock,))]
 fn take_lock(lock: &File) -> io::Result<bool>
     ensures taken { IfOk result (λ taken. taken ≡ true → SystemLocks lock.now) }
     ensures other { IfOk result (λ taken. taken ≡ false → SystemHasLocked lock.now) }

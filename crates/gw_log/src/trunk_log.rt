@@ -28,11 +28,7 @@ fn place_after_kept(kept: &KeptContents<'_>) -> u64
 }
 
 // The files of a log of whose pairs this was loaded.
-fn files_over<S: Store>(
-    first: Pair<S>,
-    second: Pair<S>,
-    loaded: Option<Loaded<'_>>,
-) -> LogFiles<S>
+fn files_over<S: Store>(first: Pair<S>, second: Pair<S>, loaded: Option<Loaded<'_>>) -> LogFiles<S>
     requires { IfSome loaded IsCounted }
     ensures { result ≡ files_over first second loaded.entry }
 {
@@ -117,7 +113,13 @@ impl<S: Store> TrunkLog<S> {
         } }
     {
         let place = place_of(&loaded);
-        TrunkLog::new(alloc, files_over(first, second, loaded), config, room, place)
+        TrunkLog::new(
+            alloc,
+            files_over(first, second, loaded),
+            config,
+            room,
+            place,
+        )
     }
 
     /// Whether it has ended.

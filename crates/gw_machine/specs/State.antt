@@ -131,11 +131,11 @@ Waits (Some signals) first gateway = WasGiven signals first gateway
 -- a session begins with a gateway that began so, and was given the wait that is asked for if one is
 pub record BeginsWaiting (Begins : Gateway → Type 0) (Asks : Option ℕ → Type 0) (gateway : Gateway) : Type 0
   where
-  pub first : Gateway
-  pub begun : Begins first
-  pub wait : Option ℕ
-  pub asked : Asks wait
-  pub waits : Waits wait first gateway
+    pub first : Gateway
+    pub begun : Begins first
+    pub wait : Option ℕ
+    pub asked : Asks wait
+    pub waits : Waits wait first gateway
 
 -- why there is no gateway to begin with: memory was refused, or that in the file that is named is not loaded
 abbrev pub LacksGateway : GatewayConfig → Option (List ℕ) → (Option ℕ → Type 0) → ProgramFault → Type 0

@@ -13,8 +13,7 @@ use crate::listing::listing;
 use gw_files::Nowhere;
 use gw_session::laws::cut_recordings_recover;
 use gw_session::{
-    Ports, RunFault, Sink, Source, Tape, Totals, Watch, run, run_watched,
-    serve_recorded, write_all,
+    Ports, RunFault, Sink, Source, Tape, Totals, Watch, run, run_watched, serve_recorded, write_all,
 };
 use gw_switch::Gateway;
 use std::alloc::Global;

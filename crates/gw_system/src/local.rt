@@ -14,8 +14,8 @@ use clap::ArgMatches;
 use gw_command::{checkpoint_of, load_of, log_of, save_of, seizure_wait_of, tell_of};
 use gw_config::Config;
 use gw_files::{
-    OneOf, Recording, RecordingFile, Tape, begin, begin_gateway, begin_log,
-    keep_checkpoint, keep_gateway, read_config,
+    OneOf, Recording, RecordingFile, Tape, begin, begin_gateway, begin_log, keep_checkpoint,
+    keep_gateway, read_config,
 };
 use gw_log::TrunkLog;
 use gw_machine::{Machine, ProgramFault, System, print_fault};
@@ -23,8 +23,8 @@ use gw_repeat::{Repeating, packet_words};
 use gw_session::Recorder;
 use gw_switch::Gateway;
 use gw_tell::Teller;
-use log_files::FileStore;
 use gw_udp::{OpenFault, Resting, Socket, SourceFilter, SystemSocket, UdpPorts, open_sockets};
+use log_files::FileStore;
 use std::fs::File;
 use std::io;
 use std::rt::Stderr;

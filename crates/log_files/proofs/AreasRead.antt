@@ -31,7 +31,7 @@ area_read content octets behind rest n whole long says counted turn written a =
     let same : octets ++ (behind ++ rest) ≡ octets ++ (written ++ a.behind) =
     sym whole ∙ a.content_is ∙ ap (λ (xs : List ℕ). xs ++ (written ++ a.behind)) (sym is) in
     let behind-is : behind ≡ written = same_first behind written rest a.behind (length written)
-        (append_cancel_left octets (behind ++ rest) (written ++ a.behind) same) (counted ∙ says _ _ _ h) refl in
+    (append_cancel_left octets (behind ++ rest) (written ++ a.behind) same) (counted ∙ says _ _ _ h) refl in
     record {
       behind = [];
       content_is = rw (append-nil, behind-is) (ap (λ (xs : List ℕ). xs ++ written) is);

@@ -216,42 +216,42 @@ module _ (turn len sum : ℕ) (octets : List ℕ) (few : len + length octets < 2
 
   module _ {r r' r'' : Option (List ℕ)} (w : WhereKnown r r' (IsWrittenAt (24 + len) octets)) (s : Option (List ℕ))
     where
-    -- all, and then the head
-    pub has_more : WhereKnown r' r'' (IsWrittenAt 0 (head_of turn (len + length octets) sum))
-        → WhereKnown (both s r) (both s r'') (HasMore turn len octets sum)
-    has_more v = where_both (HasMore turn len octets sum) (where_same s (λ x y. y ≡ x) (λ x. refl))
-        (where_then (λ old new. (content : List ℕ) × IsWrittenAt (24 + len) octets old content
-        × IsWrittenAt 0 (head_of turn (len + length octets) sum) content new) w v (λ x y z p q. (y, p, q)))
-        (λ a b x z same m kept k h. record {
-          state = rw same h.state;
-          records = has_longer (few_of kept k) (longer h.records (rw (← k.counted) at m.1))
-              (rw (head_is kept k) at m.2);
-        })
+      -- all, and then the head
+      pub has_more : WhereKnown r' r'' (IsWrittenAt 0 (head_of turn (len + length octets) sum))
+          → WhereKnown (both s r) (both s r'') (HasMore turn len octets sum)
+      has_more v = where_both (HasMore turn len octets sum) (where_same s (λ x y. y ≡ x) (λ x. refl))
+          (where_then (λ old new. (content : List ℕ) × IsWrittenAt (24 + len) octets old content
+          × IsWrittenAt 0 (head_of turn (len + length octets) sum) content new) w v (λ x y z p q. (y, p, q)))
+          (λ a b x z same m kept k h. record {
+            state = rw same h.state;
+            records = has_longer (few_of kept k) (longer h.records (rw (← k.counted) at m.1))
+                (rw (head_is kept k) at m.2);
+          })
 
-    pub may_have_more : WhereKnown r' r'' (λ old new. (new ≡ old)
-        ⊎ IsWrittenAt 0 (head_of turn (len + length octets) sum) old new)
-        → WhereKnown (both s r) (both s r'') (MayHaveMore turn len octets sum)
-    may_have_more v = where_both (MayHaveMore turn len octets sum) (where_same s (λ x y. y ≡ x) (λ x. refl))
-        (where_then (λ old new. (content : List ℕ) × IsWrittenAt (24 + len) octets old content
-        × ((new ≡ content) ⊎ IsWrittenAt 0 (head_of turn (len + length octets) sum) content new)) w v
-        (λ x y z p q. (y, p, q)))
-        (λ a b x z same m kept k h.
-        let long = longer h.records (rw (← k.counted) at m.1) in
-        ⊎_elim (λ (e : z ≡ m.0). inl (record { state = rw same h.state; records = rw e (longer_has long) }))
-        (λ (w : IsWrittenAt 0 (head_of turn (len + length octets) sum) m.0 z). inr (record {
-          state = rw same h.state;
-          records = has_longer (few_of kept k) long (rw (head_is kept k) at w);
-        })) m.2)
+      pub may_have_more : WhereKnown r' r'' (λ old new. (new ≡ old)
+          ⊎ IsWrittenAt 0 (head_of turn (len + length octets) sum) old new)
+          → WhereKnown (both s r) (both s r'') (MayHaveMore turn len octets sum)
+      may_have_more v = where_both (MayHaveMore turn len octets sum) (where_same s (λ x y. y ≡ x) (λ x. refl))
+          (where_then (λ old new. (content : List ℕ) × IsWrittenAt (24 + len) octets old content
+          × ((new ≡ content) ⊎ IsWrittenAt 0 (head_of turn (len + length octets) sum) content new)) w v
+          (λ x y z p q. (y, p, q)))
+          (λ a b x z same m kept k h.
+          let long = longer h.records (rw (← k.counted) at m.1) in
+          ⊎_elim (λ (e : z ≡ m.0). inl (record { state = rw same h.state; records = rw e (longer_has long) }))
+          (λ (w : IsWrittenAt 0 (head_of turn (len + length octets) sum) m.0 z). inr (record {
+            state = rw same h.state;
+            records = has_longer (few_of kept k) long (rw (head_is kept k) at w);
+          })) m.2)
 
-    -- as the result of that call says
-    pub gets_more : (result : Result (Unit {0}) StoreFault)
-        → WhereKnown r' r'' (WritesHead (head_of turn (len + length octets) sum) result)
-        → OnOk result (WhereKnown (both s r) (both s r'') (HasMore turn len octets sum))
-    gets_more (Ok x) v = has_more v
-    gets_more (Err e) v = tt
+      -- as the result of that call says
+      pub gets_more : (result : Result (Unit {0}) StoreFault)
+          → WhereKnown r' r'' (WritesHead (head_of turn (len + length octets) sum) result)
+          → OnOk result (WhereKnown (both s r) (both s r'') (HasMore turn len octets sum))
+      gets_more (Ok x) v = has_more v
+      gets_more (Err e) v = tt
 
-    pub may_get_more : (result : Result (Unit {0}) StoreFault)
-        → WhereKnown r' r'' (WritesHead (head_of turn (len + length octets) sum) result)
-        → OnErr result (WhereKnown (both s r) (both s r'') (MayHaveMore turn len octets sum))
-    may_get_more (Ok x) v = tt
-    may_get_more (Err e) v = may_have_more v
+      pub may_get_more : (result : Result (Unit {0}) StoreFault)
+          → WhereKnown r' r'' (WritesHead (head_of turn (len + length octets) sum) result)
+          → OnErr result (WhereKnown (both s r) (both s r'') (MayHaveMore turn len octets sum))
+      may_get_more (Ok x) v = tt
+      may_get_more (Err e) v = may_have_more v
