@@ -5,13 +5,16 @@ from __future__ import annotations
 import asyncio
 import errno
 import os
+import shutil
 import socket
+import subprocess
 import tempfile
+import time
 import unittest
 from pathlib import Path
 from unittest import mock
 
-from . import support    # noqa: F401 (makes e1gw known)
+from . import support
 from e1gw import card_opening, dahdi
 from e1gw.dahdi import (BUFFERS, NUMBER, PARAMETERS, SPAN, Alarm, Blocks, CardFault, DahdiChannel, Request,
                         channel_facts, span_facts)
@@ -132,6 +135,32 @@ class SetUpTests(unittest.TestCase):
         self.assertIn('SupplementaryGroups=', card_opening.advice(os.devnull, errno.EACCES))
         with tempfile.NamedTemporaryFile() as alone:
             self.assertIn('e1gw.rules', card_opening.advice(alone.name, errno.EACCES))
+
+
+@unittest.skipUnless(shutil.which('strace'), 'strace makes the errors')
+class EventTests(support.FolderCase):
+    def test_while_nobody_takes_it(self) -> None:
+        """While an event waits, each read of what has come fails. The program goes on, and asks once a millisecond."""
+        self.write('trunk.toml', support.config_text({}))
+        os.mkfifo(device := self.path('device'))
+        both, log, said = os.open(device, os.O_RDWR), self.path('log'), self.path('said')
+        os.write(both, bytes(512))
+        words = ['strace', '-I2', '-f', '-P', device, '-e', 'trace=read', '-e', 'inject=read:error=500', '-o', log,
+                 support.program(), 'trunk', '--config', self.path('trunk.toml'), '--control', self.path('control')]
+        with open(said, 'wb') as errors, subprocess.Popen(words, stdin=both, stdout=errors, stderr=errors) as process:
+            support.until(lambda: self.reads(log) > 10 or process.poll() is not None)
+            began, before = time.monotonic(), self.reads(log)
+            support.until(lambda: self.reads(log) > before + 200 or process.poll() is not None)
+            took = time.monotonic() - began
+            status = process.poll()
+            process.terminate()
+        os.close(both)
+        self.assertIsNone(status, support.text_of(said))
+        self.assertGreater(took, 0.1)
+
+    @staticmethod
+    def reads(log: str) -> int:
+        return support.text_of(log).count('(errno 500)') if os.path.exists(log) else 0
 
 
 class CardWatchTests(unittest.TestCase):
