@@ -26,47 +26,6 @@ class PolicyTests(unittest.TestCase):
                 on_loss_of(words.split())
 
 
-def each_tenth(first: float, last: float, cleared: list[bool]) -> list[tuple[Any, Any]]:
-    """What is cleared up to each tenth of a second."""
-    return [(n / 10, cleared) for n in range(round(10 * first), round(10 * last) + 1)]
-
-
-class DisconnectWatchTests(unittest.TestCase):
-    # By a clock of their own: what clients ask, when they leave, and what is cleared up to a moment.
-    ROWS: dict[str, list[tuple[Any, Any]]] = {
-        'the last one is gone': [
-            ('first', ['clear', '3']), ('second', ['block', '3']), ('third', ['keep']), ('third', 100.0), (1100.0, []),
-            ('first', 101.0), (1101.0, []), ('second', 2000.0), (2002.9, []), (2003.0, [True]), (2010.0, [True])],
-        'one comes again in time': [('first', []), (99.0, []), ('first', 100.0), ('second', []), (1104.0, []),
-                                    ('second', 104.0), (108.9, []), (109.0, [False])],
-        'calls are kept': [('client', ['clear', '0']), ('client', ['keep']), ('client', 100.0), (1000.0, [])],
-        # (its last word is 5 s old then; one that goes on in time, and does not stay, has 5 s from there on)
-        'one stands still': [('tie', ['block', '5', 'alive', '2']), *each_tenth(0, 2, []), ('tie', None),
-                             *each_tenth(2, 6.8, []), *each_tenth(7, 9, [True])],
-        'one goes on': [('tie', ['block', '5', 'alive', '2']), *each_tenth(0, 4, []), ('tie', None),
-                        *each_tenth(4, 8.8, []), ('tie', None), *each_tenth(8.9, 9.5, []), ('tie', 9.5),
-                        *each_tenth(9.6, 14.4, []), *each_tenth(14.6, 15, [True])],
-        'this process stands still': [('tie', ['block', '1', 'alive', '2']), *each_tenth(0, 1, []), (60.0, []),
-                                      ('tie', None), *each_tenth(60.1, 61.9, [])]}
-
-    def test_when_calls_are_cleared(self) -> None:
-        for name, steps in self.ROWS.items():
-            cleared, now = list[bool](), 0.0
-            watch = DisconnectWatch(DisconnectPolicy(5.0), lambda _, blocks: cleared.append(blocks))
-            for who, what in steps:
-                with self.subTest(name, step=(who, what)):
-                    if isinstance(who, float):
-                        now = who
-                        watch.look(who)
-                        self.assertEqual(cleared, what)
-                    elif what is None:
-                        watch.said(who, now)
-                    elif isinstance(what, float):
-                        watch.left(who, what)
-                    else:
-                        self.assertEqual(watch.asked(who, what, now), 'on-loss: done')
-
-
 class OutageWatchTests(unittest.TestCase):
     def test_seconds(self) -> None:
         """Once in each outage that lasts so long."""
@@ -79,6 +38,10 @@ class OutageWatchTests(unittest.TestCase):
         for now in (106.0, 120.0):
             watch.look(now, 'dark')
         self.assertEqual(cleared, ['the trunk has been dark for 3 s'])
+        watch = OutageWatch(0.5, cleared.append)            # (that has known no trunk in service)
+        watch.look(7.0, 'dark')
+        watch.look(7.5, 'dark')
+        self.assertEqual(cleared[1:], ['the trunk has been dark for 0.5 s'])
 
 
 class HeardClient(NamedTuple):
@@ -130,18 +93,18 @@ class ClearingPropertyTests(PropertyCase):
     def test_whoever_comes_and_goes(self) -> None:
         """Each look clears by the last one's wish if it is time, and then no more."""
         st = self.st
-        who = st.sampled_from(('one', 'two', 'three'))
-        asks = st.sampled_from(('keep', 'clear 1', 'block 2', 'clear 1 alive 1', 'block 3 alive 2', ''))
+        who = st.sampled_from(('one', 'two'))
+        asks = st.sampled_from(('keep', 'clear 1', 'clear 4 alive 1', 'block 3 alive 2', 'block 3 alive 2', ''))
         steps = st.one_of(
-            st.tuples(st.just('asks'), who, asks), st.tuples(st.sampled_from(('says', 'leaves')), who, st.just('')),
-            st.tuples(st.sampled_from((1, 7, 13, 32)), st.just(LOOK), st.just('')),
+            st.tuples(st.just('asks'), who, asks), *(st.tuples(st.just(what), who, st.just('')) for what in (
+                'says', 'says', 'leaves')), st.tuples(st.sampled_from((1, 7, 13, 18, 32)), st.just(LOOK), st.just('')),
             st.sampled_from(((1, 30.0, ''), (1, 0.75, ''), (2, 0.5, ''))))
 
         def check(chosen: list[tuple[Any, Any, str]]) -> None:
             clients, cleared, now = RememberedClients(DisconnectPolicy(2.0, True)), list[bool](), 0.0
             watch = DisconnectWatch(clients.usual, lambda _, blocks: cleared.append(blocks))
             watch.look(now)
-            ends = [('leaves', each, '') for each in ('one', 'two', 'three')]
+            ends = [('leaves', each, '') for each in ('one', 'two')]
             for what, how, words in [*chosen, *ends, (32, LOOK, '')]:
                 if what == 'asks':
                     clients.asks(how, words.split(), now)

@@ -156,7 +156,7 @@ class TogetherPropertyTests(PropertyCase):
             trunk.up()
         trunks[0].joins(trunks[1])
         await self.rests(trunks, REST)
-        self.look(*trunks, until, pairs or {n: n for n in JOINED})
+        self.look(trunks[0], trunks[1], until, pairs or {n: n for n in JOINED})
         await self.call(trunks)
         for trunk in trunks:
             trunk.down()

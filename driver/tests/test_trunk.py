@@ -11,7 +11,7 @@ import time
 import unittest
 import unittest.mock
 from functools import partial
-from typing import Any, TypeVar
+from typing import TypeVar
 
 from . import support
 from .manager import Manager
