@@ -18,54 +18,15 @@ from e1gw.service import events
 
 
 class CallEndTests(unittest.TestCase):
-    """The states of a line as ITU-T Q.421 has them, one after another, a second each."""
-
-    def setUp(self) -> None:
-        self.now, self.rows = 1_000_000_000.0, list[list[str]]()
-        self.lines = {1: Line(1), 2: Line(2, Role.INCOMING)}
-        self.counts = DatagramCounts()
-        self.calls = CallLog('west', self.lines, self.counts, self.put, lambda: self.now)
-
-    def put(self, line: str) -> None:
-        self.rows += csv.reader([line])
-
-    def states(self, circuit: int, *states: str) -> None:
-        for was, state in zip(states, states[1:]):
-            self.calls.took({'event': 'state', 'circuit': circuit, 'was': was, 'state': state, 'place': 100})
-            self.now += 1
-
-    def test_who_ends(self) -> None:
-        for circuit, states, by in (
-                (1, ('idle', 'seized', 'acked', 'answered', 'releasing', 'idle'), 'gateway'),
-                (1, ('idle', 'seized', 'acked', 'answered', 'clearedback', 'releasing', 'idle'), 'exchange'),
-                (1, ('idle', 'seized', 'acked', 'fault', 'idle'), 'fault'),
-                (2, ('idle', 'acked', 'answered', 'idle'), 'exchange'),
-                (2, ('idle', 'acked', 'answered', 'clearedback', 'idle'), 'gateway')):
-            with self.subTest(states=states):
-                self.states(circuit, *states)
-                self.calls.look()
-                self.assertEqual((self.rows.pop()[6], self.rows), (by, []))
-
     def test_a_seizure_that_is_not_acknowledged(self) -> None:
-        self.states(1, 'idle', 'seized')
-        self.lines[1].unacknowledged += 1
-        self.states(1, 'seized', 'releasing', 'idle')
-        self.calls.look()
-        self.assertEqual(self.rows, [['west', '1', 'outgoing', '2001-09-09T01:46:40.000Z', '',
-                                      '2001-09-09T01:46:41.000Z', 'not acknowledged', 'pcma', '0', '0', '0', '0',
-                                      '-1-0']])
-
-    def test_packets_are_those_of_the_call(self) -> None:
-        """A line has none of the call before."""
-        counts = self.counts.circuits[1]
-        for packets in (50, 70):
-            counts.sent += packets
-            counts.admitted += packets - 3
-            late = tuple(3 * (reason.label == 'Late') for reason in REASONS)
-            counts.told = ToldCounts(lost=2, refused=late).behind(counts.told)
-            self.states(1, 'idle', 'seized', 'acked', 'answered', 'releasing', 'idle')
-            self.calls.look()
-            self.assertEqual(self.rows.pop()[8:12], [str(packets), str(packets - 3), '2', '3'])
+        rows, lines, moments = list[str](), {1: Line(1)}, iter((1_000_000_000.0, 1_000_000_001.25))
+        calls = CallLog('west', lines, DatagramCounts(), rows.append, lambda: next(moments))
+        for was, state in ('idle', 'seized'), ('seized', 'releasing'), ('releasing', 'idle'):
+            calls.took({'event': 'state', 'circuit': 1, 'was': was, 'state': state, 'place': 100})
+            lines[1].unacknowledged += state == 'seized'
+        calls.look()
+        self.assertEqual(rows, ['west,1,outgoing,2001-09-09T01:46:40.000Z,,2001-09-09T01:46:41.250Z,not acknowledged,'
+                                'pcma,0,0,0,0,-1-0'])
 
     def test_another_gateway(self) -> None:
         before = {'sent': 5, 'admitted': 0, 'Late': 1}
@@ -74,12 +35,6 @@ class CallEndTests(unittest.TestCase):
                            ({'sent': 5, 'admitted': 0, 'Late': 1, 'Full': 1}, False)):
             self.assertEqual(is_another_gateway(before, now), found, now)
         self.assertEqual([is_another_gateway({}, {'sent': n}) for n in (0, 1)], [True, False])
-
-    def test_the_trunk_ends_before_the_call(self) -> None:
-        self.counts.ended = 'it fell behind'
-        self.states(2, 'idle', 'acked', 'answered')
-        self.calls.finish()
-        self.assertEqual([(row[4] != '', row[6], row[8:12]) for row in self.rows], [(True, 'stop', [''] * 4)])
 
 
 class CalledTrunk:
