@@ -83,23 +83,6 @@ class ResyncRuleTests(unittest.TestCase):
         self.come(LATE, 30.8125)
         self.assertEqual(self.restarted[2:], [(30.5, 1), (30.8125, 1)])
 
-    def test_a_burst_that_was_held_back(self) -> None:
-        for _ in range(12):
-            self.rule.counted(1, LATE, 1000)
-        self.go(0.2, 0)
-        self.assertEqual(self.restarted, [])
-
-    def test_a_call_that_falls_silent(self) -> None:
-        self.go(0.2, LATE)
-        for _ in range(100):
-            self.now += 0.02
-            self.rule.look(self.now, round(self.now * SECOND), [1], True)
-        self.assertEqual(self.restarted, [])
-
-    def test_once_in_ten_seconds(self) -> None:
-        self.go(60.5, LATE)
-        self.assertEqual([round(at) for at, _ in self.restarted], [0, 10, 20, 30, 40, 50, 60])
-
     def test_refusals_of_another_cause(self) -> None:
         """Behind a second without any it is restarted at once; one that is refused now and then waits."""
         for between, count in ((1.2, 2), (4.0, 2), (0.8, 1), (1.02, 2), (1.0, 1)):
@@ -116,34 +99,6 @@ class ResyncRuleTests(unittest.TestCase):
             self.go(0.02, LATE)
         self.go(0.6, LATE)
         self.assertEqual(len(self.restarted), 1)
-
-    def test_lost_octets(self) -> None:
-        for at in (0.0, 3.0, 5.0):
-            self.now = at
-            self.rule.want([1, 2], f'gap at {at}')
-            self.rule.look(at, 0, [1, 2], False)
-        self.assertEqual(self.restarted, [(0.0, 1), (0.0, 2)])
-        # Circuit 2 has closed, and 1 waits.
-        self.rule.look(6.0, 0, [1], False)
-        for self.now in (9.98, 10.0, 10.02):
-            self.rule.look(self.now, 0, [1, 2], False)
-        self.assertEqual(self.restarted[2:], [(10.0, 1)])
-
-    def test_refusals_behind_lost_octets(self) -> None:
-        """They restart a call though it waits, and then it waits no more."""
-        self.rule.want([1], 'gap')
-        self.go(0.1, 0)
-        self.rule.want([1], 'gap')
-        self.go(9.5, LATE)
-        self.assertEqual(len(self.restarted), 2)
-        self.go(9.5, 0)
-        self.assertEqual(len(self.restarted), 2)
-
-    def test_the_next_call_of_a_circuit(self) -> None:
-        self.go(0.6, LATE)
-        self.rule.look(self.now, round(self.now * SECOND), [2, 3], True)
-        self.go(0.6, LATE)
-        self.assertEqual(len(self.restarted), 2)
 
     def test_what_is_told(self) -> None:
         self.go(19, LATE, circuits=(1, 2))
