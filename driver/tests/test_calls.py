@@ -97,11 +97,13 @@ class CalledTrunk:
         """Nobody tells, and then one does. With a reload circuit 1 is begun as new meanwhile."""
         for line in self.lines.values():
             line.codec = 'before'
+        self.takes(1, 9)
         self.counts.ended, self.before = 'nobody tells', {n: self.numbers(n) for n in self.lines}
         self.calls.left()
         self.takes(2, 3)
         if is_reload:
             self.counts.circuits[1], self.calls.changed = CircuitCounts(), frozenset((1,))
+            self.takes(1, 1)
         for line, state in zip(self.lines.values(), (State.IDLE, states[1]) if is_reload else states):
             line.codec = 'after'
             if state is not line.state:
