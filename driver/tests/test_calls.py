@@ -54,7 +54,7 @@ class CalledTrunk:
 
     def numbers(self, n: int) -> list[int]:
         its = self.counts.circuits[n]
-        return [its.sent, its.admitted, its.stream.lost, its.refused.get('Late', 0)]
+        return [its.sent, its.admitted, its.stream.lost, its.counts().get('Late', 0)]
 
     def put(self, line: str) -> None:
         row = dict(zip(FIELDS, next(csv.reader([line]))))
@@ -114,8 +114,9 @@ class CalledTrunk:
 
     def takes(self, n: int, count: int) -> None:
         its = self.counts.circuits[n]
-        its.sent, its.admitted, its.stream.lost = its.sent + count, its.admitted + 1, its.stream.lost + count // 2
-        its.refused['Late'] = its.refused.get('Late', 0) + 2
+        late = tuple(2 * (reason.label == 'Late') for reason in REASONS)
+        its.sent, its.admitted = its.sent + count, its.admitted + 1
+        its.told = ToldCounts(lost=count // 2, refused=late).behind(its.told)
 
     def stops(self) -> None:
         for n in [*self.open]:
