@@ -9,6 +9,7 @@ from e1gw.clock import DRIFT, STEADY, TICK, Clock, ClockFinding
 
 assert support.TOP
 RECORD = 0.004
+BURSTS = [('quiet', 0.06), ('at_once', 0.06), ('go', 0.04)] * 10
 
 
 class ClockedTrunk:
@@ -58,6 +59,7 @@ class ClockTests(unittest.TestCase):
         'no octets behind it': (0.1, [('go', 2), ('looked_late', 0.5), ('quiet', 0.2)], []),
         'small gaps add up': (0.1, [('go', 2), *[('quiet', 0.02), ('go', 10.0)] * 6], ['gap']),
         "a gap of one's own": (0.3, [('go', 2), ('quiet', 0.25), ('go', 1)], []),
+        'a loss from octets that come in bursts': (0.1, [('go', 2), *BURSTS, ('quiet', 0.5), *BURSTS], ['gap']),
         'too many octets': (0.1, [('go', 2), ('at_once', 0.3), ('go', 1)], ['ahead'])}
 
     def test_what_is_found(self) -> None:
