@@ -69,7 +69,10 @@ class ClockTests(unittest.TestCase):
                 for what, seconds in steps:
                     getattr(trunk, what)(seconds)
                 self.assertEqual([finding.what for finding in trunk.found], words)
-                self.assertEqual(trunk.clock.gaps, words.count('gap'))
+                lost = round(sum(each.value for each in trunk.found if each.what == 'gap'), 3)
+                status = trunk.clock.status()
+                self.assertEqual((status['gaps'], status['gap_seconds']), (words.count('gap'), lost))
+                self.assertEqual(status['ppm'] is None, trunk.now < 1059)       # (there is no rate of less)
                 if name == 'lost octets':
                     self.assertAlmostEqual(trunk.found[0].value, 0.5, delta=0.03)
 
@@ -81,6 +84,7 @@ class ClockTests(unittest.TestCase):
             with self.subTest(ppm):
                 self.assertEqual([finding.what for finding in trunk.found], words)
                 self.assertAlmostEqual(trunk.clock.ppm or 0.0, ppm, delta=20 if words else 5)
+                self.assertEqual(trunk.clock.status()['ppm'], round(trunk.clock.ppm or 0.0, 1))
                 for finding in trunk.found:
                     self.assertAlmostEqual(finding.value, -500, delta=20)
 
