@@ -22,14 +22,14 @@ class LineTests(unittest.TestCase):
         """Seizures are the commands, answers the exchange's; the path is open from the acknowledgement."""
         line, now = Line(3), 0.0
         line.begin(State.IDLE, now)
-        for command in (Command.SEIZE, Command.ANSWER, Command.ANSWER, Command.BLOCK):
+        for command in (Command.SEIZE, *[Command.ANSWER] * 3, Command.BLOCK):
             line.commanded(command)
         for state in (State.SEIZED, State.ACKED, State.ANSWERED, State.CLEAREDBACK, State.ANSWERED, State.RELEASING,
                       State.FAULT):
             now, before, line.state = now + 1.0, line.state, state
             line.changed(before, now)
         self.assertEqual((line.seizures, line.answers, line.faults, line.since, line.opened, line.open_for),
-                         (1, 3, 1, 7.0, None, 4.0))
+                         (1, 4, 1, 7.0, None, 4.0))
         self.assertEqual({key: line.status(9.25)[key] for key in ('for', 'open', 'state', 'role', 'sent')},
                          {'for': 2.25, 'open': 4.0, 'state': 'fault', 'role': 'outgoing', 'sent': '--'})
 
