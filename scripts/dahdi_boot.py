@@ -31,7 +31,8 @@ python3.11 -B -m dahdi_scenes {words} < /dev/null
 poweroff -f
 '''
 KERNEL = re.compile(r'\s*$|\[ *[0-9.]+\]')      # what the kernel says
-SCENES = ('dahdi_far.py', 'dahdi_inside.py', 'dahdi_scenes.py', 'dahdi_talk.py', 'paths.py')
+SCENES = ('dahdi_far.py', 'dahdi_inside.py', 'dahdi_scenes.py', 'dahdi_start.py', 'dahdi_talk.py', 'paths.py')
+READ = 'docs/START.md', 'docs/SYMPTOMS.md', 'dist/system/e1gw-trunk@.service', 'dist/system/e1gw.rules'
 
 
 def entry(name: str, mode: int, octets: bytes) -> bytes:
@@ -65,6 +66,8 @@ def put_programs(its: MachineFiles, folder: Path, programs: dict[str, str]) -> N
                     ignore=shutil.ignore_patterns('__pycache__', 'tests'))
     for name in SCENES:
         put(Path(TOP, 'scripts', name), folder / 'e1gw/scripts' / name)
+    for name in READ:
+        put(Path(TOP, name), folder / 'e1gw' / name)
     staged_python(its, '-m', 'compileall', '-q', '-s', str(folder), str(folder / 'e1gw'))
     for name, path in programs.items():
         put(path, folder / 'e1gw/out' / name)

@@ -16,15 +16,16 @@ from paths import TOP
 
 PACKAGES = ('busybox-static', 'dahdi', 'dahdi-source', 'libpython3.11-minimal', 'libpython3.11-stdlib',
             'libtonezone2.0', 'python3.11-minimal')
-MODULES = ('dahdi', 'dahdi_dynamic', 'dahdi_dynamic_loc', 'dahdi_dummy')       # (the last one gives a card's interrupt)
+ALARMS = Path(TOP, 'scripts/dahdi_alarms.c')        # our own module
+MODULES = ('dahdi', 'dahdi_dynamic', 'dahdi_dynamic_loc', 'dahdi_dummy', ALARMS.stem)   # (dummy gives the interrupt)
 CONFIG = ('DAHDI_BUILD_ALL=', 'HOTPLUG_FIRMWARE=yes', 'CONFIG_DAHDI=m', 'CONFIG_DAHDI_DYNAMIC=m',
-          'CONFIG_DAHDI_DYNAMIC_LOC=m', 'MODULES_EXTRA=1', 'DAHDI_MODULES_EXTRA=dahdi_dummy.o')
+          'CONFIG_DAHDI_DYNAMIC_LOC=m', 'MODULES_EXTRA=1', f'DAHDI_MODULES_EXTRA=dahdi_dummy.o {ALARMS.stem}.o')
 PYTHON = 'usr/bin/python3.11'
 LIBRARY = 'usr/lib/python3.11'
 # What the programs and the scenes import, also later.
 IMPORTED = ('compileall', 'encodings.ascii', 'encodings.idna', 'encodings.latin_1', 'e1gw.__main__', 'e1gw.config',
             'e1gw.ctl', 'e1gw.exchange', 'e1gw.service.service', 'e1gw.testing.openr2', 'e1gw.testing.service',
-            'e1gw.tools.exchange')
+            'e1gw.tools.exchange', 'shlex')
 COPIED = ('usr/sbin/dahdi_cfg', 'bin/busybox', PYTHON)
 LISTS = 'import importlib, sys; [importlib.import_module(name) for name in sys.argv[1:]]; ' \
     'print(*(each.__file__ for each in list(sys.modules.values()) if getattr(each, "__file__", None)), sep="\\n")'
@@ -94,10 +95,10 @@ def packages(kernel: str) -> list[str]:
 
 
 def stamp_of(names: Iterable[str]) -> str:
-    """What the folder is made of: another version of a package or of this file makes it again."""
+    """What the folder is made of: another version of a package, of the module or of this file makes it again."""
     policy = ran('apt-cache', 'policy', *names)
-    octets = Path(__file__).read_bytes() + ' '.join(re.findall(r'Candidate: (\S+)', policy)).encode()
-    return hashlib.sha256(octets).hexdigest()
+    octets = ' '.join(re.findall(r'Candidate: (\S+)', policy)).encode()
+    return hashlib.sha256(Path(__file__).read_bytes() + ALARMS.read_bytes() + octets).hexdigest()
 
 
 def unpack(its: MachineFiles, names: list[str]) -> None:
@@ -113,7 +114,7 @@ def unpack(its: MachineFiles, names: list[str]) -> None:
 
 
 def build_modules(its: MachineFiles) -> None:
-    """Builds DAHDI's modules. (The headers name each other by their places on an installed system.)"""
+    """Builds DAHDI's modules, and ours. (The headers name each other by their places on an installed system.)"""
     makefile = its.headers / 'Makefile'
     makefile.write_text(makefile.read_text().replace(' /usr/src/', f' {its.root}/usr/src/'))
     for name in 'scripts', 'tools':
@@ -123,6 +124,7 @@ def build_modules(its: MachineFiles) -> None:
             if target.startswith('/'):
                 place.unlink()
                 place.symlink_to(f'{its.root}{target}')
+    put(ALARMS, its.drivers / ALARMS.name)
     dahdi = its.root / 'modules' / 'dahdi'
     (dahdi / 'include' / 'dahdi' / 'version.h').touch()
     ran('make', '-s', '-C', dahdi, f'KVERS={its.kernel}', f'KSRC={its.headers}', 'include/dahdi/version.h')

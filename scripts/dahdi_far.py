@@ -64,6 +64,7 @@ class FarEnd:
         self._thread.start()
 
     def _run(self) -> None:
+        os.setpriority(os.PRIO_PROCESS, threading.get_native_id(), -20)     # (an exchange has a machine of its own)
         frames = Multiframes()
         while not self._ends.is_set():
             came = frames.take(os.read(self._file, BLOCKS.octets()))

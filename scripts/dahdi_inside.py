@@ -23,8 +23,9 @@ CREATE, DESTROY = request_of(3, 80, DYNAMIC.size), request_of(1, 81, DYNAMIC.siz
 SPAN_STATUS, SHUTDOWN = request_of(3, 10, SPAN.size), request_of(1, 100, NUMBER.size)
 SLOTS = 31
 DEVICES = '/dev/dahdi/1', '/dev/dahdi/32'           # the bundles of the two spans
-CLEAR = 'clear=1-31\nclear=32-62\n'
+CLEAR, LAW = 'clear=1-31\nclear=32-62\n', 'alaw=1-62\n'
 LOADED = 'dahdi', 'dahdi_dynamic', 'dahdi_dynamic_loc', 'dahdi_dummy'
+ALARMS = 'dahdi_alarms'                             # our own module
 SOON = 20.0                 # seconds for what has to happen
 
 
@@ -32,12 +33,13 @@ class SceneFailed(Exception):
     """What was not as it has to be."""
 
 
-def until(condition: Callable[[], Any], what: str, seconds: float = SOON) -> float:
-    """Waits until a condition holds; how long that took. SceneFailed if it does not come."""
+def until(condition: Callable[[], Any], what: str, seconds: float = SOON,
+          found: Callable[[], object] | None = None) -> float:
+    """Waits until a condition holds; how long that took. SceneFailed, with what was `found`, if it does not come."""
     began = time.monotonic()
     while not condition():
         if time.monotonic() > began + seconds:
-            raise SceneFailed(f'not within {seconds:g} s: {what}')
+            raise SceneFailed(f'not within {seconds:g} s: {what}' + (f', but {found()}' if found else ''))
         time.sleep(0.02)
     return time.monotonic() - began
 
@@ -48,13 +50,22 @@ def asks(what: bool, words: str) -> None:
         raise SceneFailed(words)
 
 
-def matches(what: str, pattern: str, opens: Callable[[], Any]) -> None:
-    """An open is refused with words that have this pattern."""
+def matches(what: str, pattern: str, opens: Callable[[], Any]) -> str:
+    """An open is refused with words that have this pattern, which are returned."""
     try:
         opens()
     except OSError as fault:
-        return asks(bool(re.search(pattern, fault.strerror or '')), f'{what}: {fault.strerror}')
+        asks(bool(re.search(pattern, said := fault.strerror or '')), f'{what}: {said}')
+        return said
     raise SceneFailed(f'{what}: it is opened')
+
+
+def has_all(said: str, begin: str) -> None:
+    """The lines of docs/SYMPTOMS.md that begin so have been said: `..` is anything, numbers and names are others."""
+    page = Path(TOP, 'docs/SYMPTOMS.md').read_text(encoding='utf-8').partition('\n## A DAHDI card')[2]
+    for line in re.findall(rf'(?m)^{begin}.*', page):
+        pattern = re.sub(r'asterisk|\d+', r'\\S+', re.escape(line).replace(r'\.\.', '.*'))
+        asks(bool(re.search(pattern, said)), f'the page has {line!r}, but {said!r} was said')
 
 
 def as_user(number: int, works: Callable[[], Any]) -> None:
@@ -73,6 +84,11 @@ def as_user(number: int, works: Callable[[], Any]) -> None:
     with open(reads, encoding='utf-8') as told:
         if words := told.read():
             raise OSError(errno.EACCES, words)
+
+
+def had(process: int) -> float:
+    """The seconds of a processor that a process has had."""
+    return int(Path(f'/proc/{process}/schedstat').read_text(encoding='ascii').split()[0]) / 1e9
 
 
 def ran(*words: str) -> int:
@@ -137,9 +153,9 @@ def give_back(span: int, folder: Path) -> None:
     configure()
 
 
-def configure(text: str = CLEAR) -> int:
+def configure(text: str = CLEAR + LAW) -> int:
     """Has dahdi_cfg configure the channels, and names those that udev would name."""
-    Path('/etc/dahdi/system.conf').write_text(text + 'alaw=1-62\n', encoding='ascii')
+    Path('/etc/dahdi/system.conf').write_text(text, encoding='ascii')
     status = ran('dahdi_cfg')
     for number, device in enumerate(DEVICES, 1):
         if not os.path.islink(device):
@@ -155,6 +171,21 @@ def unconfigure() -> None:
 
 def span_of(number: int) -> SpanFacts:
     return span_facts(control(SPAN_STATUS, NUMBER.pack(number) + bytes(SPAN.size - NUMBER.size)))
+
+
+def tell(span: int, alarms: int, maintenance: bool = False) -> None:
+    """A span has these alarms, as its card's own driver would tell."""
+    parameter('told', f'{span + 1} {alarms} {maintenance:d}')
+
+
+def cut(span: int | None) -> None:
+    """Nothing comes to a span, or to each something again."""
+    parameter('cut', str(0 if span is None else span + 1))
+
+
+def parameter(name: str, text: str) -> None:
+    """Gives our module a value."""
+    Path(f'/sys/module/{ALARMS}/parameters', name).write_text(text, encoding='ascii')
 
 
 # ---- trunks ----
@@ -232,8 +263,7 @@ class Site:
 
     def busy(self) -> float:
         """The seconds of a processor that its processes have had."""
-        return sum(int(Path(f'/proc/{pid}/schedstat').read_text(encoding='ascii').split()[0])
-                   for pid in self.processes()) / 1e9
+        return sum(map(had, self.processes()))
 
     def end(self) -> None:
         self.service.end()

@@ -16,9 +16,11 @@ import dahdi_inside as inside
 from paths import TOP
 from dahdi_inside import DEVICES, Site, SceneFailed, asks, until
 from dahdi_far import FarEnd, openr2, simulated
+from dahdi_start import pasted
 from dahdi_talk import Comparison, Talk, figures
 from e1gw.card_opening import open_device
-from e1gw.dahdi import Blocks
+from e1gw.dahdi import Alarm, Blocks
+from e1gw.events import words_of
 from e1gw.testing.openr2 import OpenR2
 
 PORTS = (24002, 34002), (24102, 34102)      # of e1gw-config, local and its peer's, of both sites
@@ -49,16 +51,16 @@ class Pair:
 
     def are_heard(self, seconds: float = inside.SOON) -> None:
         for site in self.sites:
-            until(site.is_heard, f'{site.name} has alignment: {site.status().get("alarm")}', seconds)
+            until(site.is_heard, f'{site.name} has alignment', seconds, site.status)
 
     def calls(self) -> None:
         """All thirty answered."""
         if self.are_answered():
             return
         self.west.commands('seize', THIRTY)
-        until(lambda: self.west.states() == {'acked'}, f'thirty acked, not {self.west.states()}')
+        until(lambda: self.west.states() == {'acked'}, 'thirty acked', found=self.west.states)
         self.east.commands('answer', THIRTY)
-        until(self.are_answered, f'thirty answered, not {self.west.states()}')
+        until(self.are_answered, 'thirty answered', found=self.west.states)
 
     def are_answered(self) -> bool:
         return self.west.states() == self.east.states() == {'answered'}
@@ -131,7 +133,7 @@ def removed() -> str:
     alarm = until(lambda: pair.west.transport().get('red') == 1, 'the west has RED')
     until(lambda: not pair.east.status().get('trunk_up', True), 'the east has no trunk')
     asks(pair.west.said('card: RED alarm: '), 'the west says nothing of RED')
-    asks(pair.east.said('the card is gone'), 'the east does not say that the card is gone')
+    inside.has_all(pair.east.service.said(), 'the card is gone')
     refusal = pair.west.service.ask('seize 1')
     time.sleep(3)
     inside.give_back(1, card)
@@ -141,6 +143,59 @@ def removed() -> str:
     asks(pair.are_answered(), f'{pair.west.states()}, {pair.east.states()}')
     asks(pair.west.programs() == program, 'the alarm has ended the program of the west')
     return f'RED within {alarm:.1f} s (seize: {refusal}), open {back:.1f} s behind the card, thirty calls stay'
+
+
+TOLD = (
+    # (an alarm of the west, as its card's driver tells it; whether by maintenance)
+    (Alarm.BLUE, False), (Alarm.NOT_OPEN, False), (Alarm.LOOPBACK, True),
+)
+
+
+def share(process: int, seconds: float) -> float:
+    """How much of a processor a process has in the next seconds."""
+    before, began = inside.had(process), time.monotonic()
+    time.sleep(seconds)
+    return (inside.had(process) - before) / (time.monotonic() - began)
+
+
+def alarms() -> str:
+    """Each alarm is told, with what to do, and its end. The calls stay, and the program does not run on meanwhile."""
+    pair = Shared.begun()
+    pair.calls()
+    west, program = pair.west, pair.west.programs()
+    asks(inside.ran('insmod', f'/modules/{inside.ALARMS}.ko') == 0, 'our module is not loaded')
+    shares = [share(program[0], 2)]
+    try:
+        for alarm, is_maintenance in TOLD:
+            inside.tell(0, alarm, is_maintenance)
+            has_alarm(west, alarm)
+            shares.append(share(program[0], 2))
+            inside.tell(0, 0)
+            until(lambda: west.said(f'card: {alarm.names()[0]} alarm over'), f'{alarm.name} is over')
+        inside.cut(1)
+        has_alarm(pair.east, Alarm.RED)
+        has_alarm(west, Alarm.YELLOW)
+        shares.append(share(program[0], 2))
+        inside.cut(None)
+        until(lambda: west.said('card: YELLOW alarm over'), 'YELLOW is over')
+        until(lambda: pair.east.said('card: RED alarm over'), 'RED is over')
+    finally:
+        inside.cut(None)
+        inside.ran('rmmod', inside.ALARMS)
+    pair.are_heard()
+    asks(pair.are_answered(), f'{pair.west.states()}, {pair.east.states()}')
+    asks(west.programs() == program, 'an alarm has ended the program of the west')
+    inside.has_all(west.service.said() + pair.east.service.said(), 'card: ')
+    asks(max(shares) < 1.5 * shares[0], f'the program has {shares} of a core, at first without an alarm')
+    return f'the program has {100 * max(shares):.1f} % of a core at most, {100 * shares[0]:.1f} % without an alarm'
+
+
+def has_alarm(site: Site, alarm: Alarm) -> None:
+    """Waits until a site has an alarm, and has told it with what to do."""
+    name, = alarm.names()
+    key = str(alarm.name).lower()
+    until(lambda: site.transport().get(key) == 1, f'the {site.name} has {name}', found=site.transport)
+    asks(site.said(words_of({'event': 'card', 'what': name, 'on': True})), f'the {site.name} says nothing of {name}')
 
 
 def unloaded() -> str:
@@ -174,23 +229,25 @@ REFUSALS = (
 
 def refused() -> str:
     """Each refusal of a card says what to do."""
-    pair = Shared.begun()
+    pair, said = Shared.begun(), list[str]()
     pair.east.end()
     Shared.pair = None
     try:
         for what, device, channels, is_clear, words in REFUSALS:
             if channels:
                 inside.unconfigure()
-                inside.configure(channels)
-            inside.matches(what, words, partial(open_device, device, device, DEFAULT, is_clear))
-        os.chmod('/dev/dahdi/chan/001/001', 0o660)
-        inside.matches('as nobody', 'no permission: SupplementaryGroups=', lambda: inside.as_user(
-            NOBODY, partial(open_device, DEVICES[0], DEVICES[0], DEFAULT, True)))
+                inside.configure(channels + inside.LAW)
+            said.append(inside.matches(what, words, partial(open_device, device, device, DEFAULT, is_clear)))
+        for mode, words in (0o660, 'be in the group 0'), (0o600, 'e1gw.rules of the package'):
+            os.chmod('/dev/dahdi/chan/001/001', mode)
+            said.append(inside.matches('as nobody', words, lambda: inside.as_user(
+                NOBODY, partial(open_device, DEVICES[0], DEVICES[0], DEFAULT, True))))
+        inside.has_all('\n'.join(said), '/dev/dahdi/')
     finally:
         inside.unconfigure()
         inside.configure()
         pair.west.end()
-    return f'{len(REFUSALS) + 1} refusals, each with what to do'
+    return f'{len(said)} refusals, each with what to do'
 
 
 def simulated_exchange() -> str:
@@ -199,15 +256,25 @@ def simulated_exchange() -> str:
     inside.configured()
     far, west = FarEnd(simulated()), Site('west', 0)
     try:
-        until(west.is_heard, 'the west has alignment')
-        west.commands('seize', [1])
+        until(lambda: west.is_heard() and west.service.ask('seize 1') == 'seize 1: done', 'seized', found=west.status)
         took = until(lambda: west.states() >= {'answered'}, 'answered')
         west.commands('clear', [1])
-        until(lambda: west.states() == {'idle'}, f'cleared, not {west.states()}')
+        until(lambda: west.states() == {'idle'}, 'cleared', found=west.states)
     finally:
         west.end()
         far.close()
     return f'answered after {took:.1f} s, cleared'
+
+
+def by_the_page() -> str:
+    """A person with a card, a call by the commands of docs/START.md, and an exchange."""
+    Shared.end()
+    inside.unconfigure()
+    try:
+        return pasted(lambda: FarEnd(simulated()))
+    finally:
+        inside.unconfigure()
+        inside.configure()
 
 
 LOOP = '''law = "A"
@@ -242,7 +309,7 @@ def real_call() -> str:
         exchange.command(f'call 1 {DIALS}')
         until(lambda: west.state(1) == 'acked', 'circuit 1 is seized')
         west.commands('seize', [2])
-        took = until(lambda: exchange.found(2, OFFERED), f'offered: {exchange.events}')
+        took = until(lambda: exchange.found(2, OFFERED), 'offered', found=lambda: exchange.events)
         until(lambda: west.state(2) == 'answered', 'answered by the exchange')
         west.commands('answer', [1])
         until(lambda: exchange.found(1, 'answered'), 'the caller is told of the answer')
@@ -284,10 +351,12 @@ SCENES = (
     Scene('thirty calls', thirty_calls),
     Scene('killed', killed),
     Scene('removed', removed),
+    Scene('alarms', alarms),
     Scene('unloaded', unloaded),
     Scene('refused', refused),
     Scene('simulated exchange', simulated_exchange),
     Scene(R2, real_call),
+    Scene('START', by_the_page),
     Scene('delays', delays, is_long=True),
 )
 
