@@ -46,8 +46,8 @@ class Trunk:
     def __init__(self, program: str, config: str, log: str) -> None:
         self.device, inner = socket.socketpair()
         self.device.settimeout(SECONDS)
-        self.process = subprocess.Popen([program, 'trunk', '--config', config, '--log', log], stdin=inner, stdout=inner,
-                                        stderr=subprocess.PIPE)
+        self.process = subprocess.Popen([program, 'trunk', '--config', config, '--log', log], stdin=inner.fileno(),
+                                        stdout=inner.fileno(), stderr=subprocess.PIPE)
         inner.close()
 
     def answers(self, octets: bytes) -> bytes:
