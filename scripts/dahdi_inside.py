@@ -236,8 +236,8 @@ class Site:
         return self._running(b'trunk')
 
     def processes(self) -> list[int]:
-        """The service, the program and its follower."""
-        return [self.service.driver.pid, *self._running(b'trunk'), *self._running(b'replay')]
+        """The service and the program."""
+        return [self.service.driver.pid, *self._running(b'trunk')]
 
     def _running(self, subcommand: bytes) -> list[int]:
         found, folder = [], f'/dev/shm/{self.name}-'.encode()

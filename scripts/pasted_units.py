@@ -104,7 +104,7 @@ def by_hand(one: str, two: str, far: str) -> Iterator[str]:
     first.shown = ['active, fed']
     second.text += 'is west "^ 1 outgoing answered"; e1gw-ctl west role\n' \
                    'journalctl --no-pager -o cat -u e1gw-trunk@west | grep "^promoted: "\nforget west\n'
-    second.shown = ['active, not fed', 'promoted: program .* goes on after .* of them ones; follower .*']
+    second.shown = ['active, not fed', 'promoted: program .* goes on after .* of them ones']
     for leader, block, text in ((one, start, start.text), (two, start, other_way), (one, first, first.text),
                                 (two, second, second.text)):
         if block is second:

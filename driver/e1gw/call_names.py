@@ -1,6 +1,6 @@
-"""How often each line was seized, by which calls are named: the next follower, and the next service, go on counting.
+"""How often each line was seized, by which calls are named: the next program, and the next service, go on counting.
 
-A follower counts seizures since the state with which it has begun, its session. A note in memory says what has to be
+A program counts seizures since it has begun, its session. A note in memory says what has to be
 added to them, so that a service that is started again counts as the one before it did. It also says how the lines stood
 last: of another state, behind the death of both, that is all that is known.
 """
@@ -25,7 +25,7 @@ def note_of(tell: str) -> str:
 
 class CallNames:
     """Counts seizures across sessions. `life` names the count: as long as it is the same, the count goes on. It is
-    empty until a follower has told how the lines stand."""
+    empty until a program has told how the lines stand."""
 
     def __init__(self, path: str) -> None:
         self.life, self._path = '', path
@@ -51,8 +51,15 @@ class CallNames:
         except (OSError, ValueError, KeyError, TypeError, AttributeError):
             pass
 
+    def known(self, lines: Mapping[int, Line]) -> str:
+        """Gives lines of which nobody has told yet the counts that were noted last. What names those counts."""
+        for n, line in lines.items():
+            line.seizures, line.answers, line.unacknowledged, line.faults = self._last.get(n, 0), 0, 0, 0
+        self.life = self.life or self._noted_life
+        return self.life
+
     def begin(self, session: str, told: Seizures, lines: Mapping[int, Line]) -> None:
-        """A follower has told how all lines stand, and how often each was seized in its session."""
+        """A program has told how all lines stand, and how often each was seized in its session."""
         goes_on = self._last or session == self._session
         self.life = self.life or (self._noted_life if goes_on else '') or secrets.token_hex(4)
         if session != self._session:
@@ -66,7 +73,7 @@ class CallNames:
         self._note()
 
     def look(self, lines: Mapping[int, Line]) -> None:
-        """To be called when a follower has told another state of a line: notes how they stand."""
+        """To be called when another state of a line was told: notes how they stand."""
         last = {n: line.seizures for n, line in lines.items()}
         in_call = [n for n, line in lines.items() if line.state in IN_CALL]
         if (last, in_call) != (self._last, self._in_call):

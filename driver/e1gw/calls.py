@@ -4,7 +4,7 @@ from __future__ import annotations
 import csv
 import io
 import time
-from dataclasses import dataclass
+from dataclasses import dataclass, replace
 from typing import Callable, Iterable, Mapping
 
 from .counts import DatagramCounts
@@ -50,6 +50,16 @@ class CallRecord:
     counts: dict[str, int] | None = None    # those that were known of its circuit when nobody told any more
 
 
+@dataclass(frozen=True)
+class CallsNote:
+    """What another service goes on with: the octet of the trunk up to which changes were told, the calls, and the
+    counts at the end of the last call of each circuit."""
+
+    place: int
+    calls: tuple[CallRecord, ...]
+    before: dict[int, dict[str, int]]
+
+
 class CallLog:
     """Follows the calls of a trunk. `put` is given a line for each; `clock` is that of the day."""
 
@@ -61,6 +71,10 @@ class CallLog:
         self._before: dict[int, dict[str, int]] = {}   # the counts at the end of the last call of each circuit
         self.life = ''
         self.changed: frozenset[int] = frozenset()      # circuits that were configured otherwise while nobody told
+
+    def counted_by(self, counts: DatagramCounts) -> None:
+        """These are the counts from now on."""
+        self._counts = counts
 
     def took(self, event: Event) -> None:
         """A change of a line's state."""
@@ -75,13 +89,20 @@ class CallLog:
             self._end(call, self._unwatched(call) if unwatched else self._who(call, was, state))
 
     def _begin(self, circuit: int, seized: float | None) -> None:
-        self._calls[circuit] = CallRecord(circuit, seized, self._lines[circuit].unacknowledged)
+        line = self._lines[circuit]
+        self._calls[circuit] = CallRecord(circuit, seized, line.unacknowledged,
+                                          number=line.seizures if seized is not None else 0)
 
     def begun(self, life: str) -> None:
         """The state of all lines is known again: there may be calls that nobody reported, and counts from 0. `life`
         names the count of calls of each line."""
         self.life = life
         for n, line in self._lines.items():
+            call = self._calls.get(n)
+            if call and (line.state not in IN_CALL or 0 < call.number < line.seizures):
+                self._end(call, self._unwatched(call))          # (of the service before this one)
+            elif call:
+                call.number = call.number or line.seizures
             if line.state in IN_CALL and n not in self._calls:
                 self._begin(n, None)
                 self._calls[n].answered = self._clock() if line.state is State.ANSWERED else None
@@ -110,7 +131,7 @@ class CallLog:
 
     def _end(self, call: CallRecord, by: str) -> None:
         line = self._lines[call.circuit]
-        call.ended, call.by, call.number = self._clock(), by, line.seizures
+        call.ended, call.by, call.number = self._clock(), by, call.number or line.seizures
         if by != 'reload':
             call.codec, call.counts = by == 'unwatched' and call.codec or line.codec, None
         self._ended.append(self._calls.pop(call.circuit))
@@ -121,6 +142,15 @@ class CallLog:
         """To be called now and then: writes the calls that have ended."""
         while self._ended:
             self._write(self._ended.pop(0))
+
+    def note(self, place: int) -> CallsNote:
+        """What another service goes on with; changes were told up to this place."""
+        return CallsNote(place, (*self._calls.values(),), self._before)
+
+    def take_up(self, note: CallsNote) -> None:
+        """Goes on with the calls that another service has noted."""
+        self._calls = {call.circuit: replace(call, unacknowledged=0) for call in note.calls}
+        self._before = note.before
 
     def finish(self) -> None:
         """The trunk is no longer carried: writes all."""

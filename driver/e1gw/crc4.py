@@ -2,6 +2,7 @@
 each second of the trunk, and at its end."""
 from __future__ import annotations
 
+from dataclasses import dataclass
 from typing import Any
 
 from .lines import Event
@@ -38,6 +39,15 @@ class ErroredSubmultiframes:
             self.on = began
             return {'on': began, 'count': self._errored, 'of': self._checked}
         return None
+
+
+@dataclass(frozen=True)
+class Crc4Note:
+    """What is counted, whether there was alignment at the last count, and that of the program of now."""
+
+    counts: dict[str, int]
+    aligned: bool | None
+    last: dict[str, int]
 
 
 class Crc4:
@@ -82,13 +92,13 @@ class Crc4:
         """The device has ended: another one may have no CRC-4."""
         self.aligned, self._last = None, {}
 
-    def note(self) -> list[Any]:
-        """All of it but for errors that were reported, as plain values."""
-        return [self.counts, self.aligned, self._last]
+    def note(self) -> Crc4Note:
+        """All of it but for errors that were reported."""
+        return Crc4Note(self.counts, self.aligned, self._last)
 
-    def take_up(self, note: list[Any]) -> None:
+    def take_up(self, note: Crc4Note) -> None:
         """Goes on where another one has left."""
-        self.counts, self.aligned, self._last = note
+        self.counts, self.aligned, self._last = note.counts.copy(), note.aligned, note.last.copy()
 
     def status(self) -> dict[str, Any]:
         """As plain values."""

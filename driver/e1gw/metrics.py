@@ -14,7 +14,6 @@ Samples = Iterable[tuple[Labels, float | int]] | float | int
 
 ALIGNED = 'aligned'
 TRANSPORT = 'e1gw_transport'        # of what a transport tells, its own names and kinds
-OTHERS = ('program', 'shadow')      # with which e1gw-trunk is connected
 # A number of each circuit's row: its name, what it is, its key, and how many of its units are one.
 CIRCUIT_NUMBERS = (
     ('e1gw_circuit_state_seconds', 'Time in state, by the trunk.', 'for', 1),
@@ -66,9 +65,8 @@ def _of_trunk(status: Status) -> list[Family]:
          [({'alignment': what}, n) for what, n in status['losses'].items()]),
         ('e1gw_trunk_stalled', '1 while no octets come.', clock['stalled']),
         ('e1gw_trunk_stalls_total', 'Times without octets.', clock['stalls'])]
-    if 'shadow' in status:
-        found.append(('e1gw_connected', '1 where there is a connection.',
-                      [({'to': other}, status[other]) for other in OTHERS]))
+    if 'program' in status:
+        found.append(('e1gw_connected', '1 where there is a connection.', [({'to': 'program'}, status['program'])]))
     found.append(('e1gw_trunk_octets_total', 'Octets of the trunk.', status['octets']))
     return found + _of_pair(status) + _of_flow(status, clock)
 
@@ -164,10 +162,9 @@ def state_of(status: Status) -> str:
     """The state of the trunk at this end, in a few words."""
     if status.get('fault'):
         return str(status['fault'])
-    for other in OTHERS:
-        if not status.get(other, True):
-            since = time.strftime('%H:%M:%S', time.gmtime(status[f'{other}_since']))
-            return f'no connection to the {other} since {since} UTC'
+    if not status.get('program', True):
+        since = time.strftime('%H:%M:%S', time.gmtime(status['program_since']))
+        return f'no connection to the program since {since} UTC'
     return 'no trunk' if not status['trunk_up'] else 'stalled' if status['clock']['stalled'] else _alarms(
         status['alarm'], LOSSES, ALIGNED)
 

@@ -67,6 +67,11 @@ class Ring:
         if self.zstd:
             self._packs.submit(self._pack, self.zstd)
 
+    def goes_on(self, front: str) -> None:
+        """A file of the session before this one is written on."""
+        if front != self._front:
+            self._front, self._about = front, read_object(f'{front}.json')
+
     def note(self, slips: deque[tuple[int, float]]) -> None:
         """Notes slips at once: a reader sees what was noted before, or all of it."""
         noted = self._about.setdefault('slips', [])

@@ -310,6 +310,20 @@ def records_in(octets: bytes) -> Iterator[Record]:
     return records([octets])
 
 
+def whole_records(octets: bytes) -> tuple[int, int]:
+    """The whole records: how many octets they are, and how many octets of the trunk are in them."""
+    at, trunk, unpack, last, kind_of_trunk = 0, 0, HEAD.unpack_from, len(octets) - HEAD.size, int(Kind.TRUNK)
+    while at <= last:       # (of plain numbers: each record is looked at)
+        kind, _, length = unpack(octets, at)
+        end: int = at + HEAD.size + length
+        if end > len(octets):
+            break
+        if kind == kind_of_trunk:
+            trunk += length
+        at = end
+    return at, trunk
+
+
 # ---- RTP ----
 
 _RTP = struct.Struct('>BBHII')

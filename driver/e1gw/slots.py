@@ -3,12 +3,23 @@
 from __future__ import annotations
 
 import re
+from dataclasses import dataclass
 from typing import Any
 
 from .lines import Event
 
 SAID = re.compile(r'slots (?:lost|found ([0-9]+))')
 SLOTS = 31                  # octets of a frame
+
+
+@dataclass(frozen=True)
+class SlotsNote:
+    """What another service goes on with."""
+
+    silent: bool
+    lost: int
+    moved: int
+    delay: int | None
 
 
 class Slots:
@@ -40,11 +51,10 @@ class Slots:
         """All of it, as plain values."""
         return {'slots': 'clear', 'silent': self.silent, 'slots_lost': self.lost, 'slots_moved': self.moved}
 
-    def note(self) -> dict[str, Any]:
+    def note(self) -> SlotsNote:
         """The same, and what the next one is compared with."""
-        return {**self.status(), 'delay': self._delay}
+        return SlotsNote(self.silent, self.lost, self.moved, self._delay)
 
-    def take_up(self, note: dict[str, Any]) -> None:
+    def take_up(self, note: SlotsNote) -> None:
         """What the service before this one has noted."""
-        self.silent, self.lost, self.moved = bool(note['silent']), int(note['slots_lost']), int(note['slots_moved'])
-        self._delay = note.get('delay')
+        self.silent, self.lost, self.moved, self._delay = note.silent, note.lost, note.moved, note.delay

@@ -18,6 +18,13 @@ def write_all(file: int, octets: bytes) -> None:
             time.sleep(0.02)
 
 
+def write_at(file: int, octets: bytes, place: int) -> None:
+    """Writes at a place of a file."""
+    while octets:
+        count = os.pwrite(file, octets, place)
+        octets, place = octets[count:], place + count
+
+
 def put_file(path: str, octets: bytes, mode: int = 0o644, part: str = '.new', is_synced: bool = False) -> None:
     """Puts a file in its place at once: a reader sees the old one or the new one, whole; if it `is_synced` also after
     the machine has died. `part` is behind its name before that."""

@@ -17,11 +17,12 @@ TELLS = {'service.connection.PATIENCE': LONG}
 # Octets come when a test gives them, and by no clock: a flow that is never steady has no gap, behind which calls are
 # restarted. (A test that had taken ten seconds longer than its trunk found one.) Nor is a version tried for a minute.
 # Files of a ring are of a second there, and of each program: more of them are kept than of hours.
-STARTED = {'clock.STEADY': 0.0, 'service.version.TRIED': LONG, 'recording_ring.MOST_OWN': 1000}
+STARTED = {'clock.STEADY': 0.0, 'service.decisions.TRIED': LONG, 'recording_ring.MOST_OWN': 1000}
 LIMITS: dict[str, Any] = {
-    'service.lifecycle.START': LONG, 'service.lifecycle.GRACE': LONG, 'service.follower.PATIENCE': LONG,
+    'service.lifecycle.START': LONG, 'service.lifecycle.GRACE': LONG, 'service.lifecycle.RELOADED': LONG,
     'service.version.CHECK': LONG, 'service.version.LOOK_UP': LONG, 'service.status.FIRST': LONG,
-    'service.status.QUIET': LONG, 'service.pages.DRAWN': LONG, 'service.reload.PATIENCE': LONG,
+    'service.decisions.QUIET': LONG, 'service.pages.DRAWN': LONG,
+    'service.reload.PATIENCE': LONG, 'service.missed.PATIENCE': LONG,
     'service.feed.PATIENCE': LONG, 'service.standby.PATIENCE': LONG, 'service.pair.PATIENCE': LONG,
     'service.feed.FRESH': LONG, 'service.standby.FRESH': LONG, 'service.pair.FRESH': LONG,
     'service.standby.MOST_AGE': LONG, 'service.recordings.FLUSH': LONG, 'service.satop_trunk.GRACE': LONG,

@@ -2,6 +2,7 @@
 from __future__ import annotations
 
 import functools
+import glob
 import os
 import re
 import signal
@@ -11,6 +12,7 @@ from typing import Any, Callable
 
 from . import support
 from .hand_clock import HandClock
+from .logs import LogCopy
 from .support import SECONDS
 from .test_program_killed import KeeperCase
 from .world import children, trunk_command, words_of
@@ -25,9 +27,10 @@ class Machine:
     """A machine, whose control is `ask`."""
 
     def __init__(self, case: support.FolderCase, name: str, ports: dict[str, int], *words: str, **around: str) -> None:
-        self.name, memory = name, support.in_memory()
+        self.name, self._case, memory = name, case, support.in_memory()
         case.addCleanup(memory.cleanup)
         case.addCleanup(self.power_off)
+        self._memory = memory.name
         self.control, self._told, self._from = case.path(f'{name}.control'), case.path(f'{name}.told'), 0
         feed, standby = (f'{ADDRESSES[each]}:{ports[each]}' for each in (name, 'ab'.replace(name, '')))
         words += '--control', self.control, '--folder', memory.name, '--feed', feed, '--standby', standby
@@ -36,6 +39,19 @@ class Machine:
                                             env={**os.environ, **around})
         self.awaits('is to be standby')
         support.until(lambda: os.path.exists(self.control))
+
+    def log(self, name: str = 'log') -> LogCopy:
+        """The log of its program."""
+        def folder() -> str:
+            (first, *others) = glob.glob(f'{self._memory}/*/{name}') or ['']
+            return '' if others else first
+        copy = LogCopy(self._case, support.until(folder))
+        copy.look()
+        return copy
+
+    def fed_log(self) -> LogCopy:
+        """The log that it is fed."""
+        return self.log('fed-*')
 
     def told(self) -> str:
         return support.text_of(self._told)

@@ -132,20 +132,3 @@ class ClearTests(RestartedKeeperCase):
         self.goes_on()
         self.goes_on_as_before(FOUND)
         self.ends()
-
-    def test_an_update(self) -> None:
-        """The service before had a process between the card and the program. It ends, and the calls go on."""
-        self.device.exchange = support.Exchange()
-        self.begins()
-        self.card.pairs, self.device.exchange = self.device.exchange.pairs, self.card
-        its = {'silent': False, 'slots_lost': 2, 'slots_moved': 1, 'found': True}
-        self.is_updated('clear', 'pump', slots=its)
-        self.goes_on()
-        self.goes_on_as_before(FOUND)
-        self.has_counted(2, 1)
-        self.kill_keeper()
-        self.comes_back()
-        self.step(4)
-        self.has_counted(2, 1)
-        self.ends()
-        support.until(lambda: not self.manager.files)

@@ -126,7 +126,7 @@ class FilterServiceTests(support.FolderCase):
     def test_the_program_dies_inside_a_multiframe(self) -> None:
         """The exchange keeps the alignment of frames and multiframes."""
         for options in ('--crc4',), ('--crc4', '--align'):
-            world = aligned(self.world(*options, within={'service.lifecycle.WITHIN': 0.0}))
+            world = aligned(self.world(*options, within={'service.decisions.WITHIN': 0.0}))
             call(world, 1)
             for count in 0, 77, 500:
                 with self.subTest(count, options=options):

@@ -39,11 +39,12 @@ class StartFaultTests(KeeperCase):
 
     def test_a_state_with_which_each_one_dies(self) -> None:
         """After five deaths the trunk begins without it."""
-        self.other_program(f'trunk) for word; do [ $word = --load ] && kill -9 $$; done; exec {support.program()} "$@"')
-        self.starts(**self.within(lifecycle_WITHIN=limits.LONG))
+        self.other_program(
+            f'trunk) for word; do [ -e "$word/state.0" ] && kill -9 $$; done; exec {support.program()} "$@"')
+        self.starts(**self.within(decisions_WITHIN=limits.LONG))
         self.calls()
         os.kill(self.program, signal.SIGKILL)
-        self.awaits('5 times in a short time: the trunk begins without a state, in 0 s')
+        self.awaits(r'the program ended by signal 9 \(SIGKILL\): the log is put aside, and a new one begins')
         self.assertIn('; all calls begin anew', self.goes_on())
         self.ends()
 
@@ -56,7 +57,7 @@ class StartFaultTests(KeeperCase):
         self.write('taken', '')
         os.kill(self.program, signal.SIGKILL)
         for _ in range(2):
-            self.awaits('the program says: socket 3: it is tried again in ')
+            self.awaits('the program says: socket 3: the next one begins in ')
         os.unlink(flag)
         self.goes_on_behind()
         self.step(20)
@@ -66,13 +67,14 @@ class StartFaultTests(KeeperCase):
 
 class FolderTests(KeeperCase):
     def test_a_folder_that_cannot_be_made_again(self) -> None:
-        """As /run/e1gw/NAME, whose parent is root's. Nothing was given back of the log, and no program could follow."""
-        self.starts('--control', self.path('its-control'), '--tell', self.path('tell'),
-                    **self.within(checkpoints_LOG_ROOM=65_536))
+        """As /run/e1gw/NAME, whose parent is root's: the log goes on elsewhere."""
+        self.starts('--control', self.path('its-control'), '--tell', self.path('tell'))
         self.calls()
         os.rename(self.memory, away := f'{self.memory}.away')
         self.write(self.memory, '')
         self.awaits('the folder of the sockets is gone, and cannot be made again: ')
+        self.goes_on()
+        self.step(20)
         self.dies()
         self.step(200)
         self.dies()

@@ -4,18 +4,16 @@ from __future__ import annotations
 
 import asyncio
 import contextlib
-import csv
 import json
 import os
-import signal
 import socket
 import unittest
 from typing import Any
 from unittest import mock
 
-from . import limits, support
+from . import support
 from .test_trunk import FOUR, aligned, call
-from .world import World, children, config_of
+from .world import World, config_of
 from e1gw.exchange import SEIZED
 from e1gw.metrics import table
 from e1gw.service import commands, connection
@@ -24,7 +22,7 @@ from e1gw.session import MULTIFRAME, Command, Kind, command_record, encode_recor
 
 class OperatorTests(unittest.TestCase):
     def world(self, *options: str, incoming: tuple[int, ...] = (), **within: float) -> World:
-        """Fifteen idle circuits, within these limits of modules of the service: status_QUIET is status.QUIET."""
+        """Fifteen idle circuits, within these limits of modules of the service: decisions_QUIET is decisions.QUIET."""
         modules = {f'service.{name.replace("_", ".", 1)}': value for name, value in within.items()}
         world = World(config_of(range(1, 16), incoming=incoming), *options, within=modules)
         self.addCleanup(world.__exit__)
@@ -40,17 +38,10 @@ class OperatorTests(unittest.TestCase):
         found: dict[str, Any] = next(each for line in events if {**(each := json.loads(line)), **values} == each)
         return found
 
-    def follower(self, world: World) -> int:
-        """The follower, which stands still from now on. (It is not killed for that within LOOK.)"""
-        (found,) = children(world.process.pid, 'replay')
-        os.kill(found, signal.SIGSTOP)
-        support.until(lambda: support.state_of(found) == 'T')
-        return found
-
     def test_answers(self) -> None:
         """A change, then the answer to the command that made it, and a status that has it. Several clients at once get
         their own. Nobody seizes while the other end has no alignment, or the trunk no octets."""
-        world = self.world(status_QUIET=0.5)
+        world = self.world(decisions_QUIET=0.5)
         events = self.events(world)
         support.until(lambda: bool(world.told()['clock']['stalled']))
         self.assertEqual(world.ask('seize 1'), 'seize 1: the trunk is stalled')
@@ -77,29 +68,6 @@ class OperatorTests(unittest.TestCase):
         self.assertEqual(said, 'seize 2: the other end has no alignment')
         lost = table(world.told() | {'program': False, 'program_since': 0.0})
         self.assertIn('no connection to the program since 00:00:00 UTC; the other end: not heard', lost)
-
-    def test_a_follower_that_stands_still(self) -> None:
-        """An answer does not wait for it. When it dies the next one tells that a call has ended, of whose last packets
-        nobody has told."""
-        world = self.world('--calls', '@/calls', connection_PATIENCE=0.1, process_LOOK=limits.LONG)
-        call(world, 3)
-        events, follower = self.events(world), self.follower(world)
-        self.assertEqual([world.ask_at_once(f'clear {n}') for n in (1, 3)], ['clear 1: not in a call', 'clear 3: done'])
-        world.step(60)
-        os.kill(follower, signal.SIGKILL)
-        self.next(events, **{'event': 'disconnected', 'from': 'shadow'})
-        status = world.known()
-        self.assertEqual((status['shadow'], status['stale'], status['circuits'][2]['state']), (False, True, 'answered'))
-        self.assertEqual(world.ask_at_once('seize 4'), 'seize 4: done')     # (the alarms are not known to be wrong)
-        world.until(lambda: world.told()['shadow'])     # (it tells at the next octets)
-        self.next(events, event='state', circuit=3, was='answered', state='idle', unwatched=True)
-        self.next(events, event='connected', to='shadow')
-        path = world.path('calls')
-        support.until(lambda: os.path.exists(path) and support.text_of(path).count('\n') == 2)
-        (line,) = csv.DictReader(support.text_of(path).splitlines())
-        self.assertEqual([line[key] for key in ('circuit', 'by', 'codec', 'lost', 'late')],
-                         ['3', 'unwatched', 'pcma', '', ''])
-        self.assertTrue(line['seized'] and line['answered'] and line['ended'] and int(line['sent']))
 
     def test_calls_that_are_cleared(self) -> None:
         """When the last client that has asked for it is gone, or says nothing any more, and in the dark."""
@@ -209,7 +177,7 @@ class ConnectionTests(support.FolderCase, unittest.IsolatedAsyncioTestCase):
             except connection.NoAnswer as lost:
                 return str(lost)
         server = await asyncio.start_unix_server(came, self.path('program'))
-        its = connection.ProgramConnection(self.path('program'), lambda *how: stands.append(how), lambda: None,
+        its = connection.ProgramConnection(lambda: self.path('program'), lambda *how: stands.append(how), lambda: None,
                                            lambda: '')
         runs, records = asyncio.create_task(its.run()), [command_record(n, Command.SEIZE) for n in (1, 2, 3, 4)]
         lost = 'no answer, the connection to the program is lost'

@@ -66,7 +66,7 @@ class RecordedFileTests(RecorderCase):
         stands = os.open(self.path('kept'), os.O_RDWR)
         self.addCleanup(os.close, stands)
         self.starts('--session', self.path('kept'),
-                    **self.within(reader_MOST_BEHIND=100_000, recordings_FLUSH=0.1))
+                    **self.within(recordings_MOST_BEHIND=100_000, recordings_FLUSH=0.1))
         self.calls()
         while 'session ended, the calls go on: it takes too little' not in self.told():
             self.step(20)
@@ -79,7 +79,7 @@ class RecordedRingTests(RecorderCase):
         self.calls()
 
     def test_what_a_crash_lost(self) -> None:
-        """It is noted where the next file begins, which has the state of the follower. Who reads a ring reads it."""
+        """It is noted where the next file begins, which has a state. Who reads a ring reads it."""
         self.starts_ring()
         os.kill(self.program, signal.SIGKILL)
         self.goes_on()
@@ -120,25 +120,17 @@ class RecordedRingTests(RecorderCase):
         self.write('trunk.toml', self.peers.config())
         self.as_uncut(7)
 
-    def test_a_checkpoint_at_the_end(self) -> None:
-        """One that the reader of the log has not seen before its program is gone begins no file."""
-        self.starts('--session', self.path('ring'), '--keep', '1m', '--name', 'west',
-                    **self.within(checkpoints_LOG_ROOM=65_536, recordings_FILES=600, reader_TICK=3600.0))
-        self.calls()
-        while os.path.exists(f'/proc/{self.follower}'):   # (it ends when it has saved)
-            self.step(10)
-        self.ends()
-        self.assertEqual(len(self.each_file_replays()), 1)
-
     def test_a_ring_that_begins_again(self) -> None:
-        """With no other program: the file that is begun has the state of a checkpoint, and replays from that."""
+        """With no other program: the file that is begun has the state of a turn of the log, and replays from that."""
         self.write('ring', '')
         self.starts('--session', self.path('ring'), '--keep', LONG, '--name', 'west', **self.within(reader_AGAIN=0.1))
         self.calls()
         support.until(lambda: 'session ended, the calls go on: File exists' in self.told())
         program = self.program
         os.unlink(self.path('ring'))
-        self.awaits('the recording begins again: program')
+        self.awaits('the recording begins again')
+        while not self.files():                     # (at the next turn)
+            self.step(60)
         self.step(60)
         os.kill(program, 0)
         self.as_uncut()

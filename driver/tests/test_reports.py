@@ -217,10 +217,12 @@ class ReportReadingTests(support.FolderCase, unittest.IsolatedAsyncioTestCase):
         two halves of lines were none. What is not understood ends the connection."""
         events, config = list[dict[str, Any]](), self.write('trunk.toml', 'law = "A"\n[[circuit]]\nnumber = 1\n')
         tell = self.path('tell')
-        trunk = mock.Mock(tell=tell, **{'config_path.return_value': config, 'facts.return_value': {},
-                                        'follower.return_value': (tell, '', None)})
+        trunk = mock.Mock(**{
+            'places.return_value.tell': tell, 'config_path.return_value': config, 'facts.return_value': {},
+            'session.return_value': '', 'begun.return_value': 0})
         with support.listening(tell) as listener, mock.patch.object(status, 'REST', 0.0):
             its = status.TrunkStatus(trunk, 'west', events.append, DatagramCounts(), lambda line: None)
+            its.stands('control', True)
             follows = asyncio.create_task(its.follow())
             await asyncio.sleep(0)
             with listener.accept()[0] as line:
@@ -241,5 +243,5 @@ class ReportReadingTests(support.FolderCase, unittest.IsolatedAsyncioTestCase):
             follows.cancel()
             await asyncio.wait([follows])
         self.assertEqual([each['state'] for each in events if each['event'] == 'state'], ['seized', 'acked'])
-        self.assertEqual(events[-1], {'event': 'disconnected', 'from': 'shadow',
+        self.assertEqual(events[-1], {'event': 'disconnected', 'from': 'program',
                                       'why': f'{tell}: not understood: alarms perhaps'})

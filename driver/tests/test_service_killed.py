@@ -2,6 +2,7 @@
 from __future__ import annotations
 
 import contextlib
+import glob
 import json
 import os
 import signal
@@ -15,9 +16,10 @@ from .manager import Manager
 from .support import SECONDS
 from .test_program_killed import KeeperCase
 from .world import LAUNCHER
-from e1gw.service.handover import note_in
-from e1gw.service.log import in_memory
-from e1gw.service.process import UNKNOWN, Child, held_pipe, start_of
+from e1gw.service.handover import NOTE
+from e1gw.service.memory import in_memory
+from e1gw.service.note import ServiceNote, note_in
+from e1gw.service.process import UNKNOWN, Child, start_of
 from e1gw.testing.service import ask
 
 
@@ -31,10 +33,9 @@ class RestartedKeeperCase(KeeperCase):
         self.addCleanup(self._end_all)
 
     def _end_all(self) -> None:
-        for pid in (self.program, self.follower):
-            with contextlib.suppress(ProcessLookupError):
-                if pid:
-                    os.kill(pid, signal.SIGKILL)
+        with contextlib.suppress(ProcessLookupError):
+            if self.program:
+                os.kill(self.program, signal.SIGKILL)
 
     def begins(self, *options: str) -> None:
         """The first start, with thirty calls."""
@@ -52,31 +53,25 @@ class RestartedKeeperCase(KeeperCase):
         self.addCleanup(self._end)
 
     def settles(self) -> None:
-        """Until systemd has the descriptors of the trunk, the program and the logs of now, and no others."""
-        def settled() -> bool:
-            note = self.noted()
-            noted = [note.get('program'), note.get('trunk') or {'files': {'': 'line-in'}},
-                     *(note.get('read') or {}).get('logs', ())]
-            names = {name for each in noted if each for name in each['files'].values()}
-            return bool(note) and {'kept', *names} == {*self.manager.files}
-        support.until(settled)
+        """Until systemd has the descriptors of the trunk, and no others, and what is noted is of now."""
+        support.until(lambda: (note := self.noted()) and {*note.trunk.names} == {*self.manager.files})
 
-    def noted(self) -> dict[str, Any]:
-        """What the service of now has noted, with a program that is up; nothing before that."""
-        file = self.manager.files.get('kept')
-        found = note_in(os.pread(file, 65_536, 0) if file is not None else b'')     # (it may be written now)
-        is_its = found.get('service', [0])[0] == self.keeper.pid
-        return found if is_its and found['program'] and found['program']['up'] else {}
+    def noted(self) -> ServiceNote | None:
+        """What the service of now has noted, with a program that was up; None before that."""
+        found = None
+        for path in glob.glob(os.path.join(glob.escape(self.memory), '*', NOTE)):
+            with contextlib.suppress(FileNotFoundError):
+                found = note_in(support.octets_of(path))
+        return found if found and found.pid == self.keeper.pid and found.was_up else None
 
     def known(self, holds: Callable[[list[dict[str, Any]]], object]) -> dict[str, Any]:
-        """The status at --control its-control, once the service knows the circuits and this holds of them. A follower
-        tells at the next octets. Fewer and fewer are given: with a checkpoint each 20,000 of them, there would always
-        be one that does not know yet."""
+        """The status at --control its-control, once the service knows the circuits and this holds of them. A program
+        tells at the next octets."""
         pause = 0.001
         while True:
             with contextlib.suppress(OSError, EOFError):
                 status: dict[str, Any] = json.loads(ask(self.path('its-control'), b'status json'))
-                if status['shadow'] and holds(status['circuits']):
+                if status['program'] and holds(status['circuits']):
                     return status
             self.step()
             time.sleep(pause := min(2 * pause, 1.0))
@@ -91,23 +86,6 @@ class RestartedKeeperCase(KeeperCase):
     def kill_keeper(self) -> None:
         self.keeper.kill()
         self.keeper.wait()
-
-    def is_updated(self, option: str, *names: str, **noted: Any) -> None:
-        """A service of before, with processes of these names on the line for an option, is killed, and updated."""
-        self.kill_keeper()
-        old = {name: subprocess.Popen(['sleep', str(SECONDS)]) for name in names}
-        for each in old.values():
-            self.addCleanup(each.kill)
-        note = note_in(os.pread(self.manager.files['kept'], 65_536, 0))
-        note['opens'].append(option)
-        self.manager.files['joint-1'] = held_pipe()
-        files = {'line-in': note['trunk']['files']['line-in'], 'joint': 'joint-1'}
-        note['trunk'] = {'files': files, 'zero': 1, 'name': '', 'satop': [], 'origin': 0, 'why': '', **noted,
-                         'processes': {name: [each.pid, start_of(each.pid), 0] for name, each in old.items()}}
-        os.pwrite(self.manager.files['kept'], json.dumps(note).encode() + b'\n', 0)
-        self.options = f'--{option}', '--control', self.path('its-control')
-        self.again()
-        self.assertEqual({each.wait(SECONDS) for each in old.values()}, {-signal.SIGKILL})
 
     def dies_unkept(self) -> None:
         """The service is killed where nobody keeps descriptors, and the next one opens the device again."""
@@ -190,7 +168,7 @@ class ChildTests(unittest.IsolatedAsyncioTestCase):
         self.assertEqual(start_of(pid), when)
         os.kill(pid, signal.SIGSTOP)
         await its.over.wait()
-        self.assertEqual((its.status, its.words()), (UNKNOWN, 'ended while no service was there'))
+        self.assertEqual((its.status, its.words()), (UNKNOWN, 'ended'))
 
     async def test_what_it_says(self) -> None:
         """Each line is told once, also to the next service. What comes each second is not held for long."""
@@ -201,8 +179,7 @@ class ChildTests(unittest.IsolatedAsyncioTestCase):
         os.write(said, b'frames 1\noctets 512\n' + 5000 * b'live 2\n')
         self.assertEqual(its.news(), ['live submultiframes 1'] + 5000 * ['live 2'])
         self.assertEqual((its.lines, its.totals()), (['circuit 3 begins as new'], {'octets': 512}))
-        later = Child(os.getpid(), said=said, heard=its.noted())
+        later = Child(os.getpid(), said=said)
         os.write(said, b'fault 5 Read\n')
         self.assertEqual(later.news(), ['fault 5 Read'])
-        self.assertEqual(later.noted(), os.fstat(said).st_size)
         self.assertLess(512 * os.fstat(said).st_blocks, 5000)

@@ -11,7 +11,6 @@ import itertools
 import json
 import os
 import shutil
-import resource
 import signal
 import subprocess
 import time
@@ -24,23 +23,19 @@ from . import support
 from .test_program_killed import CIRCUITS, NO_EFFECT, KeeperCase
 from .test_service_killed import RestartedKeeperCase
 from .test_recorder import RecorderCase
-from .support import SECONDS
 from .test_trunk import catches, is_there
-from .world import children, words_of
+from .world import words_of
 from e1gw.exchange import IDLE, SEIZED
 from e1gw.lines import config_text, no_peers
-from e1gw.service.checkpoints import LOG_ROOM
-from e1gw.service.log import Checkpoint, in_memory
+from e1gw.service.memory import in_memory
 from e1gw.service.reload import calls_of
 from e1gw.service.version import ProgramVersion, with_addresses
-from e1gw.session import MULTIFRAME, Codec, Kind, codec_record, records_in
+from e1gw.session import Codec, Kind, codec_record, records_in
 from e1gw.testing.service import ask
 
-LIMIT = 600 << 9            # octets of a file, in which a state has room
 HELD = 12                   # multiframes that a device holds which nobody reads
 NAMELESS = 35               # a signal of real time: the service could not tell it, and no program followed
 SIGNALS = NAMELESS, signal.SIGKILL, signal.SIGSTOP, signal.SIGTERM, signal.SIGSEGV
-NEAR = 8 * MULTIFRAME       # octets of a log before a checkpoint is due
 HANGS = 15.0                # seconds, which no program takes that does not hang, on a machine that stalls
 
 
@@ -52,40 +47,21 @@ def refusals(right: str) -> list[tuple[str | None, str]]:
             ('#' * 70_000, '.*more than 65536 octets'), (None, '.*trunk.toml is no file')]
 
 
-class FollowerCase(RestartedKeeperCase):
-    """A trunk of which a follower is known that stays."""
-
-    limits: dict[str, Any] = {}
-
-    def finds_follower(self) -> None:
-        """Waits until there is one follower, and no checkpoint comes for some multiframes, behind which there is
-        another one. Fewer and fewer are given meanwhile, until it has come."""
-        room, pause = self.limits.get('checkpoints_LOG_ROOM', LOG_ROOM), 0.005
-        while True:
-            its = self.noted().get('program', {})           # (first: a checkpoint may end meanwhile)
-            if its.get('pid') == self.program:
-                if os.path.getsize(self.log_of()) - its['place'] > room - NEAR:
-                    self.step()
-                elif len(pids := children(self.keeper.pid, 'replay')) == 1:
-                    (self.follower,) = pids
-                    return
-            time.sleep(pause := min(2 * pause, 1.0))
-
-
-class ServiceEventsCase(FollowerCase, RecorderCase):
+class ServiceEventsCase(RestartedKeeperCase, RecorderCase):
     """What may happen to a trunk."""
 
     keeps: tuple[str, ...] = ()
+    limits: dict[str, Any] = {}
 
     def begins(self, *options: str) -> None:
         """With all that may be wanted of a trunk, in a folder that can be full (if the test may mount one)."""
-        mounts = ['mount', '-t', 'tmpfs', '-o', 'size=4M', 'tmpfs', self.memory]
+        mounts = ['mount', '-t', 'tmpfs', '-o', 'size=24M', 'tmpfs', self.memory]
         self.is_small = not subprocess.run(mounts, stderr=subprocess.DEVNULL, check=False).returncode
         if self.is_small:
             self.addCleanup(os.system, f'umount -l {self.memory}')
         self.right = support.text_of(self.config)
         self.ended, self.refused = 0, itertools.cycle(refusals(self.right))
-        self.signals = {name: itertools.cycle(SIGNALS) for name in ('program', 'follower')}
+        self.signals = itertools.cycle(SIGNALS)
         own = [word for name in ('state', 'calls', 'json', 'control')
                for word in (f'--{name}', self.path(f'its-{name}'))]
         super().begins('--reopen', '--session', self.path('ring'), *own, *self.keeps, *options)
@@ -109,37 +85,18 @@ class ServiceEventsCase(FollowerCase, RecorderCase):
         return [event for event in told if event['event'] == name or not name]
 
     def program_dies(self) -> None:
-        number = next(self.signals['program'])
+        number = next(self.signals)
         if self.chance.randrange(2):
             return self.dies(number)
         self.killed(number)
 
-    def follower_dies(self) -> None:
-        number = next(self.signals['follower'])
-        self.under_way(lambda: os.kill(self.follower, number))
-        self.goes_on()
-
-    def both_die(self) -> None:
-        before = self.program
-        for pid in self.chance.sample((self.program, self.follower), 2):
-            with contextlib.suppress(ProcessLookupError):       # (a follower ends behind its program)
-                os.kill(pid, signal.SIGKILL)
-        while self.program == before:       # (another follower of it may be reported first)
-            self.goes_on()
-
-    def dies_inside_an_append(self) -> None:
-        """At any octet of a record, by the system. The next program has no part of that record."""
-        place = os.path.getsize(self.log_of()) + self.chance.randrange(MULTIFRAME)
-        resource.prlimit(self.program, resource.RLIMIT_FSIZE, (place, place))
-        self.killed(0)
-
-    def service_and_follower_stand_still(self) -> None:
-        """For more of the trunk than any pipe holds."""
-        with support.stopped(self.keeper.pid, self.follower):
+    def service_stands_still(self) -> None:
+        """For a moment of the trunk, of which it reads all."""
+        with support.stopped(self.keeper.pid):
             self.step(400)
 
     def machine_stands_still(self) -> None:
-        with support.stopped(self.keeper.pid, self.program, self.follower):
+        with support.stopped(self.keeper.pid, self.program):
             waiting = self.send(HELD)
         self.take(waiting)
 
@@ -149,7 +106,7 @@ class ServiceEventsCase(FollowerCase, RecorderCase):
             line.sendall(b'E\0\0\0')
             self.assertEqual(line.recv(1), b'')
         words = words_of(self.program)
-        with open(f'/proc/{self.program}/fd/{words[words.index("--end") + 1]}', 'wb') as end:
+        with open(f'/proc/{self.program}/fd/{words[words.index("--end") + 1]}', 'wb', buffering=0) as end:
             end.write(b'\n')
         self.assertNotIn('at most', self.goes_on())
 
@@ -180,7 +137,6 @@ class ServiceEventsCase(FollowerCase, RecorderCase):
         os.unlink(self.config)
         self.write('trunk.toml', self.right)
         os.kill(self.program, 0)
-        self.finds_follower()                       # (a state of now was taken)
 
     def replaced(self) -> None:
         before, since = self.program, self.since()
@@ -207,33 +163,26 @@ class ServiceEventsCase(FollowerCase, RecorderCase):
             self.goes_on()
 
     def service_dies(self) -> None:
-        """It comes back alone, or with a follower or a program that died meanwhile."""
-        before, dead, since = self.program, self.chance.choice((None, None, self.follower, self.program)), self.since()
+        """It comes back alone, or with a program that died meanwhile."""
+        before, dies, since = self.program, self.chance.randrange(2), self.since()
         self.settles()
         self.under_way(self.kill_keeper)
         self.step(self.chance.randrange(20))
-        if dead:
-            with contextlib.suppress(ProcessLookupError):       # (a follower ends with its service)
-                os.kill(dead, signal.SIGKILL)
-        if dead != before:
-            self.comes_back()
-            self.assertAlmostEqual(self.since(), since, delta=0.01)
-            return self.assertEqual(self.program, before)
-        self.again()
-        self.awaits('the service was killed')
-        self.goes_on_behind()
+        if dies:
+            os.kill(self.program, signal.SIGKILL)
+            self.again()
+            self.awaits('the service was killed')
+            return self.goes_on_behind()
+        self.comes_back()
+        self.assertAlmostEqual(self.since(), since, delta=0.01)
+        self.assertEqual(self.program, before)
 
     def service_dies_unkept(self) -> None:
-        """Its program ends in order, and another one begins with the state on the trunk opened again, but not for a
-        service that refuses its configuration. (Of a program before that nobody has the log.)"""
-        support.until(lambda: (note := self.noted()) and len(note['read']['logs']) == 1)
-        self.kill_keeper()
-        self.manager.forget()
-        self.write('trunk.toml', f'{self.right}x = 1\n')
-        self.again()
-        self.assertEqual(self.keeper.wait(SECONDS), 2)
-        self.write('trunk.toml', self.right)
+        """Its program ends in order, and another one goes on when the trunk is opened again, with the configuration of
+        before if that of now is refused."""
+        self.write('trunk.toml', f'{self.right}x = 1\n' if self.chance.randrange(2) else self.right)
         self.dies_unkept()
+        self.write('trunk.toml', self.right)
         self.goes_on_behind()
         self.settles()
 
@@ -274,26 +223,24 @@ class ServiceEventsCase(FollowerCase, RecorderCase):
         support.until(lambda: os.path.isdir(folder))
 
     def folder_is_full(self) -> None:
-        """Room for the states is held, or they are put elsewhere."""
+        """Room for the log is held."""
         if self.is_small:
-            full, before = os.path.join(self.memory, 'full'), len(self.told())
+            full = os.path.join(self.memory, 'full')
             with open(full, 'wb', buffering=0) as file, contextlib.suppress(OSError):
                 while True:
                     file.write(bytes(4096))
             self.dies()
-            self.assertNotIn('cannot save the state', self.told()[before:])
             self.reloaded()
             os.unlink(full)
 
     def control_is_taken(self) -> None:
-        """It is reported, and one follower is started, not one for each try."""
+        """It is reported, and the program goes on."""
         os.unlink(self.path('control'))
         os.mkdir(self.path('control'))
         self.dies()
         self.assertIn('control does not lead to the process of now: Is a directory', self.told())
         os.rmdir(self.path('control'))
         self.dies()
-        self.finds_follower()
 
     def client_asks(self) -> None:
         """Another codec of a circuit in a call, or what is refused."""
@@ -328,31 +275,28 @@ class ServiceSequenceTests(ServiceEventsCase):
         rows = list(csv.DictReader(support.text_of(self.path('its-calls')).splitlines()))
         self.assertEqual(sorted(int(row['circuit']) for row in rows), sorted([*CIRCUITS] * self.ended))
         self.assertEqual({row['by'] for row in rows}, {'stop'})
+        self.assertTrue(all(row['seized'] and row['answered'] for row in rows[:len(CIRCUITS)]))
 
     def happens(self) -> list[Callable[[], None]]:
-        return [*[self.program_dies, self.follower_dies] * len(SIGNALS), self.both_die, self.dies_inside_an_append,
-                self.service_and_follower_stand_still, self.machine_stands_still, self.end_is_asked_for,
-                self.signals_come, self.reloaded, *[self.reload_is_refused] * 6, self.replaced,
-                self.signals_come_while_it_begins, self.service_dies,
-                self.service_dies_unkept, self.service_dies_in_a_reload, self.service_ends, self.trunk_is_lost,
-                self.folder_is_gone, self.folder_is_full, self.control_is_taken, self.client_asks,
-                self.operator_asks_between_programs]
+        return [*[self.program_dies] * len(SIGNALS), self.service_stands_still, self.machine_stands_still,
+                self.end_is_asked_for, self.signals_come, self.reloaded, *[self.reload_is_refused] * 6, self.replaced,
+                self.signals_come_while_it_begins, self.service_dies, self.service_dies_unkept,
+                self.service_dies_in_a_reload, self.service_ends, self.trunk_is_lost, self.folder_is_gone,
+                self.folder_is_full, self.control_is_taken, self.client_asks, self.operator_asks_between_programs]
 
     def test_any_sequence(self) -> None:
         done: list[str] = []
-        within = self.within(lifecycle_WITHIN=0.0, **self.limits)      # (no death is taken for a state's harm)
+        within = self.within(decisions_DEATHS=1 << 30, **self.limits)      # (no program waits)
         with self.subTest(done=done), mock.patch.dict(os.environ, within):
             self.begins()
             for event in (*self.happens(), *self.chance.choices(self.happens(), k=20)):
                 done.append(event.__name__)
-                self.finds_follower()       # (it is another one behind a checkpoint)
                 event()
                 self.step(self.chance.randrange(1, 30))
-            for words in 'no state is known', 'the service goes on', 'the calls go on':
+            for words in 'begin anew', 'the service goes on', 'the calls go on':
                 self.assertNotIn(words, self.told())
-            self.assertIn(f'the follower ended by signal {NAMELESS}: program', self.told())
+            self.assertIn(f'the program ended by signal {NAMELESS}: program', self.told())
             self.as_uncut()
-            self.assertLessEqual(len(glob.glob(f'{self.memory}/*/state-*')), 3)     # (rooms for states are in memory)
             self.leaves_nothing()
             self.assertEqual(self.events('state')[self.changes:], [])
 
@@ -361,7 +305,7 @@ class ServiceSequenceRingTests(ServiceSequenceTests):
     """The same with a ring, in files of a second of the trunk and of each program, which replay from their states."""
 
     keeps = '--keep', '1h'
-    limits = {'checkpoints_LOG_ROOM': 20_000, 'recordings_FILES': 3600}
+    limits = {'recordings_FILES': 3600}
 
     def happens(self) -> list[Callable[[], None]]:
         """Without an end in order, behind which places are counted again."""
@@ -383,33 +327,6 @@ def parted(octets: bytes) -> tuple[bytes, list[tuple[int, bytes]]]:
     return bytes(trunk), others
 
 
-class ServiceLogTests(KeeperCase):
-    """What may come of the log of a program."""
-
-    def test_checkpoints(self) -> None:
-        """Another one each 64 KiB: what lies before it is given back, and a death goes on from it."""
-        self.starts(**self.within(checkpoints_LOG_ROOM=65_536))
-        self.calls()
-        self.step(300)
-        support.until(lambda: os.stat(self.log_of()).st_blocks * 512 < os.path.getsize(self.log_of()) // 2)
-        self.survives()
-
-    def test_an_append_fails(self) -> None:
-        """The log of a program had ended, nobody noticed, and after its next death all calls went on from a state of
-        long ago. It is reported at once, and another program goes on from a state of now."""
-        self.other_program(f'trunk) trap "" XFSZ; ulimit -f {LIMIT >> 9}; exec {support.program()} "$@"')
-        self.starts()
-        self.calls()
-        before = self.program
-        while os.path.getsize(self.log_of()) < LIMIT:
-            self.step()
-        self.awaits('program: recording ended: a write failed')
-        self.assertNotIn('at most', self.goes_on())
-        self.assertNotEqual(self.program, before)
-        self.step(20)
-        self.survives()
-
-
 class ServiceNameTests(RestartedKeeperCase):
     """By which a tie knows calls."""
 
@@ -420,15 +337,14 @@ class ServiceNameTests(RestartedKeeperCase):
 
     @mock.patch.dict(os.environ)
     def test_calls_keep_their_names(self) -> None:
-        """The next follower and the next service count seizures as those before them, and one in between, also if both
-        die with the program. One that begins with a state has its calls, which have two lines then."""
+        """The next program and the next service count seizures as those before them, and one in between, also if both
+        die. One that begins with a state has its calls, which have two lines then."""
         os.environ['RUNTIME_DIRECTORY'] = self.folder       # (where a unit's note stays)
         self.begins('--control', self.path('its-control'), '--state', self.path('its-state'), '--calls',
                     self.path('its-calls'))
         before = self.names(30, 'answered')
         self.assertEqual(before[1], [1] * 30)
-        os.kill(self.follower, signal.SIGKILL)
-        self.goes_on()
+        self.dies()
         self.assertEqual(self.names(30, 'answered'), before)
         self.settles()
         self.kill_keeper()
@@ -457,16 +373,6 @@ class ServiceNameTests(RestartedKeeperCase):
         self.assertEqual((len(calls), len({*calls})), (60, 30))
 
 
-class ServiceFaultTests(KeeperCase):
-    """A step that fails is reported, and ends no call."""
-
-    def test_an_exception_in_each_look(self) -> None:
-        self.starts(**self.within(checkpoints_LOG_ROOM='none'))
-        self.awaits(r'the service goes on: TypeError: .* \(checkpoints.py:\d+ in is_due\)')
-        self.calls()
-        self.survives()
-
-
 class ServiceVersionTests(KeeperCase):
     """A version that does not do: the one before comes back, with all calls."""
 
@@ -479,7 +385,7 @@ class ServiceVersionTests(KeeperCase):
 
     def test_program_that_hangs(self) -> None:
         """When it is to begin, or to check the configuration."""
-        self.renewed(lifecycle_START=HANGS, version_CHECK=HANGS)
+        self.renewed(lifecycle_RELOADED=HANGS, version_CHECK=HANGS)
         for case, words in (('check', f'does not check the configuration within {HANGS:g} s'),
                             ('trunk', f'does not begin within {HANGS:g} s')):
             self.other_program(f'{case}) exec sleep 600')
@@ -515,18 +421,6 @@ class ServiceVersionTests(KeeperCase):
         self.ends()
 
 
-class ServiceNoRoomTests(KeeperCase):
-    def test_nowhere(self) -> None:
-        """Where no folder has room for a state a program that works is not asked to end."""
-        self.starts(**self.within(log_STATE_ROOM=1 << 60))
-        self.calls()
-        self.keeper.send_signal(signal.SIGHUP)
-        self.awaits('reload: no room for a state, the program goes on')
-        self.step(20)
-        os.kill(self.program, 0)
-        self.as_uncut()
-
-
 class CallsOfNowTests(support.FolderCase, unittest.IsolatedAsyncioTestCase):
     """Which calls there are, when a new version is to follow."""
 
@@ -545,7 +439,7 @@ class CallsOfNowTests(support.FolderCase, unittest.IsolatedAsyncioTestCase):
                                 ((program, right), (still, right), frozenset()),
                                 ((still, right), (still, right), frozenset(CIRCUITS))):
             with self.subTest(now=now, new=new):
-                self.assertEqual(await calls_of(self.version(*now), self.version(*new), Checkpoint()), calls)
+                self.assertEqual(await calls_of(self.version(*now), self.version(*new), None), calls)
 
 
 class SpellingTests(support.FolderCase):

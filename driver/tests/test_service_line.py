@@ -8,7 +8,7 @@ import signal
 import stat
 import sys
 import unittest
-from typing import Any, Callable
+from typing import Callable
 from unittest import mock
 
 from . import limits, support
@@ -17,7 +17,6 @@ from .test_filters import late
 from .test_satop import ENDS, SCRIPT
 from .test_service_killed import RestartedKeeperCase
 from .world import words_of
-from e1gw.crc4 import COUNTS
 from e1gw.lines import Event
 from e1gw.service import satop_trunk, trunk
 from e1gw.service.satop_trunk import BROKEN, ONES, SatopTrunk
@@ -97,31 +96,6 @@ class LineKilledTests(RestartedKeeperCase):
         self.is_up()
         self.ends()
 
-    def is_updated(self, option: str, *names: str, **noted: Any) -> None:
-        """These processes of the service before end; the device is held, and the calls go on."""
-        self.begins()
-        os.set_blocking(self.manager.files[self.noted()['trunk']['files']['line-in']], True)
-        super().is_updated(option, *names, **noted)
-        self.goes_on_behind()
-        self.settles()
-        self.is_up()
-        self.assertFalse(os.get_blocking(self.manager.files[self.noted()['trunk']['files']['line-in']]))
-        self.kill_keeper()
-        self.comes_back()
-        self.step(4)
-
-    def test_an_update_with_align(self) -> None:
-        self.is_updated('align', 'align')
-        self.ends()
-        support.until(lambda: not self.manager.files)
-
-    def test_an_update_with_crc4(self) -> None:
-        its = dict.fromkeys(COUNTS, 7)
-        self.is_updated('crc4', 'check', 'send', counts=[{}, False, [its, True, its]])
-        self.assertEqual(self.known(len)['crc4'], {**dict.fromkeys(COUNTS, 7), 'aligned': True})
-        self.ends()
-        support.until(lambda: not self.manager.files)
-
 
 class LineProcessTests(support.FolderCase, unittest.IsolatedAsyncioTestCase):
     """An emulated circuit, whose `e1gw satop` is a script."""
@@ -154,7 +128,8 @@ class LineProcessTests(support.FolderCase, unittest.IsolatedAsyncioTestCase):
         self.assertEqual(os.read(trunk.both[0], 1000), bytes(range(255, -1, -1)))
 
     def process(self, trunk: SatopTrunk) -> int:
-        return int(trunk.note()['processes']['satop'][0])
+        its = trunk.note().satop
+        return its.pid if its else 0
 
     async def test_it_dies_and_is_stopped(self) -> None:
         """Another one has the same socket pair, and its numbers go on with the octets; what it counts goes on in the

@@ -1,45 +1,31 @@
 """One process a trunk: its parts, by a clock that the test gives."""
 from __future__ import annotations
 
-import asyncio
 import logging
 import os
 import signal
 import socket
-import subprocess
-import sys
 import threading
 import unittest
-from typing import Callable
+from contextlib import suppress
+from dataclasses import replace
+from typing import Any
 from unittest import mock
 
 from . import support
 from .manager import Manager
-from e1gw.service import checkpoints, events, trunk
+from e1gw.calls import CallRecord, CallsNote
+from e1gw.crc4 import Crc4Note
+from e1gw.service import events, trunk
 from e1gw.service.commands import unix_listener
-from e1gw.service.log import Checkpoint, TrunkLog
+from e1gw.service.decisions import TRIED
 from e1gw.service.journal import MINUTE, MOST, LineLimit
-from e1gw.service.lifecycle import DEATHS, MOST_PAUSE, DeathCount
-from e1gw.service.program import LoggedProgram
-from e1gw.service.handover import NOTE, Handover, Notifier, given_files, note_of, unnoted_programs
-from e1gw.service.version import TRIED, ProgramVersion, VersionHistory
-
-
-class DeathCountTests(unittest.TestCase):
-    def test_pauses(self) -> None:
-        """Five deaths in two seconds are too many; then there are pauses, up to ten seconds, until one has lived."""
-        deaths, now = DeathCount(), 100.0
-        self.assertEqual([deaths.died(now + place * 0.1) for place in range(DEATHS)], [None] * (DEATHS - 1) + [0.0])
-        pauses, now = [0.0], now + 0.5
-        for _ in range(9):
-            pause = deaths.died(now)
-            assert pause is not None
-            pauses.append(pause)
-            now += pause + 0.01
-        self.assertEqual(pauses, [0.0, 0.5, 1.0, 2.0, 4.0, 8.0, *[MOST_PAUSE] * 4])
-        self.assertIsNone(deaths.died(now + 100))
-        slow = DeathCount()
-        self.assertEqual([slow.died(place * 0.6) for place in range(20)], [None] * 20)
+from e1gw.service.handover import NOTE, Handover, Notifier, given_files, note_of
+from e1gw.service.note import ServiceNote
+from e1gw.service.process import start_of
+from e1gw.service.recordings import RecordingNote
+from e1gw.service.trunk import SatopNote
+from e1gw.service.version import ProgramVersion, VersionHistory
 
 
 class VersionHistoryTests(unittest.TestCase):
@@ -59,8 +45,7 @@ class VersionHistoryTests(unittest.TestCase):
         history.look(100.0 + TRIED - 0.1)
         self.assertIs(history.before, first)
         history.look(100.0 + TRIED)
-        self.assertIsNone(history.before)
-        self.assertFalse(history.has_died() or history.has_died())
+        self.assertEqual((history.before, history.trial), (None, None))
         second.close()
 
 
@@ -106,124 +91,85 @@ class HandoverTests(support.FolderCase):
         for file in self.files:
             self.addCleanup(os.close, file)
 
-    def test_order(self) -> None:
-        """A descriptor is kept before it is noted, and the one that it follows is let go behind that."""
+    def note(self, **other: Any) -> ServiceNote:
+        return replace(ServiceNote(
+            opens=('x', None), pid=os.getpid(), started=start_of(os.getpid()), senders='any', program='0.1.0',
+            is_active=True, was_up=True, begun=3, place=7, octets=5, trunk=trunk.TrunkFiles(trunk.LineOptions()).note(),
+            recording=None, calls=None), **other)
+
+    def test_descriptors(self) -> None:
+        """Those of the trunk of now, and no others; one that another one follows by its name is let go before."""
         manager = Manager(self.path('notify'))
         self.addCleanup(manager.close)
+        manager.files['other'] = os.dup(self.files[2])
         with mock.patch.dict(os.environ, {'NOTIFY_SOCKET': manager.path}):
-            handover = Handover(self.folder, ['x'], Notifier(), {})
-        device, one, two = (os.fstat(file).st_ino for file in self.files)
-        self.assertTrue(handover.put({'its': [{'files': {'in': self.files[0]}}], 'files': {'log': self.files[1]}}))
-        self.assertTrue(handover.put({'its': [{'files': {'in': self.files[0]}}], 'files': {'log': self.files[2]}}))
+            handover = Handover(self.folder, Notifier(), {'other': self.files[2]})
+        handover.put(self.note(), {'line-in': self.files[0]})
+        handover.put(self.note(), {'line-in': self.files[0]})
+        handover.put(self.note(), {'line-in': self.files[1]})
         handover.forget()
-        support.until(lambda: manager.told[-1:] == ['FDNAME=kept'])
+        support.until(lambda: not manager.files)
         told = [f'{what} {name}' for what, name in zip(manager.told, manager.told[1:]) if name.startswith('FDNAME=')]
-        self.assertEqual(told, [
-            'FDSTORE=1 FDNAME=kept', f'FDSTORE=1 FDNAME=log-{one}', f'FDSTORE=1 FDNAME=in-{device}',
-            f'FDSTORE=1 FDNAME=log-{two}', f'FDSTOREREMOVE=1 FDNAME=log-{one}', f'FDSTOREREMOVE=1 FDNAME=in-{device}',
-            f'FDSTOREREMOVE=1 FDNAME=log-{two}', 'FDSTOREREMOVE=1 FDNAME=kept'])
+        self.assertEqual(told, ['FDSTOREREMOVE=1 FDNAME=other', 'FDSTORE=1 FDNAME=line-in',
+                                'FDSTOREREMOVE=1 FDNAME=line-in', 'FDSTORE=1 FDNAME=line-in',
+                                'FDSTOREREMOVE=1 FDNAME=line-in'])
 
     def test_systemd_that_takes_nothing(self) -> None:
-        """It is said that not all is kept, and tried again."""
+        """What it did not take is given again."""
         with socket.socket(socket.AF_UNIX, socket.SOCK_DGRAM) as systemd:
             systemd.bind(self.path('notify'))
             systemd.setblocking(False)
             with mock.patch.dict(os.environ, {'NOTIFY_SOCKET': self.path('notify')}):
                 notifier = Notifier()
+            handover = Handover(self.folder, notifier, {})
             while notifier.tell('WATCHDOG=1'):
                 pass
-            handover = Handover(self.folder, ['x'], notifier, {})
-            self.assertFalse(handover.put({'files': {'one': self.files[1], 'none': -1}}))
-            while True:
-                try:
-                    systemd.recv(100)
-                except BlockingIOError:
-                    break
-            self.assertTrue(handover.put({'files': {'one': self.files[1], 'none': -1}}))
+            handover.put(self.note(), {'line-in': self.files[1]})
+            with suppress(BlockingIOError):
+                while systemd.recv(100):
+                    pass
+            handover.put(self.note(), {'line-in': self.files[1]})
+            self.assertIn(b'FDSTORE=1\nFDNAME=line-in', systemd.recv(100))
             while notifier.tell('WATCHDOG=1'):
                 pass
             forgets = threading.Thread(target=handover.forget, daemon=True)     # (what had no room was kept for ever)
             forgets.start()
             systemd.setblocking(True)
-            while systemd.recv(100) != b'FDSTOREREMOVE=1\nFDNAME=kept':
+            while systemd.recv(100) != b'FDSTOREREMOVE=1\nFDNAME=line-in':
                 pass
             forgets.join()
 
     def test_next_service(self) -> None:
-        """It has the descriptors by the numbers that they had, since threads write to them up to then."""
-        handover, given = Handover(self.folder, ['x'], Notifier(), {}), dict[str, int]()
-        handover.put({'files': {'one': self.files[1]}})
+        """It has the descriptors by the numbers that they had."""
+        handover, given = Handover(self.folder, Notifier(), {}), dict[str, int]()
+        handover.put(self.note(), {'one': self.files[1]})
 
         def begins(*_: object) -> None:
             given.update(given_files())
             raise EOFError
         with mock.patch('os.execv', begins), mock.patch.dict(os.environ), self.assertRaises(EOFError):
             handover.become_next()
-        name = f'one-{os.fstat(self.files[1]).st_ino}'
-        self.assertEqual(([*given], given[name]), ([NOTE, name], self.files[1]))
+        self.assertEqual(given, {'one': self.files[1]})
         self.assertEqual(signal.pthread_sigmask(signal.SIG_BLOCK, ()), set())       # (no child may inherit one)
 
     def test_note(self) -> None:
-        """It is of a service that is no more, and of the same trunk; a shorter one leaves nothing of a longer one."""
-        handover = Handover(self.folder, ['x'], Notifier(), {})
-        for state in ('a' * 1000, 'b'):
-            handover.put({'state': state})
-        found = note_of({}, self.folder, ['x'])
-        self.assertEqual(found and found['state'], 'b')
-        self.assertIsNone(note_of({}, self.folder, ['y']))
-        os.write(self.files[1], b'{"opens": ["x"], "serv')      # (it was killed while it wrote this)
-        found = note_of({NOTE: self.files[1]}, self.folder, ['x'])
-        self.assertEqual(found and found['state'], 'b')
+        """It is of a service that is no more, and of the same trunk; what is no note of this version is none."""
+        handover, opens = Handover(self.folder, Notifier(), {}), ('x', None)
+        counts = Crc4Note({'errored': 3}, None, {})
+        line = replace(self.note().trunk, names=('near', 'far'), crc4=counts, satop=SatopNote(('a', 'b'), 7, '', 8, 9))
+        ring = RecordingNote('/kept', 3600, '', (('west-1', 0), ('west-2', 99)), 'west-2', 99, 1000, 500, 7)
+        calls = CallsNote(7, (CallRecord(3, None, 1), CallRecord(4, 1.5, 0, 2.5, number=7)), {3: {'sent': 5}})
+        for note in (self.note(opens=opens), self.note(trunk=line, recording=ring, place=1 << 60, calls=calls)):
+            handover.put(note, {})
+            self.assertEqual(note_of(self.folder, opens), note)
+        self.assertIsNone(note_of(self.folder, ('y', None)))
         with mock.patch('os.getpid', lambda: 1):
-            self.assertIsNone(note_of({}, self.folder, ['x']))      # (it is there)
-
-
-class CheckpointTests(support.FolderCase, unittest.IsolatedAsyncioTestCase):
-    async def test_no_checkpoint_is_saved(self) -> None:
-        """Where no folder had room it was tried again four times a second, each time by another follower, which read
-        all of the log. It is tried, and reported, once for each piece of the log."""
-        follower = mock.Mock(finish=mock.AsyncMock(return_value=None))
-        follower.process.last_words.return_value = 'says: cannot save the state'
-        program = LoggedProgram(1, mock.Mock(), Checkpoint(), TrunkLog())
-        self.addCleanup(program.log.close)
-        states = checkpoints.Checkpoints(self.folder, None, [])
-        followed = mock.patch.object(states, 'follow', lambda its: setattr(its, 'follower', follower))
-        with mock.patch.object(checkpoints, 'LOG_ROOM', 1000), followed, self.assertLogs(checkpoints.logger) as told:
-            states.follow(program)
-            for pieces in 1, 2:
-                os.write(program.log.file, bytes(1000))
-                self.assertTrue(states.is_due(program))
-                await states.take(program)
-                self.assertFalse(states.is_due(program))
-                self.assertEqual(len(told.output), pieces)
-
-    async def test_a_program_that_is_done(self) -> None:
-        """Its state was recovered, or it was closed, before the turn of a checkpoint, or while its follower saved.
-        Another follower was started on descriptors that were closed, or something else's by then."""
-        states = checkpoints.Checkpoints(self.folder, None, [])
-
-        async def taken(does: Callable[[LoggedProgram], object], finishes: bool) -> bool:
-            program = LoggedProgram(1, mock.Mock(), Checkpoint(), TrunkLog())
-
-            async def finish() -> Checkpoint:
-                if finishes:
-                    does(program)
-                return Checkpoint()
-            program.follower = mock.Mock(finish=finish)
-            if not finishes:
-                does(program)
-            with mock.patch.object(states, 'follow') as follow:
-                await states.take(program)
-            return bool(follow.called)
-        for finishes in False, True:
-            self.assertTrue(await taken(lambda program: None, finishes))
-            self.assertFalse(await taken(LoggedProgram.close, finishes))
-        program = LoggedProgram(1, mock.Mock(), Checkpoint(), TrunkLog())
-        saved = mock.patch.object(program, 'saved', return_value=Checkpoint())
-        with saved, mock.patch.object(states, 'follow') as follow:
-            await asyncio.gather(states.recover(program, None), states.take(program))
-        follow.assert_not_called()
-        program.close()
+            self.assertIsNone(note_of(self.folder, opens))      # (it is there)
+        text = note.text()
+        for octets in (text[:40], text.replace(b'"version": 1', b'"version": 2'), text.replace(b'true', b'"yes"'),
+                       text.replace(b'"place": ', b'"plaice": '), text.replace(b'99]', b'99, 1]'), b'[]', b'7'):
+            self.write(NOTE, octets)
+            self.assertIsNone(note_of(self.folder, opens), octets)
 
 
 class ControlSocketTests(support.FolderCase):
@@ -243,21 +189,6 @@ class ControlSocketTests(support.FolderCase):
         self.assertEqual((found, os.listdir(self.folder)), ([False, True], ['control']))
 
 
-class UnnotedProgramTests(support.FolderCase):
-    """A program that a service has begun and not noted."""
-
-    def test_found_by_its_control_socket(self) -> None:
-        ends = 'import sys; sys.stdin.read()'
-        started = {name: subprocess.Popen([sys.executable, '-c', ends, 'trunk', '--control', self.path(name)],
-                                          stdin=subprocess.PIPE) for name in ('program.4', 'program.5', 'program.y',
-                                                                              'other.5')}
-        for process in started.values():
-            self.addCleanup(process.communicate)
-        path, noted = self.path('program'), started['program.4'].pid
-        support.until(lambda: unnoted_programs(path, noted) == [started['program.5'].pid])
-        self.assertEqual(unnoted_programs(self.path('none'), noted), [])
-
-
 class TrunkEndTests(support.FolderCase, unittest.IsolatedAsyncioTestCase):
     async def test_ends(self) -> None:
         """A socket, a FIFO and a file tell that they have ended; a device has if nothing was taken of it."""
@@ -267,7 +198,7 @@ class TrunkEndTests(support.FolderCase, unittest.IsolatedAsyncioTestCase):
         device = os.open(os.devnull, os.O_RDONLY)
         opened = {name: trunk.TrunkFiles(trunk.LineOptions()) for name in ('socket', 'fifo', 'file', 'device')}
         for each, file in zip(opened.values(), (mine.detach(), reads, short, device)):
-            each.take_up({'line-in': file}, {'files': {'line-in': ''}})
+            each.take_up({'line-in': file}, replace(each.note(), names=('line-in',)))
         self.assertEqual([each.has_ended(7) for each in opened.values()], [False] * 4)
         its.close()
         os.close(writes)

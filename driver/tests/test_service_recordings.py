@@ -7,15 +7,13 @@ import os
 import tempfile
 import types
 import unittest
-from collections import Counter
-from typing import Any
 from unittest import mock
 
 from . import support
+from .logs import WrittenLog
 from e1gw.clock import TICK
 from e1gw.service import reader, recordings, watch
-from e1gw.service.log import Checkpoint, TrunkLog
-from e1gw.session import MULTIFRAME, trunk_record
+from e1gw.session import MULTIFRAME
 
 RECORD = MULTIFRAME / 256_000       # seconds
 
@@ -31,59 +29,45 @@ class RoomTests(support.FolderCase):
         self.assertEqual(os.listdir(ring), [])
 
 
-def program_of(number: int, octets: int = 0) -> Any:
-    """A program whose log a test writes."""
-    begun = Checkpoint(-1, 0, Counter(octets=octets))
-    version = types.SimpleNamespace(program='/bin/false', config=os.open(os.devnull, os.O_RDONLY))
-    return types.SimpleNamespace(number=number, version=version, log=TrunkLog(), begun=begun, checkpoint=begun,
-                                 is_adopted=False, is_saving=False, is_done=False)
-
-
-class ServiceFlowTests(unittest.IsolatedAsyncioTestCase):
+class ServiceFlowTests(support.FolderCase, unittest.IsolatedAsyncioTestCase):
     """How octets flow, by the log and a clock of the test's own."""
 
     def setUp(self) -> None:
-        self.now, self.octets, self.program = 5000.0, 0, program_of(1)
+        super().setUp()
+        self.now, self.log = 5000.0, WrittenLog(self.path('log'))
+        self.addCleanup(self.log.close)
         clock = mock.patch.object(reader, 'time', types.SimpleNamespace(monotonic=lambda: self.now))
         clock.start()
         self.addCleanup(clock.stop)
+        self.reader = reader.LogReader(self.path('log'), 0.1, None, lambda: None)
 
-    async def asyncSetUp(self) -> None:
-        self.reader = reader.LogReader(None, 0.1, lambda: None, mock.AsyncMock())
-        self.reader.began(self.program, False)
-
-    def log(self) -> None:
-        """The program logs a multiframe."""
-        log = self.program.log
-        os.pwrite(log.file, trunk_record(bytes(MULTIFRAME)), log.place())
-        self.octets += MULTIFRAME
-
-    async def go(self, seconds: float, rate: float = 1.0, comes: bool = True, looks: bool = True) -> None:
+    def go(self, seconds: float, rate: float = 1.0, comes: bool = True, looks: bool = True) -> None:
         until, due = self.now + seconds, self.now + TICK
         while self.now < until:
             self.now += RECORD / rate
             if comes:
-                self.log()
+                self.log.multiframe()
             if looks and self.now >= due:
                 due = self.now + TICK
-                await self.reader.look()
+                self.reader.look()
 
     async def test_gaps(self) -> None:
         """Each is as long as what was lost, is reported, counted and shown; a stall, and a handover, make none."""
         with tempfile.NamedTemporaryFile('w') as config:
-            trunk = mock.Mock(tell=config.name, flow=self.reader.clock.status, **{
+            trunk = mock.Mock(flow=self.reader.clock.status, **{
+                'places.return_value.tell': config.name,
                 'config_path.return_value': config.name, 'place.return_value': 0, 'facts.return_value': {}})
             found = watch.TrunkWatch(watch.WatchWants(name='west'), trunk)
             self.reader.found = found.flowed
             with mock.patch.object(found, 'tell') as tells:
-                await self.go(2)
-                await self.go(0.25, comes=False)
-                await self.go(2)
-                await self.go(5, looks=False)
-                await self.go(2)
-                self.program = program_of(2, self.octets)
-                self.reader.began(self.program, True)
-                await self.go(2)
+                self.go(2)
+                self.go(0.25, comes=False)
+                self.go(2)
+                self.go(5, looks=False)
+                self.go(2)
+                self.reader.follows(True)
+                self.log.turns()
+                self.go(2)
                 shown = await found.pages.fresh()
         (((event,), _),) = tells.call_args_list
         self.assertEqual((event['event'], round(event['seconds'], 2)), ('gap', 0.25))
@@ -94,14 +78,14 @@ class ServiceFlowTests(unittest.IsolatedAsyncioTestCase):
     async def test_slips_are_noted(self) -> None:
         """Beside the file of a ring, at the place where octets were lost; and what a program had in hand."""
         with tempfile.TemporaryDirectory() as folder:
-            wants = recordings.RecordingWants(os.path.join(folder, 'ring'), 60, 'west', '/etc/west.toml', 200)
-            self.reader = reader.LogReader(wants, 0.1, lambda: None, mock.AsyncMock())
-            self.reader.take_up(None, {})
-            self.reader.began(self.program, True)
-            await self.go(2)
-            place = self.octets
-            await self.go(0.25, comes=False)
-            await self.go(2)
+            wants = recordings.RecordingWants(os.path.join(folder, 'ring'), 60, 'west', '/etc/west.toml', '', 200)
+            self.reader = reader.LogReader(self.path('log'), 0.1, wants, lambda: None)
+            self.reader.take_up((-1, 0), None)
+            self.reader.follows(True)
+            self.go(2)
+            place = self.log.octets
+            self.go(0.25, comes=False)
+            self.go(2)
             await self.reader.finish()
             (path,) = glob.glob(os.path.join(wants.session, '*.json'))
             slips = json.loads(support.text_of(path))['slips']

@@ -2,24 +2,21 @@
 from __future__ import annotations
 
 import asyncio
-import os
 import random
 import re
 import types
 import unittest
-from collections import Counter
 from dataclasses import dataclass
 from datetime import datetime
-from typing import Any
 from unittest import mock
 
 from . import support
+from .logs import WrittenLog
 from .picture_made import page_of
 from e1gw import session_clock
 from e1gw.clock import TICK, ClockFinding
 from e1gw.service import reader, recordings
-from e1gw.service.log import Checkpoint, TrunkLog
-from e1gw.session import MULTIFRAME, OCTETS_A_SECOND, trunk_record
+from e1gw.session import MULTIFRAME, OCTETS_A_SECOND
 from e1gw.session_clock import Break, FileNote, SessionClock
 from e1gw.session_files import kept
 
@@ -71,79 +68,66 @@ class KeptSession:
     """A ring that the reader of the logs writes, by a clock of its own, and what is true of it."""
 
     def __init__(self, folder: str, config: str) -> None:
-        self.wants = recordings.RecordingWants(folder, 60, 'west', config, 200)
-        self.now, self.octets, self.number = 5000.0, 0, 0
+        self.wants = recordings.RecordingWants(folder, 60, 'west', config, config, 200)
+        self.now, self.log = 5000.0, WrittenLog(f'{folder}.log')
         self.times: list[tuple[int, float]] = []        # of some places, seconds of the day
         self.outages: list[tuple[float, float]] = []    # from when to when octets were missing, if that was an outage
         self.journal: list[float] = []                  # the gaps that it has
-        self.program, self.reader = self.program_of(), self.service()
-
-    def program_of(self) -> Any:
-        """Another program, which begins now."""
-        self.number += 1
-        begun = Checkpoint(-1, 0, Counter(octets=self.octets))
-        version = types.SimpleNamespace(program='/bin/false', config=os.open(os.devnull, os.O_RDONLY))
-        return types.SimpleNamespace(number=self.number, version=version, log=TrunkLog(), begun=begun, checkpoint=begun,
-                                     is_adopted=False, is_saving=False, is_done=False)
+        self.reader = self.service()
 
     def service(self) -> reader.LogReader:
         """Another service, behind the one that there was."""
-        its = reader.LogReader(self.wants, 0.1, lambda: None, mock.AsyncMock())
+        its = reader.LogReader(f'{self.wants.session}.log', 0.1, self.wants, lambda: None)
         its.found = self.found
         return its
 
     def found(self, finding: ClockFinding) -> None:
         self.journal += [finding.value] * (finding.what == 'gap')
 
-    async def begin(self, lost: bool = False) -> None:
-        self.reader.began(self.program, lost)
+    def begin(self, lost: bool) -> None:
+        """Another program. (The end of the one before it has the log read.)"""
+        self.reader.look()
+        self.reader.follows(lost)
+        self.log.turns()
+        self.reader.look()
 
-    async def go(self, seconds: float, comes: bool = True) -> None:
+    def go(self, seconds: float, comes: bool = True) -> None:
         """Time goes by, with octets or without."""
         until, due = self.now + seconds - RECORD / 2, self.now + TICK
         while self.now < until:
             self.now += RECORD
             if comes:
-                log = self.program.log
-                os.pwrite(log.file, trunk_record(bytes(MULTIFRAME)), log.place())
-                self.octets += MULTIFRAME
+                self.log.multiframe()
             if self.now >= due:
                 due = self.now + TICK
-                await self.reader.look()
+                self.reader.look()
 
     async def do(self, step: Stretch) -> None:
-        await self.go(step.flows)
-        self.times.append((self.octets, self.now + DAY))
+        self.go(step.flows)
+        self.times.append((self.log.octets, self.now + DAY))
         if step.cuts:
-            place = self.program.log.place()
-            self.program.checkpoint = Checkpoint(-1, place, Counter(octets=self.octets))
+            self.log.turns()
         if step.service:
-            await self.reader.look()
+            self.reader.look()
             await self.follow()
         begun = self.now
-        await self.go(step.away - step.early, comes=False)
+        self.go(step.away - step.early, comes=False)
         if step.new:
-            self.program = self.program_of()
-            await self.begin(step.away < 0.02)
-        await self.go(step.early, comes=False)
+            self.begin(step.away < 0.02)
+        self.go(step.early, comes=False)
         self.outages += [(begun + DAY, self.now + DAY)] * (step.away >= 1)
 
     async def follow(self) -> None:
         """The service ends when all is copied, and another one goes on with what it has noted."""
-        before, note = self.reader._recording, self.reader.note()
-        assert before and note
-        await asyncio.to_thread(before.close)
-        note, files = self.reader.note() or note, dict[str, int]()
-        for log in note['logs']:
-            files |= {str(file): file for file in log['files'].values()}
-            log['files'] = {what: str(file) for what, file in log['files'].items()}
-        self.reader = self.service()
-        self.reader.take_up(note, files)
-        await self.begin()
+        assert self.reader._recording
+        await asyncio.to_thread(self.reader._recording.close)
+        before, self.reader = self.reader, self.service()
+        self.reader.take_up(before.noted(), before.recording_note())
 
     async def end(self) -> None:
-        await self.reader.look()
+        self.reader.look()
         await self.reader.finish()
+        self.log.close()
 
 
 class SessionClockTests(support.FolderCase, unittest.IsolatedAsyncioTestCase):
@@ -159,8 +143,7 @@ class SessionClockTests(support.FolderCase, unittest.IsolatedAsyncioTestCase):
         its = KeptSession(self.path(name), self.config)
         clock = types.SimpleNamespace(monotonic=lambda: its.now, time=lambda: its.now + DAY)
         with mock.patch.object(reader, 'time', clock), mock.patch.object(recordings, 'time', clock):
-            its.reader.take_up(None, {})
-            await its.begin()
+            its.reader.take_up((-1, 0), None)
             for step in steps:
                 await its.do(step)
             await its.end()

@@ -18,7 +18,7 @@ from .manager import Manager
 from .support import SECONDS
 from .world import World, config_of, trunk_command
 from e1gw.exchange import IDLE, SEIZED
-from e1gw.service.options import DIGITS, wants_of
+from e1gw.service.options import wants_of
 from e1gw.service.program import MOST_PATH
 from e1gw.service.service import parser
 from e1gw.testing.ports import free_ports
@@ -234,12 +234,11 @@ class RefusedOptionsTests(support.FolderCase):
             ['--unix', 'a', '--http', '1'], ['--unix', 'a', '--gap', 'x'],
             ['--unix', 'a', '--feed', '127.0.0.1:1'],
             ['--unix', 'a', '--feed', '10.0.0.1:1', '--standby', '10.0.0.2:1'],
-            # (each program has a longer one: that of the tenth could not be bound)
-            *(['--unix', 'a', option, '/'.ljust(MOST_PATH - DIGITS + 1, 'x')] for option in
-              ('--program-control', '--tell'))]
+            *(['--unix', 'a', option, '/'.ljust(MOST_PATH + 1, 'x')] for option in ('--program-control', '--tell')),
+            ['--unix', 'a', '--folder', '/'.ljust(MOST_PATH, 'x')]]
         for option in '--program-control', '--tell':
             wants_of(parser().parse_args(['--config', self.good, '--program', support.program(), '--unix', 'a', option,
-                                          rows[-1][-1][:-1]]))
+                                          rows[-2][-1][:-1]]))
         for words in rows:
             with self.subTest(words), self.assertRaises((ValueError, SystemExit)) as refused, \
                     unittest.mock.patch('sys.stderr'):

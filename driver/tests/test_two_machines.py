@@ -17,11 +17,9 @@ from . import support
 from .machines import ADDRESSES, TRUNK, Machine, PairCase
 from .support import SECONDS
 from .test_program_killed import CIRCUITS
-from .world import given_file
 from e1gw.ctl_all import line_of
 from e1gw.metrics import exposition
 from e1gw.service.feed import MOST_PIECE, PIECE, TICK
-from e1gw.service.log import octets_in, whole_records
 from e1gw.service.standby import IN_TIME, START
 from e1gw.session import MULTIFRAME, OCTETS_A_SECOND, packet_of
 from e1gw.testing.ports import free_port
@@ -52,7 +50,7 @@ class DeathTests(PairCase):
         self.heard.clear()
         self.send()
         self.assertLessEqual(waits + come(self.device.line), WAITS)
-        now, self.log = self.clock.now(), given_file(machine.process_of('trunk'), '--record')
+        now = self.clock.now()
         self.clock.goes_on(*services)
         self.take(1)
         ones = int(machine.awaits(r'promoted: program \d+ goes on after .*, (\d+) of them ones')[1])
@@ -68,12 +66,13 @@ class DeathTests(PairCase):
         """The calls go on, and a second later each peer is heard. All that was heard and sent is the end of one replay,
         whose packets go on in each circuit."""
         self.up_again()
-        self.step(600)
+        for _ in range(6):
+            self.step(100)
+            self.copy.look()
         self.assertEqual(self.peers_heard(100), {*CIRCUITS})
-        own, words = octets_in(self.log), ['--load', f'/proc/{os.getpid()}/fd/{self.state}'] * (self.state >= 0)
-        octets, packets = self.uncut(*words, given=octets_in(self.fed_log) + own)
+        self.copy.look()
+        octets, packets = self.uncut('--load', self.write('state', self.copy.state), given=self.copy.records)
         heard = b''.join(each or b'' for each in self.heard)
-        self.assertEqual(len(heard), whole_records(own)[1])
         self.assertTrue(b''.join(octets).endswith(heard))
         for n, its in self.peers.packets.items():
             self.assertEqual(its, packets[n][len(packets[n]) - len(its):], f'circuit {n}')
@@ -84,14 +83,13 @@ class DeathTests(PairCase):
     def test_a_machine_dies_and_comes_back(self) -> None:
         """What came last has waited for a standby that stood still, and is as old as it is."""
         a, b = self.calls_with_standby()
-        self.state, self.fed_log = (given_file(b.process_of('replay'), word) for word in ('--load', '--follow'))
-        log = given_file(a.process_of('trunk'), '--record')
+        self.copy, log = b.fed_log(), a.log()
         self.step(60)
         since, pids = self.clock.stops(), [each.process.pid for each in (a, b)]
-        self.clock.steps(lambda: octets_in(self.fed_log) == octets_in(log), *pids)
+        self.clock.steps(lambda: self.copy.look() == log.look(), *pids)
         b.process.send_signal(signal.SIGSTOP)
         self.step(4)
-        fed, until = octets_in(log), self.clock.now() + 3 * TICK
+        fed, until = log.look(), self.clock.now() + 3 * TICK
         self.clock.steps(lambda: self.clock.now() > until - 0.001, *pids[:1])
         a.process.send_signal(signal.SIGSTOP)
         support.until(lambda: support.state_of(a.process.pid) == 'T')
@@ -99,19 +97,20 @@ class DeathTests(PairCase):
         a.power_off(link_down=True)
         self.clock.stops(SILENCE)
         b.process.send_signal(signal.SIGCONT)
-        support.until(lambda: octets_in(self.fed_log) == fed)
+        support.until(lambda: self.copy.look() == fed)
         self.takes_over(b, since, until)
         # it comes back, is fed behind a state, and the trunk is moved back in order
         a.power_off()
-        a, log = self.machine('a'), self.log
+        a, log = self.machine('a'), self.copy
         self.fed(a)
-        self.state, self.fed_log = (given_file(a.process_of('replay'), word) for word in ('--load', '--follow'))
-        self.assertTrue(octets_in(self.state))
+        self.copy = a.fed_log()
+        self.assertTrue(self.copy.state)
         support.until(lambda: b.ask('role') == 'active, fed')       # (it hears of that later than the standby)
         since = self.clock.stops()
         self.step(4)
         self.takes_over(a, since, since, by=b)
-        self.assertIn(octets_in(log)[-20_000:], octets_in(self.fed_log))
+        log.look()
+        self.assertIn(log.records[-20_000:], self.copy.records)
 
 
 class PairTests(PairCase):
@@ -162,7 +161,7 @@ class PairTests(PairCase):
     def test_standby_that_stands_still(self) -> None:
         """It is dropped, and joins again without a gap. It says which calls it has otherwise, and the others go on."""
         other = self.write('other.toml', self.text.replace('number = 7\n', 'number = 7\nptime = 30\n'))
-        a, b = self.calls_with_standby(a=self.machine('a', feed_PATIENCE=1000, checkpoints_LOG_ROOM=65_536),
+        a, b = self.calls_with_standby(a=self.machine('a', feed_PATIENCE=1000),
                                        b=self.machine('b', other))
         b.awaits('another configuration: the calls of circuits 7 will not go on here')
         self.assertIn('"differs": [7]', b.ask('status json'))
@@ -187,25 +186,27 @@ class PairTests(PairCase):
         b.power_off()
         good = b''
         with socket.create_connection((ADDRESSES['a'], self.ports['a']), SECONDS, (ADDRESSES['b'], 0)) as line:
-            while len(good) < 20_000:
-                good += support.read_from(line, 4000)
-                self.step(20)
+            while b'\n' not in good:
+                good += line.recv(4000)
+            begun = good.index(b'\n') + 1 + json.loads(good[:good.index(b'\n')])['state']
+            while len(good) < begun + 20_000:
+                good += line.recv(4000)
+                self.step()
         a.awaits(f'feed of {ADDRESSES["b"]}: ')
         a.power_off()
         with socket.create_server((ADDRESSES['a'], self.ports['a'])) as listener:
             b = self.machine('b', standby_AGAIN=0.001, standby_MOST_AGAIN=0.001)
-            begun = good.index(b'\n') + 1 + json.loads(good[:good.index(b'\n')])['state']
             for octets, words in (
                     (b'', 'it carries no trunk'),
                     (good[:begun] + PIECE.pack(math.nan, 0), 'a piece of the feed is too long'),
                     (good.replace(b'"law": "A"', b'"law": "mu"'), 'its law is mu, and here it is A'),
-                    (good.replace(b'"e1gw_feed": 5', b'"e1gw_feed": 4'), 'a feed of version 4, and this is 5'),
+                    (good.replace(b'"e1gw_feed": 6', b'"e1gw_feed": 5'), 'a feed of version 5, and this is 6'),
                     (b'SSH-2.0-OpenSSH_9.2p1\r\n', 'what comes there is no feed'),
-                    (good.replace(b'"program": ', b'"program": 0.5e'), ''), (b'{"e1gw_feed": 5, "law": "A"}\n', ''),
+                    (good.replace(b'"program": ', b'"program": 0.5e'), ''), (b'{"e1gw_feed": 6, "law": "A"}\n', ''),
                     (b'[' * 60_000 + b'\n', ''), (b'x' * 200_000, ''),
                     (good[:begun] + PIECE.pack(1.0, MOST_PIECE + 1), 'a piece of the feed is too long'),
                     *((good[:length], '') for length in (
-                        *range(1, 12), *range(12, begun, 600), *range(begun - 2, len(good), len(good) // 9)))):
+                        *range(1, 12), *range(12, begun, 9000), *range(begun - 2, len(good), len(good) // 9)))):
                 with listener.accept()[0] as line, contextlib.suppress(ConnectionError):    # (of one who reads no more)
                     line.sendall(octets)
                 if words:
@@ -315,9 +316,9 @@ class SatopNumberTests(PairCase):
         self.are_from(octets, self.packets[first:])
         self.goes(lambda: a.ask('role') == 'standby, fed')
         self.clock.stops()                                  # the machine dies
-        log, fed = given_file(b.process_of('trunk'), '--record'), given_file(a.process_of('replay'), '--follow')
+        log, fed = b.log(), a.fed_log()
         os.kill(b.process_of('satop'), signal.SIGSTOP)      # (it sends nothing more)
-        self.clock.steps(lambda: octets_in(fed) == octets_in(log), *pids)
+        self.clock.steps(lambda: fed.look() == log.look(), *pids)
         b.power_off(link_down=True)
         first = len(self.come())
         self.clock.stops(IN_TIME)

@@ -119,7 +119,7 @@ class StandInDriver:
 
     def status(self) -> dict[str, Any]:
         none = {'frame': False, 'multiframe': False}
-        trunk = {'life': self.life, 'trunk_up': True, 'shadow': True, 'clock': {'stalled': False}, 'law': self.law,
+        trunk = {'life': self.life, 'trunk_up': True, 'clock': {'stalled': False}, 'law': self.law,
                  'alarm': {**none, 'frame': self.alarm}, 'remote_alarm': none}
         return trunk | {'circuits': [
             {'circuit': n, 'role': str(self.roles[n]), 'state': str(self.states[n]), 'seizures': self.seizures[n],

@@ -104,7 +104,7 @@ class World:
         """Waits until the service knows the state of the trunk, which it learns at the first octets that come."""
         while self.process.poll() is None:
             try:
-                if self.ask_at_once(NO_EFFECT) == NO_EFFECT_ANSWER and self.known()['shadow']:
+                if self.ask_at_once(NO_EFFECT) == NO_EFFECT_ANSWER and self.known()['program']:
                     return
             except (FileNotFoundError, ConnectionRefusedError, EOFError):
                 time.sleep(0.01)

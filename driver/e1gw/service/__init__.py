@@ -1,1 +1,1 @@
-"""One process a trunk: keeps the program and its follower on it."""
+"""One process a trunk: keeps the program on it."""

@@ -33,6 +33,7 @@ from typing import TYPE_CHECKING
 
 from ..metrics import circuit_table
 from ..session import Codec, Command, circuit_of, codec_record, command_record
+from .decisions import who_goes
 
 if TYPE_CHECKING:
     from .watch import TrunkWatch
@@ -78,7 +79,7 @@ class CommandServer:
     async def came(self, reader: asyncio.StreamReader, writer: asyncio.StreamWriter) -> None:
         """A client: a line in, an answer and an empty line out."""
         if len(self._peers) >= MOST_CLIENTS:
-            out = min(self._peers, key=lambda each: (each.follows, each.last))
+            out = who_goes(self._peers)
             self._peers.discard(out)
             out.writer.transport.abort()
         self._peers.add(peer := ControlPeer(writer))

@@ -13,7 +13,7 @@ from ..session import HEAD, Kind, Record
 
 AGAIN = 0.1                 # seconds between two tries to connect
 NEXT = 1.5                  # seconds that the next program has to come: less than e1gw-tie waits for an answer
-PATIENCE = 0.3              # seconds that an answer of the program waits for the follower
+PATIENCE = 0.3              # seconds that an answer of the program waits for its report
 SOON = 0.002                # seconds between two looks whether it has told
 
 
@@ -23,7 +23,7 @@ class NoAnswer(Exception):
 
 @dataclass(eq=False)
 class GivenRecord:
-    """A record that was given to the program. `told` is set once the follower has told of it."""
+    """A record that was given to the program. `told` is set once it is reported."""
 
     record: bytes
     answer: asyncio.Future[Record]
@@ -32,9 +32,9 @@ class GivenRecord:
 
 class ProgramConnection:
     """Gives records to the program that listens at a socket. `stands` is called with whether there is one, and why
-    not; `hurry` while an answer waits for the follower, so that it tells at once."""
+    not; `hurry` while an answer waits for its report, so that it is read at once."""
 
-    def __init__(self, path: str, stands: Callable[[str, bool, str], None], hurry: Callable[[], None],
+    def __init__(self, path: Callable[[], str], stands: Callable[[str, bool, str], None], hurry: Callable[[], None],
                  fault: Callable[[], str]) -> None:
         """`fault` says why there is no program, if that is known."""
         self._path, self._stands, self._hurry, self._fault = path, stands, hurry, fault
@@ -46,8 +46,8 @@ class ProgramConnection:
         """Connects, again and again."""
         while True:
             try:
-                reader, self._writer = await asyncio.open_unix_connection(self._path)
-                self._stands('program', True, '')
+                reader, self._writer = await asyncio.open_unix_connection(self._path())
+                self._stands('control', True, '')
                 while True:
                     kind, circuit, length = HEAD.unpack(await reader.readexactly(HEAD.size))
                     self._take(kind, circuit, await reader.readexactly(length))
@@ -59,7 +59,7 @@ class ProgramConnection:
                 why = words_of_fault(fault)
             finally:
                 self._lose()
-            self._stands('program', False, f'{self._path}: {why}')
+            self._stands('control', False, f'{self._path()}: {why}')
             await asyncio.sleep(AGAIN)
 
     def _take(self, kind: int, circuit: int, body: bytes) -> None:
@@ -80,7 +80,7 @@ class ProgramConnection:
         self._given.clear()
 
     async def ask(self, record: bytes, teller: Callable[[], object], waits: bool = True) -> Record:
-        """The answer to a record, once the follower has told of the record, too: what follows from it is known
+        """The answer to a record, once the record is reported, too: what follows from it is known
         then. `teller` is who tells now, None if nobody; one that came behind the record may not tell of it. With no
         program it `waits` for the next one. A record is given once. NoAnswer if there is none."""
         while waits and not self._writer and not self._fault() and time.monotonic() < self._lost + NEXT:
@@ -102,7 +102,7 @@ class ProgramConnection:
                 self._given.remove(given)
 
     def told(self, record: bytes) -> None:
-        """The follower has told of a record."""
+        """A record is reported."""
         for each in self._given:
             if each.record == record and not each.told.is_set():
                 return each.told.set()

@@ -1,26 +1,29 @@
-"""What the standby at the other machine is fed: a head, a state, and the log of the program behind it, in pieces, to
-its last record. Nothing waits for a standby: one that lacks what the log has given back, or says nothing for seconds,
-is dropped, connects again and gets another state, so it has no gap."""
+"""What the standby at the other machine is fed: a head, a state, and the records behind it, in pieces, to the last one;
+at each turn of the log another state. Nothing waits for a standby: one that lacks what the log has written over, or
+says nothing for seconds, is dropped, connects again and gets another state, so it has no gap."""
 from __future__ import annotations
 
 import asyncio
 import json
 import logging
-import os
 import ssl
 import struct
 import time
-from contextlib import suppress
+from contextlib import closing, suppress
+from dataclasses import dataclass
 from typing import Any, Callable
 
 from ..faults import words_of_fault
 from ..lines import law_of, read_config, tables_of
-from .log import STATE_ROOM, TrunkLog
+from .log_folder import STATE_ROOM, FolderReader, LogBegun, LogFiles, LogPiece
 from .program import TrunkProgram
+from .reader import LogReader
 
-FORMAT, VERSION = 'e1gw_feed', 5
+FORMAT, VERSION = 'e1gw_feed', 6
 PIECE = struct.Struct('>di')    # before a piece: when it was all that the log had, or 0, and how many octets follow
-END, YOURS, GO = -1, -2, -3     # in place of the latter: nothing follows; it may have the trunk; it is to carry it
+# In place of the latter: nothing follows; it may have the trunk; it is to carry it; another state follows.
+END, YOURS, GO, STATE = -1, -2, -3, -4
+LENGTH = struct.Struct('>I')    # octets of that state
 MARK = struct.Struct('>d')      # what a standby says: the time of the last piece, up to which it has all, or 0
 TAKES, CARRIES = -1.0, -2.0     # in place of that: it takes the trunk, again and again until it carries it
 NOTHING = b'no trunk\n'         # in place of a head, where there is none
@@ -46,25 +49,34 @@ def configured(path: str) -> tuple[str, dict[str, Any]]:
                             for n, (_, table) in sorted(tables_of(tables).items())}
 
 
-def beginning(program: TrunkProgram, zero: int) -> bytes:
-    """The head of a feed, and the state of the last checkpoint: the law and the circuits, the process number of the
-    program, its counts up to the state, `zero` of the trunk, and the length of the state."""
-    its = program.checkpoint
-    law, circuits = configured(program.version.config_path())
-    state = os.pread(its.state, os.fstat(its.state).st_size, 0) if its.state >= 0 else b''
-    return json.dumps({FORMAT: VERSION, 'law': law, 'circuits': circuits, 'program': program.pid,
-                       'counted': its.counted, 'zero': zero, 'state': len(state)}).encode() + b'\n' + state
+@dataclass(frozen=True)
+class FeedHead:
+    """The head of a feed: the law and the circuits, the process number of the program, the place of the first state and
+    the octet of the trunk there, `zero` of the trunk, and the length of the state."""
+
+    law: str
+    circuits: dict[str, Any]
+    program: int
+    place: int
+    octets: int
+    zero: int
+    state: int
+
+    def spell(self) -> bytes:
+        return json.dumps({FORMAT: VERSION, **vars(self)}).encode() + b'\n'
 
 
-def head_of(line: bytes) -> dict[str, Any]:
+def head_of(line: bytes) -> FeedHead:
     """The head of a feed. FeedRefused if it is none of this version."""
     with suppress(ValueError, TypeError, KeyError, AttributeError, RecursionError):
-        head: dict[str, Any] = json.loads(line)
-        if head[FORMAT] != VERSION:
-            raise FeedRefused(f'a feed of version {str(head[FORMAT])[:20]}, and this is {VERSION}')
-        numbers = [head['program'], head['zero'], head['state'], *head['counted'].values()]
-        if isinstance(head['law'], str) and isinstance(head['circuits'], dict) and all(
-                type(n) is int and n >= 0 for n in numbers) and head['state'] <= STATE_ROOM:
+        plain: dict[str, Any] = json.loads(line)
+        if plain[FORMAT] != VERSION:
+            raise FeedRefused(f'a feed of version {str(plain.pop(FORMAT))[:20]}, and this is {VERSION}')
+        del plain[FORMAT]
+        head = FeedHead(**plain)
+        numbers = head.program, head.place, head.octets, head.zero, head.state
+        if isinstance(head.law, str) and isinstance(head.circuits, dict) and all(
+                type(n) is int and n >= 0 for n in numbers) and head.state <= STATE_ROOM:
             return head
     raise FeedRefused('what comes there is no feed of e1gw-trunk')
 
@@ -73,9 +85,9 @@ class FeedServer:
     """Feeds the standby, which connects from one address, while there is a program that carries the trunk; over TLS if
     there is a context for that."""
 
-    def __init__(self, peer: str, program: Callable[[], TrunkProgram | None], zero: Callable[[], int],
-                 context: ssl.SSLContext | None = None) -> None:
-        self._peer, self._program, self._zero, self._context = peer, program, zero, context
+    def __init__(self, peer: str, program: Callable[[], TrunkProgram | None], reader: Callable[[], LogReader],
+                 zero: Callable[[], int], context: ssl.SSLContext | None = None) -> None:
+        self._peer, self._program, self._reader, self._zero, self._context = peer, program, reader, zero, context
         self._writer: asyncio.StreamWriter | None = None        # to the standby that is fed
         self._said = self._fresh = 0.0          # when it has said something, and up to when it has all
         self.hands_over = False                 # at the end of the program
@@ -131,30 +143,56 @@ class FeedServer:
 
     async def _feed(self, program: TrunkProgram, reader: asyncio.StreamReader, writer: asyncio.StreamWriter) -> None:
         """Until the program has ended, and the standby has all and leaves. EOFError if it leaves before."""
-        log, place, self._due = TrunkLog(os.dup(program.log.file)), program.checkpoint.place, 0.0
         ends, leaves = (asyncio.ensure_future(each) for each in (program.process.over.wait(), self._hear(reader)))
         try:
-            writer.write(beginning(program, self._zero()))
-            while not leaves.done() and (now := time.monotonic()) < self._said + PATIENCE:
-                if place < program.log.freed:
-                    raise EOFError('it is too far behind')
-                has_room = writer.transport.get_write_buffer_size() < MOST_PIECE
-                piece = log.read(place, MOST_PIECE) if has_room else b''
-                if piece or now >= self._due:
-                    writer.write(PIECE.pack(now if has_room and len(piece) < MOST_PIECE else 0.0, len(piece)) + piece)
-                    place, self._due = place + len(piece), now + PULSE
-                if ends.done() and place == log.place():
-                    writer.write(PIECE.pack(time.monotonic(), YOURS if self.hands_over else END))
-                    if self.hands_over:
-                        return await self._handed(leaves)
-                    await asyncio.wait([leaves], timeout=PATIENCE)
-                    return
-                await asyncio.wait([leaves if ends.done() else ends], timeout=TICK)
+            with closing(LogFiles(program.places.log)) as files:
+                log = self._begin(program, files, writer)
+                while not leaves.done() and (now := time.monotonic()) < self._said + PATIENCE:
+                    has_ended, has_room = ends.done(), writer.transport.get_write_buffer_size() < MOST_PIECE
+                    if has_room and not self._goes_on(log, writer, now) and has_ended:
+                        return await self._ends(writer, leaves)
+                    if log.is_overtaken():
+                        raise EOFError('it is too far behind')
+                    await asyncio.wait([leaves if has_ended else ends], timeout=TICK)
             raise EOFError('the connection is gone' if leaves.done() else 'it takes nothing')
         finally:
             ends.cancel()
             leaves.cancel()
-            log.close()
+
+    def _begin(self, program: TrunkProgram, files: LogFiles, writer: asyncio.StreamWriter) -> FolderReader:
+        """The head, and the newest state. What is behind that is read by what is returned."""
+        if not (pair := files.last()):
+            raise EOFError('there is no log yet')
+        law, circuits = configured(program.version.config_path())
+        head = FeedHead(law, circuits, program.process.pid, pair.place, self._reader().octets_at(pair), self._zero(),
+                        len(pair.state))
+        writer.write(head.spell() + pair.state)
+        self._due = 0.0
+        return FolderReader(files, pair.place)
+
+    def _goes_on(self, log: FolderReader, writer: asyncio.StreamWriter, now: float) -> bool:
+        """Sends what the log has now; whether that is anything. EOFError if a part of it was written over."""
+        news = log.look()
+        for each in news:
+            if isinstance(each, LogBegun):
+                raise EOFError('it is too far behind')
+            if isinstance(each, LogPiece):
+                for start in range(0, len(each.octets), MOST_PIECE):
+                    piece = each.octets[start:start + MOST_PIECE]
+                    writer.write(PIECE.pack(0.0, len(piece)) + piece)
+            else:
+                writer.write(PIECE.pack(0.0, STATE) + LENGTH.pack(len(each.state.state)) + each.state.state)
+        if news or now >= self._due:
+            writer.write(PIECE.pack(now, 0))
+            self._due = now + PULSE
+        return bool(news)
+
+    async def _ends(self, writer: asyncio.StreamWriter, leaves: asyncio.Future[Any]) -> None:
+        """The program has ended, and all of its log is sent."""
+        writer.write(PIECE.pack(time.monotonic(), YOURS if self.hands_over else END))
+        if self.hands_over:
+            return await self._handed(leaves)
+        await asyncio.wait([leaves], timeout=PATIENCE)
 
     async def _handed(self, leaves: asyncio.Future[Any]) -> None:
         """Until the standby carries the trunk, or has left, or is silent: it says each moment that it is about to."""

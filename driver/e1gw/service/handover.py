@@ -1,36 +1,34 @@
-"""How a service begins: with a trunk of its own, or where the service before this one has left. However that ended, it
-has left a note, and descriptors: systemd keeps them (sd_pid_notify_with_fds(3)) and gives them to the next start, or a
-service gives them to the one that it becomes: one path for both."""
+"""How a service begins: with a trunk of its own, or where the service before this one has left. However that ended, its
+program has the log and may go on. systemd keeps the descriptors of the trunk (sd_pid_notify_with_fds(3)), and nothing
+else, or a service gives them to the one that it becomes; a note has what else is good to know."""
 from __future__ import annotations
 
 import array
 import fcntl
-import glob
 import json
 import logging
 import os
-import shutil
 import signal
 import socket
 import stat
 import sys
 import time
-from collections import Counter
 from contextlib import suppress
-from typing import Any, Mapping, NoReturn
+from dataclasses import dataclass
+from typing import Mapping, NoReturn
 
-from ..faults import words_of_fault
 from ..programs import SENDERS
 from ..writers import put_file
-from .journal import NOTICE
-from .lifecycle import ANEW, GRACE, TrunkKeeper, TrunkWants, loaded
-from .log import Checkpoint, octets_in, take_file
-from .process import Child, start_of
-from .program import TrunkProgram, connected
+from .decisions import Found, Takeover, takeover_of
+from .lifecycle import GRACE, TrunkCarrier, TrunkWants, load_stored
+from .log_folder import LogFiles, LogPair, holder_of
+from .memory import octets_in
+from .note import ServiceNote, is_of, note_in
+from .program import ProgramPlaces, TrunkProgram, config_in, connected, end_left
 from .satop_trunk import trunk_of
-from .version import version_of_now
+from .version import ProgramVersion, VersionRefused, version_left, version_of_now
 
-NOTE = 'kept'               # the file of the note, in the folder of the service; also the name of its descriptor
+NOTE = 'note'               # the file of the note, in the folder of the service
 FIRST, APART = 3, 100       # the first descriptor that is given, and where they are put out of the way
 # Signals that a service catches. They wait while it becomes another one, which they would end.
 CAUGHT = signal.SIGHUP, signal.SIGUSR1, signal.SIGUSR2, signal.SIGTERM, signal.SIGINT
@@ -61,69 +59,47 @@ class Notifier:
 
 
 class Handover:
-    """The note and the descriptors that are kept for the next service of this trunk."""
+    """What is kept for the next service of this trunk: descriptors, and a note."""
 
-    def __init__(self, folder: str, opens: list[str | None], notifier: Notifier, files: Mapping[str, int]) -> None:
-        """`files` are those that were given to this one."""
-        self._path, self._opens, self._notifier = os.path.join(folder, NOTE), opens, notifier
-        self._held = {name: file for name, file in files.items() if name != NOTE}
-        self._note = files[NOTE] if NOTE in files else os.memfd_create('e1gw-note')
-        self._is_noted = NOTE in files
-        self._text, self._files = '', dict[str, int]()      # what was noted last, and the descriptors of that
+    def __init__(self, folder: str, notifier: Notifier, held: Mapping[str, int]) -> None:
+        """`held` are the descriptors that were given to this one, which systemd has still."""
+        self._path, self._notifier = os.path.join(folder, NOTE), notifier
+        self._held, self._files = {name: os.fstat(file).st_ino for name, file in held.items()}, dict[str, int]()
+        self._text = b''
 
-    def put(self, note: dict[str, Any]) -> bool:
-        """This is what the next one has to know, and under `files` what it has to have. Returns whether all of it is
-        kept; if not, the next call tries again."""
-        self._files = files = dict[str, int]()
-        own = [os.getpid(), start_of(os.getpid())]
-        text = json.dumps({'opens': self._opens, 'service': own, **with_names(note, files)}) + '\n'
-        if not self._is_noted:
-            self._is_noted = self._keep(NOTE, self._note)
-        new = {name: file for name, file in files.items() if name not in self._held and self._keep(name, file)}
-        if text != self._text or not os.path.exists(self._path):
-            os.pwrite(self._note, text.encode(), 0)
-            with suppress(OSError):         # (a folder that is full or gone: systemd has the note)
-                put_file(self._path, text.encode())
-            self._text = text
-        for name in [name for name in self._held if name not in files]:
+    def put(self, note: ServiceNote, files: Mapping[str, int]) -> None:
+        """This is what the next one has to know and to have. What was not taken is tried again at the next call."""
+        self._files = {**files}
+        its = {name: os.fstat(file).st_ino for name, file in files.items()}
+        for name in [name for name, inode in self._held.items() if its.get(name) != inode]:
             if self._notifier.tell('FDSTOREREMOVE=1', f'FDNAME={name}'):
                 del self._held[name]
-        self._held |= new
-        return self._is_noted and files.keys() == self._held.keys()
-
-    def _keep(self, name: str, file: int) -> bool:
-        return self._notifier.tell('FDSTORE=1', f'FDNAME={name}', 'FDPOLL=0', file=file)
+        for name in {*its} - {*self._held}:
+            if self._notifier.tell('FDSTORE=1', f'FDNAME={name}', 'FDPOLL=0', file=files[name]):
+                self._held[name] = its[name]
+        text = note.text()
+        if text != self._text or not os.path.exists(self._path):
+            with suppress(OSError):         # (a folder that is full or gone: then it is the note before)
+                put_file(self._path, text, 0o600)
+                self._text = text
 
     def forget(self) -> None:
         """Nothing is kept any more: the trunk has ended. What systemd has no room for waits, GRACE at most."""
         until = time.monotonic() + GRACE
-        for name in [*self._held, NOTE]:
+        for name in [*self._held]:
             while not self._notifier.tell('FDSTOREREMOVE=1', f'FDNAME={name}') and time.monotonic() < until:
                 time.sleep(0.01)
 
     def become_next(self) -> NoReturn:
-        """Becomes another service of the same command line, which has the same descriptors by the same numbers: up to
-        that moment threads write to theirs."""
-        its = {NOTE: self._note, **self._files}
-        for file in its.values():
+        """Becomes another service of the same command line, which has the same descriptors by the same numbers."""
+        for file in self._files.values():
             os.set_inheritable(file, True)
         signal.pthread_sigmask(signal.SIG_BLOCK, CAUGHT)
-        os.environ |= {NUMBERS: json.dumps(its), REPLACED: '1'}
+        os.environ |= {NUMBERS: json.dumps(self._files), REPLACED: '1'}
         try:
             os.execv(sys.executable, [sys.executable, *sys.orig_argv[1:]])
         finally:    # (it has failed)
             signal.pthread_sigmask(signal.SIG_UNBLOCK, CAUGHT)
-
-
-def with_names(note: Any, files: dict[str, int]) -> Any:
-    """The same note with names in place of the descriptors under `files`, which these files then have by their names.
-    A file has one name, since systemd keeps one descriptor of it."""
-    if isinstance(note, dict):
-        its = {what: file for what, file in note.get('files', {}).items() if file >= 0}
-        names = {what: f'{what}-{os.fstat(file).st_ino}' for what, file in its.items()}
-        files |= {names[what]: file for what, file in its.items()}
-        return {what: names if what == 'files' else with_names(each, files) for what, each in note.items()}
-    return [with_names(each, files) for each in note] if isinstance(note, (list, tuple)) else note
 
 
 def given_files() -> dict[str, int]:
@@ -144,26 +120,16 @@ def given_files() -> dict[str, int]:
     return files
 
 
-def note_of(files: Mapping[str, int], folder: str, opens: list[str | None]) -> dict[str, Any] | None:
+def note_of(folder: str, opens: tuple[str | None, ...]) -> ServiceNote | None:
     """What the service before this one has noted last of the same trunk; None if there was none, or it is there."""
-    note = note_in(octets_in(files.get(NOTE, -1)))
-    if not note:                # (systemd has none, or the service was killed while it wrote that)
-        with suppress(OSError), open(os.path.join(folder, NOTE), 'rb') as file:
-            note = note_in(file.read())
-    try:
-        pid, started = note['service']
-        is_gone = pid == os.getpid() or start_of(pid) != started
-        return note if note['opens'] == opens and is_gone else None
-    except (ValueError, KeyError, TypeError):
-        return None
-
-
-def note_in(octets: bytes) -> dict[str, Any]:
-    """The note that begins these octets; nothing if there is none that is whole."""
-    with suppress(ValueError):
-        note: dict[str, Any] = json.loads(octets.partition(b'\n')[0])
-        return note
-    return {}
+    with suppress(OSError):
+        file = os.open(os.path.join(folder, NOTE), os.O_RDONLY | os.O_CLOEXEC)
+        try:
+            note = note_in(octets_in(file))
+        finally:
+            os.close(file)
+        return note if note and is_of(note, opens, os.getpid()) else None
+    return None
 
 
 # ---- how a service begins ----
@@ -176,27 +142,96 @@ class CannotBegin(Exception):
         self.status = status
 
 
-async def first_keeper(wants: TrunkWants, handover: Handover, notifier: Notifier) -> TrunkKeeper:
-    """A keeper whose trunk is still to be opened. VersionRefused or CannotBegin if there can be none."""
-    version = await version_of_now(wants.program, wants.config, wants.senders, Checkpoint())
+@dataclass(frozen=True)
+class Left:
+    """What is there of the service before this one: its note, its descriptors, its program and that one's log."""
+
+    note: ServiceNote | None
+    files: Mapping[str, int]
+    pid: int
+    log: LogPair | None
+
+    @property
+    def is_anything(self) -> bool:
+        return bool(self.note or self.pid or self.log)
+
+
+def left_by(places: ProgramPlaces, opens: tuple[str | None, ...], files: Mapping[str, int]) -> Left:
+    """CannotBegin if a service of this trunk is there, or a program that nobody sees from here has its log."""
+    pid = holder_of(places.log)
+    if pid < 0 or pid and not os.path.exists(f'/proc/{pid}'):
+        raise CannotBegin(f'{places.log}: the log is in use by a process that is not seen from here', 2)
+    return Left(note_of(places.folder, opens), files, pid, last_of(places))
+
+
+def last_of(places: ProgramPlaces) -> LogPair | None:
+    """What the log of a program has that could be loaded, if there is one."""
+    with suppress(OSError):
+        files = LogFiles(places.log)
+        try:
+            return files.last()
+        finally:
+            files.close()
+    return None
+
+
+async def carrier_of(wants: TrunkWants, places: ProgramPlaces, left: Left, handover: Handover,
+                     notifier: Notifier, has_pair: bool) -> TrunkCarrier:
+    """Carries the trunk from what is left, or from its beginning. VersionRefused or CannotBegin if it cannot be."""
+    note = left.note
+    trunk = trunk_of(wants.line, places, left.files, note.trunk if note else None)
+    is_active = note.is_active if note else not has_pair
+    how = takeover_of(Found(left.pid > 0, trunk.is_open(), is_active))
+    version = await version_for(wants, places, left, how)
+    if not left.is_anything:
+        check_sockets(wants)
+        logger.info('%s', SENDERS[version.senders])
+    if how is not Takeover.ADOPT:       # (only now: a program that carries the trunk ends for none that is refused)
+        await end_left(places, GRACE)
+    carrier = TrunkCarrier(wants, version, trunk, places, handover, notifier)
+    if left.is_anything:
+        takes_up(carrier, left)
+    elif wants.state and load_stored(wants.state, places.log):
+        carrier.is_loaded, carrier.why = True, 'begins with what was saved'
+    if how is Takeover.ADOPT:
+        carrier.program = TrunkProgram.adopted(version, places, left.pid)
+        carrier.program.begun = note.begun if note else 0
+    return carrier
+
+
+def takes_up(carrier: TrunkCarrier, left: Left) -> None:
+    """It goes on where another service has left."""
+    was = 'replaced' if os.environ.pop(REPLACED, '') else 'killed'
+    carrier.was_up, carrier.why = bool(left.log), f'the service was {was}'
+    if left.note:
+        calls = left.note.calls
+        carrier.read, carrier.calls = (left.note.place, left.note.octets), lambda: calls
+
+
+async def version_for(wants: TrunkWants, places: ProgramPlaces, left: Left, how: Takeover) -> ProgramVersion:
+    """That of the program that goes on; else that of now. If this is refused, that of the program before, if it is
+    known: calls go on."""
+    config, note = config_in(places), left.note
+
+    def before() -> ProgramVersion:
+        return version_left(wants.program, config, note.senders if note else wants.senders or 'any',
+                            note.program if note else '', left.pid)
+    if how is Takeover.ADOPT and config:
+        return before()
+    try:
+        return await version_of_now(wants.program, wants.config, wants.senders)
+    except VersionRefused as fault:
+        if not (config and left.log):
+            raise
+        logger.error('%s: the configuration of the program before goes on', fault)
+        return before()
+
+
+def check_sockets(wants: TrunkWants) -> None:
+    """CannotBegin if somebody else has the paths at which clients are to find the program."""
     for option, path in (('--program-control', wants.control), ('--tell', wants.tell)):
         if path and is_taken(path):
             raise CannotBegin(f'{option} {path}: somebody listens there, or something else has this name', 2)
-    logger.info('%s', SENDERS[version.senders])
-    keeper = TrunkKeeper(wants, version, trunk_of(wants.line, {}, None), handover, notifier)
-    keeper.state = loaded(wants.state)
-    if keeper.state.state >= 0:
-        keeper.why = 'begins with what was saved'
-    return keeper
-
-
-async def open_first(keeper: TrunkKeeper) -> None:
-    """Opens the trunk of a first start, unless that is tried until it can be. CannotBegin if it can't."""
-    if not (keeper.wants.line.reopens or keeper.was_up):
-        try:
-            await keeper.trunk.open_until(keeper.ends)
-        except OSError as fault:
-            raise CannotBegin(f'the trunk cannot be opened: {words_of_fault(fault)}', 1) from None
 
 
 def is_taken(path: str) -> bool:
@@ -208,87 +243,3 @@ def is_taken(path: str) -> bool:
     with suppress(OSError), connected(path):
         return True
     return False
-
-
-async def next_keeper(wants: TrunkWants, handover: Handover, notifier: Notifier, note: dict[str, Any],
-                      files: dict[str, int]) -> TrunkKeeper:
-    """The keeper that goes on where the one before it left: with the program that is there, if it has all its
-    descriptors, else with the state of that program, which ends, on the trunk opened again."""
-    trunk, left = trunk_of(wants.line, files, note.get('trunk')), note['program']
-    how = 'replaced' if os.environ.pop(REPLACED, '') else 'killed'
-    for pid in unnoted_programs(wants.control, int(left['pid']) if left else 0):
-        logger.warning('program %d, which the service had begun and not noted, is killed', pid)
-        await Child(pid).kill()
-    try:
-        program = TrunkProgram.of_note(left, files) if left and trunk.is_open() else None
-    except (KeyError, TypeError, ValueError):
-        program = None
-    version = program.version if program else await version_of_now(wants.program, wants.config, wants.senders,
-                                                                   Checkpoint())
-    state = None                # (only now: a program that carries the trunk ends for none that is refused)
-    if left and not program:
-        names = [name for log in (note.get('read') or {}).get('logs', ()) for name in log['files'].values()]
-        files |= memory_of(int(left['pid']), int(left['started']), [name for name in names if name not in files])
-        state = await state_left(left)
-    keeper = TrunkKeeper(wants, version, trunk, handover, notifier)
-    keeper.number, keeper.was_up, keeper.why = int(note['number']), True, f'the service was {how}'
-    keeper.program = program
-    if trunk.is_open():
-        trunk.since = float(note.get('since', trunk.since))
-    if not program:
-        keeper.state, keeper.lost = state or keeper.state, '' if state else ANEW
-    elif program.process.over.is_set():
-        logger.log(NOTICE, 'the service was %s', how)
-    drop_states(wants.folder, str(left['saves']) if program else '')
-    return keeper
-
-
-def drop_states(folder: str, but: str) -> None:
-    """Takes away the rooms that followers of services before this one had for their states, which nobody knows of."""
-    for path in glob.glob(os.path.join(glob.escape(folder), 'state-*')):
-        if path != os.path.dirname(but):
-            shutil.rmtree(path, ignore_errors=True)
-
-
-def unnoted_programs(control: str, noted: int) -> list[int]:
-    """The programs of a trunk but the noted one. A service was killed between their start and its note of it: they
-    hold the trunk and its ports, and nobody has their logs."""
-    found = []
-    for path in glob.glob('/proc/[0-9]*/cmdline'):
-        with suppress(OSError, ValueError), open(path, 'rb') as file:
-            words = os.fsdecode(file.read()).split('\0')
-            its = words[words.index('--control') + 1].rpartition('.')
-            if its[0] == control and its[2].isdigit() and (pid := int(path.split('/')[2])) != noted:
-                found.append(pid)
-    return found
-
-
-def memory_of(pid: int, started: int, names: list[str]) -> dict[str, int]:
-    """The files in memory that have these names, as a process has them: of what it logs all can be kept still."""
-    found: dict[str, int] = {}
-    for path in glob.glob(f'/proc/{pid}/fd/*') if start_of(pid) == started else ():
-        with suppress(OSError):
-            ends = f'-{os.stat(path).st_ino}'
-            if os.readlink(path).startswith('/memfd:'):
-                found |= {name: os.open(path, os.O_RDONLY) for name in names if name.endswith(ends)}
-    return found
-
-
-async def state_left(note: dict[str, Any]) -> Checkpoint | None:
-    """Has a program end in order whose descriptors nobody has kept, and returns its state; None if none is known."""
-    process = Child(int(note['pid']), int(note['started']), heard=int(note.get('heard', 0)))
-    if not process.over.is_set():
-        with suppress(OSError):
-            process.said = os.open(f'/proc/{process.pid}/fd/2', os.O_RDONLY)
-        with suppress(OSError):
-            end = os.open(f"/proc/{process.pid}/fd/{note.get('end')}", os.O_WRONLY)
-            os.write(end, b'\n')
-            os.close(end)
-            await process.ends_within(GRACE)
-        await process.kill()
-    try:
-        return Checkpoint(take_file(note['saves']), 0, Counter(note['begun']) + process.totals())
-    except OSError:
-        return None
-    finally:
-        process.close()

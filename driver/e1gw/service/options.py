@@ -16,7 +16,7 @@ from ..lines import SEIZURE_WAIT, wait_words
 from ..programs import SENDERS, proved_program_of
 from ..recording_ring import seconds_of
 from ..trunks import Stream, host_and_port, open_tcp, open_unix
-from .lifecycle import TrunkWants
+from .lifecycle import MEMORY, TrunkWants
 from .pair import add_pair, feeding_of
 from .program import MOST_PATH
 from .recordings import RecordingWants
@@ -24,8 +24,7 @@ from .trunk import LineOptions
 from .watch import WatchWants
 
 WATCHED = 'control', 'http', 'json', 'calls'      # what an operator may have of a trunk
-MEMORY = '/dev/shm'         # where the folder of a trunk is by default
-DIGITS = 11                 # octets that the number of a program adds to a socket's path
+LONGEST_NAME = 'program'    # of a socket in the folder
 BLOCK, BUFFERS = 16, 8      # of a DAHDI card: frames of a block, and how many there are
 CARD_PAUSE = 1.0            # seconds between two tries to open one, at most
 
@@ -118,26 +117,26 @@ def name_of(asked: argparse.Namespace) -> str:
     return name
 
 
-def opens_of(asked: argparse.Namespace) -> list[str | None]:
+def opens_of(asked: argparse.Namespace) -> tuple[str | None, ...]:
     """Which trunk it is: the same for a service that is started again."""
     paths = [each and os.path.abspath(each) for each in (asked.input, asked.out, asked.unix, asked.program_control)]
-    return [*paths, asked.tcp, asked.satop, *(name for name in ('align', 'crc4', 'clear') if getattr(asked, name))]
+    return *paths, asked.tcp, asked.satop, *(name for name in ('align', 'crc4', 'clear') if getattr(asked, name))
 
 
 def folder_of(asked: argparse.Namespace) -> str:
     """The folder of this trunk, the same for each start."""
     within = asked.folder or os.environ.get('RUNTIME_DIRECTORY', '').partition(':')[0] or MEMORY
-    return os.path.join(within, f'{name_of(asked)}-{os.getuid()}-{zlib.crc32(repr(opens_of(asked)).encode()):08x}')
+    return os.path.join(within, f'{name_of(asked)}-{os.getuid()}-{zlib.crc32(repr([*opens_of(asked)]).encode()):08x}')
 
 
-def recording_of(asked: argparse.Namespace) -> RecordingWants | None:
-    """What is kept of the trunk. ValueError if that cannot be."""
+def recording_of(asked: argparse.Namespace, config: str = '') -> RecordingWants | None:
+    """What is kept of the trunk; the path of the configuration of now is `config`. ValueError if that cannot be."""
     if asked.keep and not asked.session:
         raise ValueError('--keep wants --session')
     if asked.picture and not (asked.http and asked.keep):
         raise ValueError('--picture wants --http, and --session with --keep')
     return RecordingWants(os.path.abspath(asked.session), asked.keep, name_of(asked), os.path.abspath(asked.config),
-                          asked.seizure_wait) if asked.session else None
+                          config, asked.seizure_wait) if asked.session else None
 
 
 def watched_of(asked: argparse.Namespace, program: str) -> WatchWants:
@@ -190,17 +189,16 @@ def satop_of(asked: argparse.Namespace) -> Callable[[], list[str]]:
 def wants_of(asked: argparse.Namespace) -> TrunkWants:
     """What is wanted. ValueError if it is not one trunk, or a path is too long."""
     line, folder = line_of(asked), folder_of(asked)
-    for read in (recording_of, feeding_of):
-        read(asked)
+    recording_of(asked)
+    feeding_of(asked)
     on_loss_of(asked.on_loss)
-    control = asked.program_control or os.path.join(folder, 'program')
-    for path in filter(None, (control, asked.tell)):
-        if len(os.fsencode(path)) + DIGITS > MOST_PATH:
-            raise ValueError(f'{path}: a path of a socket has {MOST_PATH - DIGITS} octets at most')
+    for path in filter(None, (os.path.join(folder, LONGEST_NAME), asked.program_control, asked.tell)):
+        if len(os.fsencode(path)) > MOST_PATH:
+            raise ValueError(f'{path}: a path of a socket has {MOST_PATH} octets at most')
     program = proved_program_of(asked.program)
     state = None if asked.standby else asked.state      # (the other machine may have gone on from it)
-    return TrunkWants(program, asked.config, asked.senders, replace(line, program=program), folder, control,
-                      asked.tell or os.path.join(folder, 'tell'), state,
+    return TrunkWants(program, asked.config, asked.senders, replace(line, program=program), folder, opens_of(asked),
+                      asked.program_control, asked.tell, state,
                       [*['--repeat', str(asked.repeat)] * (asked.repeat > 0), *['--align'] * asked.align,
-                       *['--crc4', '--live'] * asked.crc4, *['--slots', '1-31'] * asked.clear],
-                      wait_words(asked.seizure_wait), asked.totals)
+                       *['--crc4', '--live'] * asked.crc4, *['--slots', '1-31'] * asked.clear,
+                       *wait_words(asked.seizure_wait)], asked.totals)

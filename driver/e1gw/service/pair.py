@@ -6,6 +6,7 @@ import argparse
 import asyncio
 import functools
 import logging
+import shutil
 import time
 from ipaddress import ip_address
 from typing import Any
@@ -14,9 +15,11 @@ from ..faults import words_of_fault
 from ..tls import add_tls, context_of, is_exposed
 from ..trunks import host_and_port
 from .feed import FRESH, FeedServer
-from .lifecycle import ANEW, DEMOTED, GRACE, TICK, TrunkKeeper
+from .decisions import Wish
+from .lifecycle import ANEW, GRACE, TICK, TrunkCarrier
 from .handover import CannotBegin
-from .standby import START, FedProgram, TrunkStandby
+from .note import ServiceNote
+from .standby import START, FedLog, TrunkStandby
 from .trunk import either
 
 PATIENCE = 30.0             # seconds for a promotion or its reverse
@@ -36,14 +39,14 @@ def add_pair(words: argparse._ArgumentGroup) -> None:
 class TrunkPair:
     """This machine's part of a trunk. `is_active` is whether it is to carry it."""
 
-    def __init__(self, keeper: TrunkKeeper, standby: TrunkStandby, feed: FeedServer, is_active: bool) -> None:
-        self._keeper, self.standby, self.feed = keeper, standby, feed
+    def __init__(self, carrier: TrunkCarrier, standby: TrunkStandby, feed: FeedServer, is_active: bool) -> None:
+        self._carrier, self.standby, self.feed = carrier, standby, feed
         self.is_active, self._stands, self._has_taken_back = is_active, not is_active, False
         standby.is_handed, standby.carries = self.goes, self._carries
 
     async def stand_by(self) -> None:
-        """Gives the trunk up, and follows the feed until this machine is promoted or the end is asked for."""
-        keeper, standby = self._keeper, self.standby
+        """Gives the trunk up, and is fed until this machine is promoted or the end is asked for."""
+        carrier, standby = self._carrier, self.standby
         await self._give_up()
         if self.feed.hands_over and not self.feed.is_carried and not self.is_active:
             logger.error('move: %s', NOT_TAKEN)
@@ -52,55 +55,63 @@ class TrunkPair:
         follows = asyncio.create_task(standby.run())
         try:
             self._stands = True
-            while not (self.is_active or keeper.ending):
-                wanted, keeper.wanted = keeper.wanted, ''
-                await standby.look(wanted == 'reload')
-                keeper.note()
-                await either(TICK, keeper.wake)
-                keeper.wake.clear()
+            while not (self.is_active or carrier.ending):
+                carrier.wish = Wish.NONE
+                carrier.note()
+                await either(TICK, carrier.wake)
+                carrier.wake.clear()
         finally:
             self._stands = False
             follows.cancel()
             await asyncio.wait([follows])
-        if not keeper.ending:
-            keeper.trunk.tell({'event': 'role', 'role': 'active'})
+        if not carrier.ending:
+            carrier.trunk.tell({'event': 'role', 'role': 'active'})
             await self._take_over()
         standby.knows(None)
-        if keeper.ending:
-            keeper.finish(keeper.ending, 0)
+        if carrier.ending:
+            carrier.finish(carrier.ending, 0)
 
     async def _give_up(self) -> None:
         """The trunk is closed. What is known of it is what this machine had itself, if it carried it."""
-        keeper, ended = self._keeper, time.monotonic()
-        await keeper.trunk.finish()
-        keeper.trunk.fault = 'standby'
+        carrier, ended = self._carrier, time.monotonic()
+        await carrier.trunk.finish()
+        carrier.trunk.fault = 'standby'
         await self.feed.finish(GRACE)
-        if keeper.state.state >= 0:
-            self.standby.knows(FedProgram(keeper.versions.now, keeper.state.at_begin(), keeper.trunk.zero, ended=ended))
-        keeper.begins_with(None)
-        keeper.ends.clear()
-        keeper.notifier.tell('READY=1', 'STATUS=standby')
-        keeper.trunk.tell({'event': 'role', 'role': 'standby'})
+        carrier.reader.look()
+        has_carried, carrier.has_carried = carrier.has_carried, False
+        if has_carried and (last := carrier.reader.last()):
+            own = FedLog(carrier.places.folder, last.place, carrier.reader.octets_at(last), carrier.trunk.zero)
+            own.begin(last.state, last.records)
+            own.came = own.fresh = ended
+            self.standby.knows(own)
+        carrier.reader.rests = True
+        carrier.ends.clear()
+        carrier.notifier.tell('READY=1', 'STATUS=standby')
+        carrier.trunk.tell({'event': 'role', 'role': 'standby'})
 
     async def _take_over(self) -> None:
-        """The next program begins with the state that this standby has."""
-        keeper, fed = self._keeper, self.standby.fed
-        trunk, keeper.silent = keeper.trunk, fed.came if fed else time.monotonic()
-        state, words = await self.standby.state(bool(trunk.line.satop))
-        keeper.begins_with(state)
-        keeper.lost, keeper.why = words if state else f', {words}{ANEW}', 'promoted'
-        if state and fed:
+        """The next program begins with the log that this standby has."""
+        carrier, fed = self._carrier, self.standby.fed
+        trunk, carrier.silent = carrier.trunk, fed.came if fed else time.monotonic()
+        fed, words = await self.standby.goes_to(carrier.places.log, bool(trunk.line.satop))
+        carrier.why, carrier.lost, carrier.was_up = 'promoted', words if fed else f', {words}{ANEW}', True
+        if fed:
             trunk.zero, trunk.ones = fed.zero, functools.partial(fed.ones, START)
-        keeper.was_up = True
+            carrier.reader.begins_anew((fed.place, fed.octets))
+        else:
+            shutil.rmtree(carrier.places.log, ignore_errors=True)
+            carrier.reader.begins_anew()
 
     def goes(self, is_active: bool, hands_over: bool = False) -> None:
         """This machine is to carry the trunk from now on, or the other one; at `hands_over` its feed says so."""
+        carrier = self._carrier
         if is_active is not self.is_active:
             self.is_active, self.feed.hands_over, self.feed.is_carried = is_active, hands_over, False
             if not is_active:
-                self._keeper.wanted = DEMOTED
-                self._keeper.ends.set()
-        self._keeper.wake.set()
+                carrier.ends.set()
+            elif not carrier.ending:
+                carrier.ends.clear()
+        carrier.want(Wish.NONE if is_active else Wish.DEMOTE)
 
     async def asked(self, word: str) -> str:
         """The answer to `role`, `promote`, `demote` or `move`."""
@@ -135,7 +146,7 @@ class TrunkPair:
                     'feed_fault': standby.why or None, 'differs': standby.fed.circuits if standby.fed else []})}
 
     def _carries(self) -> bool:
-        its = self._keeper.program
+        its = self._carrier.program
         return bool(its and its.is_up and not its.process.over.is_set())
 
 
@@ -152,14 +163,15 @@ def feeding_of(asked: argparse.Namespace) -> list[tuple[str, int]]:
     return places
 
 
-async def open_pair(asked: argparse.Namespace, keeper: TrunkKeeper, note: dict[str, Any] | None) -> TrunkPair | None:
+async def open_pair(asked: argparse.Namespace, carrier: TrunkCarrier, note: ServiceNote | None) -> TrunkPair | None:
     """The pair that is asked for, if there is one, in the role that the service before this one has noted. CannotBegin
     if the other machine could not connect; this ends no trunk that goes on."""
     if not (places := feeding_of(asked)):
         return None
     (host, port), other = places
     files = asked.tls or ()
-    feed = FeedServer(other[0], lambda: keeper.program, lambda: keeper.trunk.zero, context_of(files, True))
+    feed = FeedServer(other[0], lambda: carrier.program, lambda: carrier.reader, lambda: carrier.trunk.zero,
+                      context_of(files, True))
     try:
         await asyncio.start_server(feed.came, host, port)
     except OSError as fault:
@@ -167,6 +179,6 @@ async def open_pair(asked: argparse.Namespace, keeper: TrunkKeeper, note: dict[s
         if not note:
             raise CannotBegin(words, 2) from None
         logger.error('%s', words)
-    standby = TrunkStandby(other, host, files, lambda: keeper.versions.now, keeper.checkpoints,
-                           lambda event: keeper.trunk.tell(event))
-    return TrunkPair(keeper, standby, feed, bool(note and note.get('active', True)))
+    standby = TrunkStandby(other, host, files, lambda: carrier.versions.now, carrier.places.folder,
+                           lambda event: carrier.trunk.tell(event))
+    return TrunkPair(carrier, standby, feed, bool(note and note.is_active))

@@ -13,12 +13,13 @@ from contextlib import suppress
 from typing import Callable, Iterable, Sequence
 
 from ..crc4 import COUNTS
-from .log import TrunkLog, in_memory, octets_in
+from .memory import give_back, given_back, in_memory, octets_in
 
+MOST_SAID = 1 << 20         # octets that are heard at once
 LOOK = 0.25                 # seconds between two looks whether a signal has stopped it
-UNKNOWN = 255               # the status of a process that ended while nobody waited for it
-TOTALS, PLACE = ('records', 'octets', 'datagrams', 'dropped', 'port_faults', 'discarded_multiframes'), 'place'
-AT_END = {*TOTALS, PLACE, *COUNTS, 'unreported'}        # what it counts at its end
+UNKNOWN = 255               # the status of a process that another one has started
+TOTALS = 'records', 'octets', 'datagrams', 'dropped', 'port_faults', 'discarded_multiframes'
+AT_END = {*TOTALS, *COUNTS, 'unreported'}       # what it counts at its end
 OFTEN = 'live ', 'satop ', 'slots '     # how lines begin that come again and again
 PYTHON = 'import sys; sys.path[:0] = [sys.argv.pop(1)]; from e1gw.{} import main; sys.exit(main())'
 TOP = os.path.dirname(os.path.dirname(os.path.dirname(os.path.abspath(__file__))))
@@ -41,14 +42,13 @@ def start_of(pid: int) -> int:
 
 class Child:
     """A process, known by its number and when it was started. `over` is set once it has ended; one that a signal has
-    stopped is killed. What it says is held in memory, so it waits for nobody who reads that. `lines` are what it has
-    said up to now, but for counts."""
+    stopped is killed. What it says is in a file, so it waits for nobody who reads that, and what was heard of it is
+    given back. `lines` are what it has said up to now, but for counts."""
 
-    def __init__(self, pid: int, started: int = 0, said: int = -1, heard: int = 0) -> None:
-        """`started` is 0 for one that was started here a moment ago; `said` has what it says, if that is held here;
-        `heard` octets of it were heard before."""
+    def __init__(self, pid: int, started: int = 0, said: int = -1) -> None:
+        """`started` is 0 for one that is there; `said` has what it says, if that is held here."""
         self.pid, self.started, self.said = pid, started or start_of(pid), said
-        self._heard = self._noted = heard
+        self._heard = given_back(said) if said >= 0 else 0
         self.lines, self._news, self._counted = list[str](), list[str](), Counter[str]()
         self.status: int | None = None      # negative for a signal
         self.over = asyncio.Event()
@@ -65,10 +65,11 @@ class Child:
         self._look()
 
     @classmethod
-    def start(cls, executable: str, words: Sequence[str], reads: int, writes: int, passed: Iterable[int] = ()) -> Child:
+    def start(cls, executable: str, words: Sequence[str], reads: int, writes: int, passed: Iterable[int] = (),
+              said: int = -1) -> Child:
         """Starts a process of a session of its own; `words` begin with its name. It has the `passed` descriptors by
-        their numbers."""
-        said = os.memfd_create('e1gw-words')
+        their numbers. What it says is in memory, or in the file `said`."""
+        said = os.memfd_create('e1gw-words') if said < 0 else said
         try:
             process = subprocess.Popen(words, executable=executable, stdin=reads, stdout=writes, stderr=said,
                                        pass_fds=tuple(passed), start_new_session=True)
@@ -78,15 +79,13 @@ class Child:
         process.returncode = 0      # (it is waited for by its descriptor, and not by subprocess)
         return cls(process.pid, said=said)
 
-    def text(self) -> str:
-        """All that it has said."""
-        return octets_in(self.said).decode(errors='replace')
-
     def _hear(self) -> None:
         """Takes the whole lines that it has said since this was last done."""
-        said = TrunkLog(self.said)
-        octets = said.read(self._heard, said.place() - self._heard) if self.said >= 0 else b''
+        if self.said < 0:
+            return
+        octets = os.pread(self.said, MOST_SAID, self._heard)
         octets = octets if self.over.is_set() else octets[:octets.rfind(b'\n') + 1]
+        give_back(self.said, self._heard, self._heard + len(octets))
         self._heard += len(octets)
         for line in filter(str.strip, octets.decode(errors='replace').splitlines()):
             word, _, count = line.partition(' ')
@@ -103,18 +102,10 @@ class Child:
         news, self._news = self._news, []
         return news
 
-    def noted(self) -> int:
-        """How much was heard, for the note of this moment. The memory of what was noted before is given back."""
-        if self._heard > self._noted:
-            with suppress(OSError):
-                TrunkLog(self.said).free(self._noted)
-        self._noted = self._heard
-        return self._heard
-
     def totals(self) -> Counter[str]:
-        """The totals that it has said at its end; with those of a follower, the octet of the log up to which it is."""
+        """The totals that it has said at its end."""
         self._hear()
-        return Counter({word: count for word, count in self._counted.items() if word in (*TOTALS, PLACE)})
+        return Counter({word: count for word, count in self._counted.items() if word in TOTALS})
 
     def last_words(self) -> str:
         """How it ended: what it has said of that, or its status."""
@@ -165,11 +156,6 @@ class Child:
         """Whether a signal has stopped it."""
         return not self.over.is_set() and fields_of(self.pid)[:1] == ['T']
 
-    def ticks(self) -> int:
-        """How much of a processor it has had."""
-        fields = fields_of(self.pid)
-        return int(fields[11]) + int(fields[12]) if fields else 0
-
     def signal(self, number: int) -> None:
         if not self.over.is_set():
             with suppress(OSError):
@@ -183,7 +169,7 @@ class Child:
     def words(self) -> str:
         """How it ended."""
         if self.status == UNKNOWN:
-            return 'ended while no service was there'
+            return 'ended'
         if self.status is not None and self.status < 0:
             return f'ended by signal {signal_words(-self.status)}'
         return f'ended with status {self.status}'
@@ -198,7 +184,7 @@ async def ran(starts: Callable[[int, int], Child], given: bytes, seconds: float)
         process = starts(reads, writes)
         if not (in_time := await process.ends_within(seconds)):
             await process.kill()
-        said = process.text()
+        said = octets_in(process.said).decode(errors='replace')
         process.close()
         return process.status if in_time else None, said, octets_in(writes)
     finally:
@@ -216,13 +202,3 @@ def signal_words(number: int) -> str:
     with suppress(ValueError):
         return f'{number} ({signal.Signals(number).name})'
     return str(number)
-
-
-def held_pipe() -> int:
-    """A pipe, as one descriptor that is read and written: who has an end of it sees no end while this one is open."""
-    ends = os.pipe()
-    try:
-        return os.open(f'/dev/fd/{ends[0]}', os.O_RDWR | os.O_CLOEXEC)
-    finally:
-        for end in ends:
-            os.close(end)

@@ -1,109 +1,120 @@
-"""The program that carries the trunk: one `e1gw trunk` on the trunk's descriptors, and its log."""
+"""The program that carries the trunk: one `e1gw trunk` on the trunk's descriptors, which keeps its own log. Each one is
+started with the same words, and goes on from that log."""
 from __future__ import annotations
 
 import asyncio
 import os
+import re
 import signal
 import socket
-from collections import Counter
+import stat
 from contextlib import suppress
-from typing import Any, Sequence
+from dataclasses import dataclass
+from typing import Sequence
 
-from .follower import LogFollower, forget
-from .log import PIECE, Checkpoint, TrunkLog, give_room, take_file, whole_records
-from .process import UNKNOWN, Child, held_pipe
+from .decisions import ProgramFault
+from .log_folder import LOCK, holder_of
+from .memory import octets_in
+from .process import Child
 from .version import ProgramVersion
 
 # No record that a client may give: the program closes the connection, which says that it runs, and logs nothing.
 NO_RECORD = bytes(4)
 SOON = 0.001                # seconds between two tries to connect to a program that begins
 MOST_PATH = 107             # octets of the path of a socket
-LOG_ENDED = 'recording ended: a write failed'       # what it says then
+# By what the first line has with which it ends.
+FAULTS = ((r'^fault [56] ', ProgramFault.TRUNK), (r'^config ', ProgramFault.CONFIG),
+          (r'^socket ', ProgramFault.SOCKET), (r'\blog\b.* in use by', ProgramFault.LOG_IN_USE),
+          (r'\blog\b.* has no state|^state \d', ProgramFault.LOG_LOST), (r'\blog\b.* wants', ProgramFault.NO_ROOM))
 
 
-class LoggedProgram:
-    """A program of this machine or of another one: its log, the checkpoint from which its state can be had, and the
-    follower that has it."""
+@dataclass(frozen=True)
+class ProgramPlaces:
+    """Where each program of a trunk has its log, its sockets and what it says: in the folder of the trunk."""
 
-    def __init__(self, number: int, version: ProgramVersion, begun: Checkpoint, log: TrunkLog, pid: int = 0) -> None:
-        self.number, self.version, self.begun, self.checkpoint, self.log = number, version, begun, begun, log
-        self.pid = pid
-        self.follower: LogFollower | None = None
-        self.tried = 0                          # the place of the log at which a checkpoint was tried last
-        self.is_saving = False                  # another checkpoint is taken now
-        self.is_done = False                    # its last state is had, or nobody wants one: no other one is taken
-        self._seen = 0, 0                       # a place of the log, and that of the trunk there
+    folder: str
 
-    def saved(self) -> Checkpoint | None:
-        """The state that it has saved at an end in order, if that is known here."""
-        return None
+    def __post_init__(self) -> None:
+        self.make()
 
-    def reach(self, checkpoint: Checkpoint) -> None:
-        """Its state can be had from here on."""
-        before, self.checkpoint = self.checkpoint, checkpoint
-        before.close()
+    def make(self) -> None:
+        """Makes the folders, if they are gone. OSError if that cannot be."""
+        os.makedirs(self.log, 0o700, exist_ok=True)
 
-    def octets(self) -> int:
-        """The place of the trunk behind all that it has logged."""
-        its, octets = self.checkpoint, bytes(PIECE)
-        self._seen = max(self._seen, (its.place, its.counted['octets']))
-        while len(octets) == PIECE:
-            octets = self.log.read(self._seen[0], PIECE)
-            length, trunk = whole_records(octets)
-            self._seen = self._seen[0] + length, self._seen[1] + trunk
-        return self._seen[1]
+    @property
+    def log(self) -> str:
+        return os.path.join(self.folder, 'log')
 
-    def hurry(self) -> None:
-        """Its follower reads all that the log has, at once."""
-        if self.follower:
-            self.follower.hurry()
+    @property
+    def control(self) -> str:
+        return os.path.join(self.folder, 'program')
 
-    def unfollow(self) -> None:
-        """Its follower goes, if there is one."""
-        follower, self.follower = self.follower, None
-        if follower:
-            follower.close()
+    @property
+    def tell(self) -> str:
+        return os.path.join(self.folder, 'tell')
 
-    def close(self) -> None:
-        """Gives back all that is held of it."""
-        self.is_done = True
-        self.unfollow()
-        self.log.close()
-        self.checkpoint.close()
+    @property
+    def end(self) -> str:
+        """A FIFO: whoever writes to it asks the program to end."""
+        return os.path.join(self.folder, 'end')
+
+    @property
+    def config(self) -> str:
+        """The configuration of the program of now, in which names are addresses."""
+        return os.path.join(self.folder, 'config')
+
+    def said(self, name: str, is_new: bool) -> int:
+        """The file of what a process says, in memory if there is no room."""
+        path = os.path.join(self.folder, f'{name}.said')
+        try:
+            if is_new:
+                with suppress(FileNotFoundError):
+                    os.unlink(path)
+            return os.open(path, os.O_RDWR | os.O_APPEND | os.O_CREAT | os.O_CLOEXEC, 0o600)
+        except OSError:
+            return os.memfd_create('e1gw-words')
+
+    def opened_end(self) -> int:
+        """An end of the FIFO, which sees no end while the program has its own."""
+        with suppress(OSError):
+            if not os.path.lexists(self.end):
+                os.mkfifo(self.end, 0o600)
+            file = os.open(self.end, os.O_RDWR | os.O_NONBLOCK | os.O_CLOEXEC)
+            if stat.S_ISFIFO(os.fstat(file).st_mode):
+                return file
+            os.close(file)
+        return held_pipe()
 
 
-class TrunkProgram(LoggedProgram):
+class TrunkProgram:
     """The program that carries the trunk."""
 
-    def __init__(self, number: int, version: ProgramVersion, begun: Checkpoint, log: TrunkLog, process: Child,
-                 control: str, saves: str, end: int, end_there: int) -> None:
-        """What is written to `end` asks it to end; that has another number in the program."""
-        super().__init__(number, version, begun, log, process.pid)
-        self.process, self.control, self._saves = process, control, saves
-        self._end, self._end_there = end, end_there
-        self.is_up = self.is_adopted = False
+    def __init__(self, version: ProgramVersion, places: ProgramPlaces, process: Child, end: int,
+                 is_adopted: bool) -> None:
+        """What is written to `end` asks it to end."""
+        self.version, self.places, self.process, self._end = version, places, process, end
+        self.begun = 0                          # the octet of the trunk with which it has begun
+        self.is_up = self.is_adopted = is_adopted
 
     @classmethod
-    def started(cls, number: int, version: ProgramVersion, begun: Checkpoint, control: str, saves: str,
-                trunk: tuple[int, int], words: Sequence[str]) -> TrunkProgram:
-        """One that is started from a state. Its socket is next to its state if the folder for it is gone."""
-        if not os.path.isdir(os.path.dirname(control)):
-            control = os.path.join(os.path.dirname(saves), 'control')
-        with suppress(OSError):
-            os.unlink(control)
-        log, end = TrunkLog(), -1
+    def started(cls, version: ProgramVersion, places: ProgramPlaces, trunk: tuple[int, int],
+                words: Sequence[str]) -> TrunkProgram:
+        """One that is started on the log. OSError if it cannot be."""
+        end = places.opened_end()
         try:
-            end = held_pipe()
+            drain(end)
             process = version.start(
-                ['trunk', '--control', control, '--end', str(end), '--record', f'/dev/fd/{log.file}', '--save', saves,
-                 '--totals', *words, *begun.words()], *trunk, [log.file, end, *begun.files()])
+                ['trunk', '--log', places.log, '--tell', places.tell, '--control', places.control, '--end', str(end),
+                 '--totals', *words], *trunk, [end], places.said('program', True))
         except OSError:
-            log.close()
-            if end >= 0:
-                os.close(end)
-            forget(saves)
+            os.close(end)
             raise
-        return cls(number, version, begun.at_begin(), log, process, control, saves, end, end)
+        return cls(version, places, process, end, False)
+
+    @classmethod
+    def adopted(cls, version: ProgramVersion, places: ProgramPlaces, pid: int) -> TrunkProgram:
+        """The one that a service before this one has started."""
+        return cls(version, places, Child(pid, said=places.said('program', False)), places.opened_end(), True)
 
     async def comes_up(self, seconds: float) -> bool:
         """Waits until it carries the trunk, so long at most."""
@@ -116,7 +127,7 @@ class TrunkProgram(LoggedProgram):
 
     async def _answers(self) -> bool:
         """Whether it closes a connection that gives no record, and not the one before that, as it does at its end."""
-        with suppress(OSError), connected(self.control) as hello, connected(self.control) as probe:
+        with suppress(OSError), connected(self.places.control) as hello, connected(self.places.control) as probe:
             probe.send(NO_RECORD)
             with suppress(ConnectionError):
                 await asyncio.get_running_loop().sock_recv(probe, 1)
@@ -126,62 +137,64 @@ class TrunkProgram(LoggedProgram):
                 return True
         return False
 
-    def ask_end(self) -> None:
-        """Asks it to end behind what it has read."""
-        give_room(self._saves)
+    async def end_within(self, seconds: float) -> None:
+        """Asks it to end behind what it has read, and kills it if that takes too long: no call ends."""
         try:
             os.write(self._end, b'\n')
         except OSError:
             self.process.signal(signal.SIGKILL)
+        await self.process.end_within(seconds)
 
     def ended_well(self) -> bool:
-        """Whether it has ended in order. Of one that a service before this one started its state says so."""
-        return self.process.status == 0 or self.process.status == UNKNOWN and os.path.exists(self._saves)
+        """Whether it has ended in order. Of one that another service has started only what it said last says so."""
+        status = self.process.status
+        return status == 0 or self.is_adopted and status is not None and bool(self.process.totals())
 
-    def saved(self) -> Checkpoint | None:
-        if self.ended_well() and os.path.exists(self._saves):
-            return Checkpoint(take_file(self._saves), 0, self.begun.counted + self.process.totals())
-        return None
+    def fault(self) -> ProgramFault:
+        """Of what it has ended, if it has said so."""
+        self.process.news()
+        return next((fault for line in self.process.lines for begins, fault in FAULTS if re.search(begins, line)),
+                    ProgramFault.NONE)
 
-    def lacks(self) -> str:
-        """Why another one is to follow from a state of its own: its log or its control socket is gone."""
-        if LOG_ENDED in self.process.lines:
-            return 'the log has ended'
-        return '' if os.path.lexists(self.control) else 'the control socket is gone'
+    def lacks(self) -> bool:
+        """Whether its socket or its log is gone, so that another one is to follow."""
+        return not all(os.path.lexists(path) for path in (
+            self.places.control, self.places.tell, os.path.join(self.places.log, LOCK)))
 
     def close(self) -> None:
-        super().close()
+        """Gives back all that is held of it."""
         self.process.close()
-        os.close(self._end)
-        forget(self._saves, self.control)
+        if self._end >= 0:
+            os.close(self._end)
+            self._end = -1
 
-    # ---- for the service that comes after this one ----
 
-    def note(self) -> dict[str, Any]:
-        """What it has to know, and to have."""
-        its = self.checkpoint
-        files = {'log': self.log.file, 'words': self.process.said, 'end': self._end, 'program': self.version.file,
-                 'config': self.version.config, 'state': its.state}
-        return {'files': files, 'number': self.number, 'pid': self.process.pid, 'started': self.process.started,
-                'program': self.version.program, 'senders': self.version.senders, 'version': self.version.name,
-                'control': self.control, 'saves': self._saves, 'place': its.place, 'counted': its.counted,
-                'begun': self.begun.counted, 'end': self._end_there, 'up': self.is_up,
-                'heard': self.process.noted(), 'lines': self.process.lines}
+async def end_left(places: ProgramPlaces, seconds: float) -> None:
+    """Has the program end that holds the log, if there is one, which a service before this one has left."""
+    if (pid := holder_of(places.log)) > 0:
+        end = places.opened_end()
+        process = Child(pid)
+        with suppress(OSError):
+            os.write(end, b'\n')
+        await process.end_within(seconds)
+        os.close(end)
 
-    @classmethod
-    def of_note(cls, note: dict[str, Any], files: dict[str, int]) -> TrunkProgram:
-        """The program of a service before this one. KeyError if a descriptor is missing that it needs."""
-        its = {what: files[name] for what, name in note['files'].items()}
-        version = ProgramVersion(str(note['program']), its['program'], its['config'], str(note['senders']),
-                                 str(note['version']))
-        found = cls(int(note['number']), version, Checkpoint(-1, 0, Counter(note['begun'])), TrunkLog(its['log']),
-                    Child(int(note['pid']), int(note['started']), its['words'],
-                          int(note.get('heard', os.fstat(its['words']).st_size))), str(note['control']),
-                    str(note['saves']), its['end'], int(note['end']))
-        found.process.lines += note.get('lines', [])
-        found.checkpoint = Checkpoint(its.get('state', -1), int(note['place']), Counter(note['counted']))
-        found.is_up, found.is_adopted = bool(note['up']), True
-        return found
+
+def drain(file: int) -> None:
+    """Takes what a FIFO holds: what asked another program to end."""
+    with suppress(OSError):
+        while os.read(file, 4096):
+            pass
+
+
+def held_pipe() -> int:
+    """A pipe, as one descriptor that is read and written: who has an end of it sees no end while this one is open."""
+    ends = os.pipe()
+    try:
+        return os.open(f'/dev/fd/{ends[0]}', os.O_RDWR | os.O_NONBLOCK | os.O_CLOEXEC)
+    finally:
+        for end in ends:
+            os.close(end)
 
 
 def connected(path: str) -> socket.socket:
@@ -194,3 +207,14 @@ def connected(path: str) -> socket.socket:
         line.close()
         raise
     return line
+
+
+def config_in(places: ProgramPlaces) -> bytes:
+    """The configuration that the program of now was started with; nothing if that is not known."""
+    with suppress(OSError):
+        file = os.open(places.config, os.O_RDONLY | os.O_CLOEXEC)
+        try:
+            return octets_in(file)
+        finally:
+            os.close(file)
+    return b''

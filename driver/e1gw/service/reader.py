@@ -1,98 +1,133 @@
-"""The logs of the programs are read, one behind another: how octets of the trunk come, by which gaps and another rate
-are found, and what is kept of them."""
+"""The log is read while the program writes it: how octets of the trunk come, by which gaps and another rate are found,
+and what is kept of them. Who is overtaken says so, and goes on from the newest state; no call waits for that."""
 from __future__ import annotations
 
 import asyncio
 import logging
 import time
 from contextlib import suppress
-from typing import Any, Awaitable, Callable, Mapping
+from dataclasses import replace
+from typing import Callable, Sequence
 
 from ..clock import TICK, Clock, ClockFinding
 from ..faults import words_of_fault
+from ..session import whole_records
 from .journal import NOTICE
-from .program import TrunkProgram
-from .recordings import MOST_BEHIND, ReadLog, RecordingWants, TrunkRecording, has_room
+from .log_folder import FolderReader, LogBegun, LogFiles, LogNews, LogPair, LogPiece, LogState
+from .recordings import FileBegin, RecordingNote, RecordingWants, TrunkRecording, has_room
 from .trunk import again
 
 AGAIN = 60.0                # seconds between two looks whether a ring that has ended can be written again
-SOON = 0.5                  # the same if it can, and there is no checkpoint yet
 MOST_LOST = 0.008           # seconds of the trunk that a program had in hand
 
 logger = logging.getLogger(__name__)
 
 
 class LogReader:
-    """Reads the logs of a trunk. `note` has what the next service has to know noted; `checkpoint` takes one of now, and
-    returns its program, or None if there is none. `found` is called with what is found of the flow."""
+    """Reads the log of a trunk, in this folder. `note` has what the next service has to know noted. `found` is called
+    with what is found of the flow, and `told` says at which octet the trunk is, if the log does not."""
 
-    def __init__(self, wants: RecordingWants | None, gap: float, note: Callable[[], None],
-                 checkpoint: Callable[[], Awaitable[TrunkProgram | None]]) -> None:
+    def __init__(self, folder: str, gap: float, wants: RecordingWants | None, note: Callable[[], None]) -> None:
         self.clock = Clock(time.monotonic(), gap)
         self.found: Callable[[ClockFinding], None] = lambda finding: None
-        self._wants, self._note, self._checkpoint = wants, note, checkpoint
+        self.told: Callable[[], int] = lambda: 0
+        self.octets = 0                         # of the trunk, up to now
+        self.rests = False                      # the other machine carries the trunk
+        self.is_loaded = False                  # the log has begun with a state that was kept elsewhere
+        self._folder, self._wants, self._note = folder, wants, note
+        self._files: LogFiles | None = None
+        self._reader: FolderReader | None = None
+        self._place = -1                        # of the log, up to where it was read
         self._recording: TrunkRecording | None = None
-        self._logs = list[ReadLog]()            # which are to be read, or copied
-        self._program: TrunkProgram | None = None       # that of the last one
-        self.place, self._held = -1, 0.0        # that of the trunk up to now; since when a checkpoint is taken
-        self.needed: dict[int, int] = {}       # by program, from where on its log is needed by what is noted
-        self._retry = asyncio.Event()           # a ring that has ended is tried now
+        self._begun: int | None = None          # the octet of the trunk with which the file of now begins, if any
+        self._lost, self._is_cut, self._retry = 0.0, False, asyncio.Event()
 
-    # ---- what there is to read ----
+    # ---- the log ----
 
-    def take_up(self, left: Mapping[str, Any] | None, files: Mapping[str, int]) -> None:
-        """Begins, where the service before this one has left the recording, if it made the same."""
-        wants = self._wants
-        if not wants:
+    def take_up(self, read: tuple[int, int], left: RecordingNote | None) -> None:
+        """Begins, where the service before this one was, and with the recording that it has left if it made the same
+        and the log has what that lacks."""
+        self._place, self.octets = read
+        if not (wants := self._wants):
             return
-        left = left if left and left['kept'] == [wants.session, wants.keep] else {}
-        self._recording = TrunkRecording(wants, self._note, left.get('own', ()), left.get('ended', ''))
-        for each in left.get('logs', []):
-            with suppress(KeyError):            # (its descriptors are gone)
-                self._put(ReadLog.of_note(each, files))
+        left = left if left and (left.session, left.keep) == (wants.session, wants.keep) else None
+        self._recording = TrunkRecording(wants, self._note, left)
+        if left and left.path and self._reaches(left.place):
+            self._begun, self._place, self.octets = left.begun, left.place, left.octets
+            self._close()
 
-    def _put(self, log: ReadLog) -> None:
-        self._logs.append(log)
-        if self._recording and not self._recording.why:
-            self._recording.put(log)
+    def _reaches(self, place: int) -> bool:
+        """Whether the log has all behind a place."""
+        states = [self._files.state(number) for number in (0, 1)] if self.has_log() and self._files else []
+        return any(state.place <= place for state in states if state)
 
-    def began(self, program: TrunkProgram, lost: bool) -> None:
-        """A program has a log from now on; the one before it had lost what it had in hand."""
-        self._program = program
-        if any(log.number == program.number for log in self._logs):
-            return                              # (it was noted)
-        begun = program.checkpoint if program.is_adopted else program.begun
-        self.place = min(self.place, begun.counted['octets'])       # (less, if another machine has carried the trunk)
-        log = ReadLog.of(program, begun, time.monotonic(), MOST_LOST * lost)
-        if not program.is_adopted:
-            return self._put(log)
-        self._logs.append(log)
-        if self._recording and self._recording.ring:    # (of which nothing was noted)
-            self._recording.why = 'nothing was noted of it'
-            self._retry.set()
+    def has_log(self, folder: str = '') -> bool:
+        """Whether the folder, or another one from now on, has the log that is read; opens one that is there."""
+        self._folder = folder or self._folder
+        if not self._files:
+            with suppress(OSError):
+                self._files = LogFiles(self._folder)
+                self._reader = FolderReader(self._files, self._place)
+        return bool(self._files and self._files.are_in(self._folder))
+
+    def last(self) -> LogPair | None:
+        """What the log has, also if it was taken away."""
+        return self._files.last() if self._files else None
+
+    def pairs_since(self, octets: int) -> list[tuple[int, LogPair]]:
+        """The pairs of the log that are needed from an octet of the trunk on, as far as it has them, each with the
+        octet at its state."""
+        if not self._files:
+            return []
+        pairs = sorted(filter(None, map(self._files.pair, (0, 1))), key=lambda pair: pair.turn)
+        if len(pairs) == 2 and pairs[0].end != pairs[1].place:
+            del pairs[0]
+        its = [(self.octets_at(pair, pairs), pair) for pair in pairs]
+        return its[1:] if its[1:] and its[1][0] <= octets else its
+
+    def octets_at(self, pair: LogPair, pairs: Sequence[LogPair] = ()) -> int:
+        """The octet of the trunk at the state of a pair, by what was read behind it: of this one, or of all that there
+        are."""
+        self.look()
+        records = b''.join(each.records for each in pairs or (pair,) if each.turn >= pair.turn)
+        return self.octets - whole_records(records[:max(0, self._place - pair.place)])[1]
+
+    def take_out(self) -> LogPair | None:
+        """The same, and gives the room of its files back. What is read next is in other files."""
+        self.look()
+        last = self.last()
+        self._close()
+        return last
+
+    def _close(self) -> None:
+        if self._files:
+            self._files.close()
+        self._files = self._reader = None
+
+    def begins_anew(self, read: tuple[int, int] = (-1, 0), is_loaded: bool = False) -> None:
+        """Another log begins, or goes on where another machine was."""
+        self._close()
+        (self._place, self.octets), self.is_loaded, self._begun, self.rests = read, is_loaded, None, False
+
+    def follows(self, lost: bool) -> None:
+        """Another program follows; the one before it may have lost what it had in hand. Another file of a ring begins
+        with it: who knows how long nobody carried the trunk?"""
+        self._lost += MOST_LOST * lost
+        self._is_cut = True
+
+    # ---- for the service that comes after this one ----
+
+    def noted(self) -> tuple[int, int]:
+        """Up to where the log is read, and the octet of the trunk there."""
+        return self._place, self.octets
+
+    def recording_note(self) -> RecordingNote | None:
+        recording = self._recording
+        return recording.note(self._begun or 0) if recording else None
 
     def why(self) -> str | None:
         """Why nothing is recorded any more, if that is so."""
         return self._recording.why or None if self._recording else None
-
-    # ---- for the service that comes after this one ----
-
-    def note(self) -> dict[str, Any] | None:
-        """What it has to know, and to have."""
-        copied = [log.note() for log in self._logs if self._copies(log)]
-        places = [(note['number'], note['kept'][0]) for note in copied]
-        self.needed = {}
-        for number, place in [*places, *((log.number, log.found[0]) for log in self._logs)]:
-            self.needed[number] = min(place, self.needed.get(number, place))
-        if not (recording := self._recording):
-            return None
-        return {'kept': [recording.wants.session, recording.wants.keep], 'ended': recording.why,
-                'own': recording.ring.own if recording.ring else (), 'logs': copied}
-
-    def _copies(self, log: ReadLog) -> bool:
-        """Whether a log is not all copied yet, and will be."""
-        recording = self._recording
-        return recording is not None and not recording.why and log.is_copied and not log.is_kept
 
     # ---- reading ----
 
@@ -106,80 +141,77 @@ class LogReader:
 
     async def _look_on(self) -> None:
         while True:
-            await self.look()
+            self.look()
             await asyncio.sleep(TICK)
 
-    async def look(self) -> None:
+    def look(self) -> None:
         """Reads what there is."""
-        for log in [log for log in self._logs if not log.has_ended]:
-            is_last = log is self._logs[-1]
-            while not log.look():
-                await asyncio.sleep(0)
-            self._measure(log, time.monotonic())
-            if not is_last:                     # (another program has begun with the state behind it)
-                log.end(log.found)
-            elif log is self._logs[-1]:
-                self._see_checkpoint(log)
-        self._let_go()
-
-    def _measure(self, log: ReadLog, now: float) -> None:
-        """All that is logged by now is read."""
-        place = log.found[1]
-        if place > self.place >= 0:
-            self.clock.took(place - self.place, now)
-        self.place = max(place, self.place)
+        if self.rests or not (self._reader or self.has_log() and self._reader):
+            return
+        assert self._reader
+        before = self.octets
+        for news in self._reader.look():
+            self._take(news)
+        now = time.monotonic()
+        if self.octets > before:
+            self.clock.took(self.octets - before, now)
         for finding in self.clock.look(now):
-            if finding.what == 'gap' and log.is_copied:
-                log.slips.append((place, round(finding.value, 3)))
+            if finding.what == 'gap' and self._recording and self._begun is not None:
+                self._recording.slip(self.octets, round(finding.value, 3))
             self.found(finding)
 
-    def _see_checkpoint(self, log: ReadLog) -> None:
-        """What is read may be copied, unless a checkpoint is taken: there the next file begins if this one is long."""
-        program, recording, now = self._program, self._recording, time.monotonic()
-        if program and program.is_done:         # (its checkpoint may be closed: no file begins there)
-            program = None
-        if program and program.is_saving:
-            self._held = self._held or now
+    def _take(self, news: LogNews) -> None:
+        if isinstance(news, LogPiece):
+            self.octets += whole_records(news.octets)[1]
+            self._place = news.place + len(news.octets)
+            if self._recording and self._begun is not None:
+                self._recording.put(news.octets, self._place, self.octets)
             return
-        if program and recording and self._copies(log) and recording.wants.is_long(
-                program.checkpoint.counted['octets'] - log.begun[1]):
-            self._cut(program, self._held or now)
-        else:
-            log.upto = log.found
-        self._held = 0.0
+        if isinstance(news, LogBegun):
+            self._is_overtaken(news)
+        self._place = news.state.place
+        self._see_file(news.state, isinstance(news, LogBegun))
 
-    def _cut(self, program: TrunkProgram, since: float) -> None:
-        """The log of a program is copied to another file from its last checkpoint on, which was taken then."""
-        at = program.checkpoint
-        self._logs[-1].end((at.place, at.counted['octets']))
-        self._put(ReadLog.of(program, at, since))
+    def _is_overtaken(self, news: LogBegun) -> None:
+        """The reading begins at a state, perhaps behind what was not seen. (A log that has begun with a state that was
+        kept is read from there on.)"""
+        if news.missed:
+            logger.warning('%d octets of the log were not read in time: no event and no recording has them',
+                           news.missed, extra={'kind': 'overtaken'})
+            self.octets = max(self.octets, self.told())
+        elif news.is_anew or self._place < 0 and not self.is_loaded:
+            self.octets = self.told() if news.state.place else 0
 
-    def _let_go(self) -> None:
-        """Closes what nobody needs, and ends a recording that is too late."""
-        recording = self._recording
-        if recording and sum(log.found[0] - log.kept[0] for log in self._logs if self._copies(log)) > MOST_BEHIND:
-            recording.end('it takes too little')
-        is_over = not recording or recording.is_over()
-        for log in [*self._logs]:
-            is_free = is_over or not log.is_copied
-            if is_free or log.has_file:
-                log.close('config', 'state')
-            if log.has_ended and (is_free or log.is_kept):
-                log.close()
-                self._logs.remove(log)
+    def _see_file(self, state: LogState, is_break: bool) -> None:
+        """Another file of a recording begins at a state, if it is to."""
+        recording, begun, cuts = self._recording, self._begun, self._is_cut
+        if not recording or recording.why:
+            return
+        self._is_cut = False
+        if begun is not None and not is_break:
+            if not (cuts and recording.wants.keep or recording.wants.is_long(self.octets - begun)):
+                return
+        is_new = not state.place and not self.is_loaded
+        if not recording.wants.keep and not is_new and (begun is not None or not self.is_loaded):
+            return recording.end('a part of the log was not read')
+        self._begun, lost, self._lost = self.octets, self._lost, 0.0
+        recording.begin(FileBegin(self.octets, state.place, b'' if is_new else state.state, time.monotonic(), lost))
+
+    # ---- a ring that has ended ----
 
     async def _begin_again(self) -> None:
-        """A ring that has ended is tried once a minute. If it can be written it goes on from a checkpoint of now."""
-        wait = AGAIN
+        """A ring that has ended is tried once a minute. If it can be written it goes on from the next state."""
         while self._wants and self._wants.keep:
             with suppress(TimeoutError):
-                async with asyncio.timeout(wait):
+                async with asyncio.timeout(AGAIN):
                     await self._retry.wait()
             self._retry.clear()
-            wait = AGAIN
             try:
                 if self._recording and self._recording.why and await self._can_begin(self._recording):
-                    wait = AGAIN if await self._begin(self._recording) else SOON
+                    self._begun = None
+                    before = replace(self._recording.note(0), why='', path='')
+                    self._recording = TrunkRecording(self._wants, self._note, before)
+                    logger.log(NOTICE, 'the recording begins again')
             except Exception as fault:      # pylint: disable=broad-exception-caught
                 logger.warning('the recording does not begin again: %s', words_of_fault(fault))
 
@@ -188,23 +220,8 @@ class LogReader:
         await asyncio.to_thread(ended.close)
         return ended.is_over() and await asyncio.to_thread(has_room, ended.wants.session)
 
-    async def _begin(self, ended: TrunkRecording) -> bool:
-        """Begins another recording, if there is a checkpoint."""
-        now = time.monotonic()
-        if not (program := await self._checkpoint()):
-            return False
-        for log in self._logs:
-            log.is_copied = False
-        self._recording = TrunkRecording(ended.wants, self._note, ended.ring.own if ended.ring else ())
-        self._cut(program, now)
-        logger.log(NOTICE, 'the recording begins again: program %d', program.process.pid)
-        return True
-
     async def finish(self) -> None:
         """The trunk has ended: all is read and copied."""
-        await self.look()
-        for log in self._logs:
-            if not log.has_ended:
-                log.end(log.found)
+        self.look()
         if self._recording:
             await asyncio.to_thread(self._recording.close)

@@ -1,8 +1,8 @@
-"""What is kept of the trunk: a file, or a ring of files, copied from the logs of the programs, one behind another.
+"""What is kept of the trunk: a file, or a ring of files, copied from the log.
 
-A thread copies, so no slow disk is waited for. A log stays in memory until it is copied; if the recording is more than
-MOST_BEHIND octets late, or cannot be written, it ends with a line, and no call does. A service that follows this one
-cuts the last file back to where this one has noted it, and goes on from there."""
+A thread writes, so no slow disk is waited for. What it has not written waits in memory; if that is more than
+MOST_BEHIND octets, or it cannot be written, the recording ends with a line, and no call does. A service that follows
+this one cuts the last file back to where this one has noted it, and goes on from there."""
 from __future__ import annotations
 
 import asyncio
@@ -14,18 +14,16 @@ import threading
 import time
 from collections import deque
 from contextlib import suppress
-from dataclasses import dataclass, field
-from typing import Any, Callable, Iterable, Mapping, Sequence
+from dataclasses import dataclass
+from typing import Any, Callable
 
 from ..lines import WAIT
 from ..priority import put_behind
 from ..recording_ring import FILES, RECORDS, Ring
 from ..session import OCTETS_A_SECOND
 from ..writers import open_to_append, write_all
-from .log import PIECE, Checkpoint, octets_in, whole_records
-from .program import TrunkProgram
 
-MOST_BEHIND = 64 << 20      # octets of logs that may wait to be copied: two minutes of thirty calls
+MOST_BEHIND = 16 << 20      # octets that may wait to be written: half a minute of thirty calls
 EVERY = 0.1                 # seconds between two looks of the thread
 FLUSH = 5.0                 # seconds at the end for what is not copied yet
 NICE = 10                   # of the thread
@@ -36,12 +34,13 @@ logger = logging.getLogger(__name__)
 
 @dataclass(frozen=True)
 class RecordingWants:
-    """What is kept: `session` is a file, or with `keep`, some seconds, the folder of a ring. `config` is the path
-    of the configuration, for those who read it."""
+    """What is kept: `session` is a file, or with `keep`, some seconds, the folder of a ring. `config_path` is the path
+    of the configuration, for those who read it; `config` that of the one of now."""
 
     session: str
     keep: int | None
     name: str
+    config_path: str
     config: str
     wait: int                   # of a seizure, in milliseconds
 
@@ -50,102 +49,82 @@ class RecordingWants:
         return self.keep is not None and octets >= self.keep * OCTETS_A_SECOND // FILES
 
 
-@dataclass(eq=False)
-class ReadLog:
-    """The log of a program from a state on, up to where another file begins; with descriptors of its own, so it is read
-    when its program is gone, too. A pair of places is one of the log, behind a whole record, and that of the trunk."""
+@dataclass(frozen=True)
+class FileBegin:
+    """Where another file begins: the octet of the trunk, the place of the log, and the state there, if it is no new
+    gateway; the time, by the monotonic clock, and the seconds of the trunk that are known to be lost before it."""
 
-    number: int                 # of the program
-    files: dict[str, int]       # the log; the configuration and the state, while they are wanted
-    begun: tuple[int, int]
-    since: float                # the time at that place, by the monotonic clock
-    lost: float = 0.0           # seconds of the trunk that are known to be lost before it
-    path: str = ''              # of the file to which it is copied, once that has one; of a ring without its ending
-    has_ended: bool = False     # nothing follows behind `upto`
-    is_copied: bool = False     # it is to be copied, or was
-    has_file: bool = False      # its file has all but the octets
-    is_kept: bool = False       # all is copied
-    slips: deque[tuple[int, float]] = field(default_factory=deque)      # that are to be noted: place, seconds
+    octets: int
+    place: int
+    state: bytes
+    since: float
+    lost: float
 
-    def __post_init__(self) -> None:
-        self.found = self.upto = self.begun     # up to where it is looked at, and may be copied
-        self.kept = *self.begun, 0              # up to where it is copied, and the octets of its file then
-        self.slips.extend([(self.begun[1], self.lost)] * bool(self.lost))
 
-    @classmethod
-    def of(cls, program: TrunkProgram, begun: Checkpoint, since: float, lost: float = 0.0) -> ReadLog:
-        """That of a program, from a state on."""
-        its = {'log': program.log.file, 'config': program.version.config, 'state': begun.state}
-        files = {what: os.dup(file) for what, file in its.items() if file >= 0}
-        return cls(program.number, files, (begun.place, begun.counted['octets']), since, lost)
+@dataclass(frozen=True)
+class RecordingNote:
+    """What the next service has to know of a recording: what it is, why it has ended, the files of a ring and their
+    places, and of the last one the path, where it begins, and up to where it is written: the place of the log, that of
+    the trunk, and its size."""
 
-    def read(self, place: int, most: int = PIECE) -> bytes:
-        return os.pread(self.files['log'], most, place)
-
-    def look(self) -> bool:
-        """Looks at more of it; whether that was all that there is."""
-        octets = self.read(self.found[0])
-        length, trunk = whole_records(octets)
-        self.found = self.found[0] + length, self.found[1] + trunk
-        return len(octets) < PIECE
-
-    def end(self, place: tuple[int, int]) -> None:
-        """It ends there."""
-        self.found = self.upto = place
-        self.has_ended = True
-
-    def close(self, *names: str) -> None:
-        """Gives back what it holds, or of that what has these names."""
-        for name in names or (*self.files,):
-            if name in self.files:
-                os.close(self.files.pop(name))
-
-    def note(self) -> dict[str, Any]:
-        """What the next service has to know, and to have."""
-        return {'number': self.number, 'begun': self.begun, 'since': self.since, 'lost': self.lost, 'path': self.path,
-                'kept': self.kept, 'end': self.upto if self.has_ended else None, 'files': self.files.copy()}
-
-    @classmethod
-    def of_note(cls, note: Mapping[str, Any], files: Mapping[str, int]) -> ReadLog:
-        """KeyError if the descriptor of the log is missing."""
-        its = {what: files[name] for what, name in note['files'].items() if what == 'log' or name in files}
-        (place, trunk), path, kept = note['begun'], str(note['path']), note['kept']
-        found = cls(int(note['number']), {what: os.dup(file) for what, file in its.items()}, (place, trunk),
-                    float(note['since']), 0.0 if path else float(note['lost']), path)
-        found.kept = kept[0], kept[1], kept[2]
-        found.found = found.upto = kept[0], kept[1]
-        if note['end']:
-            found.end((note['end'][0], note['end'][1]))
-        return found
+    session: str
+    keep: int | None
+    why: str
+    own: tuple[tuple[str, int], ...]
+    path: str
+    begun: int
+    place: int
+    octets: int
+    size: int
 
 
 class TrunkRecording:
-    """Copies logs, in their order. `note` has all of this noted for the next service; `own` are the files that the one
-    before it has written."""
+    """Writes what it is given, in its order. `note` has all of this noted for the next service; `left` is what the one
+    before it has noted."""
 
-    def __init__(self, wants: RecordingWants, note: Callable[[], None], own: Iterable[Sequence[Any]] = (),
-                 why: str = '') -> None:
-        self.wants, self.why = wants, why       # (why it has ended, if it has)
-        self.ring = Ring(wants.session, wants.name, wants.keep, own) if wants.keep else None
-        self._logs, self._note, self._loop = deque[ReadLog](), note, asyncio.get_running_loop()
-        self._log: ReadLog | None = None
+    def __init__(self, wants: RecordingWants, note: Callable[[], None], left: RecordingNote | None) -> None:
+        self.wants, self.why = wants, left.why if left else ''     # (why it has ended, if it has)
+        self.ring = Ring(wants.session, wants.name, wants.keep, left.own if left else ()) if wants.keep else None
+        self._path = left.path if left else ''
+        self._written = (left.place, left.octets, left.size) if left else (0, 0, 0)
+        self._waiting, self._octets = deque[FileBegin | tuple[bytes, int, int]](), 0
+        self._slips = deque[tuple[int, float]]()
+        self._note, self._loop = note, asyncio.get_running_loop()
         self._file = -1
         self._closes = threading.Event()
         self._thread = threading.Thread(target=self._run, name='recording', daemon=True)
         self._thread.start()
 
-    def put(self, log: ReadLog) -> None:
-        """Another log is to be copied, behind those that were put before."""
-        log.is_copied = True
-        self._logs.append(log)
+    def note(self, begun: int) -> RecordingNote:
+        """What the next one has to know, with where the file of now begins."""
+        place, octets, size = self._written
+        return RecordingNote(self.wants.session, self.wants.keep, self.why, self.ring.own if self.ring else (),
+                             self._path, begun, place, octets, size)
+
+    def begin(self, begin: FileBegin) -> None:
+        """Another file begins, behind what was put before."""
+        self._waiting.append(begin)
+
+    def put(self, octets: bytes, place: int, trunk: int) -> None:
+        """Records, up to a place of the log and an octet of the trunk."""
+        if self.why:
+            return
+        self._waiting.append((octets, place, trunk))
+        self._octets += len(octets)
+        if self._octets > MOST_BEHIND:
+            self.end('it takes too little')
+
+    def slip(self, place: int, seconds: float) -> None:
+        """Octets of the trunk were lost at a place."""
+        self._slips.append((place, seconds))
 
     def close(self) -> None:
-        """Waits until all is copied, FLUSH at most."""
+        """Waits until all is written, FLUSH at most."""
         self._closes.set()
         self._thread.join(FLUSH)
 
     def is_over(self) -> bool:
-        """Whether it has ended, and nothing is read any more."""
+        """Whether it has ended, and nothing is written any more."""
         return not self._thread.is_alive()
 
     def end(self, why: str) -> None:
@@ -162,44 +141,55 @@ class TrunkRecording:
         try:
             while not (is_last or self.why):
                 is_last = self._closes.wait(EVERY)
-                self._copy_all()
+                self._write()
         except Exception as fault:      # pylint: disable=broad-exception-caught
             self.end(getattr(fault, 'strerror', None) or f'{type(fault).__name__}: {fault}')
+        self._waiting.clear()
         if self._file >= 0:
             os.close(self._file)
         if self.ring:
             self.ring.close()
 
-    def _copy_all(self) -> None:
-        while self._logs and not self.why:
-            log = self._logs[0]
-            has_ended = log.has_ended           # (before it is read how long it is)
-            if log is not self._log:
-                self._log = log
-                self._begin(log)
-            self._copy(log)
-            if not has_ended:
-                return
-            self._logs.popleft().is_kept = True
+    def _write(self) -> None:
+        """Writes what waits."""
+        while self._waiting and not self.why:
+            each = self._waiting.popleft()
+            if isinstance(each, FileBegin):
+                self._begin(each)
+                continue
+            octets, place, trunk = each
+            self._open()
+            write_all(self._file, octets)
+            self._octets -= len(octets)
+            self._written = place, trunk, self._written[2] + len(octets)
+        if self.ring and self._slips and self._file >= 0:
+            self.ring.note(self._slips)
 
-    def _begin(self, log: ReadLog) -> None:
-        """Another log, or the rest of one of the service before this one: its file may have more than was noted."""
-        if self.ring and self._file >= 0:
+    def _begin(self, begin: FileBegin) -> None:
+        """Another file."""
+        if self._file >= 0 and self.ring:
             os.close(self._file)
             self._file = -1
-        if not log.path:
-            log.path = self.ring.next(log.begun[1]) if self.ring else self.wants.session
-            log.kept = *log.begun, size_of(self._file if self._file >= 0 else log.path)
-            self._announce()
-        path = log.path
+        if self.ring or not self._path:
+            self._path = self.ring.next(begin.octets) if self.ring else self.wants.session
+        self._written = begin.place, begin.octets, size_of(self.wants.session) if not self.ring else 0
+        self._announce()
+        if begin.lost:
+            self._slips.appendleft((begin.octets, begin.lost))
         if self.ring:
-            self.ring.begin(path, about_of(log, self.wants), octets_in(log.files.get('state', -1)))
-            path += RECORDS
-        if self._file < 0:
-            if size_of(path) > log.kept[2]:
-                os.truncate(path, log.kept[2])
-            self._file = open_to_append(path)
-        log.has_file = True
+            self.ring.begin(self._path, about_of(begin, self.wants), begin.state)
+        self._open()
+
+    def _open(self) -> None:
+        """Opens the file of now. One of the service before this one may have more than was noted."""
+        path = self._path + RECORDS * bool(self.ring)
+        if self._file >= 0:
+            return
+        if self.ring:
+            self.ring.goes_on(self._path)
+        if size_of(path) > self._written[2]:
+            os.truncate(path, self._written[2])
+        self._file = open_to_append(path)
 
     def _announce(self) -> None:
         """Waits until all is noted. So the next service knows of each file that is there."""
@@ -213,24 +203,16 @@ class TrunkRecording:
         self._loop.call_soon_threadsafe(note)
         noted.wait(FLUSH)
 
-    def _copy(self, log: ReadLog) -> None:
-        upto = log.upto[0]
-        while log.kept[0] < upto and not self.why:
-            place, trunk, size = log.kept
-            octets = log.read(place, min(PIECE, upto - place))
-            length, its = whole_records(octets)
-            write_all(self._file, octets[:length])
-            log.kept = place + length, trunk + its, size + length
-        if self.ring and log.slips:
-            self.ring.note(log.slips)
 
-
-def about_of(log: ReadLog, wants: RecordingWants) -> dict[str, Any]:
-    """What is said of the file of a log."""
-    day = time.time() - time.monotonic() + log.since
-    return {'config': wants.config, 'config_sha256': hashlib.sha256(octets_in(log.files.get('config', -1))).hexdigest(),
-            'time': round(day, 3), 'monotonic': round(log.since, 3), 'place': log.begun[1], WAIT: wants.wait,
-            'begins': 'middle' if log.begun[1] or 'state' in log.files else 'start'}
+def about_of(begin: FileBegin, wants: RecordingWants) -> dict[str, Any]:
+    """What is said of a file."""
+    day = time.time() - time.monotonic() + begin.since
+    config = b''
+    with suppress(OSError), open(wants.config, 'rb') as file:
+        config = file.read()
+    return {'config': wants.config_path, 'config_sha256': hashlib.sha256(config).hexdigest(), 'time': round(day, 3),
+            'monotonic': round(begin.since, 3), 'place': begin.octets, WAIT: wants.wait,
+            'begins': 'middle' if begin.octets or begin.state else 'start'}
 
 
 def size_of(file: int | str) -> int:

@@ -9,12 +9,14 @@ import logging
 import os
 import socket
 import time
-from typing import Any, Iterator
+from dataclasses import replace
+from typing import Any, Callable, Iterator, Mapping
 
 from ..satop import CONDITIONS, SatopCondition, can_send, counts_of
 from ..session import MULTIFRAME
 from .process import UNKNOWN, Child
-from .trunk import LineOptions, Pause, TrunkFiles, again, waiting
+from .program import ProgramPlaces
+from .trunk import LineOptions, Pause, SatopNote, TrunkFiles, TrunkNote, again, waiting
 
 LOOK, SOON = 0.25, 0.01     # seconds between two looks at what the process says, and at what it lacked
 GRACE = 1.0                 # seconds for the process to send what it was given last
@@ -30,8 +32,10 @@ class SatopTrunk(TrunkFiles):
 
     title = 'e1gw satop'
 
-    def __init__(self, line: LineOptions) -> None:
+    def __init__(self, line: LineOptions, said: Callable[[bool], int] = lambda is_new: -1) -> None:
+        """`said` opens the file of what the process says, a new one or that of the service before this one."""
         super().__init__(line)
+        self._said = said
         self.name, self._words, self._counts = 'satop', list[str](), dict[str, int]()
         self._conditions = [(name, SatopCondition(count), words) for name, count, words in CONDITIONS]
         self.child: Child | None = None
@@ -84,7 +88,7 @@ class SatopTrunk(TrunkFiles):
         number = self.zero + (self.place() - unread) // self._size()
         self._lacked = not can_send(self._words)
         words = self.line.program, 'satop', *self._words, '--sequence', str(number & 0xffff)
-        child = Child.start(words[0], words, far, far)
+        child = Child.start(words[0], words, far, far, said=self._said(True))
         if self.child:
             self.child.close()
         self.child = child
@@ -184,38 +188,37 @@ class SatopTrunk(TrunkFiles):
 
     # ---- for the service that comes after this one ----
 
-    def note(self) -> dict[str, Any]:
-        note, child = super().note() | {'satop': self._words, 'zero': self.zero, 'why': self._why}, self.child
-        return note | ({'files': self.files | {'said-satop': child.said},
-                        'processes': {'satop': [child.pid, child.started, child.noted()]}} if child else {})
+    def note(self) -> TrunkNote:
+        its = self.child
+        return replace(super().note(), satop=SatopNote((*self._words,), self.zero, self._why, its.pid if its else 0,
+                                                       its.started if its else 0))
 
-    def take_up(self, files: dict[str, int], note: dict[str, Any]) -> None:
-        self._why, self.zero, self._words = str(note['why']), int(note['zero']), list(note['satop'])
+    def take_up(self, files: dict[str, int], note: TrunkNote) -> None:
+        if note.satop:
+            self._why, self.zero, self._words = note.satop.why, note.satop.zero, [*note.satop.words]
         super().take_up(files, note)
 
-    def _is_joined(self, processes: dict[str, list[int]]) -> bool:
-        return 'near' in self.files and processes.keys() <= {'satop'}
+    def _is_joined(self, note: TrunkNote) -> bool:
+        return note.satop is not None and 'near' in self.files
 
-    def _goes_on(self, processes: dict[str, list[int]]) -> None:
-        for pid, started, heard in processes.values():
-            self.child = Child(pid, started, self.files.pop('said-satop'), heard)
+    def _goes_on(self, note: TrunkNote) -> None:
+        if note.satop and note.satop.pid:
+            self.child = Child(note.satop.pid, note.satop.started, self._said(False))
         self._set_ends()
         self._goes()
 
 
-def trunk_of(line: LineOptions, files: dict[str, int], note: dict[str, Any] | None) -> TrunkFiles:
-    """A trunk that is to be opened, or that of the service before this one, of which `files` and `note` are."""
-    kind = SatopTrunk if line.satop else TrunkFiles
-    trunk = kind(line)
-    if not note:
-        return trunk
-    if 'counts' in note:                # (of a version before this one)
-        note['slots'], _, note['crc4'] = note['counts']
-    try:
-        trunk.take_up({what: files[name] for what, name in note['files'].items() if name in files}, note)
-        return trunk
-    except (KeyError, TypeError, ValueError, OSError):      # (then it is opened again)
-        return kind(line)
+def trunk_of(line: LineOptions, places: ProgramPlaces, files: Mapping[str, int] = {},
+             note: TrunkNote | None = None) -> TrunkFiles:
+    """A trunk that is to be opened, or that of the service before this one, of which `files` and `note` are. Those of
+    the files that it does not take are closed."""
+    trunk = SatopTrunk(line, lambda is_new: places.said('satop', is_new)) if line.satop else TrunkFiles(line)
+    taken = {what: files[what] for what in note.names if what in files} if note else {}
+    for what in {*files} - {*taken}:
+        os.close(files[what])
+    if note:
+        trunk.take_up(taken, note)
+    return trunk
 
 
 @contextlib.contextmanager

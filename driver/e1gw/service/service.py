@@ -1,7 +1,7 @@
-"""Carries an E1 trunk, and keeps it in service: one process, alongside `e1gw trunk` and its follower.
+"""Carries an E1 trunk, and keeps it in service: one process, alongside `e1gw trunk`.
 
-The program carries the octets by itself, and logs all that it takes in memory. If it dies another one goes on from the
-state of that log. This process may be killed: the program goes on, and the next start takes it up.
+The program carries the octets by itself, and logs all that it takes in memory. If it dies another one goes on from that
+log. This process may be killed: the program goes on, and the next start takes it up.
 
 Signals: SIGHUP reload; SIGUSR2 another process in place of this one; SIGTERM, SIGINT end.
 Statuses: 0 ended as asked, or with the trunk's input; 1 the trunk or the program failed; 2 the command line or the
@@ -24,13 +24,13 @@ from ..faults import Parser, options_words, words_of_fault
 from ..writers import hold_descriptors
 from .commands import CannotListen
 from .journal import ServiceJournal
-from .lifecycle import GRACE, TrunkKeeper, TrunkWants
-from .options import add_options, opens_of, recording_of, wants_of, watched_of
-from .pair import open_pair
-from .program import TrunkProgram
+from .lifecycle import GRACE, TrunkCarrier, TrunkWants, store
+from .note import ServiceNote
+from .options import add_options, recording_of, wants_of, watched_of
+from .pair import feeding_of, open_pair
+from .program import ProgramPlaces
 from .reader import LogReader
-from .handover import (CAUGHT, CannotBegin, Handover, Notifier, first_keeper, given_files, next_keeper, note_of,
-                       open_first)
+from .handover import CAUGHT, CannotBegin, Handover, Notifier, carrier_of, given_files, left_by
 from .reload import ReloadRequests
 from .status import OperatedTrunk
 from .trunk import Tasks
@@ -57,12 +57,15 @@ async def sign_of_life(notifier: Notifier) -> None:
         await asyncio.sleep(SIGN)
 
 
-async def opened_watch(asked: argparse.Namespace, keeper: TrunkKeeper, requests: ReloadRequests,
-                       goes_on: bool) -> TrunkWatch:
-    """Watches the trunk. One that cannot listen ends no trunk that `goes_on`."""
-    watch = TrunkWatch(watched_of(asked, keeper.wants.program), OperatedTrunk(keeper, requests))
-    keeper.trunk.tell = watch.tell
-    keeper.reader.found = watch.flowed
+async def opened_watch(asked: argparse.Namespace, carrier: TrunkCarrier, requests: ReloadRequests,
+                       note: ServiceNote | None, goes_on: bool) -> TrunkWatch:
+    """Watches the trunk, with what was noted of its calls. One that cannot listen ends no trunk that `goes_on`."""
+    watch = TrunkWatch(watched_of(asked, carrier.wants.program), OperatedTrunk(carrier, requests))
+    if note and note.calls:
+        watch.status.take_up(note.calls)
+    carrier.calls, watch.status.changed = watch.status.calls_note, carrier.note
+    carrier.trunk.tell = watch.tell
+    carrier.reader.found, carrier.reader.told = watch.flowed, lambda: watch.status.lines.place
     try:
         await watch.open()
     except (OSError, CannotListen, KeyError) as fault:
@@ -73,29 +76,18 @@ async def opened_watch(asked: argparse.Namespace, keeper: TrunkKeeper, requests:
     return watch
 
 
-def reader_of(asked: argparse.Namespace, keeper: TrunkKeeper) -> LogReader:
-    """Reads what the programs of a keeper log."""
-    async def checkpoint() -> TrunkProgram | None:
-        program = keeper.program
-        if not program or not program.follower or program.process.over.is_set():
-            return None
-        before = program.checkpoint
-        await keeper.checkpoints.take(program)
-        return program if program is keeper.program and program.checkpoint is not before else None
-
-    def note() -> None:
-        if keeper.status is None:       # (of a trunk that has ended nothing is noted any more)
-            keeper.note()
-    return LogReader(recording_of(asked), asked.gap / 1000, note, checkpoint)
+def reader_of(asked: argparse.Namespace, carrier: TrunkCarrier) -> LogReader:
+    """Reads what the programs of a trunk log."""
+    return LogReader(carrier.places.log, asked.gap / 1000, recording_of(asked, carrier.places.config), carrier.note)
 
 
-def catch_signals(keeper: TrunkKeeper, requests: ReloadRequests) -> None:
+def catch_signals(carrier: TrunkCarrier, requests: ReloadRequests) -> None:
     loop, tasks = asyncio.get_running_loop(), Tasks()
     loop.add_signal_handler(signal.SIGHUP, lambda: tasks.begin(requests.reload()))
     loop.add_signal_handler(signal.SIGUSR2, lambda: tasks.begin(requests.replace()))
     loop.add_signal_handler(signal.SIGUSR1, lambda: None)
     for each in (signal.SIGTERM, signal.SIGINT):
-        loop.add_signal_handler(each, keeper.end, f'signal {each}')
+        loop.add_signal_handler(each, carrier.end, f'signal {each}')
     signal.pthread_sigmask(signal.SIG_UNBLOCK, CAUGHT)
 
 
@@ -107,42 +99,47 @@ def make_own(folder: str) -> None:
         raise CannotBegin(f'{folder}: other users can write there; --folder gives another place', 2)
 
 
+async def open_first(carrier: TrunkCarrier) -> None:
+    """Opens the trunk of a first start, unless that is tried until it can be. CannotBegin if it can't."""
+    if not (carrier.wants.line.reopens or carrier.was_up or carrier.trunk.is_open()):
+        try:
+            await carrier.trunk.open_until(carrier.ends)
+        except OSError as fault:
+            raise CannotBegin(f'the trunk cannot be opened: {words_of_fault(fault)}', 1) from None
+
+
 async def serve(asked: argparse.Namespace, wants: TrunkWants) -> int:
     """Until the end; returns the status."""
     files, notifier = given_files(), Notifier()
     make_own(wants.folder)
-    note = note_of(files, wants.folder, opens_of(asked))
-    handover = Handover(wants.folder, opens_of(asked), notifier, files if note else {})
-    if note:
-        keeper = await next_keeper(wants, handover, notifier, note, files)
-    else:
-        for name, file in files.items():
-            os.close(file)
-            notifier.tell('FDSTOREREMOVE=1', f'FDNAME={name}')
-        keeper = await first_keeper(wants, handover, notifier)
-    keeper.pair = await open_pair(asked, keeper, note)
-    requests = ReloadRequests(keeper, handover, notifier)
-    catch_signals(keeper, requests)
-    keeper.reader = reader_of(asked, keeper)
-    keeper.reader.take_up(note and note.get('read'), files)
-    if keeper.program:
-        keeper.reader.began(keeper.program, False)
-    beside = [asyncio.create_task(sign_of_life(notifier)), asyncio.create_task(keeper.reader.run())]
-    watch = await opened_watch(asked, keeper, requests, note is not None)
+    places = ProgramPlaces(wants.folder)
+    handover = Handover(wants.folder, notifier, files)
+    left = left_by(places, wants.opens, files)
+    carrier = await carrier_of(wants, places, left, handover, notifier, bool(feeding_of(asked)))
+    carrier.reader = reader_of(asked, carrier)
+    carrier.reader.is_loaded = carrier.is_loaded
+    carrier.reader.take_up(carrier.read, left.note.recording if left.note else None)
+    carrier.pair = await open_pair(asked, carrier, left.note)
+    carrier.reader.rests = carrier.pair is not None and not carrier.pair.is_active
+    requests = ReloadRequests(carrier, handover, notifier)
+    catch_signals(carrier, requests)
+    beside = [asyncio.create_task(sign_of_life(notifier)), asyncio.create_task(carrier.reader.run())]
+    watch = await opened_watch(asked, carrier, requests, left.note, left.is_anything)
     beside.append(asyncio.create_task(watch.run()))
-    if not keeper.pair or keeper.pair.is_active:
-        await open_first(keeper)
-    status = await keeper.serve()
-    if keeper.state.state >= 0:
-        watch.status.saved(keeper.state.name())
+    if not carrier.pair or carrier.pair.is_active:
+        await open_first(carrier)
+    status = await carrier.serve()
+    if wants.state and not await store(carrier.versions.now, carrier.reader, wants.state):
+        status = 1
     for task in beside:
         task.cancel()
     await asyncio.wait(beside, timeout=GRACE)
-    await keeper.reader.finish()
+    await carrier.reader.finish()
     for path in filter(None, (wants.control, wants.tell)):
         if os.path.islink(path):
             os.unlink(path)
-    shutil.rmtree(wants.folder, ignore_errors=True)
+    for folder in {wants.folder, carrier.places.folder}:
+        shutil.rmtree(folder, ignore_errors=True)
     return status
 
 

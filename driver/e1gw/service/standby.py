@@ -1,62 +1,85 @@
-"""The standby of a trunk: a follower on the log that the other machine feeds. It opens no port, and sends nothing but
-up to when it has all of that log. It keeps what it knows until another feed has caught up."""
+"""The standby of a trunk: it writes what the other machine feeds into a log of its own, from which the next program
+begins here. It opens no port, and sends nothing but up to when it has all. It keeps what it knows until another feed
+has caught up."""
 from __future__ import annotations
 
 import asyncio
+import glob
 import logging
 import math
+import os
+import shutil
+import tempfile
 import time
-from collections import Counter
+from contextlib import closing
 from typing import Callable, Sequence
 
 from ..faults import words_of_fault
 from ..lines import Event
-from ..session import CIRCUITS, MULTIFRAME, OCTETS_A_SECOND, trunk_record
+from ..session import CIRCUITS, MULTIFRAME, OCTETS_A_SECOND, trunk_record, whole_records
 from ..tls import context_of
-from ..writers import write_all
-from .checkpoints import Checkpoints
-from .feed import (CARRIES, FRESH, GO, MARK, MOST_HEAD, MOST_PIECE, NOTHING, PATIENCE, PIECE, TAKES, YOURS,
-                   FeedRefused, configured, head_of)
-from .log import Checkpoint, TrunkLog, in_memory, whole_records
-from .program import SOON, LoggedProgram
+from .feed import (CARRIES, FRESH, GO, LENGTH, MARK, MOST_HEAD, MOST_PIECE, NOTHING, PATIENCE, PIECE, STATE, TAKES,
+                   YOURS, FeedHead, FeedRefused, configured, head_of)
+from .log_folder import RECORDS_ROOM, STATE_ROOM, LogFiles, LogPair, LogWriter, NoRoom
 from .version import ProgramVersion
 
 AGAIN, MOST_AGAIN = 0.1, 1.0            # seconds between two tries to be fed
 SAYS = 0.05                 # seconds between two words of what it has
 START = 0.03                # seconds from a state to the program that goes on with it
 IN_TIME = 0.1               # seconds that a far end may wait for packets
-READS = 1.0                 # seconds in which a follower has read all ones
 DRIFT = 1e-4                # by which the clocks of two machines differ at most, in seconds a second
 MOST_AGE = 60.0             # seconds after which a state is of no use
+ONES = trunk_record(b'\xff' * MULTIFRAME)
+MANY = RECORDS_ROOM // 4 // len(ONES)   # of them that are put at once
+FED = 'fed-'                # how folders of what is fed begin
 NO_TRUNK = 'it carries no trunk, or this address is not its --standby'
 NO_CERTIFICATE = 'it refuses the certificate of this machine'
 
 logger = logging.getLogger(__name__)
 
 
-class FedProgram(LoggedProgram):
-    """The program of the other machine, as far as its log is here: whole records of it."""
+class FedLog:
+    """The log of the other machine, as far as it is here: a state, and whole records behind it, in a folder of its
+    own."""
 
-    def __init__(self, version: ProgramVersion, begun: Checkpoint, zero: int, pid: int = 0, ended: float = 0.0) -> None:
-        super().__init__(0, version, begun, TrunkLog(), pid)
-        self.zero, self._cut = zero, b''         # (that of the trunk there)
-        self._took = time.monotonic()
-        self.came = ended or self._took         # when the machine that it is of had octets of the trunk last
+    def __init__(self, within: str, place: int, octets: int, zero: int, pid: int = 0) -> None:
+        """`octets` is the octet of the trunk at this place, `zero` that of the trunk there."""
+        self.folder = tempfile.mkdtemp(prefix=FED, dir=within)
+        self.place, self.octets, self.zero, self.pid, self._cut, self._has_trunk = place, octets, zero, pid, b'', False
+        self._writer = LogWriter(self.folder)
+        self.came = self._took = time.monotonic()       # when the machine that it is of had octets of the trunk last
         self.fresh = self.came - FRESH          # of when it had all that the other log had
         self._ahead = math.inf                  # seconds by which this clock is ahead of the other one
         self.circuits = list[int]()             # that are configured otherwise at the other machine
 
-    def take(self, at: float, piece: bytes) -> None:
-        """A piece, which was all that the log had at that time of the other clock, if it has one. A piece may wait
-        here, and the one that waited least tells how the clocks differ. OSError if there is no room."""
-        octets, now = self._cut + piece, time.monotonic()
-        whole, trunk = whole_records(octets)
-        write_all(self.log.file, octets[:whole])
+    def begin(self, state: bytes, records: bytes = b'') -> None:
+        """A state behind all that was taken, and records behind that."""
+        self._writer.begin(self.place, state, records)
+        self._count(records)
+
+    def take(self, piece: bytes) -> None:
+        """A piece of the log. NoRoom if it has too many records behind a state."""
+        octets = self._cut + piece
+        whole = whole_records(octets)[0]
         self._cut = octets[whole:]
-        if at:
-            self._ahead, self._took = min(now - at, self._ahead + DRIFT * (now - self._took)), now
-            self.fresh = at + self._ahead
-            self.came = self.fresh if trunk else self.came
+        self._put(octets[:whole])
+
+    def _put(self, records: bytes) -> None:
+        self._writer.append(records)
+        self._count(records)
+
+    def _count(self, records: bytes) -> None:
+        trunk = whole_records(records)[1]
+        self.place, self.octets = self.place + len(records), self.octets + trunk
+        self._has_trunk |= trunk > 0
+
+    def is_all(self, at: float) -> None:
+        """What was taken was all that the log had at that time of the other clock. A word of that may wait here, and
+        the one that waited least tells how the clocks differ."""
+        now = time.monotonic()
+        self._ahead, self._took = min(now - at, self._ahead + DRIFT * (now - self._took)), now
+        self.fresh = at + self._ahead
+        self.came, self._has_trunk = self.fresh if self._has_trunk else self.came, False
 
     def ones(self, more: float = 0.0) -> int:
         """How many octets of ones stand for the time since octets came, and `more` seconds, as if the trunk had given
@@ -65,32 +88,71 @@ class FedProgram(LoggedProgram):
         self.came += count * MULTIFRAME / OCTETS_A_SECOND
         return count * MULTIFRAME
 
-    def fill(self, more: float = 0.0) -> int:
-        """Puts them into the state. Returns how many."""
+    async def fill(self, version: ProgramVersion, more: float) -> int:
+        """Puts them into the log. Returns how many. OSError if there is no room for them."""
         count = self.ones(more)
-        write_all(self.log.file, trunk_record(b'\xff' * MULTIFRAME) * (count // MULTIFRAME))
+        left = count // MULTIFRAME
+        while left:
+            many = min(left, MANY)
+            try:
+                self._put(ONES * many)
+                left -= many
+            except NoRoom:
+                await self._shorten(version)
         return count
+
+    async def _shorten(self, version: ProgramVersion) -> None:
+        """Another state, behind all records."""
+        saved = os.path.join(self.folder, 'saved')
+        status, said, _ = await version.run(['replay', '--save', saved], self.last())
+        if status:
+            raise OSError(0, f'the records of the other machine are not taken: {said.strip()}')
+        with open(saved, 'rb') as file:
+            self.begin(file.read())
+        os.unlink(saved)
+
+    def last(self) -> LogPair | None:
+        """What it has."""
+        with closing(LogFiles(self.folder)) as files:
+            return files.last()
+
+    def goes_to(self, folder: str) -> None:
+        """It is the log of this folder from now on."""
+        shutil.rmtree(folder, ignore_errors=True)
+        os.rename(self.folder, folder)
+        self.folder = folder
+
+    def close(self, is_kept: bool = False) -> None:
+        self._writer.close()
+        if not is_kept:
+            shutil.rmtree(self.folder, ignore_errors=True)
 
 
 class TrunkStandby:
     """Is fed by the other machine, at this place of it, over TLS if there are files for that. `source` is the address
-    from which it connects; `version` gives the program and the configuration of now; `tell` reports who feeds it."""
+    from which it connects; `version` gives the program and the configuration of now; `folder` is for its logs; `tell`
+    reports who feeds it."""
 
     def __init__(self, place: tuple[str, int], source: str, tls: Sequence[str], version: Callable[[], ProgramVersion],
-                 checkpoints: Checkpoints, tell: Callable[[Event], None]) -> None:
-        self._place, self._source, self._tls, self._version = place, source, tls, version
-        self._checkpoints, self._tell, self._by = checkpoints, tell, f'{place[0]}:{place[1]}'
+                 folder: str, tell: Callable[[Event], None]) -> None:
+        self._place, self._source, self._tls, self._version, self._folder = place, source, tls, version, folder
+        self._tell, self._by = tell, f'{place[0]}:{place[1]}'
         self.is_handed: Callable[[bool], None] = lambda takes: None     # this machine is to carry the trunk, or no more
         self.carries: Callable[[], bool] = lambda: False        # whether it does
         self._taking: asyncio.Task[None] | None = None          # what says so to the other machine
-        self.fed: FedProgram | None = None
+        for left in glob.glob(os.path.join(glob.escape(folder), f'{FED}*')):      # (of a service before this one)
+            shutil.rmtree(left, ignore_errors=True)
+        self.fed: FedLog | None = None
         self.why = ''           # why nothing feeds it
-        self._wait, self._lock = AGAIN, asyncio.Lock()
+        self._wait = AGAIN
 
     def age(self) -> float | None:
         """How many seconds ago what it has was all; None if it has nothing."""
-        fed, its = self.fed, self.fed and self.fed.follower
-        return time.monotonic() - fed.fresh if fed and its and not its.process.over.is_set() else None
+        return time.monotonic() - self.fed.fresh if self.fed else None
+
+    def last(self) -> LogPair | None:
+        """What it knows of the log, if that is anything."""
+        return self.fed.last() if self.fed else None
 
     async def run(self) -> None:
         """Until it is cancelled. Whatever fails is begun again; why is reported once, however often it is tried."""
@@ -124,23 +186,28 @@ class TrunkStandby:
             if fed and fed is not self.fed:
                 fed.close()
 
-    async def _first(self, reader: asyncio.StreamReader) -> FedProgram:
+    async def _first(self, reader: asyncio.StreamReader) -> FedLog:
         """The head, and the state."""
         if not (line := await reader.readline()):       # (TLS shows this machine's certificate last)
             raise FeedRefused(NO_CERTIFICATE if self._tls else NO_TRUNK)
         if line == NOTHING:
             raise FeedRefused(NO_TRUNK)
-        version, head = self._version(), head_of(line)
-        law, circuits = configured(version.config_path())
-        if law != head['law']:
-            raise FeedRefused(f'its law is {head["law"][:20]}, and here it is {law}')
-        state = await reader.readexactly(head['state'])
-        begun = Checkpoint(in_memory(state) if state else -1, 0, Counter(head['counted']))
-        fed = FedProgram(version, begun, head['zero'], head['program'])
-        fed.circuits = [n for n in CIRCUITS if circuits.get(str(n)) != head['circuits'].get(str(n))]
+        head = head_of(line)
+        circuits = self._differs(head)
+        state = await reader.readexactly(head.state)
+        fed = FedLog(self._folder, head.place, head.octets, head.zero, head.program)
+        fed.begin(state)
+        fed.circuits = circuits
         return fed
 
-    async def _take(self, fed: FedProgram, reader: asyncio.StreamReader, writer: asyncio.StreamWriter) -> None:
+    def _differs(self, head: FeedHead) -> list[int]:
+        """The circuits that are configured otherwise there. FeedRefused if the law is another one."""
+        law, circuits = configured(self._version().config_path())
+        if law != head.law:
+            raise FeedRefused(f'its law is {head.law[:20]}, and here it is {law}')
+        return [n for n in CIRCUITS if circuits.get(str(n)) != head.circuits.get(str(n))]
+
+    async def _take(self, fed: FedLog, reader: asyncio.StreamReader, writer: asyncio.StreamWriter) -> None:
         """Takes pieces of the log, to its end, and says now and then up to when it has all."""
         said = 0.0
         while True:
@@ -148,9 +215,14 @@ class TrunkStandby:
                 at, length = PIECE.unpack(await reader.readexactly(PIECE.size))
                 if length > MOST_PIECE or not math.isfinite(at):
                     raise FeedRefused('a piece of the feed is too long, or has no time')
-                fed.take(at, await reader.readexactly(max(0, length)))
-            if at and fed is not self.fed:
-                await self._begins(fed)
+                if length == STATE:
+                    fed.begin(await self._state(reader))
+                    continue
+                fed.take(await reader.readexactly(max(0, length)))
+            if at:
+                fed.is_all(at)
+                if fed is not self.fed:
+                    self._begins(fed)
             if length == YOURS and fed is self.fed:
                 writer.write(MARK.pack(TAKES))
                 continue
@@ -159,9 +231,15 @@ class TrunkStandby:
                 self.is_handed(True)
             if length < 0:
                 raise EOFError
-            if not at or not length or at > said + SAYS:
+            if at > said + SAYS:
                 writer.write(MARK.pack(at))
                 said = at
+
+    async def _state(self, reader: asyncio.StreamReader) -> bytes:
+        length, = LENGTH.unpack(await reader.readexactly(LENGTH.size))
+        if length > STATE_ROOM:
+            raise FeedRefused('a state of the feed is too long')
+        return await reader.readexactly(length)
 
     async def _says_so(self, writer: asyncio.StreamWriter) -> None:
         """Says that this machine takes the trunk until it carries it. If that lasts too long it is given back."""
@@ -175,49 +253,37 @@ class TrunkStandby:
             self.is_handed(False)
         writer.close()
 
-    async def _begins(self, fed: FedProgram) -> None:
+    def _begins(self, fed: FedLog) -> None:
         """A feed has given all that there is: it takes the place of what was known before."""
-        async with self._lock:
-            self.knows(fed)
+        self.knows(fed)
         self.why, self._wait = '', AGAIN
         if fed.circuits:
             logger.warning('the other machine has another configuration: the calls of circuits %s will not go on here',
                            ', '.join(map(str, fed.circuits)))
         self._tell({'event': 'fed', 'by': self._by, 'program': fed.pid})
 
-    def knows(self, fed: FedProgram | None) -> None:
+    def knows(self, fed: FedLog | None) -> None:
         """This is what it knows from now on."""
-        if fed:
-            fed.version = self._version()       # (another one may have come since the feed began)
-            self._checkpoints.follow(fed)
         before, self.fed = self.fed, fed
         if before:
             before.close()
 
-    async def look(self, wants_version: bool) -> None:
-        """To be called now and then: sees to the follower. Another one goes on for another version."""
-        async with self._lock:
-            if not (fed := self.fed):
-                return
-            self._checkpoints.look(fed)
-            if wants_version or self._checkpoints.is_due(fed):
-                fed.version = self._version()
-                await self._checkpoints.take(fed)
-            fed.log.free(fed.checkpoint.place)
-
-    async def state(self, is_given: bool) -> tuple[Checkpoint | None, str]:
-        """The state of now, up to which ones are put, and how many; None if nothing is known. If the next program
-        `is_given` the last of the ones, it sends what belongs to them, and the far end may have it in time."""
-        fed = self.fed
+    async def goes_to(self, folder: str, is_given: bool) -> tuple[FedLog | None, str]:
+        """Has a folder have the log of now, up to which ones are put, and how many; None if nothing is known. If the
+        next program `is_given` the last of the ones, it sends what belongs to them, and the far end may have it in
+        time."""
+        fed, self.fed = self.fed, None
         if not fed:
             return None, 'nothing is known'
         if (age := time.monotonic() - max(fed.came, fed.fresh)) > MOST_AGE:
+            fed.close()
             return None, f'what is known is {age:.0f} s old'
-        until = time.monotonic() + READS
-        count = 0 if is_given and until - READS < fed.came + IN_TIME else fed.fill()
-        fed.hurry()
-        while fed.follower and not fed.follower.has_all(0) and time.monotonic() < until:
-            await asyncio.sleep(SOON)
-        count += 0 if is_given else fed.fill(START)         # (what that took, and what is to come)
-        found = await self._checkpoints.recover(fed, None)
-        return found, f', {count} of them ones' if found else 'no state is known'
+        try:
+            is_soon = is_given and time.monotonic() < fed.came + IN_TIME
+            count = 0 if is_soon else await fed.fill(self._version(), 0.0 if is_given else START)
+            fed.goes_to(folder)
+            fed.close(True)
+        except OSError as fault:
+            fed.close()
+            return None, words_of_fault(fault)
+        return fed, f', {count} of them ones'

@@ -1,88 +1,110 @@
-"""The state of the trunk: what the follower of now reports (e1gw-tell(5)), and whether octets come."""
+"""The state of the trunk: what the program reports (e1gw-tell(5)), and whether octets come."""
 from __future__ import annotations
 
 import asyncio
 import errno
+import logging
 import os
 import socket
 import time
 from contextlib import suppress
+from dataclasses import replace
 from typing import Any, Callable
 
-from ..calls import CallLog
+from ..calls import CallLog, CallsNote
 from ..counts import DatagramCounts
 from ..faults import words_of_fault
 from ..lines import Event, read_config, tables_of
 from ..call_names import CallNames, note_of
-from ..session import CIRCUITS
+from ..session import CIRCUITS, OCTETS_A_SECOND, whole_records
 from ..reports import BadTelling, TrunkState
-from .lifecycle import TrunkKeeper, followed
-from .program import TrunkProgram
+from . import decisions
+from .decisions import Flow, FlowChange
+from .lifecycle import TrunkCarrier
+from .program import ProgramPlaces
+from .missed import MissedReports, told_again
 from .reload import ReloadRequests
 
 AGAIN = 0.1                 # seconds between two tries to connect, and two looks
 REST, SHORT_REST = 0.05, 0.01       # between two reads of reports; the latter if somebody follows events
-FIRST = 2.0                 # seconds before it is reported that somebody was never there
-QUIET = 1.0                 # seconds after which octets of the trunk are missed
+FIRST = 2.0                 # seconds before it is reported that the program was never there
+BOTH = 'reports', 'control'         # the sockets of the program at which this service is a client
+
+logger = logging.getLogger(__name__)
 
 
 class OperatedTrunk:
-    """The trunk of a keeper, as an operator may see and change it: its follower tells at `tell`, its program takes
-    records at `program`."""
+    """A trunk as an operator may see and change it."""
 
-    def __init__(self, keeper: TrunkKeeper, requests: ReloadRequests) -> None:
-        self._keeper, self._requests = keeper, requests
-        self.tell, self.program = keeper.wants.tell or '', keeper.wants.control
+    def __init__(self, carrier: TrunkCarrier, requests: ReloadRequests) -> None:
+        self._carrier, self._requests = carrier, requests
+
+    def places(self) -> ProgramPlaces:
+        """Where its program is found."""
+        return self._carrier.places
 
     def config_path(self) -> str:
-        """Of the configuration of the program whose follower tells; of the one of now before there is any."""
-        program = followed(self._keeper)
-        return (program.version if program else self._keeper.versions.now).config_path()
+        """Of the configuration of the program of now."""
+        carrier = self._carrier
+        return (carrier.program.version if carrier.program else carrier.versions.now).config_path()
 
     def facts(self) -> dict[str, Any]:
         """Since when it is open, why it is not or not recorded, its version and its pair, as plain values."""
-        keeper, pair = self._keeper, self._keeper.pair
-        version = keeper.program.version if keeper.program else keeper.versions.now
-        return keeper.trunk.facts() | {'version': version.name, 'pair': pair.facts() if pair else {},
-                                       'session': keeper.reader.why()}
+        carrier, pair = self._carrier, self._carrier.pair
+        version = carrier.program.version if carrier.program else carrier.versions.now
+        return carrier.trunk.facts() | {'version': version.name, 'pair': pair.facts() if pair else {},
+                                        'session': carrier.reader.why()}
 
     def flow(self) -> dict[str, Any]:
         """Gaps and the rate of its octets."""
-        return self._keeper.reader.clock.status()
+        return self._carrier.reader.clock.status()
 
     def outage(self) -> str | None:
         """Why no seizure can reach the other end, if the card knows."""
-        return self._keeper.trunk.outage()
-
-    def hurry(self) -> None:
-        """Has the follower read all that the program has logged."""
-        if program := followed(self._keeper):
-            program.hurry()
+        return self._carrier.trunk.outage()
 
     def place(self) -> int:
         """Octets of the trunk up to now, of the other machine's for a standby."""
-        keeper = self._keeper
-        fed = None if keeper.program or not keeper.pair else keeper.pair.standby.fed
-        return fed.octets() if fed else keeper.reader.place
+        carrier = self._carrier
+        fed = None if carrier.program or not carrier.pair else carrier.pair.standby.fed
+        return fed.octets if fed else carrier.reader.octets
 
-    def follower(self) -> tuple[str, str, int | None]:
-        """Where the follower of now tells, the state with which it has begun, and the place of that on the trunk.
-        FileNotFoundError if there is none."""
-        program = followed(self._keeper)
-        if not (program and program.follower and program.follower.tell == self._keeper.checkpoints.tells):
+    def session(self) -> str:
+        """Which program it is that tells. FileNotFoundError if there is none."""
+        program = self._carrier.program
+        if not (program and program.is_up):
             raise FileNotFoundError(errno.ENOENT, os.strerror(errno.ENOENT))
-        begun, started = program.follower.begun, program.process.started if isinstance(program, TrunkProgram) else 0
-        return program.follower.tell, begun.name() or f'{program.pid}.{started}', begun.counted['octets']
+        return f'{program.process.pid}.{program.process.started}'
+
+    def begun(self) -> int:
+        """The octet of the trunk with which the program of now has begun."""
+        program = self._carrier.program
+        return program.begun if program else 0
+
+    async def missed(self, since: int) -> MissedReports | None:
+        """What happened behind an octet of the trunk, as far as the log reaches."""
+        carrier = self._carrier
+        pairs = carrier.reader.pairs_since(since)
+        version = carrier.program.version if carrier.program else carrier.versions.now
+        if not pairs:
+            return None
+        try:
+            text = await told_again(version, [pair for _, pair in pairs], carrier.places.folder)
+        except OSError as fault:
+            logger.warning('what the calls did meanwhile is not known: %s', words_of_fault(fault))
+            return None
+        first = pairs[0][0]
+        return MissedReports(first, first + sum(whole_records(pair.records)[1] for _, pair in pairs), text)
 
     def ends(self) -> str:
-        asyncio.get_running_loop().call_later(0.01, self._keeper.end, 'quit')
+        asyncio.get_running_loop().call_later(0.01, self._carrier.end, 'quit')
         return 'quit: done'
 
     async def reload(self, force: bool) -> str:
         return await self._requests.reload(force)
 
     async def role(self, word: str) -> str:
-        pair = self._keeper.pair
+        pair = self._carrier.pair
         return await pair.asked(word) if pair else f'{word}: there is no other machine (--feed, --standby)'
 
 
@@ -97,48 +119,104 @@ async def readable(line: socket.socket) -> None:
 
 
 class TrunkStatus:
-    """A trunk as its follower tells it. `tell` is called with each change, and `put` given the line of each call."""
+    """A trunk as its program tells it. `tell` is called with each change, and `put` given the line of each call."""
 
     def __init__(self, trunk: OperatedTrunk, name: str, tell: Callable[[Event], None], counts: DatagramCounts,
                  put: Callable[[str], None]) -> None:
         self._trunk, self.tell = trunk, tell
         tables = read_config(trunk.config_path())
         self.lines = TrunkState(tables, self._tells, counts, began=self._told_all)
-        self.calls = CallLog(name, self.lines.lines, counts, put)
+        self.calls = CallLog(name, self.lines.lines, counts, put, self._day)
         self.is_followed: Callable[[], bool] = lambda: False
         self.start = time.monotonic()
-        self.naming = CallNames(note_of(trunk.tell))
+        self.naming = CallNames(note_of(trunk.places().tell))
         self._tables = tables_of(tables)
-        self._connected: dict[str, bool] = {}
-        self._since = dict.fromkeys(('shadow', 'program'), time.time())
+        self._connected = dict.fromkeys(BOTH, False)
+        self._stands: bool | None = None        # whether it is connected with the program, as was told
+        self._since = time.time()
         self._read = asyncio.Event()                    # reports are to be read at once
         self._line: socket.socket | None = None
         self._session = self._why = ''          # (why the last connection has ended)
-        self._place, self._moved, self._stood, self._stalls = 0, time.monotonic(), 0.0, 0
+        self._flow = Flow(0, time.monotonic())
+        self.changed: Callable[[], None] = lambda: None         # called when calls have changed
+        self._has_changed = False
+        self._known: int | None = None          # up to this octet another service has known all
+        self._behind = 0.0                      # seconds by which what is told now is late
         self.lines.lost()
 
+    def take_up(self, note: CallsNote) -> None:
+        """Goes on with the calls of the service before this one."""
+        self.calls.take_up(note)
+        self.calls.life, self._known = self.naming.known(self.lines.lines), note.place
+
+    async def _catch_up(self) -> None:
+        """What happened while no service was there is read in the log, as far as that reaches."""
+        since, self._known = self._known, None
+        missed = await self._trunk.missed(since) if since is not None else None
+        if since is None or not missed:
+            return
+        last: int = missed.last
+        if missed.first > since:
+            logger.warning('%.1f s of the trunk are not known: their calls may have no line',
+                           (missed.first - since) / OCTETS_A_SECOND)
+
+        def tells(event: Event) -> None:
+            self._behind = (last - event['place']) / OCTETS_A_SECOND
+            if event['place'] > since:
+                self._tells(event)
+        again = TrunkState(read_config(self._trunk.config_path()), tells, DatagramCounts(),
+                           lambda: time.monotonic() - self._behind)
+        again.lines = self.lines.lines
+        again.begin(missed.first)
+        self.calls.counted_by(again.counts)
+        with suppress(BadTelling):
+            again.take(missed.known_to(since))
+            self.naming.known(self.lines.lines)
+            again.take(missed.text[len(missed.known_to(since)):])
+        self.calls.look()
+        self.calls.counted_by(self.lines.counts)
+        self._behind = 0.0
+        self.naming.look(self.lines.lines)
+        self._note_calls()
+
+    def _day(self) -> float:
+        """When that was which is told now."""
+        return time.time() - self._behind
+
     def _tells(self, event: Event) -> None:
-        """The follower has told a change of the lines or the alarms."""
+        """The program has told a change of the lines or the alarms."""
         self.tell(event)
+        self._has_changed |= event['event'] == 'state'
         if event['event'] == 'state' and self.lines.live:
             self.naming.look(self.lines.lines)
+
+    def _note_calls(self) -> None:
+        """Writes the lines of calls that have ended, and has the next service know of changes."""
+        self.calls.look()
+        if self._has_changed:
+            self._has_changed = False
+            self.changed()
 
     # ---- connections ----
 
     def stands(self, what: str, on: bool, why: str = '') -> None:
-        """Whether there is a connection to the follower (`shadow`) or the program. At first it may be to come."""
-        if not on and what not in self._connected and time.monotonic() < self.start + FIRST:
+        """Whether there is a connection to one of the program's sockets. At first it may be to come."""
+        self._connected[what] = on
+        has = all(self._connected.values())
+        if not has and self._stands is None and time.monotonic() < self.start + FIRST:
             return
-        if self._connected.get(what) is not on:
+        if has is not self._stands:
+            self._stands, self._since = has, time.time()
             why = self._trunk.facts().get('fault') or why
-            self._connected[what], self._since[what] = on, time.time()
-            self.tell({'event': 'connected', 'to': what} if on else {'event': 'disconnected', 'from': what, 'why': why})
+            self.tell({'event': 'connected', 'to': 'program'} if has else
+                      {'event': 'disconnected', 'from': 'program', 'why': why})
 
-    def has(self, what: str) -> bool:
-        return self._connected.get(what, False)
+    def has_program(self) -> bool:
+        """Whether this service is connected with the program."""
+        return bool(self._stands)
 
     def teller(self) -> object:
-        """The connection to the follower that tells changes; None if there is none."""
+        """The connection at which changes are told; None if there is none."""
         return self._line if self.lines.live else None
 
     def hurry(self) -> None:
@@ -146,15 +224,16 @@ class TrunkStatus:
         self._read.set()
 
     async def follow(self) -> None:
-        """Knows the state of the trunk, by each follower that comes."""
+        """Knows the state of the trunk, by each program that comes."""
         while True:
             self._why = 'it has closed the connection'
             self._line = line = socket.socket(socket.AF_UNIX)
             try:
                 line.setblocking(False)
-                path, self._session, place = self._trunk.follower()
-                line.connect(path)
-                self._came(place)
+                self._session = self._trunk.session()
+                await self._catch_up()
+                line.connect(self._trunk.places().tell)
+                self._came()
                 await readable(line)
                 while self._takes(line, 1 << 16):
                     await self._rest()
@@ -166,7 +245,7 @@ class TrunkStatus:
                 self._line = None
             self.lines.lost()
             self.calls.left()
-            self.stands('shadow', False, f'{self._trunk.tell}: {self._why}')
+            self.stands('reports', False, f'{self._trunk.places().tell}: {self._why}')
             await asyncio.sleep(AGAIN)
 
     def _takes(self, line: socket.socket, most: int) -> bool:
@@ -175,7 +254,7 @@ class TrunkStatus:
         try:
             octets = line.recv(most)
             self.lines.take(octets)
-            self.calls.look()
+            self._note_calls()
             return bool(octets)
         except BlockingIOError:
             return True
@@ -198,22 +277,21 @@ class TrunkStatus:
                 await self._read.wait()
         self._read.clear()
 
-    def _came(self, place: int | None) -> None:
+    def _came(self) -> None:
         with suppress(OSError, ValueError, KeyError, TypeError):
             before, self._tables = self._tables, tables_of(read_config(self._trunk.config_path()))
             self.calls.changed = frozenset(n for n in CIRCUITS if before.get(n) != self._tables.get(n))
-        self._moved = time.monotonic()
-        self.lines.begin(place)
+        self._flow = replace(self._flow, moved=time.monotonic())
+        self.lines.begin(self._trunk.begun())
+
+    def calls_note(self) -> CallsNote:
+        """What another service has to know of the calls."""
+        return self.calls.note(self.lines.place)
 
     def _told_all(self) -> None:
         self.naming.begin(self._session, self.lines.seizures, self.lines.lines)
-        self.stands('shadow', True)
+        self.stands('reports', True)
         self.calls.begun(self.naming.life)
-
-    def saved(self, session: str) -> None:
-        """The trunk has ended with this state: the next one that begins with it goes on counting."""
-        self.take_now()
-        self.naming.saved(session, self.lines.lines)
 
     # ---- octets ----
 
@@ -221,26 +299,22 @@ class TrunkStatus:
         """Whether octets of the trunk come."""
         while True:
             await asyncio.sleep(AGAIN)
-            place, now = self._trunk.place(), time.monotonic()
-            if place != self._place:
-                if self._stood:
-                    self.tell({'event': 'flows', 'seconds': round(now - self._stood, 3)})
-                self._place, self._moved, self._stood = place, now, 0.0
-            elif self._line and not self._stood and now - self._moved >= QUIET:
-                self.stands('shadow', True)
-                self._stood, self._stalls = self._moved, self._stalls + 1
-                self.tell({'event': 'stalled', 'seconds': QUIET})
+            now, before = time.monotonic(), self._flow
+            self._flow, change = before.seen(self._trunk.place(), now, self._line is not None)
+            if change is FlowChange.FLOWS:
+                self.tell({'event': 'flows', 'seconds': round(now - (before.stood or now), 3)})
+            elif change is FlowChange.STALLED:
+                self.stands('reports', True)
+                self.tell({'event': 'stalled', 'seconds': decisions.QUIET})
 
     def outage(self) -> str | None:
         """Why no seizure can reach the other end, or None."""
-        return 'the trunk is stalled' if self._stood else self._trunk.outage() or self.lines.outage()
+        is_stalled = self._flow.stood is not None
+        return 'the trunk is stalled' if is_stalled else self._trunk.outage() or self.lines.outage()
 
     def values(self) -> dict[str, Any]:
         """All that is known, as plain values."""
-        values: dict[str, Any] = self.lines.status() | {
+        return self.lines.status() | {
             'octets': max(self._trunk.place(), self.lines.place), 'life': self.naming.life or None,
-            'trunk_up': self.has('program'),
-            'clock': {'stalled': bool(self._stood), 'stalls': self._stalls}}
-        for what, since in self._since.items():
-            values |= {what: self.has(what), f'{what}_since': round(since, 3)}
-        return values
+            'trunk_up': self.has_program(), 'program': self.has_program(), 'program_since': round(self._since, 3),
+            'clock': {'stalled': self._flow.stood is not None, 'stalls': self._flow.stalls}}

@@ -16,19 +16,17 @@ from dataclasses import dataclass
 from math import inf
 from typing import Any, Awaitable, Callable, Coroutine
 
-from ..crc4 import Crc4, counts_in
+from ..crc4 import Crc4, Crc4Note, counts_in
 from ..faults import words_of_fault
 from ..lines import Event
-from ..slots import Slots
+from ..slots import Slots, SlotsNote
 from ..trunks import Stream
 from .card import CardWatch, watch_of
 from .events import tell_journal
-from .process import Child
 
 QUICK = 1.0                 # seconds: what ends within them is begun again later
 PAUSE, MOST_PAUSE = 0.25, 30.0          # seconds up to then, at first and at most
 AGAIN = 0.1                 # seconds before what has failed is begun again
-REST = 0.05                 # seconds for the processes of the service before this one
 LINE = 'line-in', 'line-out'            # descriptors of a device or a socket
 
 logger = logging.getLogger(__name__)
@@ -46,6 +44,30 @@ class LineOptions:
     reopens: bool = False
     pause: float = MOST_PAUSE   # seconds between two tries to open it, at most
     program: str = ''           # for `e1gw satop`
+
+
+@dataclass(frozen=True)
+class SatopNote:
+    """What the next service has to know of an emulated circuit, and of its process if that is there."""
+
+    words: tuple[str, ...]
+    zero: int
+    why: str
+    pid: int
+    started: int
+
+
+@dataclass(frozen=True)
+class TrunkNote:
+    """What the next service has to know of a trunk: the names of its descriptors, which it is to be given, its own
+    name, and since when it is open."""
+
+    names: tuple[str, ...]
+    name: str
+    since: float
+    crc4: Crc4Note | None
+    slots: SlotsNote | None
+    satop: SatopNote | None = None
 
 
 class Pause:
@@ -77,7 +99,7 @@ class TrunkFiles:
         self.since, self.fault = time.time(), ''         # when it was opened, and why it is not
         self.crc4, self.slots = Crc4() if line.crc4 else None, Slots() if line.clear else None
         self.card: CardWatch | None = None
-        self._pause, self._left = Pause(line.pause), list[Child]()      # (processes of the service before this one)
+        self._pause = Pause(line.pause)
         self.both = -1, -1
 
     def is_open(self) -> bool:
@@ -91,8 +113,6 @@ class TrunkFiles:
 
     async def _hold_line(self) -> None:
         """Opens the line, unless it is held."""
-        while self._left:       # (what they have in hand goes out)
-            await self._left.pop().end_within(REST)
         if not self.files:
             await self._open_line()
 
@@ -175,33 +195,31 @@ class TrunkFiles:
 
     # ---- for the service that comes after this one ----
 
-    def note(self) -> dict[str, Any]:
-        """What it has to know, and to have."""
-        return {'files': self.files, 'name': self.name, 'crc4': self.crc4 and self.crc4.note(),
-                'slots': self.slots and self.slots.note()}
+    def note(self) -> TrunkNote:
+        """What it has to know. It is given the descriptors."""
+        return TrunkNote((*self.files,), self.name, self.since, self.crc4.note() if self.crc4 else None,
+                         self.slots.note() if self.slots else None)
 
-    def take_up(self, files: dict[str, int], note: dict[str, Any]) -> None:
+    def take_up(self, files: dict[str, int], note: TrunkNote) -> None:
         """Goes on with these descriptors of the service before this one. What is between the line and the program
-        begins again if it is not all there, or if that service had other processes there."""
-        self.name, self.files, processes = str(note.get('name', '')), files, note.get('processes', {})
-        if self.crc4 and note.get('crc4'):
-            self.crc4.take_up(note['crc4'])
-        if self.slots and note.get('slots'):
-            self.slots.take_up(note['slots'])
-        lacks = note['files'].keys() - files.keys()
-        if files and not lacks and self._is_joined(processes):
-            return self._goes_on(processes)
-        self._left = [Child(*its[:2]) for its in processes.values() if its]
+        begins again if it is not all there."""
+        self.name, self.files = note.name, files
+        if self.crc4 and note.crc4:
+            self.crc4.take_up(note.crc4)
+        if self.slots and note.slots:
+            self.slots.take_up(note.slots)
+        lacks = {*note.names} - {*files}
+        if files and not lacks and self._is_joined(note):
+            self.since = note.since
+            return self._goes_on(note)
         for what in [what for what in files if what not in LINE or lacks & {*LINE}]:
             os.close(files.pop(what))
-        for file in files.values():
-            os.set_blocking(file, False)        # (a process of that service may have waited in a read)
 
-    def _is_joined(self, processes: dict[str, list[int]]) -> bool:
-        """Whether the processes of the service before this one are those that there are now."""
-        return not processes
+    def _is_joined(self, note: TrunkNote) -> bool:
+        """Whether this service would have the same between line and program."""
+        return note.satop is None
 
-    def _goes_on(self, processes: dict[str, list[int]]) -> None:
+    def _goes_on(self, note: TrunkNote) -> None:
         """All of it goes on."""
         self._set_ends()
 

@@ -11,19 +11,19 @@ import stat
 import tomllib
 from contextlib import suppress
 from dataclasses import dataclass, replace
-from math import inf
 from typing import Any, Iterable, Sequence
 
 from ..lines import IN_CALL, config_text, no_peers, read_config, tables_of
 from ..programs import version_of
-from .log import Checkpoint, in_memory
+from .decisions import Trial
+from .log_folder import LogPair
+from .memory import in_memory, octets_in
 from .process import Child, ran
 
 MOST_OCTETS = 65_536        # of a configuration
 CHECK = 10.0                # seconds for the program to check it
 LOOK_UP = 10.0              # seconds for all names to be looked up
 NEW = re.compile(r'circuit (\d+) begins as new')
-TRIED, MOST_DEATHS = 60.0, 2            # seconds in which a new version is tried, and deaths that it may not have then
 
 
 class VersionRefused(Exception):
@@ -57,24 +57,29 @@ class ProgramVersion:
         tables = tables_of(read_config(self.config_path()))
         return frozenset(n for n, (_, table) in tables.items() if 'local_port' in table)
 
-    def start(self, words: Sequence[str], reads: int, writes: int, passed: Iterable[int] = ()) -> Child:
+    def start(self, words: Sequence[str], reads: int, writes: int, passed: Iterable[int] = (), said: int = -1) -> Child:
         """Starts a process of it: a subcommand, which reads its configuration, with further words."""
         executable = f'/proc/self/fd/{self.file}'
         with suppress(OSError):         # (by its path, as long as it is the same file)
             if os.path.samestat(os.stat(self.program), os.fstat(self.file)):
                 executable = self.program
         return Child.start(executable, [self.program, words[0], '--config', self.config_path(), *words[1:]], reads,
-                           writes, [self.file, self.config, *passed])
+                           writes, [self.file, self.config, *passed], said)
 
-    async def run(self, words: Sequence[str], begun: Checkpoint, given: bytes = b'') -> tuple[int | None, str, bytes]:
-        """Runs a process of it to its end, from a state on."""
-        return await ran(lambda reads, writes: self.start([*words, *begun.words()], reads, writes, begun.files()),
-                         given, CHECK)
+    async def run(self, words: Sequence[str], begun: LogPair | None) -> tuple[int | None, str, bytes]:
+        """Runs a process of it to its end, over the records behind a state if there is one."""
+        state = in_memory(begun.state if begun else b'')
+        words = [*words, '--load', f'/dev/fd/{state}'] if begun else words
+        try:
+            return await ran(lambda reads, writes: self.start(words, reads, writes, [state]),
+                             begun.records if begun else b'', CHECK)
+        finally:
+            os.close(state)
 
-    async def check(self, checkpoint: Checkpoint) -> tuple[frozenset[int], frozenset[int]]:
-        """Has the program check the configuration, and whether it goes on from a state: the circuits that begin as new
+    async def check(self, begun: LogPair | None = None) -> tuple[frozenset[int], frozenset[int]]:
+        """Has the program check the configuration, and whether it goes on from a log: the circuits that begin as new
         then, and those that are in a call."""
-        status, said, listed = await self.run(['check'], checkpoint)
+        status, said, listed = await self.run(['check'], begun)
         if status is None:
             raise VersionRefused(f'the program does not check the configuration within {CHECK:g} s')
         lines = said.strip().splitlines()
@@ -90,7 +95,7 @@ class ProgramVersion:
         os.close(self.config)
 
 
-async def version_of_now(program: str, config: str, senders: str | None, checkpoint: Checkpoint) -> ProgramVersion:
+async def version_of_now(program: str, config: str, senders: str | None) -> ProgramVersion:
     """The program and the configuration of now, tried. VersionRefused says why they will not do."""
     octets = await asyncio.to_thread(_read, config)
     file = os.open(program, os.O_RDONLY)
@@ -99,7 +104,7 @@ async def version_of_now(program: str, config: str, senders: str | None, checkpo
         held.append(in_memory(octets))
         name = await asyncio.to_thread(version_of, program)
         version = ProgramVersion(program, held[0], held[1], senders or 'any', name)
-        await version.check(checkpoint)         # (before any Python reads it)
+        await version.check()           # (before any Python reads it)
         tables = tomllib.loads(octets.decode())
         addresses = await look_up(tables)
         tables = with_addresses(tables, addresses)
@@ -108,7 +113,7 @@ async def version_of_now(program: str, config: str, senders: str | None, checkpo
         if addresses:
             os.ftruncate(version.config, 0)
             os.pwrite(version.config, config_text(tables).encode(), 0)
-            await version.check(checkpoint)
+            await version.check()
         return replace(version, senders=senders or ('any' if addresses else 'host'))
     except BaseException as fault:
         for each in held:
@@ -164,43 +169,60 @@ def with_addresses(tables: dict[str, Any], addresses: dict[str, str]) -> dict[st
     return tables | {'circuit': circuits}
 
 
+def version_left(program: str, config: bytes, senders: str, name: str, pid: int) -> ProgramVersion:
+    """The version of a program that a service before this one has started: its file, whatever is at its path now, and
+    its configuration. OSError if there is none."""
+    held = list[int]()
+    try:
+        for path in (f'/proc/{pid}/exe', program):
+            with suppress(OSError):
+                held.append(os.open(path, os.O_RDONLY | os.O_CLOEXEC))
+                break
+        else:
+            raise FileNotFoundError(program)
+        held.append(in_memory(config))
+        return ProgramVersion(program, held[0], held[1], senders, name)
+    except OSError:
+        for each in held:
+            os.close(each)
+        raise
+
+
 class VersionHistory:
     """The version in service, and for a minute the one before it. Two deaths of the new one within that minute, or a
     start that fails, bring the one before back."""
 
     def __init__(self, now: ProgramVersion) -> None:
         self.now, self.before = now, None       # type: ProgramVersion, ProgramVersion | None
-        self._deaths, self._until = 0, inf
+        self.trial: Trial | None = None         # of the version of now, if there is one before
         self.settled, self.refused = asyncio.Event(), ''    # whether the last one is up, or why it is not to be
 
     def renew(self, version: ProgramVersion) -> None:
         """This one is to follow."""
         if self.before:
             self.before.close()
-        self.before, self.now = self.now, version
-        self._deaths, self._until, self.refused = 0, inf, ''
+        self.before, self.now, self.trial, self.refused = self.now, version, Trial(), ''
         self.settled.clear()
 
     def is_up(self, now: float) -> None:
         """A program of the version of now carries the trunk."""
-        self._until = min(self._until, now + TRIED)
+        self.trial = self.trial and self.trial.is_up(now)
         self.settled.set()
 
     def look(self, now: float) -> None:
-        """To be called now and then."""
-        if self.before and now >= self._until:
+        """To be called now and then: a trial ends."""
+        if self.before and self.trial and now >= self.trial.until:
             self.before.close()
-            self.before = None
-
-    def has_died(self) -> bool:
-        """A program of the version of now has died: whether the one before is to come back."""
-        self._deaths += 1
-        return self.before is not None and self._deaths >= MOST_DEATHS
+            self.before = self.trial = None
 
     def go_back(self, why: str) -> ProgramVersion:
         """The one before is the one of now again. Returns the other one, which is to be closed."""
         assert self.before
         self.refused = why
         self.settled.set()
-        given_up, self.now, self.before = self.now, self.before, None
+        given_up, self.now, self.before, self.trial = self.now, self.before, None, None
         return given_up
+
+    def config(self) -> bytes:
+        """The configuration of now."""
+        return octets_in(self.now.config)

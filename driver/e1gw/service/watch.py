@@ -58,7 +58,7 @@ class TrunkWatch:
         self._counts = DatagramCounts(self._restarts.counted)
         self.status = TrunkStatus(trunk, wants.name, self.tell, self._counts, self._put_call)
         self._lines = self.status.lines
-        self._program = ProgramConnection(trunk.program, self.status.stands, self._hurry,
+        self._program = ProgramConnection(lambda: trunk.places().control, self.status.stands, self.status.hurry,
                                           lambda: trunk.facts().get('fault', ''))
         self._lines.commanded = self._program.told
         self.pages = TrunkPages(self._values, self.status.take_now, list(self._lines.lines.values()))
@@ -72,10 +72,6 @@ class TrunkWatch:
         self._calls = EventFile('calls', wants.calls, self._note, ','.join(FIELDS)) if wants.calls else None
         self._tasks = Tasks()
         self._listens: asyncio.Server | None = None     # at the control socket
-
-    def _hurry(self) -> None:
-        self.trunk.hurry()
-        self.status.hurry()
 
     # ---- what is done with calls ----
 

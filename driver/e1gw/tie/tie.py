@@ -35,7 +35,7 @@ class TieOptions:
 
 def is_out_of_service(status: dict[str, Any]) -> bool:
     """Whether a trunk carries no calls: there are no octets of it, or there is an alarm."""
-    return (not status['shadow'] or not status['trunk_up'] or bool(status['clock']['stalled'])
+    return (not status['trunk_up'] or bool(status['clock']['stalled'])
             or any(status['alarm'].values()) or any(status['remote_alarm'].values()))
 
 

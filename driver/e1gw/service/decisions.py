@@ -1,0 +1,239 @@
+"""What is to be done with a trunk: pure functions of what is known, without a clock, a file or a process."""
+from __future__ import annotations
+
+from dataclasses import dataclass, replace
+from enum import Enum
+from math import inf
+from typing import Iterable, Protocol, TypeVar
+
+DEATHS, WITHIN = 5, 2.0                 # programs that died, within so many seconds: the next one waits
+FIRST_PAUSE, MOST_PAUSE = 0.5, 10.0     # seconds that it waits, at first and at most
+TRIED, MOST_DEATHS = 60.0, 2            # seconds in which a new version is tried, and deaths that it may not have then
+MOST_ENDED = 3                          # calls that a reload may end without force
+QUIET = 1.0                             # seconds after which octets of the trunk are missed
+
+
+class Wish(Enum):
+    """Why the program of now was asked to end."""
+
+    NONE = ''
+    RELOAD = 'reload'
+    RENEW = 'a socket or the log is gone'
+    DEMOTE = 'the other machine carries the trunk'
+    END = 'the end is asked for'
+
+
+class ProgramFault(Enum):
+    """Of what a program has said that it ended."""
+
+    NONE = 'nothing that is known here'
+    TRUNK = 'the trunk cannot be read or written'
+    CONFIG = 'the configuration'
+    SOCKET = 'a socket of a circuit'
+    LOG_IN_USE = 'another program has the log'
+    LOG_LOST = 'the log has nothing that can be loaded'
+    NO_ROOM = 'the log has no room'
+
+
+class Act(Enum):
+    """What follows a program that has ended."""
+
+    START = 'another one starts'
+    GO_BACK = 'one of the version before starts'
+    ANEW = 'one starts on a new log'
+    TAKE_LOG = 'the one that has the log ends, and another one starts'
+    REOPEN = 'the trunk is opened again'
+    STAND_BY = 'the other machine carries the trunk'
+    FINISH = 'the service ends'
+
+
+@dataclass(frozen=True)
+class Deaths:
+    """Programs that died shortly one after another, and how long the next one waits."""
+
+    times: tuple[float, ...] = ()
+    pause: float = 0.0
+
+    def with_one(self, now: float) -> Deaths:
+        times = (*self.times, now)[-DEATHS:]
+        is_often = len(times) == DEATHS and now - times[0] <= max(WITHIN, DEATHS * self.pause)
+        return Deaths(times, min(MOST_PAUSE, max(FIRST_PAUSE, 2 * self.pause)) if is_often else 0.0)
+
+
+@dataclass(frozen=True)
+class Trial:
+    """The version of now is tried, behind another one that may come back."""
+
+    until: float = inf
+    deaths: int = 0
+
+    def is_up(self, now: float) -> Trial:
+        return replace(self, until=min(self.until, now + TRIED))
+
+    def with_death(self) -> Trial:
+        return replace(self, deaths=self.deaths + 1)
+
+
+@dataclass(frozen=True)
+class ProgramEnd:
+    """A program that has ended, or that does not come up in time and was killed."""
+
+    wish: Wish
+    fault: ProgramFault
+    was_up: bool                # it has carried the trunk
+    is_well: bool               # it has ended in order
+    is_killed: bool             # a signal has ended it that this service did not send
+    is_trunk_over: bool         # the other end has closed the trunk
+    is_first: bool              # no program was up since the service has begun with a trunk of its own
+    reopens: bool
+    trial: Trial | None         # of its version, if there is one before it
+    deaths: Deaths
+    now: float
+
+
+@dataclass(frozen=True)
+class NextStep:
+    """What follows: behind a pause, with the deaths and the trial that then count. `status` is that of the service."""
+
+    act: Act
+    deaths: Deaths
+    trial: Trial | None = None
+    pause: float = 0.0
+    status: int = 0
+
+
+def after_end(end: ProgramEnd) -> NextStep:
+    """What follows a program that has ended."""
+    if end.wish is Wish.END:
+        return NextStep(Act.FINISH, end.deaths)
+    if not end.was_up:
+        return _never_up(end)
+    if end.wish is Wish.DEMOTE:
+        return NextStep(Act.STAND_BY, end.deaths, end.trial)
+    if end.is_well and end.wish is not Wish.NONE:
+        return NextStep(Act.START, end.deaths, end.trial)
+    if end.is_trunk_over:
+        return NextStep(Act.REOPEN, end.deaths, end.trial) if end.reopens else \
+            NextStep(Act.FINISH, end.deaths, status=int(not end.is_well))
+    return _died(end)
+
+
+def _never_up(end: ProgramEnd) -> NextStep:
+    """One that did not come to carry the trunk."""
+    if end.fault is ProgramFault.LOG_LOST:
+        return NextStep(Act.ANEW, end.deaths, end.trial)
+    if end.fault is ProgramFault.LOG_IN_USE:
+        return NextStep(Act.TAKE_LOG, end.deaths, end.trial)
+    if end.trial:
+        return NextStep(Act.GO_BACK, end.deaths)
+    if end.wish is Wish.DEMOTE:
+        return NextStep(Act.STAND_BY, end.deaths)
+    if end.is_first:
+        return NextStep(Act.FINISH, end.deaths, status=1)
+    step = _died(end)               # (of a log with which each one dies none is to be had)
+    return replace(step, act=Act.ANEW, pause=0.0) if end.is_killed and step.pause else step
+
+
+def _died(end: ProgramEnd) -> NextStep:
+    """One that died, of itself or by a signal."""
+    trial, deaths = end.trial and end.trial.with_death(), end.deaths.with_one(end.now)
+    if trial and trial.deaths >= MOST_DEATHS:
+        return NextStep(Act.GO_BACK, deaths)
+    return NextStep(Act.START, deaths, trial, deaths.pause)
+
+
+# ---- how a service begins ----
+
+class Takeover(Enum):
+    """How a service begins with what it finds."""
+
+    ADOPT = 'the program that is there goes on'
+    REPLACE = 'the program that is there ends, and another one starts on the trunk opened again'
+    START = 'a program starts'
+    STAND_BY = 'the other machine carries the trunk'
+
+
+@dataclass(frozen=True)
+class Found:
+    """What a service finds at its start: whether a program has the log, whether it was given all descriptors of the
+    trunk, and whether this machine is to carry it."""
+
+    has_program: bool
+    has_trunk: bool
+    is_active: bool
+
+
+def takeover_of(found: Found) -> Takeover:
+    if not found.is_active:
+        return Takeover.STAND_BY
+    if found.has_program:
+        return Takeover.ADOPT if found.has_trunk else Takeover.REPLACE
+    return Takeover.START
+
+
+# ---- a reload ----
+
+@dataclass(frozen=True)
+class ReloadEffects:
+    """Circuits: in a call now; those that begin as new; those that had a port, and those that have one then."""
+
+    calls: frozenset[int]
+    new: frozenset[int]
+    ports: frozenset[int]
+    ports_then: frozenset[int]
+
+    @property
+    def ended(self) -> frozenset[int]:
+        """Whose calls end."""
+        return self.new & self.calls
+
+    @property
+    def mute(self) -> frozenset[int]:
+        """Whose calls lose their ports."""
+        return (self.calls & self.ports) - self.ports_then - self.new
+
+    def is_refused(self, force: bool) -> bool:
+        """Whether it ends too many calls."""
+        return len(self.ended | self.mute) > MOST_ENDED and not force
+
+
+# ---- octets that do not come ----
+
+class FlowChange(Enum):
+    STALLED = 'no octets come'
+    FLOWS = 'octets come again'
+
+
+@dataclass(frozen=True)
+class Flow:
+    """How octets of the trunk come: the last place, when it moved, and since when none come."""
+
+    place: int
+    moved: float
+    stood: float | None = None
+    stalls: int = 0
+
+    def seen(self, place: int, now: float, is_watched: bool) -> tuple[Flow, FlowChange | None]:
+        """The trunk is at this place. Only what somebody reports (`is_watched`) can be missed."""
+        if place != self.place:
+            return Flow(place, now, None, self.stalls), None if self.stood is None else FlowChange.FLOWS
+        if is_watched and self.stood is None and now - self.moved >= QUIET:
+            return replace(self, stood=self.moved, stalls=self.stalls + 1), FlowChange.STALLED
+        return self, None
+
+
+# ---- clients of the control socket ----
+
+class Client(Protocol):
+    """One who is connected: whether he follows events, and when he has said something last."""
+
+    follows: bool
+    last: float
+
+
+C = TypeVar('C', bound=Client)
+
+
+def who_goes(clients: Iterable[C]) -> C:
+    """Who gives way to one more: of those who do not follow events the one idle for longest; of all if all do."""
+    return min(clients, key=lambda each: (each.follows, each.last))
