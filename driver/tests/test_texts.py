@@ -25,7 +25,7 @@ IDLE: dict[str, Any] = ROW | {'circuit': 8, 'state': 'idle', 'datagrams': {'sent
 # (86,400 s and some: 1970-01-02 00:01:40 UTC)
 STATUS: dict[str, Any] = {
     'name': 'west', 'version': '1.2', 'time': 86_500.0, 'uptime': 100.0, 'octets': 512_000, 'trunk_up': True,
-    'fault': None, 'shadow': True, 'shadow_since': 86_400.0, 'program': True, 'program_since': 86_401.0,
+    'fault': None, 'program': True, 'program_since': 86_401.0,
     'alarm': {'frame': False, 'multiframe': False}, 'remote_alarm': {'frame': False, 'multiframe': False},
     'losses': {'frame': 21, 'multiframe': 22}, 'clock': {'stalled': False, 'stalls': 23}, 'circuits': [ROW, IDLE],
     'stale': False, 'renewed': 24, 'ended': {'json': None, 'session': None},
@@ -50,7 +50,6 @@ e1gw_alignment_losses_total{alignment="multiframe"} 22
 e1gw_trunk_stalled 0
 e1gw_trunk_stalls_total 23
 e1gw_connected{to="program"} 1
-e1gw_connected{to="shadow"} 1
 e1gw_trunk_octets_total 512000
 e1gw_role 1
 e1gw_fed 0
@@ -132,7 +131,7 @@ class TrunkTextTests(unittest.TestCase):
         self.assertIn('e1gw_trunk_up{trunk="w\\"\\\\\\n"} 1\n', few)
         for name in ('role', 'fed', 'gaps', 'rate', 'transport', 'crc4'):
             self.assertNotIn(f'e1gw_{name}', few.replace('trunk_', ''))
-        few = metrics.exposition({key: value for key, value in FULL.items() if key != 'shadow'} | {
+        few = metrics.exposition({key: value for key, value in FULL.items() if key != 'program'} | {
             'role': 'standby', 'feed_age': None, 'crc4': CRC4 | {'aligned': None}, 'clock': {
                 'stalled': True, 'stalls': 0, 'gaps': 1, 'gap_seconds': 2.0, 'ppm': None}})
         for line in ('e1gw_trunk_stalled 1', 'e1gw_role 0', 'e1gw_trunk_gaps_total 1'):
@@ -174,12 +173,12 @@ class TrunkTextTests(unittest.TestCase):
         status, stalled = {**STATUS, 'alarm': {'frame': True, 'multiframe': True}}, {'stalled': True}
         steps: tuple[tuple[dict[str, Any], str], ...] = (
             ({}, 'loss of frame alignment (LFA), loss of multiframe alignment'), ({'clock': stalled}, 'stalled'),
-            ({'trunk_up': False}, 'no trunk'), ({'shadow': False}, 'no connection to the shadow since 00:00:00 UTC'),
+            ({'trunk_up': False}, 'no trunk'),
             ({'program': False}, 'no connection to the program since 00:00:01 UTC'), ({'fault': 'no card'}, 'no card'))
         for more, words in steps:
             status |= more
             self.assertEqual(metrics.state_of(status), words)
-        others = {key: value for key, value in STATUS.items() if key not in ('program', 'shadow')}
+        others = {key: value for key, value in STATUS.items() if key != 'program'}
         self.assertEqual(metrics.state_of(others), 'aligned')
 
     def test_line_among_trunks(self) -> None:

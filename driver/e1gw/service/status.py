@@ -173,6 +173,7 @@ class TrunkStatus:
             again.take(missed.known_to(since))
             self.naming.known(self.lines.lines)
             again.take(missed.text[len(missed.known_to(since)):])
+        self.lines.place = max(self.lines.place, last)
         self.calls.look()
         self.calls.counted_by(self.lines.counts)
         self._behind = 0.0
