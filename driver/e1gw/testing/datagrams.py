@@ -10,7 +10,7 @@ from collections.abc import Iterator
 from typing import Any
 
 from ..exchange import ACKNOWLEDGED, Exchange, ServeProcess
-from ..session import Packet
+from ..session import Codec, Packet
 from . import limited
 from .ports import free_ports
 
@@ -19,7 +19,8 @@ Wrongs = Iterator[str]      # what is not as it must be
 SECONDS = limited.SECONDS   # for one session
 PCMA = 8
 IDLE = 0xD5
-PACKET = 80                 # octets of a packet of 10 ms
+PACKET = 80                 # samples of a packet of 10 ms, and its octets in G.711
+BITS = {Codec.G711: 8, Codec.G726_16: 2, Codec.G726_24: 3, Codec.G726_32: 4, Codec.G726_40: 5}    # of a sample
 
 CONFIG = '''law = "A"
 host = "{host}"
@@ -112,6 +113,11 @@ class UdpCalls:
 def spoken(circuit: int) -> int:
     """The octet that a circuit hears."""
     return 0x20 + circuit
+
+
+def payload_of(codec: Codec) -> int:
+    """The payload type of a codec in calls of tests."""
+    return PCMA if codec is Codec.G711 else 96
 
 
 def family_of(host: str) -> socket.AddressFamily:
