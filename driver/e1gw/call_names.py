@@ -58,11 +58,14 @@ class CallNames:
         self.life = self.life or self._noted_life
         return self.life
 
-    def begin(self, session: str, told: Seizures, lines: Mapping[int, Line]) -> None:
-        """A program has told how all lines stand, and how often each was seized in its session."""
+    def begin(self, session: str, told: Seizures, lines: Mapping[int, Line], are_known: bool = False) -> None:
+        """A program has told how all lines stand, and how often each was seized in its session. `are_known`: all of
+        these seizures were counted before, by its log."""
         goes_on = self._last or session == self._session
         self.life = self.life or (self._noted_life if goes_on else '') or secrets.token_hex(4)
-        if session != self._session:
+        if session != self._session and are_known:
+            self._session, self._base = session, {n: self._last.get(n, 0) - count for n, count in told.items()}
+        elif session != self._session:
             # (a line that is in a call, and was in none, was seized while nobody looked)
             new = {n: bool(self._last) and lines[n].state in IN_CALL and n not in self._in_call for n in told}
             self._session = session

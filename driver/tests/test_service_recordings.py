@@ -39,7 +39,7 @@ class ServiceFlowTests(support.FolderCase, unittest.IsolatedAsyncioTestCase):
         clock = mock.patch.object(reader, 'time', types.SimpleNamespace(monotonic=lambda: self.now))
         clock.start()
         self.addCleanup(clock.stop)
-        self.reader = reader.LogReader(self.path('log'), 0.1, None, lambda: None)
+        self.reader = reader.LogReader(self.path('log'), 0.1, None, lambda: None, bytes)
 
     def go(self, seconds: float, rate: float = 1.0, comes: bool = True, looks: bool = True) -> None:
         until, due = self.now + seconds, self.now + TICK
@@ -78,8 +78,8 @@ class ServiceFlowTests(support.FolderCase, unittest.IsolatedAsyncioTestCase):
     async def test_slips_are_noted(self) -> None:
         """Beside the file of a ring, at the place where octets were lost; and what a program had in hand."""
         with tempfile.TemporaryDirectory() as folder:
-            wants = recordings.RecordingWants(os.path.join(folder, 'ring'), 60, 'west', '/etc/west.toml', '', 200)
-            self.reader = reader.LogReader(self.path('log'), 0.1, wants, lambda: None)
+            wants = recordings.RecordingWants(os.path.join(folder, 'ring'), 60, 'west', '/etc/west.toml', 200)
+            self.reader = reader.LogReader(self.path('log'), 0.1, wants, lambda: None, bytes)
             self.reader.take_up((-1, 0), None)
             self.reader.follows(True)
             self.go(2)

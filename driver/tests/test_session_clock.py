@@ -68,7 +68,7 @@ class KeptSession:
     """A ring that the reader of the logs writes, by a clock of its own, and what is true of it."""
 
     def __init__(self, folder: str, config: str) -> None:
-        self.wants = recordings.RecordingWants(folder, 60, 'west', config, config, 200)
+        self.wants = recordings.RecordingWants(folder, 60, 'west', config, 200)
         self.now, self.log = 5000.0, WrittenLog(f'{folder}.log')
         self.times: list[tuple[int, float]] = []        # of some places, seconds of the day
         self.outages: list[tuple[float, float]] = []    # from when to when octets were missing, if that was an outage
@@ -77,7 +77,7 @@ class KeptSession:
 
     def service(self) -> reader.LogReader:
         """Another service, behind the one that there was."""
-        its = reader.LogReader(f'{self.wants.session}.log', 0.1, self.wants, lambda: None)
+        its = reader.LogReader(f'{self.wants.session}.log', 0.1, self.wants, lambda: None, bytes)
         its.found = self.found
         return its
 

@@ -99,7 +99,7 @@ class TrunkCarrier:
             if self.pair and not (self.pair.is_active or self.program):
                 await self.pair.stand_by()
             elif await self._is_opened():
-                program = self.program or self._start()
+                program = self.program or await self._start()
                 if program.is_up or await program.comes_up(RELOADED if self.versions.before else START):
                     self._goes_on(program)
                     await self._until_its_end(program)
@@ -115,11 +115,12 @@ class TrunkCarrier:
             return False
         return self.trunk.is_open() or self.program is not None
 
-    def _start(self) -> TrunkProgram:
+    async def _start(self) -> TrunkProgram:
         """Starts a program. (At once behind that it has the log: the next service finds it there.)"""
         self._make_folder()
         self.trunk.follows()
-        self.reader.look()
+        await self.reader.copied()
+        self.note()
         self.program = program = TrunkProgram.started(
             self.versions.now, self.places, self.trunk.both,
             ['--senders', self.versions.now.senders, *self.wants.words])

@@ -174,8 +174,8 @@ class FolderReader:
     """Reads a log while it is written. Who looks often enough sees all of it."""
 
     def __init__(self, files: LogFiles, place: int = -1) -> None:
-        """`place` is up to where it was read before, if it was."""
-        self.files, self.place, self._turn, self._base = files, place, -1, 0
+        """`place` is up to where it was read before, if it was. `base` is that of the newest state."""
+        self.files, self.place, self._turn, self.base = files, place, -1, 0
 
     def look(self) -> list[LogNews]:
         """What there is of news. Nothing while it is written over faster than it is read."""
@@ -184,7 +184,7 @@ class FolderReader:
         if number is None or not head or head.turn < self._turn:       # (a head is written in this moment)
             return []
         if head.turn == self._turn:
-            return self._more(number, head, self._base)
+            return self._more(number, head, self.base)
         state = self.files.state(number)
         if not state or state.turn != head.turn:
             return []
@@ -192,7 +192,7 @@ class FolderReader:
         if not state.place < self.place <= state.place + head.length:       # (else it was read before)
             found.append(self._at(state))
             self.place = state.place
-        self._turn, self._base = state.turn, state.place
+        self._turn, self.base = state.turn, state.place
         return found + self._more(number, head, state.place)
 
     def is_overtaken(self) -> bool:

@@ -129,14 +129,14 @@ def folder_of(asked: argparse.Namespace) -> str:
     return os.path.join(within, f'{name_of(asked)}-{os.getuid()}-{zlib.crc32(repr([*opens_of(asked)]).encode()):08x}')
 
 
-def recording_of(asked: argparse.Namespace, config: str = '') -> RecordingWants | None:
-    """What is kept of the trunk; the path of the configuration of now is `config`. ValueError if that cannot be."""
+def recording_of(asked: argparse.Namespace) -> RecordingWants | None:
+    """What is kept of the trunk. ValueError if that cannot be."""
     if asked.keep and not asked.session:
         raise ValueError('--keep wants --session')
     if asked.picture and not (asked.http and asked.keep):
         raise ValueError('--picture wants --http, and --session with --keep')
     return RecordingWants(os.path.abspath(asked.session), asked.keep, name_of(asked), os.path.abspath(asked.config),
-                          config, asked.seizure_wait) if asked.session else None
+                          asked.seizure_wait) if asked.session else None
 
 
 def watched_of(asked: argparse.Namespace, program: str) -> WatchWants:

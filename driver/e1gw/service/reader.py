@@ -19,28 +19,32 @@ from .trunk import again
 
 AGAIN = 60.0                # seconds between two looks whether a ring that has ended can be written again
 MOST_LOST = 0.008           # seconds of the trunk that a program had in hand
+MOST_WAIT = 0.25            # seconds for which a program waits for a recording
 
 logger = logging.getLogger(__name__)
 
 
 class LogReader:
-    """Reads the log of a trunk, in this folder. `note` has what the next service has to know noted. `found` is called
-    with what is found of the flow, and `told` says at which octet the trunk is, if the log does not."""
+    """Reads the log of a trunk, in this folder. `note` has what the next service has to know noted, and `config` gives
+    the configuration of now. `found` is called with what is found of the flow, and `told` says at which octet the trunk
+    is, if the log does not."""
 
-    def __init__(self, folder: str, gap: float, wants: RecordingWants | None, note: Callable[[], None]) -> None:
+    def __init__(self, folder: str, gap: float, wants: RecordingWants | None, note: Callable[[], None],
+                 config: Callable[[], bytes]) -> None:
         self.clock = Clock(time.monotonic(), gap)
         self.found: Callable[[ClockFinding], None] = lambda finding: None
         self.told: Callable[[], int] = lambda: 0
         self.octets = 0                         # of the trunk, up to now
         self.rests = False                      # the other machine carries the trunk
         self.is_loaded = False                  # the log has begun with a state that was kept elsewhere
-        self._folder, self._wants, self._note = folder, wants, note
+        self._folder, self._wants, self._note, self._config = folder, wants, note, config
         self._files: LogFiles | None = None
         self._reader: FolderReader | None = None
         self._place = -1                        # of the log, up to where it was read
         self._recording: TrunkRecording | None = None
         self._begun: int | None = None          # the octet of the trunk with which the file of now begins, if any
         self._lost, self._is_cut, self._retry = 0.0, False, asyncio.Event()
+        self._found = list[LogPair]()           # what the log had when this service began
 
     # ---- the log ----
 
@@ -48,6 +52,7 @@ class LogReader:
         """Begins, where the service before this one was, and with the recording that it has left if it made the same
         and the log has what that lacks."""
         self._place, self.octets = read
+        self._found = self._pairs()
         if not (wants := self._wants):
             return
         left = left if left and (left.session, left.keep) == (wants.session, wants.keep) else None
@@ -77,13 +82,17 @@ class LogReader:
     def pairs_since(self, octets: int) -> list[tuple[int, LogPair]]:
         """The pairs of the log that are needed from an octet of the trunk on, as far as it has them, each with the
         octet at its state."""
-        if not self._files:
-            return []
-        pairs = sorted(filter(None, map(self._files.pair, (0, 1))), key=lambda pair: pair.turn)
-        if len(pairs) == 2 and pairs[0].end != pairs[1].place:
-            del pairs[0]
-        its = [(self.octets_at(pair, pairs), pair) for pair in pairs]
-        return its[1:] if its[1:] and its[1][0] <= octets else its
+        its, self._found = {pair.turn: pair for pair in (*self._found, *self._pairs())}, []
+        pairs = [its[turn] for turn in sorted(its)]
+        gaps = [n for n, (pair, behind) in enumerate(zip(pairs, pairs[1:]), 1) if pair.end != behind.place]
+        del pairs[:max(gaps, default=0)]
+        ats = [self.octets_at(pair, pairs) for pair in pairs]
+        first = max((n for n, at in enumerate(ats) if at <= octets), default=0)
+        return [*zip(ats, pairs)][first:]
+
+    def _pairs(self) -> list[LogPair]:
+        """What the log has now."""
+        return [*filter(None, map(self._files.pair, (0, 1)))] if self.has_log() and self._files else []
 
     def octets_at(self, pair: LogPair, pairs: Sequence[LogPair] = ()) -> int:
         """The octet of the trunk at the state of a pair, by what was read behind it: of this one, or of all that there
@@ -114,6 +123,13 @@ class LogReader:
         with it: who knows how long nobody carried the trunk?"""
         self._lost += MOST_LOST * lost
         self._is_cut = True
+
+    async def copied(self) -> None:
+        """Before a program starts, whose first state is written over the older pair: waits a moment until a recording
+        has what is behind that."""
+        self.look()
+        if self._recording and self._reader:
+            await self._recording.has(self._reader.base, MOST_WAIT)
 
     # ---- for the service that comes after this one ----
 
@@ -195,7 +211,8 @@ class LogReader:
         if not recording.wants.keep and not is_new and (begun is not None or not self.is_loaded):
             return recording.end('a part of the log was not read')
         self._begun, lost, self._lost = self.octets, self._lost, 0.0
-        recording.begin(FileBegin(self.octets, state.place, b'' if is_new else state.state, time.monotonic(), lost))
+        recording.begin(FileBegin(self.octets, state.place, b'' if is_new else state.state, self._config(),
+                                  time.monotonic(), lost))
 
     # ---- a ring that has ended ----
 

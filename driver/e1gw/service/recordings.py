@@ -25,6 +25,7 @@ from ..writers import open_to_append, write_all
 
 MOST_BEHIND = 16 << 20      # octets that may wait to be written: half a minute of thirty calls
 EVERY = 0.1                 # seconds between two looks of the thread
+SOON = 0.005                # .. and between two of who waits for it
 FLUSH = 5.0                 # seconds at the end for what is not copied yet
 NICE = 10                   # of the thread
 LEAST, TRIED = 32 << 20, 1 << 20    # octets that have to be free for a ring, and that are written to try it
@@ -35,13 +36,12 @@ logger = logging.getLogger(__name__)
 @dataclass(frozen=True)
 class RecordingWants:
     """What is kept: `session` is a file, or with `keep`, some seconds, the folder of a ring. `config_path` is the path
-    of the configuration, for those who read it; `config` that of the one of now."""
+    of the configuration, for those who read it."""
 
     session: str
     keep: int | None
     name: str
     config_path: str
-    config: str
     wait: int                   # of a seizure, in milliseconds
 
     def is_long(self, octets: int) -> bool:
@@ -52,11 +52,13 @@ class RecordingWants:
 @dataclass(frozen=True)
 class FileBegin:
     """Where another file begins: the octet of the trunk, the place of the log, and the state there, if it is no new
-    gateway; the time, by the monotonic clock, and the seconds of the trunk that are known to be lost before it."""
+    gateway; the configuration of now; the time, by the monotonic clock, and the seconds of the trunk that are
+    known to be lost before it."""
 
     octets: int
     place: int
     state: bytes
+    config: bytes
     since: float
     lost: float
 
@@ -91,7 +93,7 @@ class TrunkRecording:
         self._slips = deque[tuple[int, float]]()
         self._note, self._loop = note, asyncio.get_running_loop()
         self._file = -1
-        self._closes = threading.Event()
+        self._wakes, self._closes = threading.Event(), False
         self._thread = threading.Thread(target=self._run, name='recording', daemon=True)
         self._thread.start()
 
@@ -120,8 +122,16 @@ class TrunkRecording:
 
     def close(self) -> None:
         """Waits until all is written, FLUSH at most."""
-        self._closes.set()
+        self._closes = True
+        self._wakes.set()
         self._thread.join(FLUSH)
+
+    async def has(self, place: int, seconds: float) -> None:
+        """Waits until all up to this place of the log is written, so long at most."""
+        until = time.monotonic() + seconds
+        while self._written[0] < place and not self.why and time.monotonic() < until:
+            self._wakes.set()
+            await asyncio.sleep(SOON)
 
     def is_over(self) -> bool:
         """Whether it has ended, and nothing is written any more."""
@@ -140,7 +150,9 @@ class TrunkRecording:
         is_last = False
         try:
             while not (is_last or self.why):
-                is_last = self._closes.wait(EVERY)
+                self._wakes.wait(EVERY)
+                self._wakes.clear()
+                is_last = self._closes
                 self._write()
         except Exception as fault:      # pylint: disable=broad-exception-caught
             self.end(getattr(fault, 'strerror', None) or f'{type(fault).__name__}: {fault}')
@@ -207,11 +219,8 @@ class TrunkRecording:
 def about_of(begin: FileBegin, wants: RecordingWants) -> dict[str, Any]:
     """What is said of a file."""
     day = time.time() - time.monotonic() + begin.since
-    config = b''
-    with suppress(OSError), open(wants.config, 'rb') as file:
-        config = file.read()
-    return {'config': wants.config_path, 'config_sha256': hashlib.sha256(config).hexdigest(), 'time': round(day, 3),
-            'monotonic': round(begin.since, 3), 'place': begin.octets, WAIT: wants.wait,
+    return {'config': wants.config_path, 'config_sha256': hashlib.sha256(begin.config).hexdigest(),
+            'time': round(day, 3), 'monotonic': round(begin.since, 3), 'place': begin.octets, WAIT: wants.wait,
             'begins': 'middle' if begin.octets or begin.state else 'start'}
 
 

@@ -5,6 +5,7 @@ import asyncio
 import errno
 import logging
 import os
+import re
 import socket
 import time
 from contextlib import suppress
@@ -27,6 +28,7 @@ from .reload import ReloadRequests
 
 AGAIN = 0.1                 # seconds between two tries to connect, and two looks
 REST, SHORT_REST = 0.05, 0.01       # between two reads of reports; the latter if somebody follows events
+MOST_GREETING = 256         # octets behind which a program has told where it is
 FIRST = 2.0                 # seconds before it is reported that the program was never there
 BOTH = 'reports', 'control'         # the sockets of the program at which this service is a client
 
@@ -118,6 +120,18 @@ async def readable(line: socket.socket) -> None:
         loop.remove_reader(line)
 
 
+async def place_told(line: socket.socket) -> int:
+    """At which octet of its session a program tells the state of now, which stays to be read. OSError if it does not."""
+    while True:
+        await readable(line)
+        octets = line.recv(MOST_GREETING, socket.MSG_PEEK)
+        if found := re.search(rb'^at (\d+)\n', octets, re.M):
+            return int(found[1])
+        if not octets or len(octets) == MOST_GREETING:
+            raise OSError(0, 'it does not tell where it is')
+        await asyncio.sleep(SHORT_REST)
+
+
 class TrunkStatus:
     """A trunk as its program tells it. `tell` is called with each change, and `put` given the line of each call."""
 
@@ -140,7 +154,9 @@ class TrunkStatus:
         self._flow = Flow(0, time.monotonic())
         self.changed: Callable[[], None] = lambda: None         # called when calls have changed
         self._has_changed = False
-        self._known: int | None = None          # up to this octet another service has known all
+        self._known: int | None = 0             # up to this octet of the trunk all is known, for who reads the log
+        self._is_next = False                   # another service has known it
+        self._is_caught_up = False              # .. and then what the log says up to the program's first report
         self._behind = 0.0                      # seconds by which what is told now is late
         self.lines.lost()
 
@@ -148,15 +164,19 @@ class TrunkStatus:
         """Goes on with the calls of the service before this one."""
         self.calls.take_up(note)
         self.calls.life, self._known = self.naming.known(self.lines.lines), note.place
+        self.lines.place, self._is_next = note.place, True
 
-    async def _catch_up(self) -> None:
-        """What happened while no service was there is read in the log, as far as that reaches."""
+    async def _catch_up(self, last: int) -> None:
+        """What happened up to this octet of the trunk while no service was there, or this one did not hear the first
+        program yet, is read in the log, as far as that reaches."""
         since, self._known = self._known, None
         missed = await self._trunk.missed(since) if since is not None else None
+        self._is_caught_up = missed is not None and missed.last >= last
         if since is None or not missed:
             return
-        last: int = missed.last
-        if missed.first > since:
+        if not self._is_next:
+            since = missed.first
+        elif missed.first > since:
             logger.warning('%.1f s of the trunk are not known: their calls may have no line',
                            (missed.first - since) / OCTETS_A_SECOND)
 
@@ -172,7 +192,7 @@ class TrunkStatus:
         with suppress(BadTelling):
             again.take(missed.known_to(since))
             self.naming.known(self.lines.lines)
-            again.take(missed.text[len(missed.known_to(since)):])
+            again.take(missed.known_to(last)[len(missed.known_to(since)):])
         self.lines.place = max(self.lines.place, last)
         self.calls.look()
         self.calls.counted_by(self.lines.counts)
@@ -228,14 +248,13 @@ class TrunkStatus:
         """Knows the state of the trunk, by each program that comes."""
         while True:
             self._why = 'it has closed the connection'
-            self._line = line = socket.socket(socket.AF_UNIX)
+            line = socket.socket(socket.AF_UNIX)
             try:
                 line.setblocking(False)
                 self._session = self._trunk.session()
-                await self._catch_up()
                 line.connect(self._trunk.places().tell)
-                self._came()
-                await readable(line)
+                await self._catch_up(self._trunk.begun() + await place_told(line))
+                self._came(line)
                 while self._takes(line, 1 << 16):
                     await self._rest()
                     await readable(line)
@@ -278,11 +297,11 @@ class TrunkStatus:
                 await self._read.wait()
         self._read.clear()
 
-    def _came(self) -> None:
+    def _came(self, line: socket.socket) -> None:
         with suppress(OSError, ValueError, KeyError, TypeError):
             before, self._tables = self._tables, tables_of(read_config(self._trunk.config_path()))
             self.calls.changed = frozenset(n for n in CIRCUITS if before.get(n) != self._tables.get(n))
-        self._flow = replace(self._flow, moved=time.monotonic())
+        self._flow, self._line = replace(self._flow, moved=time.monotonic()), line
         self.lines.begin(self._trunk.begun())
 
     def calls_note(self) -> CallsNote:
@@ -290,7 +309,7 @@ class TrunkStatus:
         return self.calls.note(self.lines.place)
 
     def _told_all(self) -> None:
-        self.naming.begin(self._session, self.lines.seizures, self.lines.lines)
+        self.naming.begin(self._session, self.lines.seizures, self.lines.lines, self._is_caught_up)
         self.stands('reports', True)
         self.calls.begun(self.naming.life)
 

@@ -62,7 +62,7 @@ class KilledTrunk:
                 file.write(CIRCUIT.format(*its))
         os.mkdir(self.path('log'))
         self.turns, self.at = 0, 0                          # pieces that were given; the octet of the trunk
-        self.had = b''                                      # all records that the log has had
+        self.had, self.octets = bytearray(), 0              # all records that the log has had, and of the trunk in them
         self.answers = list[tuple[int, bytes]]()            # of programs, each with its octet of the trunk
         self.datagrams = Counter[tuple[int, bytes]]()       # of circuits
         self.seconds = list[float]()                        # from a start to the first answer
@@ -82,7 +82,7 @@ class KilledTrunk:
         self.process = subprocess.Popen([self.program, 'trunk', *words], stdin=its.fileno(), stdout=its.fileno(),
                                         stderr=subprocess.PIPE, env=os.environ | more)
         its.close()
-        self.at = whole_records(self.had)[1]
+        self.at = self.octets
 
     def gives(self) -> None:
         """10 ms of the trunk, and a packet for each circuit."""
@@ -173,7 +173,8 @@ class KilledTrunk:
         with closing(LogFiles(self.path('log'))) as files:
             for pair in sorted(filter(None, map(files.pair, (0, 1))), key=lambda pair: pair.place):
                 assert pair.place <= len(self.had), 'records were written over that this has not read'
-                self.had = self.had[:pair.place] + pair.records
+                self.octets += whole_records(pair.records)[1] - whole_records(bytes(self.had[pair.place:]))[1]
+                self.had[pair.place:] = pair.records
 
     def differ(self) -> tuple[int, int]:
         """Answers and datagrams that are not those of one session over all records."""
