@@ -161,6 +161,7 @@ class FeedServer:
 
     def _begin(self, program: TrunkProgram, files: LogFiles, writer: asyncio.StreamWriter) -> FolderReader:
         """The head, and the newest state. What is behind that is read by what is returned."""
+        self._reader().look()       # (so it has read no more than what the pair has)
         if not (pair := files.last()):
             raise EOFError('there is no log yet')
         law, circuits = configured(program.version.config_path())

@@ -82,6 +82,7 @@ class LogReader:
     def pairs_since(self, octets: int) -> list[tuple[int, LogPair]]:
         """The pairs of the log that are needed from an octet of the trunk on, as far as it has them, each with the
         octet at its state."""
+        self.look()
         its, self._found = {pair.turn: pair for pair in (*self._found, *self._pairs())}, []
         pairs = [its[turn] for turn in sorted(its)]
         gaps = [n for n, (pair, behind) in enumerate(zip(pairs, pairs[1:]), 1) if pair.end != behind.place]
@@ -95,9 +96,8 @@ class LogReader:
         return [*filter(None, map(self._files.pair, (0, 1)))] if self.has_log() and self._files else []
 
     def octets_at(self, pair: LogPair, pairs: Sequence[LogPair] = ()) -> int:
-        """The octet of the trunk at the state of a pair, by what was read behind it: of this one, or of all that there
-        are."""
-        self.look()
+        """The octet of the trunk at the state of a pair that was read behind the last look, by what was read behind it:
+        of this one, or of all that there are."""
         records = b''.join(each.records for each in pairs or (pair,) if each.turn >= pair.turn)
         return self.octets - whole_records(records[:max(0, self._place - pair.place)])[1]
 
