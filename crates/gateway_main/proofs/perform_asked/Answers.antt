@@ -5,5 +5,5 @@ pub returns : goal.returns
 returns g c = record {
   a' = streams_of c.perform.ensures.0;
   place = c.perform.ensures.0.session.place;
-  done = c.perform.ensures.1;
+  done = rw c.requires.same at c.perform.ensures.1;
 }
