@@ -7,16 +7,16 @@ use Rattle.gateway_main.proofs.StandardCommands.session.Goals as goal
 
 pub returns-in_default : goal.returns-in_default
 returns-in_default g c =
-    no_session (g.Y.Systems.command c.args.self.now.systems) c.args.session _ _ _ _ _
+    no_session (g.Y.Systems.command c.args.self.now.systems) c.args.session _ _ _
     (inl (refl, rw c.in_default.is at c.system.ensures.none))
 
 pub perform_session-requires : goal.perform_session-requires
-perform_session-requires g c = can_begin c.requires.0
+perform_session-requires g c = can_begin c.requires
 
 pub returns : goal.returns
 returns g c =
     let asked = c.in-Some.ensures.some in
-    session_so c.args.session _ _ (λ fault why. inr (lacks_so
+    session_so c.args.session (λ fault why. inr (lacks_so
     (files_in (g.Y.Systems.command c.args.self.now.systems)) _ _
     (more_in c.args.session _ _ _ _ asked.watch asked.ends) fault why))
-    (rw c.requires.1 at (session_done asked.takes _ _ _ _ _ _ _ c.perform_session.ensures (λ e. rw e refl)))
+    (session_done asked.takes _ _ _ _ _ c.perform_session.ensures (λ e. rw e refl))

@@ -9,8 +9,8 @@ pub returns-clause-some : goal.returns-clause-some
 returns-clause-some g c =
     let local = c.local_of in
     record {
-      takes = takes_asked _ _ _ _ _ _ _ (rw local.ensures.path (sym c.in_ok-path.ensures)) local.ensures.log
-          local.ensures.load local.ensures.save local.ensures.place local.ensures.wait;
+      takes = takes_asked _ _ _ _ _ _ (rw local.ensures.path (sym c.in_ok-path.ensures)) local.ensures.log
+          local.ensures.load local.ensures.save local.ensures.wait;
       ends = ends_in (subcommand_rows_of c.args.self.now.matches.now) _ local.result.recording local.ensures.log
           local.ensures.recording local.result.senders local.ensures.senders;
       watch = λ fault. named_so (λ path. path.now) local.result.tell _ _ (λ path. LacksTeller path fault)
