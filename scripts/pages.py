@@ -257,8 +257,8 @@ def main() -> None:
     compare_options(lines)
     flags = {item[1] for line in lines if (item := re.fullmatch(r'\.It Fl (?:\w , )?-([\w-]+)', line))}
     for option, about in described(lines).items():
-        if option not in flags | {'checkpoint', 'config', 'control', 'follow', 'from', 'load', 'log', 'record',
-                                  'reports', 'save', 'seizure-wait', 'senders', 'tell'}:
+        if option not in flags | {'config', 'control', 'load', 'log', 'record', 'reports', 'save', 'seizure-wait',
+                                  'senders', 'tell'}:
             compare_values(option, about)
     compare_payloads()
     compare_options_passed_over(lines)

@@ -29,7 +29,7 @@ SIGNALS = (signal.SIGTERM, signal.SIGINT, signal.SIGHUP)
 BETWEEN_LINES, BETWEEN_LOOKS = 10.0, 0.1        # seconds
 PATIENCE = 5.0              # seconds from the opening of the pipe to the copy
 MOST_SECONDS = '600'        # for a run by rt try
-WRITTEN = ('--save', '--checkpoint')            # options with the path of a file that need not be there
+WRITTEN = '--save'            # the option with the path of a file that need not be there
 # What rt try says of a run that ended.
 OF_THE_RUN = re.compile(r'(?m)^(?:(?:checked: ended|interpreter: |races: ).*\n)*run=ended .*\n\Z')
 
@@ -138,7 +138,7 @@ def keep(program: str) -> int:
 def from_here(before: str, word: str) -> str:
     """A word of the program that names a file, as it is named from any folder."""
     option, equals, path = word.rpartition('=') if word.startswith('--') else ('', '', word)
-    return option + equals + os.path.abspath(path) if os.path.exists(path) or (option or before) in WRITTEN else word
+    return option + equals + os.path.abspath(path) if os.path.exists(path) or (option or before) == WRITTEN else word
 
 
 def again(words: list[str]) -> int:

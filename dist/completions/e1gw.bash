@@ -18,7 +18,7 @@ _e1gw_options() {
     align) echo '--totals --help' ;;
     crc4) echo '--check --live --reports --totals --help' ;;
     encode | decode) echo '--law --codec --payload --ptime --ssrc --sequence --timestamp --totals --help' ;;
-    replay) echo '--config --load --save --checkpoint --follow --from --seizure-wait --tell --totals --help' ;;
+    replay) echo '--config --load --save --seizure-wait --tell --totals --help' ;;
     check) echo '--config --load --seizure-wait --totals --help' ;;
     serve)
       echo '--config --load --save --record --record-over --repeat --seizure-wait --senders --totals --help' ;;
@@ -45,10 +45,9 @@ _e1gw() {
     --law | --codec | --ptime | --senders | --fill | --clock)
       mapfile -t COMPREPLY < <(compgen -W "$(_e1gw_values "$prev")" -- "$cur")
       return ;;
-    --payload | --ssrc | --sequence | --timestamp | --repeat | --seizure-wait | --size | --jitter | --rtp | \
-      --from | --end)
+    --payload | --ssrc | --sequence | --timestamp | --repeat | --seizure-wait | --size | --jitter | --rtp | --end)
       return ;;
-    --config | --load | --save | --checkpoint | --follow | --control | --log | --record | --reports | --tell)
+    --config | --load | --save | --control | --log | --record | --reports | --tell)
       compopt -o filenames 2> /dev/null
       mapfile -t COMPREPLY < <(compgen -f -- "$cur")
       return ;;

@@ -275,15 +275,6 @@ fn u16_of(matches: &ArgMatches<'_>, id: &str) -> Option<u16>
     options.get_one(id)
 }
 
-// The number of 64 bits of an option of the subcommand, the first if it is given several times.
-fn u64_of(matches: &ArgMatches<'_>, id: &str) -> Option<u64>
-    ensures found { IfSome result (SaysNumberIn 64 id.now (subcommand_rows_of matches.now)) }
-    ensures none { IfNone result ((n : ℕ) → ¬ SaysNumberIn 64 id.now (subcommand_rows_of matches.now) n) }
-{
-    let (_, options) = matches.subcommand()?;
-    options.get_one(id)
-}
-
 /// The path of the configuration that the matches name: the first one.
 pub fn path_of<'m>(matches: &'m ArgMatches<'_>) -> Option<&'m str>
     ensures { option_map (λ path. path.now) result
@@ -378,31 +369,6 @@ pub fn log_of<'m>(matches: &'m ArgMatches<'_>) -> Option<&'m str>
     ensures { option_map (λ path. path.now) result ≡ text_in (codes "log") (subcommand_rows_of matches.now) }
 {
     text_of(matches, "log")
-}
-
-/// The path of the file of checkpoints, the first one, if the matches name one.
-pub fn checkpoint_of<'m>(matches: &'m ArgMatches<'_>) -> Option<&'m str>
-    ensures { option_map (λ path. path.now) result
-        ≡ text_in (codes "checkpoint") (subcommand_rows_of matches.now) }
-{
-    text_of(matches, "checkpoint")
-}
-
-/// The path of the log that the matches name to be followed, the first one, if they name one.
-pub fn follow_of<'m>(matches: &'m ArgMatches<'_>) -> Option<&'m str>
-    ensures { option_map (λ path. path.now) result
-        ≡ text_in (codes "follow") (subcommand_rows_of matches.now) }
-{
-    text_of(matches, "follow")
-}
-
-/// The octet from which on the log is followed, by the first number that the matches name.
-pub fn from_of(matches: &ArgMatches<'_>) -> Option<u64>
-    ensures found { IfSome result (SaysNumberIn 64 (codes "from") (subcommand_rows_of matches.now)) }
-    ensures none { IfNone result ((n : ℕ)
-        → ¬ SaysNumberIn 64 (codes "from") (subcommand_rows_of matches.now) n) }
-{
-    u64_of(matches, "from")
 }
 
 /// The path of the state that a session begins with, the first one, if the matches name one.

@@ -33,10 +33,6 @@ From standard input come session records with octets of the trunk, datagrams,
 commands and codecs. To standard output go the records of a gateway that answer
 them.
 
-With --follow the records come from a log, which may grow: a file or /dev/fd/N.
-At its end more is waited for, until standard input ends. Then what is there yet
-is read; a part of a record at the end is left. Nothing is answered.
-
 Example: e1gw replay --config trunk.toml < session.rec > answers.rec";
 
 const CHECK_HELP: &str = "\
@@ -113,8 +109,6 @@ enum Kind {
     Named(&'static [&'static str]),
     // A number from the first to the second.
     Number(i64, i64),
-    // A number of 64 bits.
-    Place,
 }
 
 // An option as it is declared.
@@ -323,31 +317,6 @@ const SLOTS: OptionRow = OptionRow {
     ..OPTION
 };
 
-const CHECKPOINT: OptionRow = OptionRow {
-    name: "checkpoint",
-    value_names: &["FILE"],
-    kind: Kind::Text,
-    help: "File to which the state is written after each 5 s of the trunk,\nwith its place in the input",
-    ..OPTION
-};
-
-const FOLLOW: OptionRow = OptionRow {
-    name: "follow",
-    value_names: &["LOG"],
-    kind: Kind::Text,
-    help: "Read records from this log as it grows, until standard input ends",
-    ..OPTION
-};
-
-const FROM: OptionRow = OptionRow {
-    name: "from",
-    value_names: &["OCTET"],
-    kind: Kind::Place,
-    defaults: &["0"],
-    help: "With --follow: the octet of the log at which its first record\nbegins",
-    ..OPTION
-};
-
 const CHECK: OptionRow = OptionRow {
     name: "check",
     kind: Kind::Flag,
@@ -450,17 +419,7 @@ const OF_A_STREAM: &[OptionRow] = &[
 ];
 
 // The options of a session from records to records.
-const OF_REPLAY: &[OptionRow] = &[
-    CONFIG,
-    LOAD,
-    SAVE,
-    TOTALS,
-    SEIZURE_WAIT,
-    TELL,
-    CHECKPOINT,
-    FOLLOW,
-    FROM,
-];
+const OF_REPLAY: &[OptionRow] = &[CONFIG, LOAD, SAVE, TOTALS, SEIZURE_WAIT, TELL];
 
 // The options of a session whose answers are not written.
 const OF_CHECK: &[OptionRow] = &[CONFIG, LOAD, TOTALS, SEIZURE_WAIT];
@@ -574,7 +533,6 @@ fn parser_of(kind: Kind) -> ValueParser<'static> {
         Kind::Text | Kind::Required | Kind::Argument => ValueParser::String,
         Kind::Listed(words) | Kind::Named(words) => ValueParser::Names(words),
         Kind::Number(first, last) => ValueParser::Signed(first, last),
-        Kind::Place => ValueParser::Unsigned(0, u64::MAX),
     }
 }
 

@@ -5,5 +5,4 @@ pub mod LogTape
 pub mod OneOf
 pub mod Recording
 pub mod ReportsFile
-pub mod Following
 pub mod Resuming

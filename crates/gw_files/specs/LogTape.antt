@@ -1,6 +1,5 @@
 -- Why a trunk does not go on with its log (module `log_tape`).
 use Rattle.std.specs.Prelude.{◌≡◌, ◌⊎◌, ℕ, List}
-use Rattle.std.specs.declared.io.Error.{Error}
 use Rattle.gw_state.specs.Memory.{MemoryIsRefused}
 use Rattle.gw_switch.specs.declared.gateway.Gateway.{Gateway}
 use Rattle.gw_log.specs.Logs.{TrunkLogState, Uncheckpointed}

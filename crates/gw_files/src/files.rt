@@ -1,15 +1,14 @@
-//! How a file is looked at, opened, positioned, created, written, synced and renamed.
+//! How a file is looked at, opened, created, written, synced and renamed.
 
 ghost use Rattle.std.specs.Prelude.{IfOk, IfErr, OnOk};
 ghost use Rattle.std.specs.Io.KnownBytes.{Appends};
 ghost use Rattle.gw_files.specs.Files.{SystemOpens, SystemRefusesFile, SystemShowsFile};
-ghost use Rattle.gw_files.specs.Files.{SystemSeeks, SystemRefusesSeek};
 ghost use Rattle.gw_files.specs.Files.{SystemCreates, SystemTakes, SystemFailsToWrite, SystemSyncs};
 ghost use Rattle.gw_files.specs.Files.{SystemAppends, SystemCreatesNew, SystemRenames};
 
 use gw_machine::Machine;
 use std::fs::{self, File, OpenOptions};
-use std::io::{self, Seek, SeekFrom, Write};
+use std::io::{self, Write};
 use std::os::unix::fs::OpenOptionsExt;
 
 // The permissions of a new file, less the umask: others may not read it, since it holds the speech of all
@@ -36,16 +35,6 @@ pub(crate) fn open_file(rt: &impl Machine, path: &str) -> io::Result<File>
     ensures err { IfErr result (SystemRefusesFile path.now) }
 {
     fs::open(rt, path)
-}
-
-/// Positions a file at an octet. The error is the system's.
-#[tactic(auto, unfolding(crate::specs::Files::SystemSeeks, crate::specs::Files::SystemRefusesSeek))]
-pub(crate) fn seek_to(file: &mut File, place: u64) -> io::Result<()>
-    ensures seeks { OnOk result (SystemSeeks file.old file.new place) }
-    ensures err { IfErr result (SystemRefusesSeek place) }
-{
-    file.seek(SeekFrom::Start(place))?;
-    Ok(())
 }
 
 /// Creates the file at a path, or empties the one that is there, which keeps its permissions. The error is

@@ -1,9 +1,8 @@
-//! How the files of a session are opened, read and kept: its configuration, its state, its recording, the log
-//! that it follows and the reports of CRC-4.
+//! How the files of a session are opened, read and kept: its configuration, its state, its recording, its log
+//! and the reports of CRC-4.
 #![tactic(auto)]
 
 mod files;
-mod following;
 mod log_contents;
 mod log_folder;
 mod log_tape;
@@ -16,7 +15,6 @@ mod resuming;
 mod setup;
 mod state;
 
-pub use following::{FollowedLog, open_log};
 pub use log_folder::{LogLock, lock_log};
 pub use log_tape::begin_log;
 pub use nowhere::Nowhere;
@@ -25,4 +23,4 @@ pub use recording::{Recording, Tape, begin};
 pub use recording_file::RecordingFile;
 pub use reports::open_reports;
 pub use setup::read_config;
-pub use state::{begin_gateway, keep_checkpoint, keep_gateway};
+pub use state::{begin_gateway, keep_gateway};

@@ -83,7 +83,7 @@ fn replayed(
         × IsReplayed (kept_of kept.now) config.now loaded gateway) }
     ensures err { IfErr result (FailsToResume (kept_of kept.now)) }
 {
-    let mut gateway = match loaded_of(alloc, config, kept.state, None) {
+    let mut gateway = match loaded_of(alloc, config, kept.state) {
         Ok(loaded) => loaded.gateway,
         Err(fault) => return Err(fault),
     };
@@ -138,7 +138,7 @@ fn config_of(
         (λ asked. asked ≡ None) config.now found × (old ≡ found.old)) }
     ensures err { IfErr result (FailsToResume (kept_of kept.now)) }
 {
-    match loaded_of(alloc, config, kept.state, None) {
+    match loaded_of(alloc, config, kept.state) {
         Ok(loaded) => Ok(loaded.old),
         Err(fault) => Err(fault),
     }

@@ -1,8 +1,7 @@
 //! How a state's file is read for `--load`, and written, synced and renamed for `--save`.
 
-ghost use Rattle.std.specs.Prelude.{◌≡◌, ◌≢◌, ◌⊎◌, ◌++◌, ◌≤◌, ◌^◌, [], IfOk, IfErr, IfSome, OnErr, OnOk};
-ghost use Rattle.std.specs.Prelude.{length, option_map, string_bytes, true, false, None, Some, ℕ};
-ghost use Rattle.gw_state.specs.Layout.{state_file};
+ghost use Rattle.std.specs.Prelude.{◌≡◌, ◌≢◌, ◌⊎◌, ◌≤◌, ◌^◌, [], IfOk, IfErr, IfSome, OnErr, OnOk};
+ghost use Rattle.std.specs.Prelude.{length, option_map, string_bytes, true, false, None};
 ghost use Rattle.gw_state.specs.Memory.{MemoryIsRefused};
 ghost use Rattle.gw_switch.specs.Standing.{HasHistory};
 ghost use Rattle.gw_files.specs.Files.{SystemRefusesFile, SystemRenames, SystemShowsFile};
@@ -10,17 +9,13 @@ ghost use Rattle.gw_machine.specs.Setup.{IsUnreadAt, PathGives};
 ghost use Rattle.gw_machine.specs.Log.{BeginsFrom, LacksFirst};
 ghost use Rattle.gw_machine.specs.State.{WasLoaded, FailsToLoad, IsNoState, IsReplaced};
 ghost use Rattle.gw_machine.specs.State.{IsFromState, HasBegun, Waits, BeginsWaiting, LacksGateway, IsSaved};
-ghost use Rattle.gw_machine.specs.State.{load_trouble, checkpoint_mark, checkpoint, IsStateIn, Keeps};
-ghost use Rattle.gw_machine.specs.State.{IsCheckpoint, IsAtPlace, FitsPlace, IsElsewhere};
+ghost use Rattle.gw_machine.specs.State.{load_trouble, IsCheckpoint, IsStateIn, Keeps};
 ghost use Rattle.gw_machine.specs.State.{IsWritten, IsUnwritten, unfinished};
 ghost use Rattle.gw_machine.specs.Renewals.{AreTold, SystemTellsNew};
-ghost use Rattle.byteorder.specs.Endian.{big_bytes};
-ghost use Rattle.gw_machine.specs.declared.program_fault.ProgramFault.TheVariants.{OtherPlace};
 
 use crate::files::{create_file, file_len, open_file, rename_file, sync_file, write_file};
 use crate::resuming::resumed_gateway;
 use crate::setup::Text;
-use byteorder::{BigEndian, ByteOrder};
 use gw_circuit::CircuitConfig;
 use gw_machine::{Machine, ProgramFault};
 use gw_state::{LoadFault, Loaded, load_gateway, state_file};
@@ -53,39 +48,6 @@ fn state_in(octets: &[u8]) -> &[u8]
     }
 }
 
-// The place of a checkpoint.
-fn place_of(octets: &[u8]) -> u64
-    requires { IsCheckpoint octets.now }
-    ensures { IsAtPlace octets.now result }
-{
-    BigEndian::read_u64(&octets[4..])
-}
-
-// Whether octets may be loaded at this place. The error is the place that they are of.
-fn fits_place(octets: &[u8], place: u64) -> Result<(), u64>
-    ensures ok { OnOk result (FitsPlace (Some place) octets.now) }
-    ensures err { IfErr result (λ other. IsCheckpoint octets.now × IsAtPlace octets.now other
-        × (other ≢ place)) }
-{
-    if !is_checkpoint(octets) {
-        return Ok(());
-    }
-    let stands = place_of(octets);
-    if stands == place { Ok(()) } else { Err(stands) }
-}
-
-// Whether octets may be loaded at the place that is asked for, if one is.
-fn fits_asked(octets: &[u8], place: Option<u64>) -> Result<(), ProgramFault>
-    ensures ok { OnOk result (FitsPlace place octets.now) }
-    ensures err { IfErr result (λ fault. (other : ℕ) × (fault ≡ OtherPlace other)
-        × IsElsewhere (λ given. given ≡ octets.now) (λ asked. asked ≡ place) other) }
-{
-    let Some(place) = place else {
-        return Ok(());
-    };
-    fits_place(octets, place).map_err(ProgramFault::OtherPlace)
-}
-
 // The fault if octets are not loaded.
 pub(crate) fn load_trouble(fault: LoadFault) -> ProgramFault
     ensures { result ≡ load_trouble fault }
@@ -96,22 +58,19 @@ pub(crate) fn load_trouble(fault: LoadFault) -> ProgramFault
     }
 }
 
-// The gateway whose state is in the octets of a file, at the place that is asked for, if one is.
+// The gateway whose state is in the octets of a file.
 pub(crate) fn loaded_of(
     alloc: Global,
     config: &GatewayConfig,
     octets: &[u8],
-    place: Option<u64>,
 ) -> Result<Loaded, ProgramFault>
-    ensures ok { IfOk result (WasLoaded (λ given. given ≡ octets.now) (λ asked. asked ≡ place) config.now) }
-    ensures err { IfErr result (IsNoState (λ given. given ≡ octets.now) (λ asked. asked ≡ place)
-        config.now) }
+    ensures ok { IfOk result (WasLoaded (λ given. given ≡ octets.now) (λ asked. asked ≡ None) config.now) }
+    ensures err { IfErr result (IsNoState (λ given. given ≡ octets.now) config.now) }
     ensures most { IfOk result (λ _. length octets.now ≤ 2 ^ 20) }
 {
     if octets.len() > MOST_OCTETS {
         return Err(ProgramFault::NoState);
     }
-    fits_asked(octets, place)?;
     match load_gateway(alloc, config, state_in(octets)) {
         Ok(loaded) => Ok(loaded),
         Err(fault) => Err(load_trouble(fault)),
@@ -124,47 +83,18 @@ fn load_from<T: Text>(
     alloc: Global,
     config: &GatewayConfig,
     text: T,
-    place: Option<u64>,
 ) -> Result<Loaded, ProgramFault>
-    ensures ok { IfOk result (WasLoaded (T.gives text) (λ asked. asked ≡ place) config.now) }
+    ensures ok { IfOk result (WasLoaded (T.gives text) (λ asked. asked ≡ None) config.now) }
     ensures whole { IfOk result (λ loaded. IfSome (T.holds text) (λ octets.
-        WasLoaded (λ given. given ≡ octets) (λ asked. asked ≡ place) config.now loaded)) }
-    ensures err { IfErr result (FailsToLoad (T.fails text) (T.gives text) (λ asked. asked ≡ place)
-        config.now) }
+        WasLoaded (λ given. given ≡ octets) (λ asked. asked ≡ None) config.now loaded)) }
+    ensures err { IfErr result (FailsToLoad (T.fails text) (T.gives text) config.now) }
 {
     let mut octets = Vec::new(alloc);
     // (one more than any state has)
     match text.read_up_to(1_048_577, &mut octets) {
-        Ok(()) => loaded_of(alloc, config, octets.as_slice(), place),
+        Ok(()) => loaded_of(alloc, config, octets.as_slice()),
         Err(error) => Err(ProgramFault::of(&error, ProgramFault::NoState)),
     }
-}
-
-// The octets of a checkpoint before its state.
-fn checkpoint_head(place: u64) -> [u8; HEAD_LEN]
-    ensures { result ≡ checkpoint_mark ++ big_bytes 8 place }
-{
-    let mut head = [0x45, 0x31, 0x47, 0x43, 0, 0, 0, 0, 0, 0, 0, 0];
-    BigEndian::write_u64(&mut head[4..], place);
-    head
-}
-
-// The octets of a checkpoint. The error is that memory was refused.
-#[tactic(auto, unfolding(gw_state::specs::Memory::MemoryIsRefused))]
-fn checkpoint_of(
-    alloc: Global,
-    config: &GatewayConfig,
-    gateway: &Gateway,
-    place: u64,
-) -> Result<Vec<u8>, AllocError>
-    ensures octets { IfOk result (λ octets. octets.items
-        ≡ checkpoint place (state_file config.now gateway.now)) }
-    ensures err { OnErr result MemoryIsRefused }
-{
-    let mut octets = Vec::new(alloc);
-    octets.extend_from_slice(&checkpoint_head(place))?;
-    octets.extend_from_slice(state_file(alloc, config, gateway)?.as_slice())?;
-    Ok(octets)
 }
 
 // Whether two configurations of a circuit are the same.
@@ -205,15 +135,13 @@ fn loaded_gateway(
     rt: &impl Machine,
     config: &GatewayConfig,
     path: &str,
-    place: Option<u64>,
 ) -> Result<Gateway, ProgramFault>
-    ensures ok { IfOk result (IsFromState (PathGives path.now) (λ asked. asked ≡ place) config.now) }
-    ensures err { IfErr result (FailsToLoad (IsUnreadAt path.now) (PathGives path.now)
-        (λ asked. asked ≡ place) config.now) }
+    ensures ok { IfOk result (IsFromState (PathGives path.now) config.now) }
+    ensures err { IfErr result (FailsToLoad (IsUnreadAt path.now) (PathGives path.now) config.now) }
 {
     match open_file(rt, path) {
         Ok(file) => {
-            let loaded = load_from(rt.alloc(), config, file, place)?;
+            let loaded = load_from(rt.alloc(), config, file)?;
             tell_renewed(rt, &loaded.old, config);
             Ok(loaded.gateway)
         }
@@ -235,15 +163,12 @@ fn first_gateway(
     rt: &impl Machine,
     config: &GatewayConfig,
     path: Option<&str>,
-    place: Option<u64>,
 ) -> Result<Gateway, ProgramFault>
-    ensures ok { IfOk result (HasBegun config.now (option_map (λ path. path.now) path.entry)
-        (λ asked. asked ≡ place)) }
-    ensures err { IfErr result (LacksGateway config.now (option_map (λ path. path.now) path.entry)
-        (λ asked. asked ≡ place)) }
+    ensures ok { IfOk result (HasBegun config.now (option_map (λ path. path.now) path.entry)) }
+    ensures err { IfErr result (LacksGateway config.now (option_map (λ path. path.now) path.entry)) }
 {
     match path {
-        Some(path) => loaded_gateway(rt, config, path, place),
+        Some(path) => loaded_gateway(rt, config, path),
         None => match open_gateway(rt.alloc(), config) {
             Ok(gateway) => Ok(gateway),
             Err(_) => Err(ProgramFault::OutOfMemory),
@@ -257,19 +182,18 @@ fn begun_gateway(
     config: &GatewayConfig,
     log: Option<&str>,
     path: Option<&str>,
-    place: Option<u64>,
 ) -> Result<Gateway, ProgramFault>
     ensures ok { IfOk result (BeginsFrom config.now (option_map (λ folder. folder.now) log.entry)
-        (option_map (λ path. path.now) path.entry) (λ asked. asked ≡ place)) }
+        (option_map (λ path. path.now) path.entry)) }
     ensures err { IfErr result (LacksFirst config.now (option_map (λ folder. folder.now) log.entry)
-        (option_map (λ path. path.now) path.entry) (λ asked. asked ≡ place)) }
+        (option_map (λ path. path.now) path.entry)) }
 {
     let Some(folder) = log else {
-        return first_gateway(rt, config, path, place);
+        return first_gateway(rt, config, path);
     };
     match resumed_gateway(rt, config, folder) {
         Ok(Some(gateway)) => Ok(gateway),
-        Ok(None) => first_gateway(rt, config, path, place),
+        Ok(None) => first_gateway(rt, config, path),
         Err(fault) => Err(fault),
     }
 }
@@ -288,23 +212,21 @@ fn waiting(gateway: Gateway, wait: Option<u16>) -> Gateway
 /// Opens the gateway of a session: one that goes on from the log in a folder, if one is named in which
 /// something was kept; otherwise loads the state in a file if one is named, or opens a new gateway. Its
 /// wait for an acknowledgement, in signals, is `wait`; without one it is that of the state, or 100 signals.
-/// Circuits whose configuration changed begin as new, and standard error says which. A checkpoint of another
-/// place than `place`, if there is one, is refused.
+/// Circuits whose configuration changed begin as new, and standard error says which.
 pub fn begin_gateway(
     rt: &impl Machine,
     config: &GatewayConfig,
     log: Option<&str>,
     path: Option<&str>,
-    place: Option<u64>,
     wait: Option<u16>,
 ) -> Result<Gateway, ProgramFault>
     ensures ok { IfOk result (BeginsWaiting (BeginsFrom config.now
-        (option_map (λ folder. folder.now) log.entry) (option_map (λ path. path.now) path.entry)
-        (λ asked. asked ≡ place)) (λ asked. asked ≡ wait)) }
+        (option_map (λ folder. folder.now) log.entry) (option_map (λ path. path.now) path.entry))
+        (λ asked. asked ≡ wait)) }
     ensures err { IfErr result (LacksFirst config.now (option_map (λ folder. folder.now) log.entry)
-        (option_map (λ path. path.now) path.entry) (λ asked. asked ≡ place)) }
+        (option_map (λ path. path.now) path.entry)) }
 {
-    let first = begun_gateway(rt, config, log, path, place)?;
+    let first = begun_gateway(rt, config, log, path)?;
     Ok(waiting(first, wait))
 }
 
@@ -387,22 +309,6 @@ pub fn keep_gateway(
         return Ok(());
     };
     match state_file(rt.alloc(), config, gateway) {
-        Ok(octets) => keep_at(rt, octets.as_slice(), path),
-        Err(_) => Err(ProgramFault::OutOfMemory),
-    }
-}
-
-/// Writes a checkpoint of a gateway to a file, as a state is saved.
-pub fn keep_checkpoint(
-    rt: &impl Machine,
-    config: &GatewayConfig,
-    gateway: &Gateway,
-    place: u64,
-    path: &str,
-) -> Result<(), ProgramFault>
-    ensures { Keeps path.now (checkpoint place (state_file config.now gateway.now)) result }
-{
-    match checkpoint_of(rt.alloc(), config, gateway, place) {
         Ok(octets) => keep_at(rt, octets.as_slice(), path),
         Err(_) => Err(ProgramFault::OutOfMemory),
     }

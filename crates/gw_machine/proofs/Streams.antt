@@ -1,8 +1,7 @@
 -- Commands on new streams, and systems that take what the command line names.
-use Rattle.std.proofs.Common.{◌≡◌, inl, inr, ℕ, List, [], Option, None, Some, Result, sym, subst, arith}
+use Rattle.std.proofs.Common.{◌≡◌, inl, inr, ℕ, List, [], Option, Some, Result, sym, subst, arith}
 use Rattle.gw_config.specs.declared.config.Config.{Config}
 use Rattle.gw_records.specs.declared.outcome.Totals.{Totals}
-use Rattle.gw_switch.specs.declared.GatewayConfig.{GatewayConfig}
 use Rattle.gw_switch.specs.declared.gateway.Gateway.{Gateway}
 use Rattle.gw_records.specs.declared.outcome.RunFault.{RunFault}
 use Rattle.gw_records.specs.Streams.{CanBegin, SourceState, SinkState}
@@ -12,8 +11,8 @@ use Rattle.gw_session.specs.Tape.{no_tape}
 use Rattle.gw_machine.specs.declared.program_fault.ProgramFault.{ProgramFault}
 use Rattle.gw_machine.specs.System.{EndedSaved, NotBegun, Performed, LacksSession, SystemFiles}
 use Rattle.gw_machine.specs.System.Performed.{Lacked, Done}
-use Rattle.gw_machine.specs.State.{BeginsWaiting, HasBegun, IsFromState, IsSaved, LacksGateway}
-use Rattle.gw_machine.specs.CommandLine.{AreNew, AsksPlace, AsksWait, CommandLine, OnNewStreams, TakesAsked}
+use Rattle.gw_machine.specs.State.{BeginsWaiting, IsSaved}
+use Rattle.gw_machine.specs.CommandLine.{AreNew, AsksWait, CommandLine, OnNewStreams, TakesAsked}
 use Rattle.gw_machine.specs.CommandLine.{config_path_in, files_in, load_in, log_in, save_in}
 use Rattle.gw_machine.specs.Log.{BeginsFrom, LacksFirst}
 use Rattle.gw_machine.specs.Setup.{IsMeant, LacksConfigAt, PathGives}
@@ -56,105 +55,33 @@ pub performed_so : {X : Type 0} {x x' : X} {files : SystemFiles} {lacks lacks' :
 performed_so is (Lacked n) = Lacked (told_why is (λ e. e) n)
 performed_so is (Done config read gateway gateway' begun done) = Done config read gateway gateway' begun done
 
--- what was loaded at a place was loaded at what this was asked by
-loaded_at : (place : Option ℕ) (at : Option ℕ → Type 0) (given : List ℕ → Type 0) (config : GatewayConfig)
-    (gateway : Gateway) → at place → IsFromState given (λ asked. asked ≡ place) config gateway
-    → IsFromState given at config gateway
-loaded_at place at given config gateway is b = record {
-  loaded = b.loaded;
-  was = record {
-    octets = b.was.octets;
-    given = b.was.given;
-    place = b.was.place;
-    at = subst at (sym b.was.at) is;
-    fits = b.was.fits;
-    state = b.was.state;
-    inside = b.was.inside;
-    is = b.was.is;
-  };
-  told = b.told;
-  gateway_is = b.gateway_is;
-}
-
--- .. and so is what a session begins with
-begun_at : (path : Option (List ℕ)) (place : Option ℕ) (at : Option ℕ → Type 0) (config : GatewayConfig)
-    (gateway : Gateway) → at place → HasBegun config path (λ asked. asked ≡ place) gateway
-    → HasBegun config path at gateway
-begun_at None place at config gateway is b = b
-begun_at (Some path) place at config gateway is b = loaded_at place at (PathGives path) config gateway is b
-
--- .. or lacks
-lacks_at : (path : Option (List ℕ)) (place : Option ℕ) (at : Option ℕ → Type 0) (config : GatewayConfig)
-    (fault : ProgramFault) → at place → LacksGateway config path (λ asked. asked ≡ place) fault
-    → LacksGateway config path at fault
-lacks_at None place at config fault is b = b
-lacks_at (Some path) place at config fault is (inl refused) = inl refused
-lacks_at (Some path) place at config fault is (inr (inl many)) = inr (inl many)
-lacks_at (Some path) place at config fault is (inr (inr (inl (other, e, there)))) = inr (inr (inl (
-  other,
-  e,
-  record {
-    octets = there.octets;
-    given = there.given;
-    checkpoint = there.checkpoint;
-    stands = there.stands;
-    asked = there.asked;
-    at = subst at (sym there.at) is;
-    other = there.other;
-  },
-)))
-lacks_at (Some path) place at config fault is (inr (inr (inr were))) = inr (inr (inr were))
-
--- so begins one that may go on from a log
-begun_from : (log path : Option (List ℕ)) (place : Option ℕ) (at : Option ℕ → Type 0) (config : GatewayConfig)
-    (gateway : Gateway) → at place → BeginsFrom config log path (λ asked. asked ≡ place) gateway
-    → BeginsFrom config log path at gateway
-begun_from None path place at config gateway is b = begun_at path place at config gateway is b
-begun_from (Some folder) path place at config gateway is (inl logged) = inl logged
-begun_from (Some folder) path place at config gateway is (inr (new, b)) =
-    inr (new, begun_at path place at config gateway is b)
-
--- .. or lacks
-lacks_from : (log path : Option (List ℕ)) (place : Option ℕ) (at : Option ℕ → Type 0) (config : GatewayConfig)
-    (fault : ProgramFault) → at place → LacksFirst config log path (λ asked. asked ≡ place) fault
-    → LacksFirst config log path at fault
-lacks_from None path place at config fault is b = lacks_at path place at config fault is b
-lacks_from (Some folder) path place at config fault is (inl logged) = inl logged
-lacks_from (Some folder) path place at config fault is (inr (new, b)) =
-    inr (new, lacks_at path place at config fault is b)
-
--- the place and the wait that are asked for are told as what they were asked by
-waiting_at : (log path : Option (List ℕ)) (place wait : Option ℕ) (at asks : Option ℕ → Type 0)
-    (config : GatewayConfig) (gateway : Gateway) → at place → asks wait
-    → BeginsWaiting (BeginsFrom config log path (λ asked. asked ≡ place)) (λ asked. asked ≡ wait) gateway
-    → BeginsWaiting (BeginsFrom config log path at) asks gateway
-waiting_at log path place wait at asks config gateway there is b = record {
+-- the wait that is asked for is told as what it was asked by
+waits_so : (wait : Option ℕ) (asks : Option ℕ → Type 0) {Begins : Gateway → Type 0} (gateway : Gateway) → asks wait
+    → BeginsWaiting Begins (λ asked. asked ≡ wait) gateway → BeginsWaiting Begins asks gateway
+waits_so wait asks gateway is b = record {
   first = b.first;
-  begun = begun_from log path place at config b.first there b.begun;
+  begun = b.begun;
   wait = b.wait;
   asked = subst asks (sym b.asked) is;
   waits = b.waits;
 }
 
--- A system whose paths, place and wait are those of the command takes what the command names.
+-- A system whose paths and wait are those of the command takes what the command names.
 pub takes_asked : (command : CommandLine) (path : List ℕ) (log load save : Option (List ℕ))
-    (place wait : Option ℕ) → config_path_in command ≡ Some path → log ≡ log_in command
-    → load ≡ load_in command → save ≡ save_in command → AsksPlace command place → AsksWait command wait
+    (wait : Option ℕ) → config_path_in command ≡ Some path → log ≡ log_in command
+    → load ≡ load_in command → save ≡ save_in command → AsksWait command wait
     → TakesAsked command (record {
       reads = IsMeant (PathGives path);
       lacks_config = LacksConfigAt path;
-      starts = λ config. BeginsWaiting (BeginsFrom config.gateway log load (λ asked. asked ≡ place))
-          (λ asked. asked ≡ wait);
-      lacks_gateway = λ config. LacksFirst config.gateway log load (λ asked. asked ≡ place);
+      starts = λ config. BeginsWaiting (BeginsFrom config.gateway log load) (λ asked. asked ≡ wait);
+      lacks_gateway = λ config. LacksFirst config.gateway log load;
       saves = λ config. IsSaved save config.gateway;
     })
-takes_asked command path log load save place wait named logs loads saves at asks = record {
+takes_asked command path log load save wait named logs loads saves asks = record {
   read = λ config meant. rw named meant;
   unread = λ fault lacks. rw named lacks;
-  begun = λ config gateway begun. rw (← logs, ← loads) (waiting_at log load place wait (AsksPlace command)
-      (AsksWait command) config.gateway gateway at asks begun);
-  unbegun = λ config fault lacks. rw (← logs, ← loads) (lacks_from log load place (AsksPlace command) config.gateway
-      fault at lacks);
+  begun = λ config gateway begun. rw (← logs, ← loads) (waits_so wait (AsksWait command) gateway asks begun);
+  unbegun = λ config fault lacks. rw (← logs, ← loads) lacks;
   saved = λ config gateway saved is. rw (← saves) is;
 }
 

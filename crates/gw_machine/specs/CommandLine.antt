@@ -1,5 +1,5 @@
 -- What the command line names of a session, and what is done by it.
-use Rattle.std.specs.Prelude.{◌≡◌, ◌≢◌, ◌⊎◌, ℕ, List, [], Option, Some, None, Result, IsSomeAnd}
+use Rattle.std.specs.Prelude.{◌≡◌, ℕ, List, [], Option, Some, Result, IsSomeAnd}
 use Rattle.std.specs.Prelude.{MatchOption, codes}
 use Rattle.clap.specs.Words.{Row}
 use Rattle.gw_config.specs.declared.config.Config.{Config}
@@ -7,7 +7,7 @@ use Rattle.gw_switch.specs.declared.gateway.Gateway.{Gateway}
 use Rattle.gw_records.specs.declared.outcome.Totals.{Totals}
 use Rattle.gw_records.specs.Streams.{SourceState, SinkState}
 use Rattle.gw_session.specs.Serve.{SessionStreams}
-use Rattle.gw_command.specs.Command.{text_in, SaysNumberIn, SaysWait}
+use Rattle.gw_command.specs.Command.{text_in, SaysWait}
 use Rattle.gw_machine.specs.declared.program_fault.ProgramFault.{ProgramFault}
 use Rattle.gw_machine.specs.System.{Performed, SystemFiles}
 use Rattle.gw_machine.specs.Setup.{IsConfigAt, LacksConfigAt}
@@ -17,10 +17,6 @@ use Rattle.gw_machine.specs.State.{BeginsWaiting, IsSaved}
 -- a subcommand with its options
 abbrev pub CommandLine : Type 0
 CommandLine = Option (List ℕ × List Row)
-
--- the log that the command names to be followed
-abbrev pub follow_in : CommandLine → Option (List ℕ)
-follow_in command = text_in (codes "follow") command
 
 -- nothing has happened to a source and a sink: no read, no octet and no failure
 pub record AreNew (s : SourceState) (k : SinkState) : Type 0 where
@@ -54,25 +50,15 @@ save_in command = text_in (codes "save") command
 abbrev pub AsksWait : CommandLine → Option ℕ → Type 0
 AsksWait command wait = MatchOption wait ((signals : ℕ) → ¬ SaysWait command signals) (SaysWait command)
 
--- the octet that the command names, from which on the log is read
-abbrev pub IsFrom : CommandLine → ℕ → Type 0
-IsFrom command place = SaysNumberIn 64 (codes "from") command place
-
--- .. if it names a log to be followed; none if it does not
-abbrev pub AsksPlace : CommandLine → Option ℕ → Type 0
-AsksPlace command place = MatchOption place
-    ((follow_in command ≡ None) ⊎ ((octet : ℕ) → ¬ IsFrom command octet))
-    (λ octet. (follow_in command ≢ None) × IsFrom command octet)
-
 -- The files that the command names. A gateway goes on from the log that is named, or is begun from a state if
--- one is named, at the place that is asked for; it has the wait that is asked for.
+-- one is named; it has the wait that is asked for.
 abbrev pub files_in : CommandLine → SystemFiles
 files_in command = record {
   reads = IsConfigAt (config_path_in command);
   lacks_config = λ fault. IsSomeAnd (config_path_in command) (λ path. LacksConfigAt path fault);
-  starts = λ config. BeginsWaiting (BeginsFrom config.gateway (log_in command) (load_in command)
-      (AsksPlace command)) (AsksWait command);
-  lacks_gateway = λ config. LacksFirst config.gateway (log_in command) (load_in command) (AsksPlace command);
+  starts = λ config. BeginsWaiting (BeginsFrom config.gateway (log_in command) (load_in command))
+      (AsksWait command);
+  lacks_gateway = λ config. LacksFirst config.gateway (log_in command) (load_in command);
   saves = λ config. IsSaved (save_in command) config.gateway;
 }
 

@@ -15,14 +15,6 @@ SystemRefusesFile path error = ⊤
 unfoldable pub SystemShowsFile : List ℕ → Option ℕ → Type 0
 SystemShowsFile path len = ⊤
 
--- a file was positioned at this octet
-unfoldable pub SystemSeeks : {F : Type 0} → F → F → ℕ → Type 0
-SystemSeeks file file' place = ⊤
-
--- .. or that was refused with this error
-unfoldable pub SystemRefusesSeek : ℕ → Error → Type 0
-SystemRefusesSeek place error = ⊤
-
 -- reads of a file gave these octets
 unfoldable pub SystemReads : {F : Type 0} → F → List ℕ → Type 0
 SystemReads file octets = ⊤

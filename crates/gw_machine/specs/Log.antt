@@ -1,6 +1,5 @@
 -- The log of a trunk in a folder, and the gateway that goes on from it (`--log`).
 use Rattle.std.specs.Prelude.{◌≡◌, ◌≢◌, ◌⊎◌, ◌≤◌, ℕ, true, List, [], ◌++◌, Option, Some, None, codes}
-use Rattle.std.specs.declared.io.Error.{Error}
 use Rattle.gw_switch.specs.declared.GatewayConfig.{GatewayConfig}
 use Rattle.gw_switch.specs.declared.gateway.Gateway.{Gateway}
 use Rattle.gw_switch.specs.Events.{Event}
@@ -135,8 +134,8 @@ FailsToGive octets fault = ((fault ≡ program_faults.BadLog) × AreNotWhole oct
 
 -- why what was kept is not loaded with a configuration: it refuses the state, or the records
 abbrev pub FailsToReplay : Kept → GatewayConfig → ProgramFault → Type 0
-FailsToReplay kept config fault = IsNoState (λ given. given ≡ kept.state) (λ asked. asked ≡ None) config fault
-    ⊎ FailsToGive kept.records fault
+FailsToReplay kept config fault =
+    IsNoState (λ given. given ≡ kept.state) config fault ⊎ FailsToGive kept.records fault
 
 -- why a gateway does not go on from what was kept
 abbrev pub FailsToResume : Kept → ProgramFault → Type 0
@@ -157,15 +156,13 @@ LacksLogged folder fault = LacksFiles folder fault
 
 -- What a session begins with: the gateway that goes on from the log, if one is named in which something was
 -- kept; if not, a new one, or that of the state that is named.
-abbrev pub BeginsFrom : GatewayConfig → Option (List ℕ) → Option (List ℕ) → (Option ℕ → Type 0) → Gateway
-    → Type 0
-BeginsFrom config None path At gateway = HasBegun config path At gateway
-BeginsFrom config (Some folder) path At gateway =
-    IsFromLog folder config gateway ⊎ (IsNewLog folder × HasBegun config path At gateway)
+abbrev pub BeginsFrom : GatewayConfig → Option (List ℕ) → Option (List ℕ) → Gateway → Type 0
+BeginsFrom config None path gateway = HasBegun config path gateway
+BeginsFrom config (Some folder) path gateway =
+    IsFromLog folder config gateway ⊎ (IsNewLog folder × HasBegun config path gateway)
 
 -- why there is no gateway to begin with
-abbrev pub LacksFirst : GatewayConfig → Option (List ℕ) → Option (List ℕ) → (Option ℕ → Type 0) → ProgramFault
-    → Type 0
-LacksFirst config None path At fault = LacksGateway config path At fault
-LacksFirst config (Some folder) path At fault =
-    LacksLogged folder fault ⊎ (IsNewLog folder × LacksGateway config path At fault)
+abbrev pub LacksFirst : GatewayConfig → Option (List ℕ) → Option (List ℕ) → ProgramFault → Type 0
+LacksFirst config None path fault = LacksGateway config path fault
+LacksFirst config (Some folder) path fault =
+    LacksLogged folder fault ⊎ (IsNewLog folder × LacksGateway config path fault)

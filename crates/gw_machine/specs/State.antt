@@ -1,10 +1,10 @@
 -- The state of a gateway, from a file and to a file (module `state`).
-use Rattle.std.specs.Prelude.{◌≡◌, ◌≢◌, ◌⊎◌, ◌<◌, ◌≤◌, ◌^◌, ⊤, ℕ, List, [], ◌∷◌, ◌++◌, take, drop, length}
+use Rattle.std.specs.Prelude.{◌≡◌, ◌⊎◌, ◌<◌, ◌≤◌, ◌^◌, ⊤, ℕ, List, [], ◌∷◌, ◌++◌, take, drop, length}
 use Rattle.std.specs.Prelude.{codes}
 use Rattle.std.specs.Prelude.{Option, Some, None, Result, Ok, OnOk, IfErr}
 use Rattle.std.specs.declared.fs.File.{File}
 use Rattle.std.specs.declared.io.Error.{Error}
-use Rattle.byteorder.specs.Endian.{big_bytes, big_number}
+use Rattle.byteorder.specs.Endian.{big_number}
 use Rattle.gw_switch.specs.declared.GatewayConfig.{GatewayConfig}
 use Rattle.gw_switch.specs.declared.gateway.Gateway.{Gateway}
 use Rattle.gw_switch.specs.Events.{CircuitEvent, Event}
@@ -27,10 +27,6 @@ use Rattle.gw_machine.specs.declared.program_fault.ProgramFault.TheVariants as p
 -- the letters E1GC
 abbrev pub checkpoint_mark : List ℕ
 checkpoint_mark = 0x45 ∷ 0x31 ∷ 0x47 ∷ 0x43 ∷ []
-
--- a checkpoint: a mark, the octet of the input behind which the state is, and the state
-abbrev pub checkpoint : ℕ → List ℕ → List ℕ
-checkpoint place state = checkpoint_mark ++ (big_bytes 8 place ++ state)
 
 -- octets begin with the mark and the place of a checkpoint
 pub record IsCheckpoint (octets : List ℕ) : Type 0 where
@@ -77,45 +73,32 @@ pub record WereRefused (Given : List ℕ → Type 0) (config : GatewayConfig) (f
   pub inside : IsStateIn octets state
   pub refuses : Refuses config state fault
 
--- octets that were given are a checkpoint of this place, and another one is asked for
-pub record IsElsewhere (Given : List ℕ → Type 0) (At : Option ℕ → Type 0) (place : ℕ) : Type 0 where
-  pub octets : List ℕ
-  pub given : Given octets
-  pub checkpoint : IsCheckpoint octets
-  pub stands : IsAtPlace octets place
-  pub asked : ℕ
-  pub at : At (Some asked)
-  pub other : place ≢ asked
-
 -- the fault if octets are not loaded
 abbrev pub load_trouble : LoadFault → ProgramFault
 load_trouble loads.OutOfMemory = program_faults.OutOfMemory
 load_trouble fault = program_faults.State fault
 
--- octets that were given are no state that can be loaded there, or memory was refused
-abbrev pub IsNoState : (List ℕ → Type 0) → (Option ℕ → Type 0) → GatewayConfig → ProgramFault → Type 0
-IsNoState Given At config fault = ((fault ≡ program_faults.NoState) × AreTooMany Given)
-    ⊎ ((place : ℕ) × (fault ≡ program_faults.OtherPlace place) × IsElsewhere Given At place)
+-- octets that were given are no state that can be loaded, or memory was refused
+abbrev pub IsNoState : (List ℕ → Type 0) → GatewayConfig → ProgramFault → Type 0
+IsNoState Given config fault = ((fault ≡ program_faults.NoState) × AreTooMany Given)
     ⊎ ((refusal : LoadFault) × (fault ≡ load_trouble refusal) × WereRefused Given config refusal)
 
 -- why no gateway was loaded: a read failed with such an error, or what was given is no such state
-abbrev pub FailsToLoad : (Error → Type 0) → (List ℕ → Type 0) → (Option ℕ → Type 0) → GatewayConfig
-    → ProgramFault → Type 0
-FailsToLoad Fails Given At config fault =
-    SaysRefused Fails program_faults.NoState fault ⊎ IsNoState Given At config fault
+abbrev pub FailsToLoad : (Error → Type 0) → (List ℕ → Type 0) → GatewayConfig → ProgramFault → Type 0
+FailsToLoad Fails Given config fault =
+    SaysRefused Fails program_faults.NoState fault ⊎ IsNoState Given config fault
 
 -- the gateway of a state in octets that were given; the circuits that begin as new are reported
-pub record IsFromState (Given : List ℕ → Type 0) (At : Option ℕ → Type 0) (config : GatewayConfig)
-    (gateway : Gateway) : Type 0 where
+pub record IsFromState (Given : List ℕ → Type 0) (config : GatewayConfig) (gateway : Gateway) : Type 0 where
   pub loaded : Loaded
-  pub was : WasLoaded Given At config loaded
+  pub was : WasLoaded Given (λ asked. asked ≡ None) config loaded
   pub told : AreTold loaded.old config 30
   pub gateway_is : gateway ≡ loaded.gateway
 
 -- a session begins with a new gateway, or if a file is named with that of the state in it
-abbrev pub HasBegun : GatewayConfig → Option (List ℕ) → (Option ℕ → Type 0) → Gateway → Type 0
-HasBegun config None At gateway = HasHistory config gateway []
-HasBegun config (Some path) At gateway = IsFromState (PathGives path) At config gateway
+abbrev pub HasBegun : GatewayConfig → Option (List ℕ) → Gateway → Type 0
+HasBegun config None gateway = HasHistory config gateway []
+HasBegun config (Some path) gateway = IsFromState (PathGives path) config gateway
 
 -- a gateway is given this wait: one event more, however it was configured at first
 abbrev pub WasGiven : ℕ → Gateway → Gateway → Type 0
@@ -138,9 +121,9 @@ pub record BeginsWaiting (Begins : Gateway → Type 0) (Asks : Option ℕ → Ty
     pub waits : Waits wait first gateway
 
 -- why there is no gateway to begin with: memory was refused, or that in the file that is named is not loaded
-abbrev pub LacksGateway : GatewayConfig → Option (List ℕ) → (Option ℕ → Type 0) → ProgramFault → Type 0
-LacksGateway config None At fault = (fault ≡ program_faults.OutOfMemory) × MemoryIsRefused
-LacksGateway config (Some path) At fault = FailsToLoad (IsUnreadAt path) (PathGives path) At config fault
+abbrev pub LacksGateway : GatewayConfig → Option (List ℕ) → ProgramFault → Type 0
+LacksGateway config None fault = (fault ≡ program_faults.OutOfMemory) × MemoryIsRefused
+LacksGateway config (Some path) fault = FailsToLoad (IsUnreadAt path) (PathGives path) config fault
 
 -- a file was created at a path, it took these octets, and the disk keeps them
 pub record IsWritten (path octets : List ℕ) : Type 0 where
@@ -185,8 +168,3 @@ Keeps path octets kept = OnOk kept (IsKeptAt path octets) × IfErr kept (FailsTo
 abbrev pub IsSaved : Option (List ℕ) → GatewayConfig → Gateway → Result (Unit {0}) ProgramFault → Type 0
 IsSaved None config gateway saved = saved ≡ Ok tt
 IsSaved (Some path) config gateway saved = Keeps path (state_file config gateway) saved
-
--- a checkpoint of this gateway at this place was kept at this path, or was not
-abbrev pub IsKept : List ℕ → GatewayConfig → Gateway → ℕ → Type 0
-IsKept path config gateway place = (kept : Result (Unit {0}) ProgramFault)
-    × Keeps path (checkpoint place (state_file config gateway)) kept

@@ -9,7 +9,7 @@ mod system;
 pub use machine::Machine;
 pub use program_fault::{DONE, NO_MEMORY, ProgramFault, REFUSED};
 pub use report::{
-    CheckTells, LiveCounts, Skipped, passed_over, print_discarded, print_fault, print_place,
+    CheckTells, LiveCounts, Skipped, passed_over, print_discarded, print_fault,
     print_receiver_counts, print_slots, print_totals, print_unreported,
 };
 pub use system::{System, end_session, told_as};

@@ -54,9 +54,6 @@ pub enum ProgramFault {
     /// The file of the recording is there already, and is not to be written over.
     #[error("the recording is there already: name a new file, or give --record-over")]
     OldRecording,
-    /// The log can't be followed.
-    #[error("cannot follow the log")]
-    Log,
     /// The files of the trunk's log can't be opened, read or written.
     #[error("cannot open the log of the trunk")]
     NoLog,
@@ -81,9 +78,6 @@ pub enum ProgramFault {
     /// The file has no state of this configuration.
     #[error("{0}")]
     State(LoadFault),
-    /// The checkpoint is of this octet of the log, and another one is asked for.
-    #[error("error: --load is of octet {0} of the log: give --from {0}")]
-    OtherPlace(u64),
     /// The state can't be saved.
     #[error("cannot save the state")]
     NotSaved,
@@ -135,7 +129,6 @@ impl ProgramFault {
             | ProgramFault::File
             | ProgramFault::Recording
             | ProgramFault::OldRecording
-            | ProgramFault::Log
             | ProgramFault::NoLog
             | ProgramFault::LogInUse(_)
             | ProgramFault::BadLog
@@ -143,7 +136,6 @@ impl ProgramFault {
             | ProgramFault::Reports
             | ProgramFault::NoState
             | ProgramFault::State(_)
-            | ProgramFault::OtherPlace(_)
             | ProgramFault::Control
             | ProgramFault::Tell
             | ProgramFault::Config(_) => REFUSED,

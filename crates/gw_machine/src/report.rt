@@ -60,13 +60,6 @@ pub fn print_totals(rt: &impl Eprint, totals: &Totals)
     print_row(rt, "port_faults", totals.port_faults);
 }
 
-/// Prints the place in a log behind which a state stands on standard error, in the form of the totals.
-pub fn print_place(rt: &impl Eprint, place: u64)
-    ensures { SystemPrints (codes "place") place }
-{
-    print_row(rt, "place", place);
-}
-
 /// Prints the number of discarded multiframes of a trunk on standard error, in the form of the totals.
 pub fn print_discarded(rt: &impl Eprint, discarded: u64)
     ensures { SystemPrints (codes "discarded_multiframes") discarded }

@@ -11,7 +11,6 @@ use gw_switch::Gateway;
 /// What a session takes from the system beside its streams. The relations belong to the type. A generic
 /// caller has them only for results that these calls returned.
 pub trait System {
-    ghost use Rattle.std.specs.Prelude.{ℕ};
     ghost use Rattle.gw_config.specs.declared.config.Config.{Config};
     ghost use Rattle.gw_switch.specs.declared.gateway.Gateway.{Gateway};
     ghost use Rattle.gw_machine.specs.System.{SystemFiles};
@@ -28,9 +27,6 @@ pub trait System {
 
     /// What holds of the configuration, of the gateway that a session begins with, and of the saved state.
     ghost files: { Self → SystemFiles };
-
-    /// Holds of a configuration, a gateway and a place in the input of which a checkpoint was to be written.
-    ghost keeps: { Self → Config → Gateway → ℕ → Type 0 };
 
     /// Holds of a tape that was begun for a configuration and the gateway that a session begins with.
     ghost begins: { Self → Config → Gateway → Self.Tape → Type 0 };
@@ -69,10 +65,6 @@ pub trait System {
     /// Saves the state of a gateway, if requested.
     fn save_gateway(&self, config: &Config, gateway: &Gateway) -> Result<(), ProgramFault>
         ensures { (files self.now).saves config.now gateway.now result };
-
-    /// Writes a checkpoint of a gateway at this place, if requested.
-    fn keep(&self, config: &Config, gateway: &Gateway, place: u64) -> Result<(), ProgramFault>
-        ensures { keeps self.now config.now gateway.now place };
 
     /// Begins what a session is recorded on that begins with this gateway, if requested.
     fn begin_tape(&self, config: &Config, gateway: &Gateway) -> Result<Self::Tape, ProgramFault>

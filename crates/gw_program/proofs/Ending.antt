@@ -1,5 +1,5 @@
 -- How sessions end, as the command line names them.
-use Rattle.std.proofs.Common.{◌≡◌, ◌⊎◌, inl, inr, ℕ, List, Result, Err, refl}
+use Rattle.std.proofs.Common.{◌≡◌, ◌⊎◌, inl, inr, Result, Err, refl}
 use Rattle.gw_config.specs.declared.config.Config.{Config}
 use Rattle.gw_records.specs.declared.outcome.Totals.{Totals}
 use Rattle.gw_switch.specs.declared.gateway.Gateway.{Gateway}
@@ -16,13 +16,12 @@ use Rattle.gw_machine.specs.System.{EndedSaved, NotBegun, Performed, LacksSessio
 use Rattle.gw_machine.specs.System.Performed.{Lacked, Done}
 use Rattle.gw_machine.proofs.Streams.{lacks_asked, performed_so, saved_told, told_why}
 use Rattle.gw_program.specs.Performing.{RunsSession, WithEnds}
-use Rattle.gw_program.specs.Requests.{EndsSession, FollowsLog}
+use Rattle.gw_program.specs.Requests.{EndsSession}
 
 -- a session was not begun for such a reason
 pub no_session : (command : CommandLine) (session : SessionKind) (lacks : ProgramFault → Type 0) (a : SessionStreams)
-    (from place : ℕ) (fault : ProgramFault) → lacks fault
-    → EndsSession command session lacks a a from place (Err fault)
-no_session command session lacks a from place fault why = record {
+    (fault : ProgramFault) → lacks fault → EndsSession command session lacks a a (Err fault)
+no_session command session lacks a fault why = record {
   ports = no_ports;
   ports' = no_ports;
   tape = no_tape;
@@ -31,39 +30,17 @@ no_session command session lacks a from place fault why = record {
 }
 
 -- A session that ended so did, or was not begun for one of more reasons.
-pub session_so : (session : SessionKind) (from place : ℕ) {command : CommandLine}
+pub session_so : (session : SessionKind) {command : CommandLine}
     {lacks lacks' : ProgramFault → Type 0} {a a' : SessionStreams} {told : Result Totals ProgramFault}
     → ((fault : ProgramFault) → lacks fault → lacks' fault)
-    → EndsSession command session lacks a a' from place told → EndsSession command session lacks' a a' from place told
-session_so session from place is e = record {
+    → EndsSession command session lacks a a' told → EndsSession command session lacks' a a' told
+session_so session is e = record {
   ports = e.ports;
   ports' = e.ports';
   tape = e.tape;
   tape' = e.tape';
   done = performed_so is e.done;
 }
-
--- .. on a log
-pub log_so : (session : SessionKind) {command : CommandLine} {lacks lacks' : ProgramFault → Type 0} {path : List ℕ}
-    {told : Result Totals ProgramFault} → ((fault : ProgramFault) → lacks fault → lacks' fault)
-    → FollowsLog command session lacks path told → FollowsLog command session lacks' path told
-log_so session is (inr n) = inr n
-log_so session is (inl h) = inl (record {
-  place = h.place;
-  from = h.from;
-  done = elim h.done [
-    | inl n ↦ inl n
-    | inr e ↦ inr (record {
-      place = e.place;
-      before = e.before;
-      after = e.after;
-      new = e.new;
-      given = e.given;
-      ends = session_so session h.place e.place is e.ends;
-      tells = e.tells;
-    })
-  ];
-})
 
 module _ {X : Type 0} {x x' : X} {files : SystemFiles} {told : Result Totals ProgramFault} where
   -- a session that has no gateway for its configuration
@@ -88,22 +65,22 @@ module _ {s s' : SourceState} {k k' : SinkState} {X P T : Type 0} {x x' : X} {fi
     {told : Result Totals ProgramFault}
   where
     -- a session took what the command names
-    pub session_done : (session : SessionKind) (from place : ℕ)
+    pub session_done : (session : SessionKind)
         → Performed x x' files (LacksSession files lacks_more) (λ config gateway gateway'.
         WithEnds session (opens config) (begins config gateway) ports_tell tape_tells (λ ports ports' tape tape'.
-        EndedSaved (RunsSession session (around s k ports tape) (around s' k' ports' tape') gateway gateway' from place)
+        EndedSaved (RunsSession session (around s k ports tape) (around s' k' ports' tape') gateway gateway')
         (files.saves config gateway') told)) told
         → (x' ≡ x → around s' k' no_ports no_tape ≡ around s k no_ports no_tape)
         → EndsSession command session (LacksSession (files_in command) lacks_more) (around s k no_ports no_tape)
-        (around s' k' no_ports no_tape) from place told
-    session_done session from place (Lacked n) f = record {
+        (around s' k' no_ports no_tape) told
+    session_done session (Lacked n) f = record {
       ports = no_ports;
       ports' = no_ports;
       tape = no_tape;
       tape' = no_tape;
       done = Lacked (told_why (lacks_asked takes lacks_more) f n);
     }
-    session_done Replay from place (Done config read gateway gateway' begun done) f = record {
+    session_done Replay (Done config read gateway gateway' begun done) f = record {
       ports = no_ports;
       ports' = no_ports;
       tape = no_tape;
@@ -111,7 +88,7 @@ module _ {s s' : SourceState} {k k' : SinkState} {X P T : Type 0} {x x' : X} {fi
       done = Done config (takes.read config read) gateway gateway' (takes.begun config gateway begun)
           (saved_told takes config gateway' done);
     }
-    session_done Check from place (Done config read gateway gateway' begun done) f = record {
+    session_done Check (Done config read gateway gateway' begun done) f = record {
       ports = no_ports;
       ports' = no_ports;
       tape = no_tape;
@@ -119,7 +96,7 @@ module _ {s s' : SourceState} {k k' : SinkState} {X P T : Type 0} {x x' : X} {fi
       done = Done config (takes.read config read) gateway gateway' (takes.begun config gateway begun)
           (saved_told takes config gateway' done);
     }
-    session_done Serve from place (Done config read gateway gateway' begun v) f = record {
+    session_done Serve (Done config read gateway gateway' begun v) f = record {
       ports = ports_tell v.ports;
       ports' = ports_tell v.ports';
       tape = tape_tells v.tape;

@@ -6,5 +6,4 @@ pub mod StandardEnds
 pub mod Filters
 pub mod Requests
 pub mod Continuing
-pub mod Places
 pub mod Standard

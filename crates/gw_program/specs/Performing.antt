@@ -1,5 +1,5 @@
 -- What a session does on its streams (module `performing`).
-use Rattle.std.specs.Prelude.{◌≡◌, ℕ, false, Result}
+use Rattle.std.specs.Prelude.{◌≡◌, false, Result}
 use Rattle.gw_records.specs.declared.outcome.Totals.{Totals}
 use Rattle.gw_records.specs.declared.outcome.RunFault.{RunFault}
 use Rattle.gw_records.specs.Ports.{PortsState}
@@ -12,7 +12,6 @@ use Rattle.gw_switch.specs.declared.gateway.Gateway.{Gateway}
 use Rattle.gw_command.specs.declared.command.SessionKind.{SessionKind}
 use Rattle.gw_command.specs.declared.command.SessionKind.TheVariants.{Replay, Check, Serve}
 use Rattle.gw_machine.specs.System.{HasServed, Serves}
-use Rattle.gw_program.specs.Places.{EndsAt}
 use Rattle.gw_program.specs.Sessions.{Runs, Checks}
 
 -- this was done with the ports and the tape of a system by a session that serves, and with none by another
@@ -35,13 +34,9 @@ pub record IsWatched {W : Type 0} (Opens : W → Type 0) (Ends : W → W → Typ
   pub watched : RunsWatched a a' gateway gateway' (RecordsShown shows gateway first last) (last ≡ first) end
   pub ended : Ends last left
 
--- A session of this kind ended so on these streams with a gateway. A replay began at the place `from`, and
--- ended at the place `place`.
-abbrev pub RunsSession : SessionKind → SessionStreams → SessionStreams → Gateway → Gateway → ℕ → ℕ
+-- a session of this kind ended so on these streams with a gateway
+abbrev pub RunsSession : SessionKind → SessionStreams → SessionStreams → Gateway → Gateway
     → Result Totals RunFault → Type 0
-RunsSession Replay a a' gateway gateway' from place end =
-    Runs a.source a'.source a.sink a'.sink end gateway gateway'
-    × EndsAt a.source a'.source gateway gateway' from place end
-RunsSession Check a a' gateway gateway' from place end =
-    Checks a.source a'.source a.sink a'.sink end gateway gateway'
-RunsSession Serve a a' gateway gateway' from place end = Serves false a a' end gateway gateway'
+RunsSession Replay a a' gateway gateway' end = Runs a.source a'.source a.sink a'.sink end gateway gateway'
+RunsSession Check a a' gateway gateway' end = Checks a.source a'.source a.sink a'.sink end gateway gateway'
+RunsSession Serve a a' gateway gateway' end = Serves false a a' end gateway gateway'

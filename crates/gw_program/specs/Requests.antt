@@ -1,6 +1,6 @@
 -- What was done of what the command line asks for (module `requests`).
 use Rattle.std.specs.Prelude.{◌≡◌, ◌⊎◌, ℕ, List, [], Option, Some, None, Result, Err, IfOk, IfErr}
-use Rattle.std.specs.Prelude.{IsErrAnd, IsSomeAnd, OnOk, MatchResult, codes}
+use Rattle.std.specs.Prelude.{IsSomeAnd, MatchResult, codes}
 use Rattle.gw_records.specs.declared.outcome.Totals.{Totals}
 use Rattle.gw_records.specs.Ports.{PortsState}
 use Rattle.gw_records.specs.Streams.{SourceState, SinkState}
@@ -15,11 +15,9 @@ use Rattle.gw_command.specs.declared.command.Request.TheVariants as requests
 use Rattle.gw_command.specs.declared.command.SessionKind.{SessionKind}
 use Rattle.gw_machine.specs.declared.program_fault.ProgramFault.{ProgramFault}
 use Rattle.gw_machine.specs.declared.program_fault.ProgramFault.TheVariants as program_faults
-use Rattle.gw_machine.specs.CommandLine.{AreNew, ByGateway, CommandLine, IsFrom, config_path_in, save_in}
-use Rattle.gw_machine.specs.Report.{SystemPrints}
+use Rattle.gw_machine.specs.CommandLine.{ByGateway, CommandLine, save_in}
 use Rattle.gw_machine.specs.State.{IsSaved}
 use Rattle.gw_machine.specs.System.{Ended, EndedSaved, NotBegun}
-use Rattle.gw_files.specs.Following.{IsLogged, LacksLog}
 use Rattle.gw_files.specs.ReportsFile.{LacksReportsAt}
 use Rattle.gw_program.specs.Filters.{DoesFilter, DoesFilterUntil, HasChecked, HasCheckedUntil}
 use Rattle.gw_program.specs.Jobs.{Does, DoesUntil}
@@ -100,42 +98,10 @@ pub record OnStreams (a a' : SessionStreams) (does : SessionStreams → SessionS
   pub tape' : TapeState
   pub done : does (around a.source a.sink ports tape) (around a'.source a'.sink ports' tape')
 
--- The session that the command names ended with this result, or was not begun for such a reason. A replay
--- began at the place `from`, and ended at the place `place`.
+-- the session that the command names ended with this result, or was not begun for such a reason
 abbrev pub EndsSession : CommandLine → SessionKind → (ProgramFault → Type 0) → SessionStreams
-    → SessionStreams → ℕ → ℕ → Result Totals ProgramFault → Type 0
-EndsSession command session lacks a a' from place told = OnStreams a a' (λ b b'.
+    → SessionStreams → Result Totals ProgramFault → Type 0
+EndsSession command session lacks a a' told = OnStreams a a' (λ b b'.
     ByGateway b b' command lacks told (λ config gateway gateway'.
-    EndedSaved (RunsSession session b b' gateway gateway' from place)
+    EndedSaved (RunsSession session b b' gateway gateway')
     (IsSaved (save_in command) config.gateway gateway') told))
-
--- a value was printed with its name, if the command asks for totals
-abbrev pub IsPrinted : CommandLine → List ℕ → ℕ → Type 0
-IsPrinted command name value =
-    text_in (codes "totals") command ≡ Some (codes "true") → SystemPrints name value
-
--- The session was given the octets of the log at this path from this octet on, and ended with this result.
--- The place at which a replay ended was printed, if it ended well and totals are asked for.
-pub record EndsOnLog (command : CommandLine) (session : SessionKind) (lacks : ProgramFault → Type 0)
-    (path : List ℕ) (from : ℕ) (told : Result Totals ProgramFault) : Type 0 where
-  pub place : ℕ
-  pub before : SessionStreams
-  pub after : SessionStreams
-  pub new : AreNew before.source before.sink
-  pub given : IsLogged path from after.source
-  pub ends : EndsSession command session lacks before after from place told
-  pub tells : OnOk told (IsPrinted command (codes "place") place)
-
--- so did the session on the log from the octet on that the command names, or the log was not opened
-pub record HasFollowed (command : CommandLine) (session : SessionKind) (lacks : ProgramFault → Type 0)
-    (path : List ℕ) (told : Result Totals ProgramFault) : Type 0 where
-  pub place : ℕ
-  pub from : IsFrom command place
-  pub done : IsErrAnd told (LacksLog path place) ⊎ EndsOnLog command session lacks path place told
-
--- .. or the command names no configuration or no octet, and this is returned
-abbrev pub FollowsLog : CommandLine → SessionKind → (ProgramFault → Type 0) → List ℕ
-    → Result Totals ProgramFault → Type 0
-FollowsLog command session lacks path told = HasFollowed command session lacks path told
-    ⊎ ((told ≡ Err program_faults.Nothing)
-    × ((config_path_in command ≡ None) ⊎ ((place : ℕ) → ¬ IsFrom command place)))

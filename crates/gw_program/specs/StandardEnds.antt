@@ -1,5 +1,5 @@
 -- What has happened to standard input and standard output (module `standard_ends`).
-use Rattle.std.specs.Prelude.{◌≡◌, Some, None}
+use Rattle.std.specs.Prelude.{Some, None}
 use Rattle.gw_records.specs.Streams.{SourceState, SinkState}
 use Rattle.gw_session.specs.PacketPorts.{no_ports}
 use Rattle.gw_session.specs.Serve.{SessionStreams, around}
@@ -26,4 +26,4 @@ streams_of ends = around (input_of ends) (output_of ends) no_ports no_tape
 
 -- nothing has happened to them
 abbrev pub AreUnused : StandardEnds → Type 0
-AreUnused ends = AreNew (input_of ends) (output_of ends) × (ends.session.place ≡ 0)
+AreUnused ends = AreNew (input_of ends) (output_of ends)

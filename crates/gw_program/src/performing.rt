@@ -12,7 +12,6 @@ ghost use Rattle.gw_program.specs.Performing.{IsWatched, RunsSession, WithEnds};
 ghost use Rattle.gw_program.specs.Requests.{DoesJob};
 
 use crate::jobs::do_job;
-use crate::place::PlaceWatch;
 use crate::sealed::{StandardInput, StandardOutput};
 use crate::sessions::{check, replay_watched, serve_through};
 use gw_command::{SessionKind, SpeechJob};
@@ -29,15 +28,13 @@ fn tell_passed_over(rt: &impl Eprint, job: &SpeechJob, totals: &Totals) {
     }
 }
 
-/// The source and the sink of a session, and the place in its input at which the next record begins.
+/// The source and the sink of a session.
 #[derive(Drop)]
 pub struct SessionEnds<S: Source, K: Sink> {
     /// Where its octets come from.
     pub source: S,
     /// Where its answers go.
     pub sink: K,
-    /// The place at which the next record begins.
-    pub place: u64,
 }
 
 /// Encodes or decodes standard input to standard output, and reports skipped datagrams.
@@ -71,7 +68,7 @@ fn perform_replay<Y: System, S: Source, K: Sink>(
         ⊎ EndedSaved (RunsSession Replay
         (around (S.tells ends.old.source) (K.tells ends.old.sink) no_ports no_tape)
         (around (S.tells ends.new.source) (K.tells ends.new.sink) no_ports no_tape)
-        gateway.old gateway.new ends.old.place ends.new.place)
+        gateway.old gateway.new)
         ((Y.files system.now).saves config.now gateway.new) result }
     ensures watched { NotBegun ends.old ends.new (Y.lacks_watch system.now) result
         ⊎ IsWatched (Y.watches system.now config.now gateway.old) Y.ends_watch Y.Watch.shows
@@ -79,11 +76,9 @@ fn perform_replay<Y: System, S: Source, K: Sink>(
         (around (S.tells ends.new.source) (K.tells ends.new.sink) no_ports no_tape)
         gateway.old gateway.new }
 {
-    let watch = system.open_watch(config, gateway)?;
-    let mut watch = PlaceWatch::new(system, config, watch, ends.place);
+    let mut watch = system.open_watch(config, gateway)?;
     let ended = replay_watched(alloc, gateway, &mut ends.source, &mut ends.sink, &mut watch);
-    system.end_watch(&mut watch.watch);
-    ends.place = watch.place;
+    system.end_watch(&mut watch);
     end_session(system, config, gateway, ended)
 }
 
@@ -103,7 +98,7 @@ fn perform_serve<Y: System, S: Source, K: Sink>(
         (λ ports ports' tape tape'. EndedSaved (RunsSession Serve
         (around (S.tells ends.old.source) (K.tells ends.old.sink) (Y.Ports.tells ports) (Y.Tape.tells tape))
         (around (S.tells ends.new.source) (K.tells ends.new.sink) (Y.Ports.tells ports') (Y.Tape.tells tape'))
-        gateway.old gateway.new ends.old.place ends.new.place)
+        gateway.old gateway.new)
         ((Y.files system.now).saves config.now gateway.new) result) }
 {
     let mut tape = system.begin_tape(config, gateway)?;
@@ -121,8 +116,7 @@ fn perform_serve<Y: System, S: Source, K: Sink>(
 
 /// Runs a session with the configuration and the gateway of the system, and saves the gateway's state.
 /// `serve` uses the system's ports and tape. If the system cannot provide one of these, its fault is
-/// returned, and nothing was read or written. After a replay the place of its ends is that behind the last
-/// whole record.
+/// returned, and nothing was read or written.
 pub fn perform_session<Y: System, S: Source + StandardInput, K: Sink + StandardOutput>(
     system: &Y,
     alloc: Global,
@@ -138,7 +132,7 @@ pub fn perform_session<Y: System, S: Source + StandardInput, K: Sink + StandardO
         (λ ports ports' tape tape'. EndedSaved (RunsSession session
         (around (S.tells ends.old.source) (K.tells ends.old.sink) ports tape)
         (around (S.tells ends.new.source) (K.tells ends.new.sink) ports' tape')
-        gateway gateway' ends.old.place ends.new.place)
+        gateway gateway')
         ((Y.files system.now).saves config gateway') result)) result }
 {
     let config = system.read_config()?;

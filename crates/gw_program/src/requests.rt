@@ -1,19 +1,18 @@
 //! Which method is called for the subcommand of the command line (`perform`).
 
-ghost use Rattle.std.specs.Prelude.{◌⊎◌, MatchOption};
+ghost use Rattle.std.specs.Prelude.{◌⊎◌};
 ghost use Rattle.clap.specs.Words.{subcommand_rows_of};
-ghost use Rattle.gw_machine.specs.CommandLine.{follow_in};
 ghost use Rattle.gw_program.specs.Requests.{HasRequest, NoRequest, by_filter, by_request};
 
 use clap::ArgMatches;
-use gw_command::{Filter, Request, SessionKind, SpeechJob, asks_check, follow_of, request_of};
+use gw_command::{Filter, Request, SessionKind, SpeechJob, asks_check, request_of};
 use gw_machine::ProgramFault;
 use gw_session::Totals;
 
-/// What the program does for its subcommands: one method for each, and one for sessions on a log. The
-/// relations belong to the type. A generic caller has them only for results that these calls returned.
+/// What the program does for its subcommands: one method for each. The relations belong to the type. A
+/// generic caller has them only for results that these calls returned.
 pub trait Commands {
-    ghost use Rattle.std.specs.Prelude.{List, Result, ℕ};
+    ghost use Rattle.std.specs.Prelude.{Result};
     ghost use Rattle.gw_command.specs.declared.command.Filter.{Filter};
     ghost use Rattle.gw_command.specs.declared.command.SpeechJob.{SpeechJob};
     ghost use Rattle.gw_command.specs.declared.command.SessionKind.{SessionKind};
@@ -37,9 +36,6 @@ pub trait Commands {
 
     /// Relates the ends before and after a session to it and its result.
     ghost does_session: { Self → Self.Ends → Self.Ends → SessionKind → Result Totals ProgramFault → Type 0 };
-
-    /// Holds of a session, the path of the log that it ran on, and its result.
-    ghost follows: { Self → SessionKind → List ℕ → Result Totals ProgramFault → Type 0 };
 
     /// Holds of the result of serving a trunk.
     ghost does_trunk: { Self → Result Totals ProgramFault → Type 0 };
@@ -67,15 +63,6 @@ pub trait Commands {
         requires { are_new ends.old }
         ensures { does_session self.now ends.old ends.new session result };
 
-    /// Runs a session of a gateway on the log at a path.
-    fn follow(
-        &self,
-        ends: Self::Ends,
-        session: SessionKind,
-        path: &str,
-    ) -> Result<Totals, ProgramFault>
-        ensures { follows self.now session path.now result };
-
     /// Serves a trunk.
     fn trunk(&self, ends: Self::Ends) -> Result<Totals, ProgramFault>
         ensures { does_trunk self.now result };
@@ -102,25 +89,6 @@ fn run_filter<C: Commands>(
     }
 }
 
-// Runs a session between the ends, or on the log that the command line names to be followed.
-fn run_session<C: Commands>(
-    commands: &C,
-    ends: C::Ends,
-    matches: &ArgMatches<'_>,
-    session: SessionKind,
-) -> Result<Totals, ProgramFault>
-    requires { C.are_new ends }
-    ensures { (after : C.Ends) × MatchOption (follow_in (subcommand_rows_of matches.now))
-        (C.does_session commands.now ends after session result)
-        (λ path. C.follows commands.now session path result) }
-{
-    let mut ends = ends;
-    match follow_of(matches) {
-        Some(path) => commands.follow(ends, session, path),
-        None => commands.session(&mut ends, session),
-    }
-}
-
 /// Runs the subcommand that the command line names between these ends.
 ///
 /// # Errors
@@ -136,9 +104,7 @@ pub fn perform<C: Commands>(
         (λ job. C.does_job commands.now ends after job result)
         (λ filter. C.does_filter commands.now ends after filter result)
         (C.does_check commands.now ends after result)
-        (λ session. MatchOption (follow_in (subcommand_rows_of matches.now))
-        (C.does_session commands.now ends after session result)
-        (λ path. C.follows commands.now session path result))
+        (λ session. C.does_session commands.now ends after session result)
         (C.does_trunk commands.now result) (C.does_satop commands.now result))
         ⊎ NoRequest (subcommand_rows_of matches.now) result) }
 {
@@ -149,7 +115,7 @@ pub fn perform<C: Commands>(
     match request {
         Request::SpeechJob(job) => commands.job(&mut ends, &job),
         Request::Filter(filter) => run_filter(commands, &mut ends, matches, filter),
-        Request::Session(session) => run_session(commands, ends, matches, session),
+        Request::Session(session) => commands.session(&mut ends, session),
         Request::Trunk => commands.trunk(ends),
         Request::Satop => commands.satop(ends),
     }

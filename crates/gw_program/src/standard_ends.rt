@@ -25,7 +25,6 @@ impl StandardEnds {
             session: SessionEnds {
                 source: FromRead::new(input),
                 sink: ToWrite::new(output),
-                place: 0,
             },
             input,
             output,

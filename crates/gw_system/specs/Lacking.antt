@@ -8,12 +8,12 @@ use Rattle.gw_command.specs.declared.command.SessionKind.{SessionKind}
 use Rattle.gw_udp.specs.declared.source_filter.SourceFilter.{SourceFilter}
 use Rattle.gw_udp.specs.Names.{SystemLooksUp}
 use Rattle.gw_udp.specs.Opening.{LacksPorts}
-use Rattle.gw_machine.specs.System.{LacksMore, LacksSession, LacksTapeOrPorts}
+use Rattle.gw_machine.specs.System.{LacksMore, LacksSession, LacksTapeOrPorts, SystemFiles}
 use Rattle.gw_files.specs.Recording.{LacksRecording}
 use Rattle.gw_files.specs.LogFolder.{FailsToLock}
 use Rattle.gw_files.specs.LogTape.{LacksTrunkLog}
 use Rattle.gw_switch.specs.declared.gateway.Gateway.{Gateway}
-use Rattle.gw_machine.specs.CommandLine.{CommandLine, files_in, log_in}
+use Rattle.gw_machine.specs.CommandLine.{CommandLine, TakesAsked, files_in, log_in}
 use Rattle.gw_machine.specs.Status.{SaysRefused}
 use Rattle.gw_machine.specs.declared.program_fault.ProgramFault.{ProgramFault}
 use Rattle.gw_machine.specs.declared.program_fault.ProgramFault.TheVariants as program_faults
@@ -77,3 +77,12 @@ LacksTrunkIn command fault =
 abbrev pub LacksSessionIn : CommandLine → SessionKind → ProgramFault → Type 0
 LacksSessionIn command session =
     LacksIn command (LacksMore session (LacksTellerIn command) (LacksEndsIn command))
+
+-- a system with these files, and that lacks these, is the one that the command names
+pub record IsOfCommand (command : CommandLine) (files : SystemFiles) (lacks_tape : ProgramFault → Type 0)
+    (lacks_ports : Config → ProgramFault → Type 0) (lacks_watch : ProgramFault → Type 0) : Type 0
+  where
+    pub takes : TakesAsked command files
+    pub ends : (config : Config) (fault : ProgramFault)
+        → LacksTapeOrPorts lacks_tape (lacks_ports config) fault → LacksEndsIn command config fault
+    pub watch : (fault : ProgramFault) → lacks_watch fault → LacksTellerIn command fault

@@ -4,13 +4,13 @@ ghost use Rattle.std.specs.Prelude.{◌≡◌, IfErr, IfOk, IfSome, IsSomeAnd, M
 ghost use Rattle.std.specs.Prelude.{codes};
 ghost use Rattle.clap.specs.Words.{subcommand_rows_of};
 ghost use Rattle.gw_command.specs.Command.{HasFlag, text_in};
-ghost use Rattle.gw_machine.specs.CommandLine.{AsksPlace, log_in};
+ghost use Rattle.gw_machine.specs.CommandLine.{log_in};
 ghost use Rattle.gw_files.specs.LogFolder.{HasLocked};
 ghost use Rattle.gw_system.specs.Lacking.{FailsToLockIn};
 ghost use Rattle.gw_system.specs.Asked.{AreSenders, IsRepeat};
 
 use clap::ArgMatches;
-use gw_command::{follow_of, from_of, log_of, recording_of, records_over, repeat_of, senders_of};
+use gw_command::{log_of, recording_of, records_over, repeat_of, senders_of};
 use gw_files::{LogLock, Recording, lock_log};
 use gw_machine::{Machine, ProgramFault};
 use gw_udp::SourceFilter;
@@ -32,16 +32,6 @@ pub(crate) fn repeat_asked(matches: &ArgMatches<'_>) -> u8
     match repeat_of(matches) {
         Some(count) => count,
         None => 0,
-    }
-}
-
-// The octet from which on a log is followed, if the matches name a log.
-pub(crate) fn place_asked(matches: &ArgMatches<'_>) -> Option<u64>
-    ensures { AsksPlace (subcommand_rows_of matches.now) result }
-{
-    match follow_of(matches) {
-        Some(_) => from_of(matches),
-        None => None,
     }
 }
 

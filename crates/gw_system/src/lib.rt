@@ -3,6 +3,8 @@
 
 mod asked;
 mod local;
+mod systems;
 
 pub use asked::lock_asked;
 pub use local::{Local, local_of};
+pub use systems::{LocalSystems, Systems};

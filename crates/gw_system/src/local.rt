@@ -3,19 +3,19 @@
 ghost use Rattle.std.specs.Prelude.{◌≡◌, IfErr, IfOk, IfSome, option_map, codes};
 ghost use Rattle.clap.specs.Words.{subcommand_rows_of};
 ghost use Rattle.gw_command.specs.Command.{HasFlag, text_in};
-ghost use Rattle.gw_machine.specs.CommandLine.{load_in, log_in, save_in, AsksPlace, AsksWait};
+ghost use Rattle.gw_machine.specs.CommandLine.{load_in, log_in, save_in, AsksWait};
 ghost use Rattle.gw_system.specs.Asked.{AreSenders, IsRepeat};
 ghost use Rattle.gw_system.specs.Lacking.{SystemRefusesTeller};
 ghost use Rattle.gw_system.specs.Opening.{trouble_of_opening};
 ghost use Rattle.gw_system.specs.Telling.{TellsFrom};
 
-use crate::asked::{place_asked, recording_asked, repeat_asked, senders_asked};
+use crate::asked::{recording_asked, repeat_asked, senders_asked};
 use clap::ArgMatches;
-use gw_command::{checkpoint_of, load_of, log_of, save_of, seizure_wait_of, tell_of};
+use gw_command::{load_of, log_of, save_of, seizure_wait_of, tell_of};
 use gw_config::Config;
 use gw_files::{
-    OneOf, Recording, RecordingFile, Tape, begin, begin_gateway, begin_log, keep_checkpoint,
-    keep_gateway, read_config,
+    OneOf, Recording, RecordingFile, Tape, begin, begin_gateway, begin_log, keep_gateway,
+    read_config,
 };
 use gw_log::TrunkLog;
 use gw_machine::{Machine, ProgramFault, System, print_fault};
@@ -67,14 +67,10 @@ pub struct Local<'m, R> {
     pub load: Option<&'m str>,
     /// The path at which the state is saved at the end.
     pub save: Option<&'m str>,
-    /// The octet from which on a log is followed, if one is.
-    pub place: Option<u64>,
     /// The wait for an acknowledgement in signals, if `--seizure-wait` is there.
     pub wait: Option<u16>,
     /// The recording that is asked for.
     pub recording: Option<Recording<'m>>,
-    /// The file of `--checkpoint`, if it is asked for.
-    pub checkpoint: Option<&'m str>,
     /// The folder of the trunk's log, if it is asked for.
     pub log: Option<&'m str>,
     /// The socket of `--tell`, if it is asked for.
@@ -88,7 +84,7 @@ impl<R: Machine> System for Local<'_, R> {
     ghost use Rattle.gw_machine.specs.Report.{SystemTells};
     ghost use Rattle.gw_machine.specs.Setup.{IsMeant, LacksConfigAt, PathGives};
     ghost use Rattle.gw_machine.specs.Log.{BeginsFrom, LacksFirst};
-    ghost use Rattle.gw_machine.specs.State.{BeginsWaiting, IsSaved, IsKept};
+    ghost use Rattle.gw_machine.specs.State.{BeginsWaiting, IsSaved};
     ghost use Rattle.gw_udp.specs.Names.{SystemLooksUp};
     ghost use Rattle.gw_udp.specs.Udp.{HasEndpoints, TakesFrom};
     ghost use Rattle.gw_udp.specs.Opening.{FailsToOpen as FailsToOpenPorts};
@@ -110,14 +106,11 @@ impl<R: Machine> System for Local<'_, R> {
       reads = IsMeant (PathGives s.path.now);
       lacks_config = LacksConfigAt s.path.now;
       starts = λ config. BeginsWaiting (BeginsFrom config.gateway (option_map (λ path. path.now) s.log)
-          (option_map (λ path. path.now) s.load) (λ place. place ≡ s.place)) (λ wait. wait ≡ s.wait);
+          (option_map (λ path. path.now) s.load)) (λ wait. wait ≡ s.wait);
       lacks_gateway = λ config. LacksFirst config.gateway (option_map (λ path. path.now) s.log)
-          (option_map (λ path. path.now) s.load) (λ place. place ≡ s.place);
+          (option_map (λ path. path.now) s.load);
       saves = λ config. IsSaved (option_map (λ path. path.now) s.save) config.gateway;
     } };
-
-    ghost keeps = { λ s config gateway place. IfSome s.checkpoint (λ path.
-        IsKept path.now config.gateway gateway place) };
 
     ghost lacks_tape = { λ s. LacksTape (option_map (λ path. path.now) s.log) s.recording };
 
@@ -156,18 +149,11 @@ impl<R: Machine> System for Local<'_, R> {
 
     fn begin_gateway(&self, config: &Config) -> Result<Gateway, ProgramFault> {
         let gateway = &config.gateway;
-        begin_gateway(self.rt, gateway, self.log, self.load, self.place, self.wait)
+        begin_gateway(self.rt, gateway, self.log, self.load, self.wait)
     }
 
     fn save_gateway(&self, config: &Config, gateway: &Gateway) -> Result<(), ProgramFault> {
         keep_gateway(self.rt, &config.gateway, gateway, self.save)
-    }
-
-    fn keep(&self, config: &Config, gateway: &Gateway, place: u64) -> Result<(), ProgramFault> {
-        match self.checkpoint {
-            Some(path) => keep_checkpoint(self.rt, &config.gateway, gateway, place, path),
-            None => Ok(()),
-        }
     }
 
     fn begin_tape(&self, config: &Config, gateway: &Gateway) -> Result<Self::Tape, ProgramFault> {
@@ -236,14 +222,11 @@ pub fn local_of<'m, R: Machine>(
     ensures over { IfSome result.recording (λ recording.
         HasFlag (codes "record-over") (subcommand_rows_of matches.now) recording.over) }
     ensures waits { IfSome result.recording (λ recording. recording.waits ≡ waits) }
-    ensures checkpoint { option_map (λ path. path.now) result.checkpoint
-        ≡ text_in (codes "checkpoint") (subcommand_rows_of matches.now) }
     ensures tell { option_map (λ path. path.now) result.tell
         ≡ text_in (codes "tell") (subcommand_rows_of matches.now) }
     ensures log { option_map (λ path. path.now) result.log ≡ log_in (subcommand_rows_of matches.now) }
     ensures load { option_map (λ path. path.now) result.load ≡ load_in (subcommand_rows_of matches.now) }
     ensures save { option_map (λ path. path.now) result.save ≡ save_in (subcommand_rows_of matches.now) }
-    ensures place { AsksPlace (subcommand_rows_of matches.now) result.place }
     ensures wait { AsksWait (subcommand_rows_of matches.now) result.wait }
 {
     Local {
@@ -253,10 +236,8 @@ pub fn local_of<'m, R: Machine>(
         repeat: repeat_asked(matches),
         load: load_of(matches),
         save: save_of(matches),
-        place: place_asked(matches),
         wait: seizure_wait_of(matches),
         recording: recording_asked(matches, waits),
-        checkpoint: checkpoint_of(matches),
         log: log_of(matches),
         tell: tell_of(matches),
     }

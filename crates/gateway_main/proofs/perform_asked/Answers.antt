@@ -4,6 +4,5 @@ use Rattle.gateway_main.proofs.perform_asked.Goals as goal
 pub returns : goal.returns
 returns g c = record {
   a' = streams_of c.perform.ensures.0;
-  place = c.perform.ensures.0.session.place;
-  done = c.perform.ensures.1;
+  done = rw c.requires.same at c.perform.ensures.1;
 }

@@ -20,3 +20,13 @@ returns-in-Filter g c = (
     done = rw c.in-Filter.is c.run_filter.ensures;
   }),
 )
+
+pub returns-in-Session : goal.returns-in-Session
+returns-in-Session g c = (
+  c.session.new.ends,
+  inl (record {
+    request = c.in-Some.request;
+    asked = c.in-Some.ensures.found;
+    done = rw c.in-Session.is c.session.ensures;
+  }),
+)

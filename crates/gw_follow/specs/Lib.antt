@@ -1,2 +1,0 @@
-pub mod System
-pub mod Whole

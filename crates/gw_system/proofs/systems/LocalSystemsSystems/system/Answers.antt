@@ -1,0 +1,18 @@
+use Rattle.std.proofs.Common.{sym}
+use Rattle.clap.specs.Words.{subcommand_rows_of}
+use Rattle.gw_machine.proofs.Streams.{takes_asked}
+use Rattle.gw_system.specs.Lacking.{LacksTeller}
+use Rattle.gw_system.proofs.Lacked.{ends_in, named_so}
+use Rattle.gw_system.proofs.systems.LocalSystemsSystems.system.Goals as goal
+
+pub returns-clause-some : goal.returns-clause-some
+returns-clause-some g c =
+    let local = c.local_of in
+    record {
+      takes = takes_asked _ _ _ _ _ _ (rw local.ensures.path (sym c.in_ok-path.ensures)) local.ensures.log
+          local.ensures.load local.ensures.save local.ensures.wait;
+      ends = ends_in (subcommand_rows_of c.args.self.now.matches.now) _ local.result.recording local.ensures.log
+          local.ensures.recording local.result.senders local.ensures.senders;
+      watch = λ fault. named_so (λ path. path.now) local.result.tell _ _ (λ path. LacksTeller path fault)
+          local.ensures.tell (λ path why. why);
+    }
