@@ -7,9 +7,10 @@ usage: scripts/libraries [--lanes N] [NAME..]    these crates and those below th
 Two runs of rt that use a common library wait for each other, because each run locks the folders that it reads. So each
 library is built by `rt lib` in a tree of its own, below the folder of git (below out/ without one): copies of the
 sources that it reads, links to the built libraries below it, and its own out/, which is moved there and back. The
-longest chain of crates decides the time, so its next crate gets two jobs, even if others use all processors. With less
-than 8 GB of free memory two are built at a time. rt's output for NAME is in out/NAME.log. Needs rt. Status 0, or 70 if
-a library is not proved or a signal ended the run.
+longest chain of crates decides the time, so its next crate gets two jobs, even if others use all processors. No other
+does beside it: for two jobs rattle checks functions some at a time, and loads the libraries below again each time. With
+less than 8 GB of free memory two are built at a time. rt's output for NAME is in out/NAME.log. Needs rt. Status 0, or
+70 if a library is not proved or a signal ended the run.
 """
 import argparse
 import fcntl
@@ -234,7 +235,10 @@ def start(name: str, jobs: int, uses: dict[str, list[str]], state: State) -> Non
 
 
 def is_ahead(name: str, state: State) -> bool:
-    """Whether no longer chain is to be built than the one that begins with this crate."""
+    """Whether no longer chain is to be built than the one that begins with this crate, and no crate that runs has two
+    jobs."""
+    if any(run.jobs > 1 for run in state.running.values()):
+        return False
     rest = [*(state.chain[it] for it in state.left), *(state.above[it] for it in state.running)]
     return state.chain[name] >= max(rest)
 

@@ -149,6 +149,16 @@ class Ahead(unittest.TestCase):
                     module.start_ready(uses, state)
                 self.assertEqual({name: run.jobs for name, run in state.running.items()}, begun)
 
+    def test_one_alone(self) -> None:
+        """While one has two jobs, the next crate of a chain as long has one."""
+        module = loaded('libraries.py')
+        chain = {'low': 30, 'other': 20, 'more': 20}
+        state = module.State(['other', 'more'], 4, 3, chain, {'low': 0}, 2, running={'low': module.Run(None, 2, None)})
+        with mock.patch.object(module, 'start', lambda name, jobs, _uses, state: state.running.update(
+                {name: module.Run(None, jobs, None)})):
+            module.start_ready({'low': [], 'other': [], 'more': ['other']}, state)
+        self.assertEqual({name: run.jobs for name, run in state.running.items()}, {'low': 2, 'other': 1})
+
 
 class Signals(Tree):
     def in_middle(self, words: list[str]) -> subprocess.Popen[str]:
