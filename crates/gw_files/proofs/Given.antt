@@ -1,12 +1,12 @@
 -- Why the records of a log are not given to a gateway.
-use Rattle.std.proofs.Common.{◌≡◌, ◌<◌, ◌^◌, ◌++◌, ℕ, List, length, inl, inr, ⊎_elim, refl, ap, arith, Some, None}
+use Rattle.std.proofs.Common.{◌<◌, ◌^◌, ℕ, List, length, inl, inr, ⊎_elim, refl, ap, arith, Some, None}
 use Rattle.std.proofs.lemmas.List.{length-append}
 use Rattle.gw_switch.specs.declared.gateway.Gateway.{Gateway}
 use Rattle.gw_state.specs.Memory.{MemoryIsRefused}
 use Rattle.gw_records.specs.declared.outcome.RunFault.{RunFault}
 use Rattle.gw_records.specs.declared.outcome.RunFault.TheVariants as faults
 use Rattle.gw_records.specs.declared.records.RecordsEnd.TheVariants as endings
-use Rattle.gw_records.specs.Streams.{SinkState, SourceState}
+use Rattle.gw_records.specs.Streams.{SourceState}
 use Rattle.gw_session.specs.Running.{RunsUntil}
 use Rattle.gw_machine.specs.Log.{FailsToGive}
 use Rattle.gw_files.specs.Resuming.{run_trouble}
