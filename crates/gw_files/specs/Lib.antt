@@ -7,3 +7,4 @@ pub mod Recording
 pub mod ReportsFile
 pub mod Following
 pub mod Resuming
+pub mod Starts

@@ -4,6 +4,7 @@
 
 mod files;
 mod following;
+pub mod laws;
 mod log_contents;
 mod log_folder;
 mod log_tape;
