@@ -4,3 +4,8 @@ pub mod Results
 pub mod Filling
 pub mod Resumed
 pub mod Given
+pub mod Configured
+pub mod Replaying
+pub mod Disks
+pub mod Starting
+mod Rows

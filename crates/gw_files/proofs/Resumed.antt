@@ -1,5 +1,8 @@
 -- A gateway goes on from what was kept, and from the log that has it.
-use Rattle.std.proofs.Common.{◌≡◌, inl, inr, ℕ, List, None}
+use Rattle.std.proofs.Common.{◌≡◌, ◌≢◌, ◌∙◌, ◌<◌, ◌-◌, inl, inr, ℕ, suc, List, None, length, get_or, arith}
+use Rattle.std.proofs.lemmas.List.{get_or_default}
+use Rattle.gw_circuit.specs.declared.config.CircuitConfig.{CircuitConfig}
+use Rattle.gw_switch.specs.Whole.{spare_config}
 use Rattle.gw_switch.specs.declared.GatewayConfig.{GatewayConfig}
 use Rattle.gw_switch.specs.declared.gateway.Gateway.{Gateway}
 use Rattle.gw_state.specs.declared.loading.Loaded.{Loaded}
@@ -8,7 +11,7 @@ use Rattle.log_files.specs.Pairs.{Contents, Kept}
 use Rattle.log_files.specs.declared.loading.KeptContents.{KeptContents}
 use Rattle.log_files.specs.declared.loading.Loaded as found
 use Rattle.log_files.specs.declared.loading.Loaded.TheVariants.{First, Second}
-use Rattle.gw_machine.specs.Log.{FolderGives, GoesOnWith, IsInLog, IsReplayed, IsResumed}
+use Rattle.gw_machine.specs.Log.{FolderGives, GoesOnWith, HaveSameCircuits, IsInLog, IsReplayed, IsResumed}
 use Rattle.gw_machine.specs.State.{WasLoaded}
 
 -- what is loaded of two pairs is in the log whose pairs they are
@@ -34,3 +37,14 @@ resumed_with kept config old before gateway (found, was, same) (loaded, is) goes
   replayed = rw (← same) is;
   goes_on = rw (← same) goes;
 }
+
+-- configurations of which one circuit differs have not the same circuits
+pub others_differ : (old config : GatewayConfig) (at : ℕ) (d e : CircuitConfig) → at < 30
+    → length old.circuits ≡ 30 → length config.circuits ≡ 30
+    → get_or old.circuits at d ≢ get_or config.circuits at e → ¬ HaveSameCircuits old config 30
+others_differ old config at d e low long long' differ same =
+    let number : suc at - 1 ≡ at = omega arith in
+    let here : get_or old.circuits at spare_config ≡ get_or config.circuits at spare_config =
+    rw number at (same (suc at) (omega arith) (omega arith)) in
+    differ (get_or_default old.circuits at d spare_config (omega arith) ∙ here
+    ∙ get_or_default config.circuits at spare_config e (omega arith))

@@ -6,3 +6,4 @@ pub mod OneOf
 pub mod Recording
 pub mod ReportsFile
 pub mod Resuming
+pub mod Starts

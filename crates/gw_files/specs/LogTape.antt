@@ -1,15 +1,41 @@
--- Why a trunk does not go on with its log (module `log_tape`).
-use Rattle.std.specs.Prelude.{◌≡◌, ◌⊎◌, ℕ, List}
+-- How the log of a trunk goes on in a folder, and why it does not (module `log_tape`).
+use Rattle.std.specs.Prelude.{◌≡◌, ◌⊎◌, ℕ, List, Option}
 use Rattle.gw_state.specs.Memory.{MemoryIsRefused}
 use Rattle.gw_switch.specs.declared.gateway.Gateway.{Gateway}
-use Rattle.gw_log.specs.Logs.{TrunkLogState, Uncheckpointed}
+use Rattle.gw_switch.specs.declared.GatewayConfig.{GatewayConfig}
+use Rattle.log_files.specs.Pairs.{Contents, PairState}
+use Rattle.log_files.specs.declared.loading.Loaded.{Loaded}
+use Rattle.gw_log.specs.Logs.{Checkpointed, IsUnused, TrunkLogState, Uncheckpointed, files_over}
+use Rattle.gw_log.specs.Logs.{place_after_loaded}
 use Rattle.gw_log.specs.declared.file_log.LogFault.{LogFault}
 use Rattle.gw_log.specs.declared.file_log.LogFault.TheVariants as log_faults
 use Rattle.gw_machine.specs.Files.{SystemRefusesFile}
-use Rattle.gw_machine.specs.Log.{IsDamagedLog, LacksFiles, in_folder}
+use Rattle.gw_machine.specs.Log.{FolderGives, IsDamagedLog, LacksFiles, in_folder}
 use Rattle.gw_machine.specs.Status.{SaysRefused}
 use Rattle.gw_machine.specs.declared.program_fault.ProgramFault.{ProgramFault}
 use Rattle.gw_machine.specs.declared.program_fault.ProgramFault.TheVariants as program_faults
+use Rattle.gw_files.specs.LogContents.{IsFoundIn}
+
+-- a log was opened over two pairs of files, of which this was loaded: what the files in a folder gave, if
+-- anything was ever kept in them
+pub record IsOpenedOver (folder : List ℕ) (log : TrunkLogState) : Type 0 where
+  pub first : Contents
+  pub second : Contents
+  pub gives : FolderGives folder first second
+  pub found : Option Loaded
+  pub is : IsFoundIn first second found
+  pub pair : PairState
+  pub other : PairState
+  pub files : log.files ≡ files_over pair other found
+  pub place : log.place ≡ place_after_loaded found
+
+-- .. and a checkpoint of this gateway was written to it
+pub record HasBegunIn (folder : List ℕ) (config : GatewayConfig) (gateway : Gateway) (log : TrunkLogState)
+    : Type 0 where
+  pub opened : TrunkLogState
+  pub unused : IsUnused config opened
+  pub over : IsOpenedOver folder opened
+  pub checkpointed : Checkpointed opened log gateway
 
 -- the fault if no checkpoint is written
 abbrev pub checkpoint_trouble : LogFault → ProgramFault

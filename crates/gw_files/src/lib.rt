@@ -3,6 +3,7 @@
 #![tactic(auto)]
 
 mod files;
+pub mod laws;
 mod log_contents;
 mod log_folder;
 mod log_tape;

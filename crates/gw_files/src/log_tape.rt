@@ -2,7 +2,8 @@
 
 ghost use Rattle.std.specs.Prelude.{◌≡◌, IfOk, IfErr};
 ghost use Rattle.gw_log.specs.Logs.{HasBegunLog, IsUnused};
-ghost use Rattle.gw_files.specs.LogTape.{LacksLogFiles, LacksStores, LacksTrunkLog, checkpoint_trouble};
+ghost use Rattle.gw_files.specs.LogTape.{HasBegunIn, IsOpenedOver, LacksLogFiles, LacksStores};
+ghost use Rattle.gw_files.specs.LogTape.{LacksTrunkLog, checkpoint_trouble};
 
 use crate::log_contents::log_contents;
 use crate::log_folder::{RECORDS_ROOM, STATE_ROOM, in_folder, open_or_create};
@@ -75,6 +76,7 @@ fn log_behind(
     config: &GatewayConfig,
 ) -> Result<TrunkLog<FileStore>, ProgramFault>
     ensures ok { IfOk result (IsUnused config.now) }
+    ensures over { IfOk result (IsOpenedOver folder.now) }
     ensures err { IfErr result (LacksLogFiles folder.now) }
 {
     let contents = log_contents(rt, folder)?;
@@ -99,6 +101,7 @@ pub fn begin_log(
     gateway: &Gateway,
 ) -> Result<TrunkLog<FileStore>, ProgramFault>
     ensures ok { IfOk result (HasBegunLog config.now gateway.now) }
+    ensures over { IfOk result (HasBegunIn folder.now config.now gateway.now) }
     ensures err { IfErr result (LacksTrunkLog folder.now gateway.now) }
 {
     let mut log = log_behind(rt, folder, config)?;

@@ -1,6 +1,7 @@
 //! How a gateway goes on from what a log has (`resumed_gateway`).
 
-ghost use Rattle.std.specs.Prelude.{◌≡◌, ◌<◌, ◌^◌, IfOk, IfErr, MatchOption, OnOk, Some, None, length, true};
+ghost use Rattle.std.specs.Prelude.{◌≡◌, ◌<◌, ◌^◌, IfOk, IfErr, MatchOption, OnOk, Some, None, length};
+ghost use Rattle.std.specs.Prelude.{false, true};
 ghost use Rattle.gw_state.specs.Memory.{MemoryIsRefused};
 ghost use Rattle.gw_state.specs.declared.loading.Loaded.{Loaded};
 ghost use Rattle.log_files.specs.Loading.{kept_of};
@@ -95,7 +96,8 @@ fn replayed(
 
 // Whether two configurations have the same circuits.
 fn have_same_circuits(old: &GatewayConfig, config: &GatewayConfig) -> bool
-    ensures { result ≡ true → HaveSameCircuits old.now config.now 30 }
+    ensures yes { result ≡ true → HaveSameCircuits old.now config.now 30 }
+    ensures no { result ≡ false → ¬ HaveSameCircuits old.now config.now 30 }
 {
     for at in 0..config.circuits.len() {
         if !is_same(&old.circuits[at], &config.circuits[at]) {
@@ -113,6 +115,7 @@ fn renewed(
     config: &GatewayConfig,
     gateway: &Gateway,
 ) -> Result<Gateway, ProgramFault>
+    requires { ¬ HaveSameCircuits old.now config.now 30 }
     ensures ok { IfOk result (GoesOnWith old.now config.now gateway.now) }
     ensures err { IfErr result (FailsToRenew old.now config.now gateway.now) }
 {

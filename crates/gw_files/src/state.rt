@@ -99,7 +99,8 @@ fn load_from<T: Text>(
 
 // Whether two configurations of a circuit are the same.
 pub(crate) fn is_same(old: &CircuitConfig, config: &CircuitConfig) -> bool
-    ensures { result ≡ true → old.now ≡ config.now }
+    ensures yes { result ≡ true → old.now ≡ config.now }
+    ensures no { result ≡ false → old.now ≢ config.now }
 {
     old == config
 }

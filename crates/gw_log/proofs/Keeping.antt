@@ -1,5 +1,5 @@
 -- What a log keeps when octets of records are appended, and what it tells then.
-use Rattle.std.proofs.Common.{◌≡◌, ◌+◌, [], ℕ, true, false, List, refl, ap, arith}
+use Rattle.std.proofs.Common.{◌≡◌, ◌+◌, [], ℕ, true, false, List, length, refl, ap, arith}
 use Rattle.std.proofs.Common.{inl, inr, ⊎_elim, ◌⊎◌, Result, Ok, Err, OnErr, is_err, Some, append-nil}
 use Rattle.std.specs.Prelude.{MatchResult}
 use Rattle.gw_switch.specs.declared.gateway.Gateway.{Gateway}
@@ -10,7 +10,7 @@ use Rattle.gw_records.specs.declared.outcome.RunFault.{RunFault}
 use Rattle.gw_session.specs.Tape.{WritesRecords}
 use Rattle.gw_session.proofs.Taping.{records_over, records_written}
 use Rattle.log_files.proofs.Logs.{stands_left}
-use Rattle.gw_log.specs.Logs.{Appended, EndsFor, Keeps, LeavesOf, TrunkLogState, kept_as, told_by}
+use Rattle.gw_log.specs.Logs.{Appended, CanAppend, EndsFor, Keeps, LeavesOf, TrunkLogState, kept_as, told_by}
 
 -- files that stay have what is kept still
 pub left_still : {log log' : TrunkLogState} {place : ℕ} {gateway : Gateway} {records : List ℕ}
@@ -21,19 +21,19 @@ left_still {log = log} k files config =
 
 -- a write of octets failed
 pub ends_broken : (log log' : TrunkLogState) (octets : List ℕ) (result : Result (Unit {0}) StoreFault)
-    → is_err result ≡ true → log.ended ≡ false
+    → is_err result ≡ true → log.ended ≡ false → CanAppend log (length octets)
     → OnErr result ((kept : Kept) → StandsFor log.files kept
     → LeavesKept log'.files kept ⊎ LeavesKept log'.files (with_more kept octets))
     → MatchResult result (λ _. log'.files.newest.failed ≡ log.files.newest.failed)
     (λ _. log'.files.newest.failed ≡ true)
     → log' ≡ record log { files = log'.files; ended = true; broken = true; failures = log.failures + 1 }
     → Appended log log' octets
-ends_broken log log' octets (Ok x) is going left fault same = cc
-ends_broken log log' octets (Err e) is going left fault same =
+ends_broken log log' octets (Ok x) is going can left fault same = cc
+ends_broken log log' octets (Err e) is going can left fault same =
     let config : log'.config ≡ log.config = ap (λ (l : TrunkLogState). l.config) same in
     inr (inr (record {
       going = going;
-      cause = inr (fault, same);
+      cause = inr (can, fault, same);
       left = λ place gateway records k.
           ⊎_elim (λ l. inl (record { turn = log.files.turn; left = rw config l }))
           (λ l. inr (record { turn = log.files.turn; left = rw config l }))
@@ -54,7 +54,7 @@ record Over (log log' : TrunkLogState) : Type 0 where
 over : (log log' : TrunkLogState) (octets : List ℕ) → EndsFor log log' octets → Over log log'
 over log log' octets (inl (none, same)) =
     record { ended = rw same refl; failures = rw same refl; taken = rw same refl }
-over log log' octets (inr (failed, same)) =
+over log log' octets (inr (can, failed, same)) =
     record { ended = rw same refl; failures = rw same refl; taken = rw same refl }
 
 -- what a log tells when it was given octets of records

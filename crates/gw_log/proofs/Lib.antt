@@ -1,1 +1,4 @@
+pub mod Checkpointing
+pub mod Cuts
 pub mod Keeping
+mod Rows

@@ -4,6 +4,7 @@ use Rattle.std.specs.Prelude.{Option, Some, None, IfSome}
 use Rattle.gw_records.specs.Streams.{at_most}
 use Rattle.gw_switch.specs.declared.GatewayConfig.{GatewayConfig}
 use Rattle.gw_switch.specs.declared.gateway.Gateway.{Gateway}
+use Rattle.gw_switch.specs.Saved.{GatewayFits}
 use Rattle.gw_state.specs.Layout.{state_file}
 use Rattle.gw_state.specs.Memory.{MemoryIsRefused}
 use Rattle.gw_session.specs.Tape.{TapeState}
@@ -62,6 +63,7 @@ pub record CanAppend (log : TrunkLogState) (len : ℕ) : Type 0 where
 -- octets of records were appended, and are kept behind the others
 pub record Takes (log log' : TrunkLogState) (octets : List ℕ) : Type 0 where
   pub going : log.ended ≡ false
+  pub can : CanAppend log (length octets)
   pub same : log' ≡ record log {
     files = log'.files;
     place = log.place + length octets;
@@ -75,10 +77,10 @@ abbrev pub place_after_kept : KeptContents → ℕ
 place_after_kept kept = at_most (checkpoint_place kept.state.now + length kept.records.now)
 
 -- the log behind what was loaded, if there was something
-abbrev pub place_of : Option Loaded → ℕ
-place_of None = 0
-place_of (Some (First kept)) = place_after_kept kept
-place_of (Some (Second kept)) = place_after_kept kept
+abbrev pub place_after_loaded : Option Loaded → ℕ
+place_after_loaded None = 0
+place_after_loaded (Some (First kept)) = place_after_kept kept
+place_after_loaded (Some (Second kept)) = place_after_kept kept
 
 -- the files of which one pair has what was kept
 abbrev pub files_of : PairState → PairState → KeptContents → LogState
@@ -103,7 +105,7 @@ EndsFor log log' octets = ((¬ CanAppend log (length octets)) × (log' ≡ recor
   ended = true;
   failures = log.failures + 1;
 }))
-    ⊎ ((log'.files.newest.failed ≡ true) × (log' ≡ record log {
+    ⊎ (CanAppend log (length octets) × (log'.files.newest.failed ≡ true) × (log' ≡ record log {
       files = log'.files;
       ended = true;
       broken = true;
@@ -129,11 +131,13 @@ CanFollow files = ((kept : Kept) × StandsFor files kept)
 
 -- a checkpoint of a gateway was written: the files have this, and no record behind it
 pub record Checkpointed (log log' : TrunkLogState) (gateway : Gateway) : Type 0 where
+  pub fits : GatewayFits gateway
   pub kept : CanFollow log.files → Keeps log' log.place gateway []
   pub same : log' ≡ record log { files = log'.files }
 
 -- .. or a write failed: what the files had is left, or this checkpoint; and only the other pair was written
 pub record HalfCheckpointed (log log' : TrunkLogState) (gateway : Gateway) : Type 0 where
+  pub fits : GatewayFits gateway
   pub left : (kept : Kept) → StandsFor log.files kept
       → LeavesKept log'.files kept ⊎ LeavesOf log' log.place gateway []
   pub written : WhereKnown log.files.other.contents log'.files.other.contents

@@ -2,6 +2,7 @@
 
 ghost use Rattle.std.specs.Prelude.{◌≡◌, ◌++◌, IfOk, OnErr};
 ghost use Rattle.byteorder.specs.Endian.{big_bytes};
+ghost use Rattle.gw_switch.specs.Saved.{GatewayFits};
 ghost use Rattle.gw_state.specs.Layout.{state_file};
 ghost use Rattle.gw_state.specs.Memory.{MemoryIsRefused};
 ghost use Rattle.gw_log.specs.Checkpoints.{checkpoint, checkpoint_mark, checkpoint_place};
@@ -43,6 +44,7 @@ pub(crate) fn checkpoint_of(
 ) -> Result<Vec<u8>, AllocError>
     ensures octets { IfOk result (λ octets. octets.items
         ≡ checkpoint place (state_file config.now gateway.now)) }
+    ensures fits { IfOk result (λ octets. GatewayFits gateway.now) }
     ensures err { OnErr result MemoryIsRefused }
 {
     let mut octets = Vec::new(alloc);

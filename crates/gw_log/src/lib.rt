@@ -4,6 +4,7 @@
 
 mod checkpoint;
 mod file_log;
+pub mod laws;
 mod trunk_log;
 
 pub use file_log::LogFault;

@@ -8,7 +8,7 @@ ghost use Rattle.gw_session.specs.Running.{all_kinds};
 ghost use Rattle.gw_session.specs.Tape.{HasEnded, Learns, Recorded, WritesRecords};
 ghost use Rattle.gw_session.specs.Tape.{answers_at, keeps_at, sends_at};
 ghost use Rattle.gw_log.specs.Logs.{Appended, Checkpointed, Shown, Uncheckpointed, files_over};
-ghost use Rattle.gw_log.specs.Logs.{place_after_kept, place_of, told_by};
+ghost use Rattle.gw_log.specs.Logs.{place_after_kept, place_after_loaded, told_by};
 
 use crate::checkpoint::checkpoint_place;
 use crate::file_log::{FileLog, LogFault};
@@ -40,8 +40,8 @@ fn files_over<S: Store>(first: Pair<S>, second: Pair<S>, loaded: Option<Loaded<'
 }
 
 // The place behind what was loaded.
-fn place_of(loaded: &Option<Loaded<'_>>) -> u64
-    ensures { result ≡ place_of loaded.now }
+fn place_after_loaded(loaded: &Option<Loaded<'_>>) -> u64
+    ensures { result ≡ place_after_loaded loaded.now }
 {
     match loaded {
         Some(Loaded::First(kept)) | Some(Loaded::Second(kept)) => place_after_kept(kept),
@@ -105,14 +105,14 @@ impl<S: Store> TrunkLog<S> {
         ensures { result ≡ record {
           files = files_over first second loaded.entry;
           config = config;
-          place = place_of loaded.entry;
+          place = place_after_loaded loaded.entry;
           ended = false;
           broken = false;
           failures = 0;
           taken = [];
         } }
     {
-        let place = place_of(&loaded);
+        let place = place_after_loaded(&loaded);
         TrunkLog::new(
             alloc,
             files_over(first, second, loaded),

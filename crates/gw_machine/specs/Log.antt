@@ -104,12 +104,12 @@ pub record IsReplayed (kept : Kept) (config : GatewayConfig) (loaded : Loaded) (
 abbrev pub HaveSameCircuits : GatewayConfig → GatewayConfig → ℕ → Type 0
 HaveSameCircuits old config most = (c : ℕ) → 1 ≤ c → c ≤ most → config_of old c ≡ config_of config c
 
--- a gateway that had one configuration goes on with another one: this has the same circuits; or its state was
--- loaded with the other one, and the circuits that begin as new were reported
+-- a gateway that had one configuration goes on with another one: this has the same circuits; or it has
+-- others, the state of the gateway was loaded with it, and the circuits that begin as new were reported
 abbrev pub GoesOnWith : GatewayConfig → GatewayConfig → Gateway → Gateway → Type 0
 GoesOnWith old config before gateway = (HaveSameCircuits old config 30 × (gateway ≡ before))
-    ⊎ ((loaded : Loaded) × IsLoaded config (state_file old before) loaded × AreTold old config 30
-    × (gateway ≡ loaded.gateway))
+    ⊎ ((¬ HaveSameCircuits old config 30) × ((loaded : Loaded)
+    × IsLoaded config (state_file old before) loaded × AreTold old config 30 × (gateway ≡ loaded.gateway)))
 
 -- The gateway of what was kept in a log: that of the state, with the configuration that it was kept with,
 -- behind the records. Then it goes on with this configuration.

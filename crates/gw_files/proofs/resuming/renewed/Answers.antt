@@ -3,8 +3,11 @@ use Rattle.gw_files.proofs.resuming.renewed.Goals as goal
 
 pub returns-in-Ok-load_gateway-clause-ok : goal.returns-in-Ok-load_gateway-clause-ok
 returns-in-Ok-load_gateway-clause-ok g c = inr (
-  c.in-Ok-load_gateway.loaded,
-  rw (c.as_slice.ensures.value, c.in-Ok.ensures.octets) at c.in-Ok-load_gateway.ensures.loaded,
-  c.tell_renewed.ensures,
-  refl,
+  c.requires,
+  (
+    c.in-Ok-load_gateway.loaded,
+    rw (c.as_slice.ensures.value, c.in-Ok.ensures.octets) at c.in-Ok-load_gateway.ensures.loaded,
+    c.tell_renewed.ensures,
+    refl,
+  ),
 )

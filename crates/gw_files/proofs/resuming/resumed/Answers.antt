@@ -5,7 +5,7 @@ use Rattle.gw_files.proofs.resuming.resumed.Goals as goal
 
 pub returns-then-have_same_circuits-clause-ok : goal.returns-then-have_same_circuits-clause-ok
 returns-then-have_same_circuits-clause-ok g c = resumed_with _ _ _ _ _ c.in_ok-old.ensures.ok
-    c.in_ok-gateway.ensures.ok (inl (c.if-have_same_circuits.ensures refl, refl))
+    c.in_ok-gateway.ensures.ok (inl (c.if-have_same_circuits.ensures.yes refl, refl))
 
 pub returns-clause-ok : goal.returns-clause-ok
 returns-clause-ok g c = ok_so c.renewed.result (λ gateway goes. resumed_with _ _ _ _ _ c.in_ok-old.ensures.ok

@@ -15,5 +15,6 @@ returns-then-not-can_append g c = inr (inr (record {
 pub returns-then-is_err : goal.returns-then-is_err
 returns-then-is_err g c = rw (← c.self.view_is) (ends_broken _ _ _ c.append.result
     (sym c.is_err.ensures.value ∙ c.if-is_err.true) c.if-self.false
+    (rw (← c.self.view_is) at (c.if-not-can_append.ensures.yes refl))
     (rw c.fail-then-is_err.ensures c.append.ensures.err) (rw c.fail-then-is_err.ensures c.append.ensures.fault)
     (rw c.fail-then-is_err.ensures refl))
