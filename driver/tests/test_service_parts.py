@@ -24,6 +24,7 @@ from e1gw.service.handover import NOTE, Handover, Notifier, given_files, note_of
 from e1gw.service.note import ServiceNote
 from e1gw.service.process import start_of
 from e1gw.service.recordings import RecordingNote
+from e1gw.service.reload import outcome
 from e1gw.service.trunk import SatopNote
 from e1gw.service.version import ProgramVersion, VersionHistory
 
@@ -47,6 +48,20 @@ class VersionHistoryTests(unittest.TestCase):
         history.look(100.0 + TRIED)
         self.assertEqual((history.before, history.trial), (None, None))
         second.close()
+
+    def test_silence_of_one_that_is_refused(self) -> None:
+        """A reload is over once the version before carries the trunk, and says for how long no program did."""
+        history = VersionHistory(self.version())
+        history.renew(self.version())
+        history.go_back('the program does not begin within 1 s').close()
+        self.assertFalse(history.settled.is_set())
+        history.is_up(101.3, 1.26)
+        self.assertTrue(history.settled.is_set())
+        self.assertEqual(outcome(history.refused, history.silent, frozenset((4, 7))),
+                         'reload: refused, the version before goes on: the program does not begin within 1 s; silent '
+                         'for 1.3 s: 2 calls (circuits 4, 7)')
+        self.assertEqual(outcome('', history.silent, frozenset((4, 7))), 'reload: done')
+        history.now.close()
 
 
 class LineLimitTests(unittest.TestCase):

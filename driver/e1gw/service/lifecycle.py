@@ -159,7 +159,7 @@ class TrunkCarrier:
         logger.log(logging.WARNING if self.lost else NOTICE, '%s%s', self.why, words)
         self.was_up, self.has_carried, self.lost = True, True, ''
         if program.version is self.versions.now:
-            self.versions.is_up(now)
+            self.versions.is_up(now, now - self.silent)
         self.note()
         self.notifier.tell('READY=1', f'STATUS=program {pid}')
 
@@ -282,7 +282,9 @@ class TrunkCarrier:
 
     def _go_back(self, words: str) -> None:
         """To the version before."""
-        self.versions.go_back(refused(words, self.versions.now.config_path())).close()      # (no name is looked up)
+        words = why_of(words, self.versions.now.config_path())      # (no name is looked up)
+        logger.error('reload: refused, the version before comes back: %s', words)
+        self.versions.go_back(words).close()
         self.why = 'the version before comes back'
         self.notifier.tell('READY=1')
 
@@ -309,12 +311,10 @@ class TrunkCarrier:
             self._noted[1], reader.recording_note(), self.calls()), self.trunk.files)
 
 
-def refused(words: str, config: str) -> str:
-    """Tells why a reload is refused, and returns that."""
+def why_of(words: str, config: str) -> str:
+    """Why a reload is refused: these words, and the cause if it is known."""
     why = cause_of(words, config)
-    words = f'{words}: {why}' if why else words
-    logger.error('reload: refused, the trunk goes on as it was: %s', words)
-    return words
+    return f'{words}: {why}' if why else words
 
 
 def cause_of(words: str, config: str) -> str | None:
