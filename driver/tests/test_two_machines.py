@@ -20,7 +20,7 @@ from .test_program_killed import CIRCUITS
 from e1gw.ctl_all import line_of
 from e1gw.metrics import exposition
 from e1gw.service.feed import MOST_PIECE, PIECE, TICK
-from e1gw.service.standby import IN_TIME, START
+from e1gw.service.standby import IN_TIME
 from e1gw.session import MULTIFRAME, OCTETS_A_SECOND, packet_of
 from e1gw.testing.ports import free_port
 
@@ -55,7 +55,7 @@ class DeathTests(PairCase):
         self.take(1)
         ones = int(machine.awaits(r'promoted: program \d+ goes on after .*, (\d+) of them ones')[1])
         self.assertGreaterEqual(ones, (began - until) * OCTETS_A_SECOND - MULTIFRAME)
-        self.assertLessEqual(ones, (now - since + START) * OCTETS_A_SECOND)
+        self.assertLessEqual(ones, (now - since) * OCTETS_A_SECOND)
         self.now += ones // MULTIFRAME          # (the peers speak by the trunk's time)
         self.goes_on_behind_all()
         if by:

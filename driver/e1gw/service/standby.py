@@ -25,7 +25,6 @@ from .version import ProgramVersion
 
 AGAIN, MOST_AGAIN = 0.1, 1.0            # seconds between two tries to be fed
 SAYS = 0.05                 # seconds between two words of what it has
-START = 0.03                # seconds from a state to the program that goes on with it
 IN_TIME = 0.1               # seconds that a far end may wait for packets
 DRIFT = 1e-4                # by which the clocks of two machines differ at most, in seconds a second
 MOST_AGE = 60.0             # seconds after which a state is of no use
@@ -81,16 +80,16 @@ class FedLog:
         self.fresh = at + self._ahead
         self.came, self._has_trunk = self.fresh if self._has_trunk else self.came, False
 
-    def ones(self, more: float = 0.0) -> int:
-        """How many octets of ones stand for the time since octets came, and `more` seconds, as if the trunk had given
-        them: timers, timestamps and jitter buffers go on."""
-        count = int((min(time.monotonic() - self.came, MOST_AGE) + more) * OCTETS_A_SECOND) // MULTIFRAME
+    def ones(self) -> int:
+        """How many octets of ones stand for the time since octets came, as if the trunk had given them: timers,
+        timestamps and jitter buffers go on."""
+        count = int(min(time.monotonic() - self.came, MOST_AGE) * OCTETS_A_SECOND) // MULTIFRAME
         self.came += count * MULTIFRAME / OCTETS_A_SECOND
         return count * MULTIFRAME
 
-    async def fill(self, version: ProgramVersion, more: float) -> int:
+    async def fill(self, version: ProgramVersion) -> int:
         """Puts them into the log. Returns how many. OSError if there is no room for them."""
-        count = self.ones(more)
+        count = self.ones()
         left = count // MULTIFRAME
         while left:
             many = min(left, MANY)
@@ -280,7 +279,7 @@ class TrunkStandby:
             return None, f'what is known is {age:.0f} s old'
         try:
             is_soon = is_given and time.monotonic() < fed.came + IN_TIME
-            count = 0 if is_soon else await fed.fill(self._version(), 0.0 if is_given else START)
+            count = 0 if is_soon else await fed.fill(self._version())
             fed.goes_to(folder)
             fed.close(True)
         except OSError as fault:
