@@ -158,6 +158,18 @@ class PairTests(PairCase):
         self.step(68)
         self.assertEqual(self.device.exchange.signals, self.up())
 
+    def test_a_standby_is_replaced(self) -> None:
+        """Another service in its place stands by, is fed, and can take over."""
+        a, b = self.calls_with_standby()
+        b.process.send_signal(signal.SIGUSR2)
+        b.awaits('is to be standby')
+        self.fed(b)
+        a.power_off()
+        self.promoted(b)
+        self.device.exchange.aligned = False
+        self.step(68)
+        self.assertEqual(self.device.exchange.signals, self.up())
+
     def test_standby_that_stands_still(self) -> None:
         """It is dropped, and joins again without a gap. It says which calls it has otherwise, and the others go on."""
         other = self.write('other.toml', self.text.replace('number = 7\n', 'number = 7\nptime = 30\n'))
