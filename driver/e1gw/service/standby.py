@@ -49,6 +49,7 @@ class FedLog:
         self.came = self._took = time.monotonic()       # when the machine that it is of had octets of the trunk last
         self.fresh = self.came - FRESH          # of when it had all that the other log had
         self._ahead = math.inf                  # seconds by which this clock is ahead of the other one
+        self._began = math.inf                  # when the trunk's octet 0 would have come
         self.circuits = list[int]()             # that are configured otherwise at the other machine
 
     def begin(self, state: bytes, records: bytes = b'') -> None:
@@ -74,16 +75,21 @@ class FedLog:
 
     def is_all(self, at: float) -> None:
         """What was taken was all that the log had at that time of the other clock. A word of that may wait here, and
-        the one that waited least tells how the clocks differ."""
-        now = time.monotonic()
-        self._ahead, self._took = min(now - at, self._ahead + DRIFT * (now - self._took)), now
+        the one that waited least tells how the clocks differ. So it does of octets, which wait for that word: the last
+        of them came behind the word before."""
+        now, before = time.monotonic(), self.fresh
+        drift, self._took = DRIFT * (now - self._took), now
+        self._ahead = min(now - at, self._ahead + drift)
         self.fresh = at + self._ahead
-        self.came, self._has_trunk = self.fresh if self._has_trunk else self.came, False
+        if self._has_trunk:
+            came = self.octets / OCTETS_A_SECOND
+            self._began = min(self.fresh - came, self._began + drift)
+            self.came, self._has_trunk = min(self.fresh, max(before, self._began + came)), False
 
     def ones(self) -> int:
         """How many octets of ones stand for the time since octets came, as if the trunk had given them: timers,
         timestamps and jitter buffers go on."""
-        count = int(min(time.monotonic() - self.came, MOST_AGE) * OCTETS_A_SECOND) // MULTIFRAME
+        count = round(min(time.monotonic() - self.came, MOST_AGE) * OCTETS_A_SECOND / MULTIFRAME)
         self.came += count * MULTIFRAME / OCTETS_A_SECOND
         return count * MULTIFRAME
 
