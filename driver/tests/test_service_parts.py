@@ -9,7 +9,8 @@ import threading
 import unittest
 from contextlib import suppress
 from dataclasses import replace
-from typing import Any
+from types import SimpleNamespace
+from typing import Any, cast
 from unittest import mock
 
 from . import support
@@ -20,7 +21,8 @@ from e1gw.service import events, trunk
 from e1gw.service.commands import unix_listener
 from e1gw.service.decisions import TRIED
 from e1gw.service.journal import MINUTE, MOST, LineLimit
-from e1gw.service.handover import NOTE, Handover, Notifier, given_files, note_of
+from e1gw.service.handover import NOTE, Handover, Left, Notifier, given_files, note_of, takes_up
+from e1gw.service.log_folder import LogPair
 from e1gw.service.note import ServiceNote
 from e1gw.service.process import start_of
 from e1gw.service.recordings import RecordingNote
@@ -166,6 +168,16 @@ class HandoverTests(support.FolderCase):
             handover.become_next()
         self.assertEqual(given, {'one': self.files[1]})
         self.assertEqual(signal.pthread_sigmask(signal.SIG_BLOCK, ()), set())       # (no child may inherit one)
+
+    def test_silence_of_what_was_left(self) -> None:
+        """A trunk whose service died with its program is silent since that wrote its log last, and not since the next
+        service has begun."""
+        os.utime(self.write('records', b''), (1e9 - 1.5, 1e9 - 1.5))
+        os.utime(self.write('state', b''), (1e9 - 7, 1e9 - 7))
+        carrier = SimpleNamespace(places=SimpleNamespace(log=self.folder), silent=100.0)
+        with mock.patch('time.time', lambda: 1e9):
+            takes_up(cast(Any, carrier), Left(None, {}, 0, LogPair(0, 0, b'', b'')))
+        self.assertAlmostEqual(carrier.silent, 98.5)
 
     def test_note(self) -> None:
         """It is of a service that is no more, and of the same trunk; what is no note of this version is none."""
