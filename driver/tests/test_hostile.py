@@ -66,6 +66,30 @@ class StartFaultTests(KeeperCase):
         self.ends()
 
 
+class TakenPortTests(KeeperCase):
+    def test_while_no_program_has_it(self) -> None:
+        """The circuit alone has none until it is free, and its call stays. All thirty were silent for that."""
+        self.starts()
+        self.calls()
+        port = next(port for port, circuit in self.peers.circuits.items() if circuit == 3)
+        with socket.socket(socket.AF_INET, socket.SOCK_DGRAM) as other:
+            with support.stopped(self.keeper.pid):
+                os.kill(self.program, signal.SIGKILL)
+                support.until(lambda: support.state_of(self.program) == 'Z')
+                other.bind(('127.0.0.1', port))
+            self.awaits(f'circuit 3 has no port: port {port} is in use')
+            self.goes_on_behind()
+            self.step(20)
+            self.as_uncut(but=3)
+            count = len(self.peers.packets[3])
+        self.awaits('a socket, a port or the log is to be had again: (?=program)')
+        self.goes_on_behind()
+        self.step(20)
+        self.as_uncut(but=3)
+        self.assertGreater(len(self.peers.packets[3]), count)
+        self.ends()
+
+
 class FolderTests(KeeperCase):
     def test_a_folder_that_cannot_be_made_again(self) -> None:
         """As /run/e1gw/NAME, whose parent is root's: the log goes on elsewhere."""

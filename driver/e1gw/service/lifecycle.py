@@ -23,6 +23,7 @@ from .decisions import Act, Deaths, NextStep, ProgramEnd, ProgramFault, Wish, af
 from .journal import NOTICE
 from .log_folder import LogPair, LogWriter
 from .note import ServiceNote
+from .ports import TakenPorts
 from .process import start_of
 from .program import ProgramPlaces, TrunkProgram, end_left
 from .reader import LogReader
@@ -83,7 +84,7 @@ class TrunkCarrier:
         self._handover, self.notifier = handover, notifier
         self._noted = -inf, trunk.note()        # when it was noted last what the next service has to know, and this
         self.silent, self._due = time.monotonic(), 0.0
-        self._deaths, self._totals = Deaths(), Counter[str]()
+        self._deaths, self._totals, self._taken = Deaths(), Counter[str](), TakenPorts()
         trunk.place = self.place
 
     # ---- from the beginning to the end ----
@@ -120,9 +121,10 @@ class TrunkCarrier:
         self._make_folder()
         self.trunk.follows()
         self.reader.look()
-        self.program = program = TrunkProgram.started(
-            self.versions.now, self.places, self.trunk.both,
-            ['--senders', self.versions.now.senders, *self.wants.words])
+        with self._taken.left_out(self.versions.now) as version:
+            self.program = program = TrunkProgram.started(
+                version, self.places, self.trunk.both, ['--senders', version.senders, *self.wants.words])
+        program.version = self.versions.now
         program.begun = self.reader.octets
         if self.wish in (Wish.RELOAD, Wish.RENEW):      # (this is the one that was wanted)
             self.wish = Wish.NONE
@@ -179,7 +181,7 @@ class TrunkCarrier:
         now = time.monotonic()
         self.versions.look(now)
         self._pass_on(program)
-        if now >= self._due and program.lacks():
+        if now >= self._due and program.lacks() or self._taken.are_free(program.version, now):
             self._due = now + APART     # (another program has them, once a minute at most)
             self.wish = Wish.RENEW
         if now >= self._noted[0] + NOTED or self.trunk.note() != self._noted[1]:
@@ -197,6 +199,8 @@ class TrunkCarrier:
         self._pass_on(program)
         self._totals += program.process.totals()
         end, failure = self._end_of(program, hangs), self.trunk.failure()
+        if end.fault is ProgramFault.SOCKET and self.was_up and not end.trial and (self.has_carried or not self.pair):
+            self._taken.look(self.versions.now, end.now)
         is_asked = end.wish is not Wish.NONE and end.is_well
         self.why, self.lost = str(end.wish.value) if is_asked else f'the program {words}', \
             '' if end.is_well or not end.was_up else LOST
