@@ -1,6 +1,7 @@
 """A trunk that two machines have: one dies with thirty calls up, or both are active; standbys and feeds are bad."""
 from __future__ import annotations
 
+import asyncio
 import contextlib
 import json
 import math
@@ -11,6 +12,7 @@ import socket
 import ssl
 import struct
 import subprocess
+import unittest
 from itertools import accumulate
 from typing import Callable
 from unittest import mock
@@ -22,8 +24,8 @@ from .test_program_killed import CIRCUITS
 from e1gw.ctl_all import line_of
 from e1gw.metrics import exposition
 from e1gw.service import standby
-from e1gw.service.feed import MOST_PIECE, PIECE, TICK
-from e1gw.service.standby import IN_TIME, FedLog
+from e1gw.service.feed import BACK, CARRIES, MARK, MOST_PIECE, PIECE, TAKES, TICK
+from e1gw.service.standby import IN_TIME, FedLog, TrunkStandby
 from e1gw.session import MULTIFRAME, OCTETS_A_SECOND, packet_of, trunk_record
 from e1gw.testing.ports import free_port
 
@@ -297,6 +299,26 @@ class FedLogTests(support.FolderCase):
                 fed.is_all(fresh - 77)
                 fed.take(record)
             self.assertAlmostEqual(fed.came, last + 5, delta=0.011)
+
+
+class HandedTests(support.FolderCase, unittest.IsolatedAsyncioTestCase):
+    """A standby that is to carry the trunk, and whose program does."""
+
+    async def said(self, *words: int) -> tuple[float, list[bool]]:
+        """What it says last, and whether it gives the trunk back, if the other machine has said this and leaves."""
+        handed, reader, writer = list[bool](), asyncio.StreamReader(), mock.Mock()
+        writer.is_closing.return_value = False
+        its = TrunkStandby(('127.0.0.1', 1), '', (), mock.Mock(), self.folder, mock.Mock())
+        its.is_handed, its.carries = handed.append, lambda: True
+        reader.feed_data(b''.join(PIECE.pack(0.0, word) for word in words))
+        reader.feed_eof()
+        await its._says_so(reader, writer)
+        return float(MARK.unpack(writer.write.call_args.args[0])[0]), handed
+
+    async def test_what_the_other_machine_says(self) -> None:
+        """One that stood still would carry it beside the machine that had taken it back. One that dies takes nothing
+        back."""
+        self.assertEqual([await self.said(BACK), await self.said()], [(TAKES, [False]), (CARRIES, [])])
 
 
 class SatopNumberTests(PairCase):

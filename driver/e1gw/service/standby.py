@@ -11,15 +11,15 @@ import os
 import shutil
 import tempfile
 import time
-from contextlib import closing
+from contextlib import closing, suppress
 from typing import Callable, Sequence
 
 from ..faults import words_of_fault
 from ..lines import Event
 from ..session import CIRCUITS, MULTIFRAME, OCTETS_A_SECOND, trunk_record, whole_records
 from ..tls import context_of
-from .feed import (CARRIES, FRESH, GO, LENGTH, MARK, MOST_HEAD, MOST_PIECE, NOTHING, PATIENCE, PIECE, STATE, TAKES,
-                   YOURS, FeedHead, FeedRefused, configured, head_of)
+from .feed import (BACK, CARRIES, END, FRESH, GO, LENGTH, MARK, MOST_HEAD, MOST_PIECE, NOTHING, PATIENCE, PIECE, STATE,
+                   TAKES, YOURS, FeedHead, FeedRefused, configured, head_of)
 from .log_folder import RECORDS_ROOM, STATE_ROOM, LogFiles, LogPair, LogWriter, NoRoom
 from .version import ProgramVersion
 
@@ -133,6 +133,13 @@ class FedLog:
             shutil.rmtree(self.folder, ignore_errors=True)
 
 
+async def last_word(reader: asyncio.StreamReader) -> int:
+    """What the other machine says behind all that it feeds; END if it leaves."""
+    with suppress(OSError, EOFError):
+        return int(PIECE.unpack(await reader.readexactly(PIECE.size))[1])
+    return END
+
+
 class TrunkStandby:
     """Is fed by the other machine, at this place of it, over TLS if there are files for that. `source` is the address
     from which it connects; `version` gives the program and the configuration of now; `folder` is for its logs; `tell`
@@ -232,7 +239,7 @@ class TrunkStandby:
                 writer.write(MARK.pack(TAKES))
                 continue
             if length == GO:
-                self._taking = asyncio.create_task(self._says_so(writer))
+                self._taking = asyncio.create_task(self._says_so(reader, writer))
                 self.is_handed(True)
             if length < 0:
                 raise EOFError
@@ -246,16 +253,21 @@ class TrunkStandby:
             raise FeedRefused('a state of the feed is too long')
         return await reader.readexactly(length)
 
-    async def _says_so(self, writer: asyncio.StreamWriter) -> None:
-        """Says that this machine takes the trunk until it carries it. If that lasts too long it is given back."""
-        until = time.monotonic() + PATIENCE
-        while not (carries := self.carries()) and time.monotonic() < until and not writer.is_closing():
+    async def _says_so(self, reader: asyncio.StreamReader, writer: asyncio.StreamWriter) -> None:
+        """Says that this machine takes the trunk until it carries it. It is given back if that lasts too long, or the
+        other machine has taken it back, while this one stood still."""
+        until, last = time.monotonic() + PATIENCE, asyncio.ensure_future(last_word(reader))
+        carries = is_over = False
+        while not (carries or is_over):
             writer.write(MARK.pack(TAKES))
             await asyncio.sleep(SAYS)
+            is_over = time.monotonic() >= until or writer.is_closing() or last.done() and last.result() == BACK
+            carries = self.carries() and not is_over
         if carries:
             writer.write(MARK.pack(CARRIES))
         else:
             self.is_handed(False)
+        last.cancel()
         writer.close()
 
     def _begins(self, fed: FedLog) -> None:
