@@ -121,10 +121,9 @@ class TrunkCarrier:
         self._make_folder()
         self.trunk.follows()
         self.reader.look()
-        with self._taken.left_out(self.versions.now) as version:
-            self.program = program = TrunkProgram.started(
-                version, self.places, self.trunk.both, ['--senders', version.senders, *self.wants.words])
-        program.version = self.versions.now
+        self.program = program = TrunkProgram.started(
+            self.versions.now, self.places, self.trunk.both,
+            ['--senders', self.versions.now.senders, *self.wants.words], self._taken)
         program.begun = self.reader.octets
         if self.wish in (Wish.RELOAD, Wish.RENEW):      # (this is the one that was wanted)
             self.wish = Wish.NONE
