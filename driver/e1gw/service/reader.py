@@ -88,7 +88,8 @@ class LogReader:
     def octets_at(self, pair: LogPair, pairs: Sequence[LogPair] = ()) -> int:
         """The octet of the trunk at the state of a pair, by what was read behind it: of this one, or of all that there
         are."""
-        self.look()
+        if self._place < pair.place:        # (else more would be read than the pair has)
+            self.look()
         records = b''.join(each.records for each in pairs or (pair,) if each.turn >= pair.turn)
         return self.octets - whole_records(records[:max(0, self._place - pair.place)])[1]
 
