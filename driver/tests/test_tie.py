@@ -352,6 +352,21 @@ class TieCallTests(TieCase):
         await self.until(lambda: passed() == ['seize 3', 'clear 3', 'seize 3'])
         await self.until(self.at(3, State.ACKED, State.ACKED))
 
+    async def test_trunk_that_knows_nothing_yet(self) -> None:
+        """As in the first moments of another e1gw-trunk, which goes on with the calls: it is waited for."""
+        await self.both()
+        await self.sends(self.west, 3, SEIZED, State.ACKED)
+        await self.named(3)
+        await self.west.stop()
+        self.west.knows = False
+        count = len(self.west.asked)
+        await self.west.start()
+        await self.until(lambda: self.west.asked[count:].count('status json') > 2)
+        self.west.knows = True
+        await self.until(lambda: self.east.states[1] is State.IDLE)
+        self.assertEqual([each for each in self.east.asked if each.startswith(('seize', 'clear'))], ['seize 3'])
+        self.assertEqual(len(self.told('west', 'trunk gone')), 1)
+
     async def test_trunk_does_not_answer(self) -> None:
         """It is given up after PATIENCE, and found again."""
         await self.both()

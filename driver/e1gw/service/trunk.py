@@ -25,7 +25,7 @@ from .card import CardWatch, watch_of
 from .events import tell_journal
 
 QUICK = 1.0                 # seconds: what ends within them is begun again later
-PAUSE, MOST_PAUSE = 0.25, 1.0          # seconds up to then, at first and at most
+PAUSE, MOST_PAUSE = 0.25, 1.0           # seconds up to then, at first and at most
 AGAIN = 0.1                 # seconds before what has failed is begun again
 LINE = 'line-in', 'line-out'            # descriptors of a device or a socket
 
@@ -71,7 +71,7 @@ class TrunkNote:
 
 class Pause:
     """How long to wait before something is begun again: not at all, but if it has ended soon a little, and each time
-    twice as long, up to a second: who comes back is not waited for in vain."""
+    twice as long, up to a second: a device that is back is taken soon."""
 
     def __init__(self) -> None:
         self._began, self._seconds = -inf, 0.0
