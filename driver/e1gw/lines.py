@@ -41,6 +41,7 @@ class Alignment(StrEnum):
 
 OPEN = frozenset((State.ACKED, State.ANSWERED, State.CLEAREDBACK))      # speech goes through
 IN_CALL = OPEN | {State.SEIZED}
+UNKNOWN = 'unknown'         # in place of a state of which nothing was told yet
 LEADS = {Command.SEIZE: State.SEIZED, Command.CLEAR: State.RELEASING, Command.ANSWER: State.ANSWERED,
          Command.CLEAR_BACK: State.CLEAREDBACK, Command.BLOCK: State.BLOCKED, Command.UNBLOCK: State.IDLE}
 PAIRS = {None: '--', 0: '00', 1: '01', 2: '10', 3: '11'}

@@ -12,7 +12,7 @@ Status = Mapping[str, Any]
 Labels = Mapping[str, object]
 Samples = Iterable[tuple[Labels, float | int]] | float | int
 
-ALIGNED = 'aligned'
+ALIGNED, NOT_OPEN = 'aligned', 'not open'
 TRANSPORT = 'e1gw_transport'        # of what a transport tells, its own names and kinds
 # A number of each circuit's row: its name, what it is, its key, and how many of its units are one.
 CIRCUIT_NUMBERS = (
@@ -174,7 +174,7 @@ def _head(status: Status) -> list[str]:
     at = time.strftime('%H:%M:%S', time.gmtime(status['time']))
     lines = [
         f'trunk {status["name"]}, e1gw {status["version"]}, '
-        + ('not open' if status.get('fault') else f'up {status["uptime"]:.0f} s'),
+        + (NOT_OPEN if status.get('fault') else f'up {status["uptime"]:.0f} s'),
         f'{status["octets"] / 256_000:.1f} s of the trunk at {at} UTC, {state_of(status)}; the other end: '
         + _far_end(status),
         'alignment lost: ' + ', '.join(f'{what} {n}' for what, n in status['losses'].items())
@@ -225,11 +225,11 @@ def _crc4_line(status: Status) -> list[str]:
             f'{crc4["submultiframes"]} submultiframes, the other end reports {crc4["far_end_errored"]}']
 
 
-def _row(row: Mapping[str, Any]) -> str:
-    counts = dict(row['datagrams'])
+def _row(status: Status, row: Mapping[str, Any]) -> str:
+    counts, state = dict(row['datagrams']), NOT_OPEN if status.get('fault') else row['state']
     sent, received = counts.pop('sent'), counts.pop('admitted')
     discarded = ', '.join(f'{n} {why}' for why, n in counts.items())
-    return (f'{row["circuit"]:2} {row["role"]:8} {row["state"]:11} {row["sent"]:4} {row["recognised"]:3} '
+    return (f'{row["circuit"]:2} {row["role"]:8} {state:11} {row["sent"]:4} {row["recognised"]:3} '
             f'{row["for"]:9.1f} {row["seizures"]:6} {row["answers"]:8} {row["open"]:9.1f}  {row["codec"]:7} '
             f'{row["jitter_buffer_ms"]:6g} {sent:9} {received:9} {row["lost"]:5} {row["jitter_ms"]:7.1f}  '
             f'{discarded}').rstrip()
@@ -242,10 +242,10 @@ COLUMNS = (' n role     state       TxAB RxAB in state calls answered connected 
 
 def table(status: Status) -> str:
     """The state of a trunk for people."""
-    return '\n'.join([*_head(status), COLUMNS, *map(_row, status['circuits'])]) + '\n'
+    return '\n'.join([*_head(status), COLUMNS, *(_row(status, row) for row in status['circuits'])]) + '\n'
 
 
 def circuit_table(status: Status, circuit: int) -> str:
     """The row of one circuit, below its head."""
-    rows = [_row(row) for row in status['circuits'] if row['circuit'] == circuit]
+    rows = [_row(status, row) for row in status['circuits'] if row['circuit'] == circuit]
     return '\n'.join([COLUMNS, *(rows or [f'{circuit:2} has no table in the configuration, and no call yet'])])

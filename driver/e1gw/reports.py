@@ -5,7 +5,7 @@ import time
 from typing import Any, Callable, Mapping
 
 from .counts import DatagramCounts, ToldCounts
-from .lines import LEADS, OPEN, PAIRS, Alignment, Line, Role, State, Tell, law_of, lines_of
+from .lines import LEADS, OPEN, PAIRS, UNKNOWN, Alignment, Line, Role, State, Tell, law_of, lines_of
 from .session import Codec, Command, codec_record, command_record
 
 VERSION = '1'
@@ -53,13 +53,13 @@ class TrunkState:
 
     def status(self) -> dict[str, Any]:
         """All that is known, as a dictionary of plain values."""
-        now = self._clock()
+        now, rest = self._clock(), {} if self.known else {'state': UNKNOWN}
         return {
             'octets': self.place, 'law': self.law,
             'alarm': {str(what): on for what, on in self.alarms.items()},
             'remote_alarm': {str(what): on for what, on in self.remote.items()},
             'losses': {str(what): n for what, n in self.losses.items()},
-            'circuits': [line.status(now) for line in self.lines.values()]}
+            'circuits': [line.status(now) | rest for line in self.lines.values()]}
 
     def begin(self, place: int | None = None) -> None:
         """A follower is there that will tell the whole state; its session has begun at this place, by default that of
@@ -73,7 +73,7 @@ class TrunkState:
 
     def lost(self) -> None:
         """Nobody tells any more."""
-        self.live, self.counts.ended = False, 'no follower tells'
+        self.live, self.counts.ended = False, 'nobody tells'
 
     def take(self, octets: bytes) -> None:
         """Octets of reports. BadTelling if they are not understood; what comes before that was done."""

@@ -3,6 +3,7 @@ from __future__ import annotations
 
 import asyncio
 import contextlib
+import importlib.util
 import io
 import os
 import re
@@ -62,6 +63,30 @@ class StartFaultTests(KeeperCase):
         self.goes_on_behind()
         self.step(20)
         self.as_uncut()
+        self.ends()
+
+
+class TakenPortTests(KeeperCase):
+    def test_while_no_program_has_it(self) -> None:
+        """The circuit alone has none until it is free, and its call stays. All thirty were silent for that."""
+        self.starts()
+        self.calls()
+        port = next(port for port, circuit in self.peers.circuits.items() if circuit == 3)
+        with socket.socket(socket.AF_INET, socket.SOCK_DGRAM) as other:
+            with support.stopped(self.keeper.pid):
+                os.kill(self.program, signal.SIGKILL)
+                support.until(lambda: support.state_of(self.program) == 'Z')
+                other.bind(('127.0.0.1', port))
+            self.awaits(f'circuit 3 has no port: port {port} is in use')
+            self.goes_on_behind()
+            self.step(20)
+            self.as_uncut(but=3)
+            count = len(self.peers.packets[3])
+        self.awaits('a socket, a port or the log is to be had again: (?=program)')
+        self.goes_on_behind()
+        self.step(20)
+        self.as_uncut(but=3)
+        self.assertGreater(len(self.peers.packets[3]), count)
         self.ends()
 
 
@@ -142,7 +167,13 @@ class LineFileTests(support.FolderCase):
 
 class OpeningTests(unittest.IsolatedAsyncioTestCase):
     async def test_one_that_ends_at_once(self) -> None:
-        """A device that fails each read, or a proxy whose other end is away, is tried later and later."""
+        """A device that fails each read, or a proxy whose other end is away, is tried later, but each second: so one
+        that is back is taken within two. (The module is loaded once more, for its own limits.)"""
+        found = importlib.util.find_spec('e1gw.service.trunk')
+        assert found and found.loader
+        anew = importlib.util.module_from_spec(found)
+        with mock.patch.dict(sys.modules, {found.name: anew}):
+            found.loader.exec_module(anew)
         waits: list[float] = []
 
         async def either(seconds: float, *events: asyncio.Event) -> None:
@@ -151,12 +182,12 @@ class OpeningTests(unittest.IsolatedAsyncioTestCase):
         def opens() -> Stream:
             file = os.open(os.devnull, os.O_RDWR)
             return Stream(file, file, os.devnull)
-        files = trunk.TrunkFiles(trunk.LineOptions(opens))
-        with mock.patch.multiple(trunk, either=either, QUICK=limits.LONG, MOST_PAUSE=30.0):
+        files = anew.TrunkFiles(anew.LineOptions(opens))
+        with mock.patch.multiple(anew, either=either, QUICK=limits.LONG):
             for _ in range(10):
                 await files.reopen(asyncio.Event())
                 await files.finish()
-        self.assertEqual(waits, [0.0, 0.25, 0.5, 1.0, 2.0, 4.0, 8.0, 16.0, 30.0, 30.0])
+        self.assertEqual(waits, [0.0, 0.25, 0.5, *[1.0] * 7])
 
     async def test_one_that_is_opened_too_late(self) -> None:
         """The other machine was to carry the trunk, or the end was asked for, while a thread waited for the other end.

@@ -66,6 +66,11 @@ class ToldTests(unittest.TestCase):
         self.assertEqual({row['state'] for row in self.told.status()['circuits']}, {'idle'})
         self.assertEqual(self.circuit()['jitter_buffer_ms'], 40)
 
+    def test_nothing_was_told_yet(self) -> None:
+        """No circuit is in fault for that."""
+        told = TrunkState({'law': 'A'}, self.events.append, self.counts)
+        self.assertEqual({row['state'] for row in told.status()['circuits']}, {'unknown'})
+
     def test_a_row_of_the_manual(self) -> None:
         self.take('line  1 outgoing idle        10 10        101        100          0 pcma      8')
         found = self.circuit()

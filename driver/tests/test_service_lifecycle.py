@@ -403,7 +403,7 @@ class ServiceVersionTests(KeeperCase):
         for _ in range(2):
             self.dies()
             self.step(20)
-        self.assertIn('reload: refused, the trunk goes on as it was: the program ended by signal 9', self.told())
+        self.assertIn('reload: refused, the version before comes back: the program ended by signal 9', self.told())
         self.as_uncut()
         self.ends()
 

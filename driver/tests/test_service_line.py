@@ -5,6 +5,7 @@ import asyncio
 import functools
 import os
 import signal
+import socket
 import stat
 import sys
 import unittest
@@ -22,6 +23,8 @@ from e1gw.service import satop_trunk, trunk
 from e1gw.service.satop_trunk import BROKEN, ONES, SatopTrunk
 from e1gw.service.trunk import LineOptions, waiting
 from e1gw.session import OCTETS_A_SECOND
+from e1gw.testing.ports import free_port
+from e1gw.udp_tables import has_socket
 
 
 class LateExchange(support.Exchange):
@@ -106,13 +109,14 @@ class LineProcessTests(support.FolderCase, unittest.IsolatedAsyncioTestCase):
         grace.start()
         self.addCleanup(grace.stop)
 
-    async def opened(self, script: str, reopens: bool = False, crc4: bool = False, ones: int = 0) -> SatopTrunk:
+    async def opened(self, script: str, reopens: bool = False, crc4: bool = False,
+                     ones: Callable[[], int] = lambda: 0, near: str = '127.0.0.1:5000') -> SatopTrunk:
         path = self.write('e1gw', f'#!{sys.executable}{script}')
         os.chmod(path, stat.S_IRWXU)
         self.told: list[Event] = []
-        words = ['127.0.0.1:5000', '127.0.0.1:5001', '--size', '256']
+        words = [near, '127.0.0.1:5001', '--size', '256']
         trunk = SatopTrunk(LineOptions(satop=lambda: words, crc4=crc4, reopens=reopens, program=path))
-        trunk.tell, trunk.ones = self.told.append, lambda: ones
+        trunk.tell, trunk.ones = self.told.append, ones
         await trunk.open()
         self.addAsyncCleanup(trunk.finish)
         return trunk
@@ -156,7 +160,7 @@ class LineProcessTests(support.FolderCase, unittest.IsolatedAsyncioTestCase):
 
     async def test_more_ones_than_there_is_room_for(self) -> None:
         """A minute of them: as many as fit come, and nobody waits."""
-        trunk = await self.opened(SCRIPT, ones=60 * OCTETS_A_SECOND)
+        trunk = await self.opened(SCRIPT, ones=lambda: 60 * OCTETS_A_SECOND)
         self.assertIn(waiting(trunk.both[0]), range(OCTETS_A_SECOND // 2, 60 * OCTETS_A_SECOND))
 
     async def test_it_plays_into_a_full_socket(self) -> None:
@@ -185,6 +189,19 @@ class LineProcessTests(support.FolderCase, unittest.IsolatedAsyncioTestCase):
             self.write('address', '')
             await self.goes_round(line)
         self.assertEqual([event['event'] for event in self.told], ['trunk', 'trunk lost', 'trunk'])
+
+    async def test_ones_up_to_the_first_packet(self) -> None:
+        """They were counted before the process had its socket, by a guess of the time that this takes."""
+        place = f'127.0.0.1:{free_port("127.0.0.1", socket.SOCK_DGRAM)}'
+        script = f'''
+import socket, time
+time.sleep(0.05)
+line = socket.socket(socket.AF_INET, socket.SOCK_DGRAM)
+line.bind(("127.0.0.1", {place.partition(':')[2]}))
+{SCRIPT}'''
+        with mock.patch.object(satop_trunk, 'RECEIVES', limits.LONG):
+            line = await self.opened(script, near=place, ones=lambda: 512 * has_socket(place))
+        self.assertEqual(os.read(line.both[0], 1000), b'\xff' * 512)
 
     async def test_what_it_was_given_last_goes_out(self) -> None:
         trunk = await self.opened(f"""{SCRIPT}open('{self.path('over')}', 'w')\n""")

@@ -9,7 +9,8 @@ import threading
 import unittest
 from contextlib import suppress
 from dataclasses import replace
-from typing import Any
+from types import SimpleNamespace
+from typing import Any, cast
 from unittest import mock
 
 from . import support
@@ -20,10 +21,12 @@ from e1gw.service import events, trunk
 from e1gw.service.commands import unix_listener
 from e1gw.service.decisions import TRIED
 from e1gw.service.journal import MINUTE, MOST, LineLimit
-from e1gw.service.handover import NOTE, Handover, Notifier, given_files, note_of
+from e1gw.service.handover import NOTE, Handover, Left, Notifier, given_files, note_of, takes_up
+from e1gw.service.log_folder import LogPair
 from e1gw.service.note import ServiceNote
 from e1gw.service.process import start_of
 from e1gw.service.recordings import RecordingNote
+from e1gw.service.reload import outcome
 from e1gw.service.trunk import SatopNote
 from e1gw.service.version import ProgramVersion, VersionHistory
 
@@ -47,6 +50,20 @@ class VersionHistoryTests(unittest.TestCase):
         history.look(100.0 + TRIED)
         self.assertEqual((history.before, history.trial), (None, None))
         second.close()
+
+    def test_silence_of_one_that_is_refused(self) -> None:
+        """A reload is over once the version before carries the trunk, and says for how long no program did."""
+        history = VersionHistory(self.version())
+        history.renew(self.version())
+        history.go_back('the program does not begin within 1 s').close()
+        self.assertFalse(history.settled.is_set())
+        history.is_up(101.3, 1.26)
+        self.assertTrue(history.settled.is_set())
+        self.assertEqual(outcome(history.refused, history.silent, frozenset((4, 7))),
+                         'reload: refused, the version before goes on: the program does not begin within 1 s; silent '
+                         'for 1.3 s: 2 calls (circuits 4, 7)')
+        self.assertEqual(outcome('', history.silent, frozenset((4, 7))), 'reload: done')
+        history.now.close()
 
 
 class LineLimitTests(unittest.TestCase):
@@ -151,6 +168,16 @@ class HandoverTests(support.FolderCase):
             handover.become_next()
         self.assertEqual(given, {'one': self.files[1]})
         self.assertEqual(signal.pthread_sigmask(signal.SIG_BLOCK, ()), set())       # (no child may inherit one)
+
+    def test_silence_of_what_was_left(self) -> None:
+        """A trunk whose service died with its program is silent since that wrote its log last, and not since the next
+        service has begun."""
+        os.utime(self.write('records', b''), (1e9 - 1.5, 1e9 - 1.5))
+        os.utime(self.write('state', b''), (1e9 - 7, 1e9 - 7))
+        carrier = SimpleNamespace(places=SimpleNamespace(log=self.folder), silent=100.0)
+        with mock.patch('time.time', lambda: 1e9):
+            takes_up(cast(Any, carrier), Left(None, {}, 0, LogPair(0, 0, b'', b'')))
+        self.assertAlmostEqual(carrier.silent, 98.5)
 
     def test_note(self) -> None:
         """It is of a service that is no more, and of the same trunk; what is no note of this version is none."""

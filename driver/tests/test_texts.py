@@ -153,6 +153,7 @@ class TrunkTextTests(unittest.TestCase):
         slips = {'stalled': False, 'stalls': 0, 'gaps': 0, 'gap_seconds': 0.0, 'ppm': None}
         rows: tuple[tuple[dict[str, Any], int, str], ...] = (
                 ({'fault': 'no card'}, 0, 'trunk west, e1gw 1.2, not open'),
+                ({'fault': 'no card'}, 4, TABLE.splitlines()[-2].replace('answered   ', 'not open   ')),
                 ({'clock': slips}, 2, 'alignment lost: frame 21, multiframe 22; stalls 0, slips 0 (0.0 s)'),
                 ({'remote_alarm': {'frame': True, 'multiframe': True}}, 1, '2.0 s of the trunk at 00:01:40 UTC, '
                  'aligned; the other end: RAI (bit A), distant multiframe alarm (bit y)'),

@@ -2,6 +2,7 @@
 import asyncio
 import json
 import os
+import re
 import shutil
 import socket
 import subprocess
@@ -24,6 +25,7 @@ from e1gw.tie.status import serve_status, texts_of
 from e1gw.tie.tie import AGAIN, Tie
 from e1gw.tie.trunk import LOOK
 from e1gw.tls import context_of, is_exposed, is_loopback
+from tests import support
 from tests.properties import PropertyCase
 from tests.support import SECONDS
 from tests.test_tie_circuit import CALLED
@@ -145,6 +147,16 @@ class TieOptionTests(unittest.TestCase):
             with self.subTest(words=words), self.assertRaises(SystemExit) as end, mock.patch('sys.stderr'):
                 parser().parse_args(words.split())
             self.assertEqual(end.exception.code, 2)
+
+    def test_defaults_of_the_units(self) -> None:
+        """Calls are held for as long as a trunk's service that is killed is away, and a tie that hangs, and as both
+        begin at a load."""
+        def seconds(unit: str, key: str) -> float:
+            text = support.text_of(os.path.join(support.TOP, 'dist', 'system', f'e1gw-{unit}@.service'))
+            return float(re.findall(rf'^{key}=([\d.]+)$', text, re.M)[0])
+        begins, hold = 1.5, parser().parse_args(['--control', 'a', '--listen', '127.0.0.1:1']).hold
+        self.assertLessEqual(seconds('trunk', 'RestartSec') + begins, hold)
+        self.assertLessEqual(seconds('tie', 'WatchdogSec') + seconds('tie', 'RestartSec') + begins, hold)
 
     def test_loopback(self) -> None:
         for host, here in (('127.0.0.1', True), ('127.5.5.5', True), ('[::1]', True), ('localhost', True),
@@ -339,6 +351,21 @@ class TieCallTests(TieCase):
         await self.west.start()
         await self.until(lambda: passed() == ['seize 3', 'clear 3', 'seize 3'])
         await self.until(self.at(3, State.ACKED, State.ACKED))
+
+    async def test_trunk_that_knows_nothing_yet(self) -> None:
+        """As in the first moments of another e1gw-trunk, which goes on with the calls: it is waited for."""
+        await self.both()
+        await self.sends(self.west, 3, SEIZED, State.ACKED)
+        await self.named(3)
+        await self.west.stop()
+        self.west.knows = False
+        count = len(self.west.asked)
+        await self.west.start()
+        await self.until(lambda: self.west.asked[count:].count('status json') > 2)
+        self.west.knows = True
+        await self.until(lambda: self.east.states[1] is State.IDLE)
+        self.assertEqual([each for each in self.east.asked if each.startswith(('seize', 'clear'))], ['seize 3'])
+        self.assertEqual(len(self.told('west', 'trunk gone')), 1)
 
     async def test_trunk_does_not_answer(self) -> None:
         """It is given up after PATIENCE, and found again."""

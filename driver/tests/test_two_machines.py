@@ -1,6 +1,7 @@
 """A trunk that two machines have: one dies with thirty calls up, or both are active; standbys and feeds are bad."""
 from __future__ import annotations
 
+import asyncio
 import contextlib
 import json
 import math
@@ -11,7 +12,10 @@ import socket
 import ssl
 import struct
 import subprocess
+import unittest
+from itertools import accumulate
 from typing import Callable
+from unittest import mock
 
 from . import support
 from .machines import ADDRESSES, TRUNK, Machine, PairCase
@@ -19,12 +23,14 @@ from .support import SECONDS
 from .test_program_killed import CIRCUITS
 from e1gw.ctl_all import line_of
 from e1gw.metrics import exposition
-from e1gw.service.feed import MOST_PIECE, PIECE, TICK
-from e1gw.service.standby import IN_TIME, START
-from e1gw.session import MULTIFRAME, OCTETS_A_SECOND, packet_of
+from e1gw.service import standby
+from e1gw.service.feed import BACK, CARRIES, MARK, MOST_PIECE, PIECE, TAKES, TICK
+from e1gw.service.standby import IN_TIME, FedLog, TrunkStandby
+from e1gw.session import MULTIFRAME, OCTETS_A_SECOND, packet_of, trunk_record
 from e1gw.testing.ports import free_port
 
 STRANGERS = 200             # connections, of fewer descriptors than a unit may have
+RECORD = MULTIFRAME / OCTETS_A_SECOND       # seconds of a record
 SILENCE = 1.0               # seconds: more than the jitter buffers have room for
 WAITS = 100                 # milliseconds that a takeover takes, besides what its processes have to do
 SIGNAL, SIGNALS = 0x9B, 64   # the octet with the frame alignment signal, and octets from one to the next
@@ -55,7 +61,7 @@ class DeathTests(PairCase):
         self.take(1)
         ones = int(machine.awaits(r'promoted: program \d+ goes on after .*, (\d+) of them ones')[1])
         self.assertGreaterEqual(ones, (began - until) * OCTETS_A_SECOND - MULTIFRAME)
-        self.assertLessEqual(ones, (now - since + START) * OCTETS_A_SECOND)
+        self.assertLessEqual(ones, (now - since) * OCTETS_A_SECOND + MULTIFRAME)
         self.now += ones // MULTIFRAME          # (the peers speak by the trunk's time)
         self.goes_on_behind_all()
         if by:
@@ -158,6 +164,18 @@ class PairTests(PairCase):
         self.step(68)
         self.assertEqual(self.device.exchange.signals, self.up())
 
+    def test_a_standby_is_replaced(self) -> None:
+        """Another service in its place stands by, is fed, and can take over."""
+        a, b = self.calls_with_standby()
+        b.process.send_signal(signal.SIGUSR2)
+        b.awaits('is to be standby')
+        self.fed(b)
+        a.power_off()
+        self.promoted(b)
+        self.device.exchange.aligned = False
+        self.step(68)
+        self.assertEqual(self.device.exchange.signals, self.up())
+
     def test_standby_that_stands_still(self) -> None:
         """It is dropped, and joins again without a gap. It says which calls it has otherwise, and the others go on."""
         other = self.write('other.toml', self.text.replace('number = 7\n', 'number = 7\nptime = 30\n'))
@@ -251,6 +269,56 @@ class PairTests(PairCase):
         with socket.create_connection(place, SECONDS, (ADDRESSES['b'], 0)) as line, contextlib.suppress(OSError):
             self.assertEqual(ssl._create_unverified_context().wrap_socket(line).recv(1), b'')     # (it shows none)
         self.up_again()
+
+
+class FedLogTests(support.FolderCase):
+    """When octets came at the other machine, by its clock and what comes of them here."""
+
+    def test_when_they_came_last(self) -> None:
+        """The last ones wait for the word that all was sent, which may wait here. Ones for less than the time without
+        octets put the trunk behind by 5 ms a move. Behind a gap, whose octets are lost, it is not known so well."""
+        chance, record = support.chance_of(self), trunk_record(bytes(MULTIFRAME))
+        time = mock.Mock()
+        with mock.patch.object(standby, 'time', time):
+            time.monotonic.return_value = 1000.0
+            fed, given, comes = FedLog(self.folder, 0, 0, 0), 0, 0
+            self.addCleanup(fed.close)
+            fed.begin(b'')
+            for word in accumulate([0.012 + 0.008 * chance.random() for _ in range(200)], initial=1000.0):
+                comes = int((word - 1000) / RECORD)
+                fed.take(record * (comes - given))
+                time.monotonic.return_value = word + 0.001 + 0.02 * chance.random()
+                fed.is_all(word - 77)
+                given, last = comes, word
+            time.monotonic.return_value = last + 0.03       # (the program has ended meanwhile)
+            fed.take(record)
+            fed.is_all(last + 0.02 - 77)
+            self.assertAlmostEqual(fed.came, 1000 + (comes + 1) * RECORD, delta=0.004)
+            for fresh in last + 5, last + 5.01:
+                time.monotonic.return_value = fresh + 0.01
+                fed.is_all(fresh - 77)
+                fed.take(record)
+            self.assertAlmostEqual(fed.came, last + 5, delta=0.011)
+
+
+class HandedTests(support.FolderCase, unittest.IsolatedAsyncioTestCase):
+    """A standby that is to carry the trunk, and whose program does."""
+
+    async def said(self, *words: int) -> tuple[float, list[bool]]:
+        """What it says last, and whether it gives the trunk back, if the other machine has said this and leaves."""
+        handed, reader, writer = list[bool](), asyncio.StreamReader(), mock.Mock()
+        writer.is_closing.return_value = False
+        its = TrunkStandby(('127.0.0.1', 1), '', (), mock.Mock(), self.folder, mock.Mock())
+        its.is_handed, its.carries = handed.append, lambda: True
+        reader.feed_data(b''.join(PIECE.pack(0.0, word) for word in words))
+        reader.feed_eof()
+        await its._says_so(reader, writer)
+        return float(MARK.unpack(writer.write.call_args.args[0])[0]), handed
+
+    async def test_what_the_other_machine_says(self) -> None:
+        """One that stood still would carry it beside the machine that had taken it back. One that dies takes nothing
+        back."""
+        self.assertEqual([await self.said(BACK), await self.said()], [(TAKES, [False]), (CARRIES, [])])
 
 
 class SatopNumberTests(PairCase):

@@ -13,7 +13,7 @@ from contextlib import suppress
 from typing import Any, Callable
 from unittest import mock
 
-from e1gw.lines import Role, State
+from e1gw.lines import UNKNOWN, Role, State
 from e1gw.session import CIRCUITS, Command
 from e1gw.testing.ports import free_port
 from e1gw.tie import site as site_module
@@ -66,6 +66,7 @@ class StandInDriver:
         self.configured = dict.fromkeys(roles, G726)
         self.refuses = False            # changes of codec
         self.silent = False             # it answers nothing
+        self.knows = True               # its program has told it the states
         self.law, self.life = 'A', 'a'
         self.alarm = self.acknowledges = False
         self.asked: list[str] = []
@@ -122,7 +123,8 @@ class StandInDriver:
         trunk = {'life': self.life, 'trunk_up': True, 'clock': {'stalled': False}, 'law': self.law,
                  'alarm': {**none, 'frame': self.alarm}, 'remote_alarm': none}
         return trunk | {'circuits': [
-            {'circuit': n, 'role': str(self.roles[n]), 'state': str(self.states[n]), 'seizures': self.seizures[n],
+            {'circuit': n, 'role': str(self.roles[n]), 'state': str(self.states[n]) if self.knows else UNKNOWN,
+             'seizures': self.seizures[n],
              'for': asyncio.get_running_loop().time() - self.since[n],
              'codec': self.codecs[n].codec, 'payload': self.codecs[n].payload,
              'configured_codec': self.configured[n].codec, 'configured_payload': self.configured[n].payload}

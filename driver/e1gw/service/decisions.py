@@ -18,7 +18,7 @@ class Wish(Enum):
 
     NONE = ''
     RELOAD = 'reload'
-    RENEW = 'a socket or the log is gone'
+    RENEW = 'a socket, a port or the log is to be had again'
     DEMOTE = 'the other machine carries the trunk'
     END = 'the end is asked for'
 

@@ -21,8 +21,9 @@ from .reader import LogReader
 
 FORMAT, VERSION = 'e1gw_feed', 6
 PIECE = struct.Struct('>di')    # before a piece: when it was all that the log had, or 0, and how many octets follow
-# In place of the latter: nothing follows; it may have the trunk; it is to carry it; another state follows.
-END, YOURS, GO, STATE = -1, -2, -3, -4
+# In place of the latter: nothing follows; it may have the trunk; it is to carry it; another state follows; it is to
+# carry it no more, since it was silent.
+END, YOURS, GO, STATE, BACK = -1, -2, -3, -4, -5
 LENGTH = struct.Struct('>I')    # octets of that state
 MARK = struct.Struct('>d')      # what a standby says: the time of the last piece, up to which it has all, or 0
 TAKES, CARRIES = -1.0, -2.0     # in place of that: it takes the trunk, again and again until it carries it
@@ -201,6 +202,8 @@ class FeedServer:
         while left and not (self.is_carried or leaves.done()):
             await asyncio.wait([leaves], timeout=TICK)
             left, said = ANSWERS if self._said > said else left - 1, self._said
+        if self._writer and not self.is_carried:
+            self._writer.write(PIECE.pack(0.0, BACK))
 
     async def _hear(self, reader: asyncio.StreamReader) -> None:
         """What the standby says, until it leaves. It begins when it was told to, so not if that is too late."""

@@ -15,6 +15,7 @@ import sys
 import time
 from contextlib import suppress
 from dataclasses import dataclass
+from math import inf
 from typing import Mapping, NoReturn
 
 from ..programs import SENDERS
@@ -203,9 +204,17 @@ def takes_up(carrier: TrunkCarrier, left: Left) -> None:
     """It goes on where another service has left."""
     was = 'replaced' if os.environ.pop(REPLACED, '') else 'killed'
     carrier.was_up, carrier.why = bool(left.log), f'the service was {was}'
+    carrier.silent -= silence_of(carrier.places.log)
     if left.note:
         calls = left.note.calls
         carrier.read, carrier.calls = (left.note.place, left.note.octets), lambda: calls
+
+
+def silence_of(log: str) -> float:
+    """The seconds since a program has written to its log; 0 if that is not known."""
+    with suppress(OSError), os.scandir(log) as files:
+        return max(0.0, time.time() - max((file.stat().st_mtime for file in files), default=inf))
+    return 0.0
 
 
 async def version_for(wants: TrunkWants, places: ProgramPlaces, left: Left, how: Takeover) -> ProgramVersion:

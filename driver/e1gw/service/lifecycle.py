@@ -23,6 +23,7 @@ from .decisions import Act, Deaths, NextStep, ProgramEnd, ProgramFault, Wish, af
 from .journal import NOTICE
 from .log_folder import LogPair, LogWriter
 from .note import ServiceNote
+from .ports import TakenPorts
 from .process import start_of
 from .program import ProgramPlaces, TrunkProgram, end_left
 from .reader import LogReader
@@ -83,7 +84,7 @@ class TrunkCarrier:
         self._handover, self.notifier = handover, notifier
         self._noted = -inf, trunk.note()        # when it was noted last what the next service has to know, and this
         self.silent, self._due = time.monotonic(), 0.0
-        self._deaths, self._totals = Deaths(), Counter[str]()
+        self._deaths, self._totals, self._taken = Deaths(), Counter[str](), TakenPorts()
         trunk.place = self.place
 
     # ---- from the beginning to the end ----
@@ -123,7 +124,7 @@ class TrunkCarrier:
         self.note()
         self.program = program = TrunkProgram.started(
             self.versions.now, self.places, self.trunk.both,
-            ['--senders', self.versions.now.senders, *self.wants.words])
+            ['--senders', self.versions.now.senders, *self.wants.words], self._taken)
         program.begun = self.reader.octets
         if self.wish in (Wish.RELOAD, Wish.RENEW):      # (this is the one that was wanted)
             self.wish = Wish.NONE
@@ -160,7 +161,7 @@ class TrunkCarrier:
         logger.log(logging.WARNING if self.lost else NOTICE, '%s%s', self.why, words)
         self.was_up, self.has_carried, self.lost = True, True, ''
         if program.version is self.versions.now:
-            self.versions.is_up(now)
+            self.versions.is_up(now, now - self.silent)
         self.note()
         self.notifier.tell('READY=1', f'STATUS=program {pid}')
 
@@ -180,7 +181,7 @@ class TrunkCarrier:
         now = time.monotonic()
         self.versions.look(now)
         self._pass_on(program)
-        if now >= self._due and program.lacks():
+        if now >= self._due and program.lacks() or self._taken.are_free(program.version, now):
             self._due = now + APART     # (another program has them, once a minute at most)
             self.wish = Wish.RENEW
         if now >= self._noted[0] + NOTED or self.trunk.note() != self._noted[1]:
@@ -198,6 +199,8 @@ class TrunkCarrier:
         self._pass_on(program)
         self._totals += program.process.totals()
         end, failure = self._end_of(program, hangs), self.trunk.failure()
+        if end.fault is ProgramFault.SOCKET and self.was_up and not end.trial and (self.has_carried or not self.pair):
+            self._taken.look(self.versions.now, end.now)
         is_asked = end.wish is not Wish.NONE and end.is_well
         self.why, self.lost = str(end.wish.value) if is_asked else f'the program {words}', \
             '' if end.is_well or not end.was_up else LOST
@@ -283,7 +286,9 @@ class TrunkCarrier:
 
     def _go_back(self, words: str) -> None:
         """To the version before."""
-        self.versions.go_back(refused(words, self.versions.now.config_path())).close()      # (no name is looked up)
+        words = why_of(words, self.versions.now.config_path())      # (no name is looked up)
+        logger.error('reload: refused, the version before comes back: %s', words)
+        self.versions.go_back(words).close()
         self.why = 'the version before comes back'
         self.notifier.tell('READY=1')
 
@@ -310,12 +315,10 @@ class TrunkCarrier:
             self._noted[1], reader.recording_note(), self.calls()), self.trunk.files)
 
 
-def refused(words: str, config: str) -> str:
-    """Tells why a reload is refused, and returns that."""
+def why_of(words: str, config: str) -> str:
+    """Why a reload is refused: these words, and the cause if it is known."""
     why = cause_of(words, config)
-    words = f'{words}: {why}' if why else words
-    logger.error('reload: refused, the trunk goes on as it was: %s', words)
-    return words
+    return f'{words}: {why}' if why else words
 
 
 def cause_of(words: str, config: str) -> str | None:

@@ -8,7 +8,7 @@ from dataclasses import replace
 from typing import Callable
 
 from .. import satop
-from ..card_opening import is_card, open_device
+from ..card_opening import open_device
 from ..clearing import on_loss_of
 from ..dahdi import FRAMES_A_MS, MOST_BUFFERS, MOST_FRAMES, Blocks
 from ..faults import checked, named, number
@@ -26,7 +26,6 @@ from .watch import WatchWants
 WATCHED = 'control', 'http', 'json', 'calls'      # what an operator may have of a trunk
 LONGEST_NAME = 'program'    # of a socket in the folder
 BLOCK, BUFFERS = 16, 8      # of a DAHDI card: frames of a block, and how many there are
-CARD_PAUSE = 1.0            # seconds between two tries to open one, at most
 
 
 def add_options(words: argparse.ArgumentParser) -> None:
@@ -66,7 +65,7 @@ def add_trunk(words: argparse._ArgumentGroup) -> None:
     words.add_argument('--out', metavar='FILE', help='one to write the trunk to, opened after --in; may be the same')
     words.add_argument('--unix', metavar='PATH', help='a Unix stream socket to connect to, in place of the two')
     words.add_argument('--tcp', metavar='HOST:PORT', help='a TCP socket to connect to, in place of the two')
-    words.add_argument('--reopen', action='store_true', help='opens a trunk that ends or fails again, within 30 s')
+    words.add_argument('--reopen', action='store_true', help='opens a trunk that ends or fails again, each second')
     words.add_argument('--satop', metavar='LOCAL,PEER', help='SAToP (RFC 4553) over UDP, each as HOST:PORT')
     words.add_argument('--clear', action='store_true', help='the device gives time slots 1 to 31 alone')
     words.add_argument('--block', type=number(1, MOST_FRAMES), default=BLOCK, metavar='FRAMES',
@@ -158,9 +157,8 @@ def line_of(asked: argparse.Namespace) -> LineOptions:
         raise ValueError('--crc4 is for all 32 slots; the device of --clear sends slot 0 itself, and CRC-4 in it')
     if asked.clear and asked.satop:
         raise ValueError('--clear is for a device that keeps slot 0; --satop has all 32 slots')
-    line = LineOptions(None if asked.satop else opening_of(asked), satop_of(asked) if asked.satop else None,
+    return LineOptions(None if asked.satop else opening_of(asked), satop_of(asked) if asked.satop else None,
                        asked.crc4, asked.clear, asked.reopen)
-    return replace(line, pause=CARD_PAUSE) if asked.input and is_card(asked.input) else line
 
 
 def opening_of(asked: argparse.Namespace) -> Callable[[], Stream]:

@@ -4,7 +4,6 @@ from __future__ import annotations
 
 import argparse
 import asyncio
-import functools
 import logging
 import shutil
 import time
@@ -19,7 +18,7 @@ from .decisions import Wish
 from .lifecycle import ANEW, GRACE, TICK, TrunkCarrier
 from .handover import CannotBegin
 from .note import ServiceNote
-from .standby import START, FedLog, TrunkStandby
+from .standby import FedLog, TrunkStandby
 from .trunk import either
 
 PATIENCE = 30.0             # seconds for a promotion or its reverse
@@ -96,7 +95,7 @@ class TrunkPair:
         fed, words = await self.standby.goes_to(carrier.places.log, bool(trunk.line.satop))
         carrier.why, carrier.lost, carrier.was_up = 'promoted', words if fed else f', {words}{ANEW}', True
         if fed:
-            trunk.zero, trunk.ones = fed.zero, functools.partial(fed.ones, START)
+            trunk.zero, trunk.ones = fed.zero, fed.ones
             carrier.reader.begins_anew((fed.place, fed.octets))
         else:
             shutil.rmtree(carrier.places.log, ignore_errors=True)

@@ -15,6 +15,7 @@ from typing import Sequence
 from .decisions import ProgramFault
 from .log_folder import LOCK, holder_of
 from .memory import octets_in
+from .ports import TakenPorts
 from .process import Child
 from .version import ProgramVersion
 
@@ -98,14 +99,15 @@ class TrunkProgram:
 
     @classmethod
     def started(cls, version: ProgramVersion, places: ProgramPlaces, trunk: tuple[int, int],
-                words: Sequence[str]) -> TrunkProgram:
-        """One that is started on the log. OSError if it cannot be."""
+                words: Sequence[str], taken: TakenPorts) -> TrunkProgram:
+        """One that is started on the log, without ports that are taken. OSError if it cannot be."""
         end = places.opened_end()
         try:
             drain(end)
-            process = version.start(
-                ['trunk', '--log', places.log, '--tell', places.tell, '--control', places.control, '--end', str(end),
-                 '--totals', *words], *trunk, [end], places.said('program', True))
+            with taken.left_out(version) as without:
+                process = without.start(
+                    ['trunk', '--log', places.log, '--tell', places.tell, '--control', places.control, '--end',
+                     str(end), '--totals', *words], *trunk, [end], places.said('program', True))
         except OSError:
             os.close(end)
             raise

@@ -11,13 +11,12 @@ from typing import Iterable
 from ..faults import words_of_fault
 from ..session import CIRCUITS
 from .decisions import ReloadEffects, Wish
-from .lifecycle import TrunkCarrier, refused
+from .lifecycle import TrunkCarrier, why_of
 from .log_folder import LogPair
 from .handover import Handover, Notifier
 from .version import ProgramVersion, VersionRefused, version_of_now
 
 PATIENCE = 30.0             # seconds for the one program to end and the other one to carry the trunk
-REFUSED = 'refused, the trunk goes on as it was'
 
 logger = logging.getLogger(__name__)
 
@@ -39,9 +38,8 @@ class ReloadRequests:
         self._is_busy = True
         self._notifier.tell('RELOADING=1', f'MONOTONIC_USEC={time.monotonic_ns() // 1000}')
         try:
-            ends = await self._try(force)
-            why = await self._outcome()
-            return f'{ends}reload: {f"{REFUSED}: {why}" if why else "done"}'
+            ends, calls = await self._try(force)
+            return ends + await self._outcome(calls)
         except VersionRefused as fault:
             return self._refuse(str(fault))
         except Exception as fault:      # pylint: disable=broad-exception-caught
@@ -50,8 +48,8 @@ class ReloadRequests:
         finally:
             self._is_busy = False
 
-    async def _try(self, force: bool) -> str:
-        """Has a program of the version of now follow; lines say which calls that ends."""
+    async def _try(self, force: bool) -> tuple[str, frozenset[int]]:
+        """Has a program of the version of now follow; lines say which calls that ends. And all circuits in a call."""
         carrier, wants = self._carrier, self._carrier.wants
         log, now = self._log(), carrier.versions.now
         version = await version_of_now(wants.program, wants.config, wants.senders)
@@ -71,7 +69,7 @@ class ReloadRequests:
             logger.warning('reload: it takes the ports of %s', calls_in(mute))
             told += f'reload: it takes the ports of {calls_in(mute)}\n'
         carrier.renew(version)
-        return told
+        return told, calls
 
     def _log(self) -> LogPair | None:
         """What the program of now has logged, or that of the other machine, as far as it is known here."""
@@ -80,22 +78,23 @@ class ReloadRequests:
             return carrier.pair.standby.last()
         return carrier.reader.last()
 
-    async def _outcome(self) -> str:
-        """Waits for a program of the new version. Returns why there is none. (A trunk that is not open yet begins with
+    async def _outcome(self, calls: frozenset[int]) -> str:
+        """Waits for a program, of the new version or of the one before. (A trunk that is not open yet begins with
         it.)"""
-        carrier = self._carrier
-        if carrier.program:
+        versions = self._carrier.versions
+        if self._carrier.trunk.is_open():
             try:
                 async with asyncio.timeout(PATIENCE):
-                    await carrier.versions.settled.wait()
+                    await versions.settled.wait()
             except TimeoutError:
-                return 'no program carries the trunk yet'
-        return carrier.versions.refused
+                return f'reload: no program carries the trunk within {PATIENCE:g} s'
+        return outcome(versions.refused, versions.silent, calls)
 
     def _refuse(self, words: str) -> str:
-        words = refused(words, self._carrier.wants.config)
+        words = why_of(words, self._carrier.wants.config)
+        logger.error('reload: refused, the trunk goes on as it was: %s', words)
         self._notifier.tell('READY=1')
-        return f'reload: {REFUSED}: {words}'
+        return f'reload: refused, the trunk goes on as it was: {words}'
 
     async def replace(self) -> None:
         """Another service in place of this one. The program goes on meanwhile; a standby is fed again."""
@@ -118,7 +117,15 @@ async def calls_of(now: ProgramVersion, new: ProgramVersion, log: LogPair | None
     return frozenset(CIRCUITS)
 
 
+def outcome(why: str, silent: float, calls: frozenset[int]) -> str:
+    """What is answered once a program carries the trunk again: why that is none of the new version, if it is none,
+    and how long the trunk was silent for that, with these circuits in a call."""
+    if not why:
+        return 'reload: done'
+    return f'reload: refused, the version before goes on: {why}; silent for {silent:.1f} s: {calls_in(calls)}'
+
+
 def calls_in(circuits: Iterable[int]) -> str:
     """How many calls these are, and of which circuits."""
     numbers = sorted(circuits)
-    return f'{len(numbers)} calls (circuits {", ".join(map(str, numbers))})'
+    return f'{len(numbers)} calls (circuits {", ".join(map(str, numbers))})' if numbers else 'no calls'

@@ -14,12 +14,14 @@ from typing import Any, Callable, Iterator, Mapping
 
 from ..satop import CONDITIONS, SatopCondition, can_send, counts_of
 from ..session import MULTIFRAME
+from ..udp_tables import has_socket
 from .process import UNKNOWN, Child
 from .program import ProgramPlaces
 from .trunk import LineOptions, Pause, SatopNote, TrunkFiles, TrunkNote, again, waiting
 
 LOOK, SOON = 0.25, 0.01     # seconds between two looks at what the process says, and at what it lacked
 GRACE = 1.0                 # seconds for the process to send what it was given last
+RECEIVES = 0.25             # seconds at most for it to receive
 ANEW = 0.2                  # seconds for the far end to take its packets as a new stream
 ONES = b'\xff' * 2 * MULTIFRAME         # behind which frame alignment is looked for again
 ENDED, BROKEN = 'the trunk has ended', 'the trunk cannot be read or written'
@@ -54,6 +56,7 @@ class SatopTrunk(TrunkFiles):
         except OSError:
             await self.finish()
             raise
+        await self._take_ones()
         self._goes()
         self._tell_open()
 
@@ -63,13 +66,19 @@ class SatopTrunk(TrunkFiles):
         self._words = await asyncio.to_thread(self.line.satop)
 
     def _join(self) -> None:
-        """Makes the socket pair. Of the first packet a part was sent before, which is ones; so is what is given to the
-        next program, as far as there is room."""
+        """Makes the socket pair. Of the first packet a part was sent before, which is ones."""
         for name, line in zip(('near', 'far'), socket.socketpair()):
             self.files[name] = line.detach()
         os.set_blocking(self.files['near'], False)
         self._set_ends()
         give(self.files['near'], b'\xff' * (self.place() % self._size()))
+
+    async def _take_ones(self) -> None:
+        """Gives the next program the ones that are asked for, as far as there is room: once the process has its socket,
+        in which packets wait from then on."""
+        until, child = time.monotonic() + RECEIVES, self.child
+        while child and not child.over.is_set() and not has_socket(self._words[0]) and time.monotonic() < until:
+            await asyncio.sleep(0.001)
         give(self.files['far'], b'\xff' * self.ones())
         self.ones = lambda: 0
 

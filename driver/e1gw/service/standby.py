@@ -11,21 +11,20 @@ import os
 import shutil
 import tempfile
 import time
-from contextlib import closing
+from contextlib import closing, suppress
 from typing import Callable, Sequence
 
 from ..faults import words_of_fault
 from ..lines import Event
 from ..session import CIRCUITS, MULTIFRAME, OCTETS_A_SECOND, trunk_record, whole_records
 from ..tls import context_of
-from .feed import (CARRIES, FRESH, GO, LENGTH, MARK, MOST_HEAD, MOST_PIECE, NOTHING, PATIENCE, PIECE, STATE, TAKES,
-                   YOURS, FeedHead, FeedRefused, configured, head_of)
+from .feed import (BACK, CARRIES, END, FRESH, GO, LENGTH, MARK, MOST_HEAD, MOST_PIECE, NOTHING, PATIENCE, PIECE, STATE,
+                   TAKES, YOURS, FeedHead, FeedRefused, configured, head_of)
 from .log_folder import RECORDS_ROOM, STATE_ROOM, LogFiles, LogPair, LogWriter, NoRoom
 from .version import ProgramVersion
 
 AGAIN, MOST_AGAIN = 0.1, 1.0            # seconds between two tries to be fed
 SAYS = 0.05                 # seconds between two words of what it has
-START = 0.03                # seconds from a state to the program that goes on with it
 IN_TIME = 0.1               # seconds that a far end may wait for packets
 DRIFT = 1e-4                # by which the clocks of two machines differ at most, in seconds a second
 MOST_AGE = 60.0             # seconds after which a state is of no use
@@ -50,6 +49,7 @@ class FedLog:
         self.came = self._took = time.monotonic()       # when the machine that it is of had octets of the trunk last
         self.fresh = self.came - FRESH          # of when it had all that the other log had
         self._ahead = math.inf                  # seconds by which this clock is ahead of the other one
+        self._began = math.inf                  # when the trunk's octet 0 would have come
         self.circuits = list[int]()             # that are configured otherwise at the other machine
 
     def begin(self, state: bytes, records: bytes = b'') -> None:
@@ -75,22 +75,27 @@ class FedLog:
 
     def is_all(self, at: float) -> None:
         """What was taken was all that the log had at that time of the other clock. A word of that may wait here, and
-        the one that waited least tells how the clocks differ."""
-        now = time.monotonic()
-        self._ahead, self._took = min(now - at, self._ahead + DRIFT * (now - self._took)), now
+        the one that waited least tells how the clocks differ. So it does of octets, which wait for that word: the last
+        of them came behind the word before."""
+        now, before = time.monotonic(), self.fresh
+        drift, self._took = DRIFT * (now - self._took), now
+        self._ahead = min(now - at, self._ahead + drift)
         self.fresh = at + self._ahead
-        self.came, self._has_trunk = self.fresh if self._has_trunk else self.came, False
+        if self._has_trunk:
+            came = self.octets / OCTETS_A_SECOND
+            self._began = min(self.fresh - came, self._began + drift)
+            self.came, self._has_trunk = min(self.fresh, max(before, self._began + came)), False
 
-    def ones(self, more: float = 0.0) -> int:
-        """How many octets of ones stand for the time since octets came, and `more` seconds, as if the trunk had given
-        them: timers, timestamps and jitter buffers go on."""
-        count = int((min(time.monotonic() - self.came, MOST_AGE) + more) * OCTETS_A_SECOND) // MULTIFRAME
+    def ones(self) -> int:
+        """How many octets of ones stand for the time since octets came, as if the trunk had given them: timers,
+        timestamps and jitter buffers go on."""
+        count = round(min(time.monotonic() - self.came, MOST_AGE) * OCTETS_A_SECOND / MULTIFRAME)
         self.came += count * MULTIFRAME / OCTETS_A_SECOND
         return count * MULTIFRAME
 
-    async def fill(self, version: ProgramVersion, more: float) -> int:
+    async def fill(self, version: ProgramVersion) -> int:
         """Puts them into the log. Returns how many. OSError if there is no room for them."""
-        count = self.ones(more)
+        count = self.ones()
         left = count // MULTIFRAME
         while left:
             many = min(left, MANY)
@@ -126,6 +131,13 @@ class FedLog:
         self._writer.close()
         if not is_kept:
             shutil.rmtree(self.folder, ignore_errors=True)
+
+
+async def last_word(reader: asyncio.StreamReader) -> int:
+    """What the other machine says behind all that it feeds; END if it leaves."""
+    with suppress(OSError, EOFError):
+        return int(PIECE.unpack(await reader.readexactly(PIECE.size))[1])
+    return END
 
 
 class TrunkStandby:
@@ -227,7 +239,7 @@ class TrunkStandby:
                 writer.write(MARK.pack(TAKES))
                 continue
             if length == GO:
-                self._taking = asyncio.create_task(self._says_so(writer))
+                self._taking = asyncio.create_task(self._says_so(reader, writer))
                 self.is_handed(True)
             if length < 0:
                 raise EOFError
@@ -241,16 +253,21 @@ class TrunkStandby:
             raise FeedRefused('a state of the feed is too long')
         return await reader.readexactly(length)
 
-    async def _says_so(self, writer: asyncio.StreamWriter) -> None:
-        """Says that this machine takes the trunk until it carries it. If that lasts too long it is given back."""
-        until = time.monotonic() + PATIENCE
-        while not (carries := self.carries()) and time.monotonic() < until and not writer.is_closing():
+    async def _says_so(self, reader: asyncio.StreamReader, writer: asyncio.StreamWriter) -> None:
+        """Says that this machine takes the trunk until it carries it. It is given back if that lasts too long, or the
+        other machine has taken it back, while this one stood still."""
+        until, last = time.monotonic() + PATIENCE, asyncio.ensure_future(last_word(reader))
+        carries = is_over = False
+        while not (carries or is_over):
             writer.write(MARK.pack(TAKES))
             await asyncio.sleep(SAYS)
+            is_over = time.monotonic() >= until or writer.is_closing() or last.done() and last.result() == BACK
+            carries = self.carries() and not is_over
         if carries:
             writer.write(MARK.pack(CARRIES))
         else:
             self.is_handed(False)
+        last.cancel()
         writer.close()
 
     def _begins(self, fed: FedLog) -> None:
@@ -280,7 +297,7 @@ class TrunkStandby:
             return None, f'what is known is {age:.0f} s old'
         try:
             is_soon = is_given and time.monotonic() < fed.came + IN_TIME
-            count = 0 if is_soon else await fed.fill(self._version(), 0.0 if is_given else START)
+            count = 0 if is_soon else await fed.fill(self._version())
             fed.goes_to(folder)
             fed.close(True)
         except OSError as fault:

@@ -25,7 +25,7 @@ from .card import CardWatch, watch_of
 from .events import tell_journal
 
 QUICK = 1.0                 # seconds: what ends within them is begun again later
-PAUSE, MOST_PAUSE = 0.25, 30.0          # seconds up to then, at first and at most
+PAUSE, MOST_PAUSE = 0.25, 1.0           # seconds up to then, at first and at most
 AGAIN = 0.1                 # seconds before what has failed is begun again
 LINE = 'line-in', 'line-out'            # descriptors of a device or a socket
 
@@ -42,7 +42,6 @@ class LineOptions:
     crc4: bool = False
     clear: bool = False
     reopens: bool = False
-    pause: float = MOST_PAUSE   # seconds between two tries to open it, at most
     program: str = ''           # for `e1gw satop`
 
 
@@ -72,10 +71,10 @@ class TrunkNote:
 
 class Pause:
     """How long to wait before something is begun again: not at all, but if it has ended soon a little, and each time
-    twice as long."""
+    twice as long, up to a second: a device that is back is taken soon."""
 
-    def __init__(self, most: float = MOST_PAUSE) -> None:
-        self._began, self._seconds, self._most = -inf, 0.0, most
+    def __init__(self) -> None:
+        self._began, self._seconds = -inf, 0.0
 
     def begins(self) -> None:
         self._began = time.monotonic()
@@ -83,7 +82,7 @@ class Pause:
     def ends(self) -> float:
         """The seconds to wait for another one."""
         is_soon = time.monotonic() < self._began + QUICK
-        self._seconds = min(self._most, max(PAUSE, 2 * self._seconds)) if is_soon else 0.0
+        self._seconds = min(MOST_PAUSE, max(PAUSE, 2 * self._seconds)) if is_soon else 0.0
         return self._seconds
 
 
@@ -99,7 +98,7 @@ class TrunkFiles:
         self.since, self.fault = time.time(), ''         # when it was opened, and why it is not
         self.crc4, self.slots = Crc4() if line.crc4 else None, Slots() if line.clear else None
         self.card: CardWatch | None = None
-        self._pause = Pause(line.pause)
+        self._pause = Pause()
         self.both = -1, -1
 
     def is_open(self) -> bool:

@@ -195,7 +195,8 @@ class VersionHistory:
     def __init__(self, now: ProgramVersion) -> None:
         self.now, self.before = now, None       # type: ProgramVersion, ProgramVersion | None
         self.trial: Trial | None = None         # of the version of now, if there is one before
-        self.settled, self.refused = asyncio.Event(), ''    # whether the last one is up, or why it is not to be
+        self.settled, self.refused = asyncio.Event(), ''    # whether one carries the trunk, and why not the last one
+        self.silent = 0.0                       # for how many seconds no program did before it
 
     def renew(self, version: ProgramVersion) -> None:
         """This one is to follow."""
@@ -204,9 +205,9 @@ class VersionHistory:
         self.before, self.now, self.trial, self.refused = self.now, version, Trial(), ''
         self.settled.clear()
 
-    def is_up(self, now: float) -> None:
-        """A program of the version of now carries the trunk."""
-        self.trial = self.trial and self.trial.is_up(now)
+    def is_up(self, now: float, silent: float = 0.0) -> None:
+        """A program of the version of now carries the trunk, which was silent for so many seconds."""
+        self.trial, self.silent = self.trial and self.trial.is_up(now), silent
         self.settled.set()
 
     def look(self, now: float) -> None:
@@ -219,7 +220,6 @@ class VersionHistory:
         """The one before is the one of now again. Returns the other one, which is to be closed."""
         assert self.before
         self.refused = why
-        self.settled.set()
         given_up, self.now, self.before, self.trial = self.now, self.before, None, None
         return given_up
 

@@ -4,10 +4,10 @@ from __future__ import annotations
 import asyncio
 import json
 from collections import deque
-from typing import TYPE_CHECKING, Callable
+from typing import TYPE_CHECKING, Any, Callable
 
 from ..faults import words_of_fault
-from ..lines import Event
+from ..lines import UNKNOWN, Event
 from ..service.trunk import Tasks
 
 if TYPE_CHECKING:
@@ -67,7 +67,7 @@ class TrunkLink:
             status = json.loads(await self.ask('status json'))
             if self.is_up:
                 self._tie.stands(status)
-            elif status['life'] is not None:            # it knows how often each line was seized
+            elif status['life'] is not None and is_known(status):       # also how often each line was seized
                 self.is_up = True
                 self._tie.begin(status)
             await asyncio.sleep(LOOK if self.is_up else SOON)
@@ -117,6 +117,11 @@ class TrunkLink:
             return (await self.ask(command)).rpartition(': ')[2]
         except (OSError, EOFError):
             return None
+
+
+def is_known(status: dict[str, Any]) -> bool:
+    """Whether a trunk was told the states of its circuits."""
+    return all(row['state'] != UNKNOWN for row in status['circuits'])
 
 
 def event_of(line: str) -> Event | None:
