@@ -121,7 +121,7 @@ async def readable(line: socket.socket) -> None:
 
 
 async def place_told(line: socket.socket) -> int:
-    """At which octet of its session a program tells the state of now, which stays to be read. OSError if it does not."""
+    """At which octet of its session a program tells the state of now, which stays to be read; else OSError."""
     while True:
         await readable(line)
         octets = line.recv(MOST_GREETING, socket.MSG_PEEK)
