@@ -25,8 +25,8 @@ REAL_TIME, STALL = {'docs/SIGNALLING.md'}, 0.1
 HOSTS = ('192.0.2.10', '198.51.100.20')         # of examples: both are this machine
 # What pages have from elsewhere: lines that come before a page's first.
 EXCHANGE = 'e1gw-config --write trunk1; e1gw-exchange card > seen & sleep 1\n'
-TRUNK = 'e1gw-trunk --config trunk1.toml --unix card --control {} --session /var/lib/e1gw/{} --keep 10m < /dev/null ' \
-        '> trunk.log 2>&1 & sleep 2\n'
+TRUNK = 'mkdir -p /var/lib/e1gw/{1}; e1gw-trunk --config trunk1.toml --unix card --control {0} --keep 10m ' \
+        '--session /var/lib/e1gw/{1} --calls /var/lib/e1gw/{1}/calls.csv < /dev/null > trunk.log 2>&1 & sleep 2\n'
 SESSION = 'e1gw-config --first-local 5002 > trunk1.toml; examples/first_call/make > trunk1.rec\n' \
           'tools/records --to-raw trunk1.rec > trunk.raw; e1gw replay --config trunk1.toml < trunk1.rec > sent.rec\n'
 # A /dev of the page's own, and a card in it.
@@ -44,9 +44,8 @@ BEFORE = {
     'docs/OPERATING.md': CARD.format('/dev/e1') + 'head -c 59 /dev/e1 > /dev/null\n' + EXCHANGE +
                          TRUNK.format('control', 'west') + 'e1gw-ctl control seize 3; sleep 2\n'
                          f"python3 -c '{STRANGE}'; sleep 1; e1gw-ctl control clear 3; sleep 1\n"
-                         'cp trunk1.toml west.toml; cp /var/lib/e1gw/west/*.e1gw kept\n'
-                         'name=west-20261125T101500Z; zstd -q kept -o $name.e1gw.zst\n'
-                         'e1gw replay --config west.toml --save $name.state < kept > half\n',
+                         'ln -s control west\n'
+                         "sed -i 's/,[0-9a-f]*-3-1$/,c91a9027-3-1/' /var/lib/e1gw/west/calls.csv\n",
     'docs/SATOP.md': 'e1gw-config --host 192.0.2.10 --peer 198.51.100.20 > trunk1.toml\n',
     'docs/SIP.md': EXCHANGE + TRUNK.format('control', 'west') + 'espeak-ng -w speech.wav "One of thirty."\n'
                    "sed -n '/^v=0/,/^```/{/^```/!p}' docs/SIP.md > circuit3.sdp\n"
@@ -54,8 +53,7 @@ BEFORE = {
                    'e1gw-ctl control seize 3; sleep 2\n',
     'dist/man/e1gw.1': SESSION + 'tools/records --from-raw trunk.raw > in.rec\n',
     'dist/man/e1gw-ctl.1': EXCHANGE + TRUNK.format('trunk1', 'trunk1'),
-    'dist/man/e1gw-picture.1': EXCHANGE + TRUNK.format('control', 'trunk1') + SESSION +
-                               'tools/pcap --in trunk1.rec sent.rec > call.pcap\n',
+    'dist/man/e1gw-picture.1': EXCHANGE + TRUNK.format('control', 'trunk1') + SESSION,
     'dist/man/e1gw-records.1': SESSION + 'cp trunk1.toml /etc/e1gw\n',
     'dist/man/e1gw-tie.1': 'for site in west east; do\n'
                            'openssl req -x509 -newkey ec -pkeyopt ec_paramgen_curve:P-256 -nodes '
@@ -248,7 +246,7 @@ def put_commands(folder: str, program: str) -> None:
         os.symlink(os.path.join(tree.TOP, name), os.path.join(folder, name))
     for name in ('e1gw', 'bin/e1gw'):
         os.symlink(program, os.path.join(folder, name))
-    for name in ('config', 'ctl', 'picture', 'tie', 'trunk', 'records', 'pcap', 'explain', 'exchange'):
+    for name in ('call', 'config', 'ctl', 'picture', 'tie', 'trunk', 'records', 'pcap', 'explain', 'exchange'):
         os.symlink(os.path.join(tree.TOP, 'driver', 'launch'), os.path.join(folder, 'bin', f'e1gw-{name}'))
 
 

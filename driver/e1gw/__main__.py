@@ -10,8 +10,9 @@ from typing import Any, NoReturn
 
 # The module that has main(), by the command's name without e1gw-.
 COMMANDS = {
-    'config': 'config', 'ctl': 'ctl', 'exchange': 'tools.exchange', 'explain': 'explain', 'pcap': 'tools.pcap',
-    'picture': 'picture.main', 'records': 'tools.records', 'tie': 'tie.main', 'trunk': 'service.service'}
+    'call': 'tools.call', 'config': 'config', 'ctl': 'ctl', 'exchange': 'tools.exchange', 'explain': 'explain',
+    'pcap': 'tools.pcap', 'picture': 'picture.main', 'records': 'tools.records', 'tie': 'tie.main',
+    'trunk': 'service.service'}
 SERVICE = 'trunk'           # which a signal ends with status 0, also before its modules are loaded
 
 

@@ -3,18 +3,48 @@ from __future__ import annotations
 
 import csv
 import io
+import os
 import time
 from dataclasses import dataclass, replace
-from typing import Callable, Iterable, Mapping
+from typing import Callable, Iterable, Iterator, Mapping, NamedTuple
 
 from .counts import DatagramCounts
 from .lines import IN_CALL, Event, Line, Role, State
 
-FIELDS = ('trunk', 'circuit', 'direction', 'seized', 'answered', 'ended', 'by', 'codec', 'sent', 'received', 'lost',
-          'late', 'call')
 MOST_OCTETS = 10 << 20      # of a file, before it is FILE.1
 KEPT = 9                    # FILE.1 to FILE.9
 EACH = ('sent', 'admitted', 'lost', 'Late')     # what is counted, by the words of the counts
+
+
+class CallLine(NamedTuple):
+    """A line of a call, by its fields."""
+    trunk: str
+    circuit: str
+    direction: str
+    seized: str
+    answered: str
+    ended: str
+    by: str
+    codec: str
+    sent: str
+    received: str
+    lost: str
+    late: str
+    call: str
+
+
+FIELDS = CallLine._fields
+
+
+def read_calls(path: str, word: str = '') -> Iterator[CallLine]:
+    """The lines of calls in a file and those that it has followed, those with a word in them, the last one first."""
+    for each in (path, *(f'{path}.{n}' for n in range(1, KEPT + 1))):
+        if each != path and not os.path.exists(each):
+            return
+        with open(each, encoding='utf-8', errors='replace', newline='') as file:
+            lines = [line for line in file if word in line and line.endswith('\n')]
+        rows = [row for row in csv.reader(lines) if len(row) == len(FIELDS) and row[1].isdecimal()]
+        yield from (CallLine(*row) for row in reversed(rows))
 
 
 def csv_line(fields: Iterable[object]) -> str:
@@ -76,8 +106,8 @@ class CallLog:
         """These are the counts from now on."""
         self._counts = counts
 
-    def took(self, event: Event) -> None:
-        """A change of a line's state."""
+    def took(self, event: Event) -> str:
+        """A change of a line's state. The id of the call that it is of, if it is of one."""
         circuit, was, state = event['circuit'], State(event['was']), State(event['state'])
         unwatched = event.get('unwatched', False)
         if was not in IN_CALL and state in IN_CALL:
@@ -87,6 +117,15 @@ class CallLog:
             call.answered = self._clock()
         if call and state not in IN_CALL:
             self._end(call, self._unwatched(call) if unwatched else self._who(call, was, state))
+        return self._id(call) if call and self.life else ''
+
+    def going(self) -> list[CallLine]:
+        """The calls that have not ended: their lines up to now."""
+        return [self._line(replace(call, codec=self._lines[n].codec), self._now(n)) for n, call in self._calls.items()]
+
+    def _id(self, call: CallRecord) -> str:
+        number = call.number or (self._lines[call.circuit].seizures if call.ended is None else 0)
+        return f'{self.life}-{call.circuit}-{number}'
 
     def _begin(self, circuit: int, seized: float | None) -> None:
         line = self._lines[circuit]
@@ -164,13 +203,16 @@ class CallLog:
 
     def _write(self, call: CallRecord) -> None:
         now = self._now(call.circuit)
-        before = self._before.get(call.circuit, {})
+        line = self._line(call, now)
         self._before[call.circuit] = now
+        self._put(csv_line(line))
+
+    def _line(self, call: CallRecord, now: Mapping[str, int]) -> CallLine:
+        before = self._before.get(call.circuit, {})
         # (a packet that was thought lost may come behind the end of its call)
         numbers = [max(0, (call.counts or now).get(word, 0) - before.get(word, 0)) for word in EACH]
-        told: list[object] = [''] * len(EACH) if self._counts.stale() and not call.counts else [*numbers]
+        told = [''] * len(EACH) if self._counts.stale() and not call.counts else [*map(str, numbers)]
         if call.by == 'unwatched':
             told[2:] = ['', '']     # of its last packets nobody has told more
-        self._put(csv_line([self._trunk, call.circuit, self._lines[call.circuit].role, moment(call.seized),
-                            moment(call.answered), moment(call.ended), call.by, call.codec, *told,
-                            f'{self.life}-{call.circuit}-{call.number}']))
+        return CallLine._make((self._trunk, str(call.circuit), str(self._lines[call.circuit].role), moment(call.seized),
+                               moment(call.answered), moment(call.ended), call.by, call.codec, *told, self._id(call)))

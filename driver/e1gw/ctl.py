@@ -3,9 +3,10 @@
 PATH is the socket of --control of e1gw-trunk, or the name of a trunk, whose socket is /run/e1gw/NAME/control.
 COMMAND is one of e1gw-trunk(1): seize N, clear N, answer N, clear-back N, block N, unblock N, codec N CODEC TYPE,
 status, status N, status json, events, on-loss, role, promote, demote, move, reload, quit, help. N may be several
-circuits: seize 1-4,7. move NODE, as root, has Pacemaker move the trunk. With a PATH and no command, commands are read
-from standard input, a line each. --all gives the command to each trunk of this machine. Without any word there is a
-line for each trunk of this machine.
+circuits: seize 1-4,7. calls lists those of the file of --calls that --last, --circuit and --since select, and those
+that go on, each with the id that e1gw-call takes. move NODE, as root, has Pacemaker move the trunk. With a PATH and no
+command, commands are read from standard input, a line each. --all gives the command to each trunk of this machine.
+Without any word there is a line for each trunk of this machine.
 
 Statuses: 0 all was done; 1 a trunk refused something, or does not answer; 2 the command line, or nobody listens at
 PATH.
@@ -22,8 +23,10 @@ from pathlib import Path
 from typing import BinaryIO
 
 from .ctl_all import PATIENCE, SOCKETS, connected, overview, trunks_here
-from .faults import words_of_fault
+from .ctl_calls import Wanted, calls_listed
+from .faults import checked, number, words_of_fault
 from .session import CIRCUITS
+from .session_clock import moment
 
 ASKING = ('status', 'events', 'help', 'metrics', 'role')
 SEVERAL = ('seize', 'clear', 'answer', 'clear-back', 'block', 'unblock', 'codec')
@@ -132,6 +135,11 @@ def started(asked: argparse.Namespace, parser: argparse.ArgumentParser, patience
         parser.error('a word is empty, or cannot be printed')
     if asked.all and (not words or words == ['events']):
         parser.error('--all wants a command that is answered at once')
+    if words[-1:] == ['calls'] and len(words) == 2 - asked.all:
+        trunks = trunks_here() if asked.all else [(asked.path, path_of(asked.path))]
+        return calls_listed(trunks, Wanted(asked.last, asked.circuit, asked.since), patience)
+    if asked.last or asked.circuit or asked.since:
+        parser.error('--last, --circuit and --since are for calls')
     if asked.all:
         return run_all(words, patience)
     if asked.command and asked.command[0] in [name for name, _ in trunks_here()]:
@@ -148,8 +156,8 @@ def next_words(parsed_args: argparse.Namespace, **_: object) -> list[str]:
         return [name for name, _ in trunks_here()]
     match words[not parsed_args.all:]:
         case []:
-            return [*SEVERAL, 'status', 'events', 'on-loss', 'role', 'promote', 'demote', 'move', 'reload', 'quit',
-                    'help']
+            return [*SEVERAL, 'status', 'calls', 'events', 'on-loss', 'role', 'promote', 'demote', 'move', 'reload',
+                    'quit', 'help']
         case ['status']:
             return ['json', *circuits]
         case ['reload']:
@@ -167,6 +175,11 @@ def main(patience: float = PATIENCE) -> None:
     parser = argparse.ArgumentParser(prog='e1gw-ctl', description=__doc__, usage='e1gw-ctl [PATH | --all] [COMMAND..]',
                                      formatter_class=argparse.RawDescriptionHelpFormatter)
     parser.add_argument('--all', action='store_true', help='each trunk of this machine')
+    parser.add_argument('--last', metavar='N', type=number(1, 10**6), help='calls: the last N [default: 20, or all '
+                        'with --since]')
+    parser.add_argument('--circuit', metavar='N', type=number(1, 30), help='calls: those of a circuit')
+    parser.add_argument('--since', metavar='TIME', type=checked(moment, 'a time such as 2026-11-23T07:30:00Z'),
+                        help='calls: those that ended after TIME, in UTC')
     for each in (parser.add_argument('path', metavar='PATH', nargs='?'),
                  parser.add_argument('command', metavar='COMMAND', nargs='*')):
         setattr(each, 'completer', next_words)
@@ -183,7 +196,7 @@ def main(patience: float = PATIENCE) -> None:
         print('e1gw-ctl: the trunk has ended', file=sys.stderr)
         status = 1
     except OSError as fault:
-        path = path_of(asked.path or '')
+        path = fault.filename or path_of(asked.path or '')
         print(f'e1gw-ctl: {path}: {fault.strerror or fault}{unit_words(path, fault)}', file=sys.stderr)
         status = 2
     except UnicodeError:

@@ -29,7 +29,7 @@ _CRC4 = {'none': 'no CRC multiframe alignment', 'found': 'CRC multiframe alignme
          'errored': 'CRC-4 errors{over}: {count} of {of} submultiframes',
          'far end errored': 'CRC-4 errors reported by the other end (E bits){over}: {count} of {of} submultiframes'}
 _WORDS: dict[str, Callable[[Event], str]] = {
-    'state': lambda e: f'{e["circuit"]}: {e["state"]}, was {e["was"]}',
+    'state': lambda e: f'{e["circuit"]}: {e["state"]}, was {e["was"]}' + (f', call {e["call"]}' if 'call' in e else ''),
     'alarm': lambda e: f'alarm{_over(e)}: {LOSSES[e["what"]]}',
     'remote alarm': lambda e: f'alarm of the other end{_over(e)}: {REMOTE[e["what"]]}',
     'renewed': lambda e: f'jitter buffer resynchronised, {e["why"]}: circuits {_circuits(e)}',

@@ -1,10 +1,13 @@
 """Octets of a trunk where a session is wanted: whether they are some, and the command that makes a session of them."""
 from __future__ import annotations
 
+from collections.abc import Iterator
+
 from .session import FRAME
 
 FAS, DOUBLE = 0x1B, 2 * FRAME       # the frame alignment signal without its first bit; frames come in pairs
 SIGNALS = 8                         # that are found one after another
+MOST_WRONG = 3                      # signals in a row that are errored
 ENOUGH = 4096                       # octets that are looked at
 REVERSED = bytes(int(f'{octet:08b}'[::-1], 2) for octet in range(256))
 
@@ -13,6 +16,39 @@ def is_frame(octets: bytes | bytearray, at: int) -> bool:
     """Whether frames with and without the frame alignment signal begin there by turns."""
     return (all(octet & 0x7F == FAS for octet in octets[at:at + SIGNALS * DOUBLE:DOUBLE])
             and all(octet & 0x40 for octet in octets[at + FRAME:at + SIGNALS * DOUBLE:DOUBLE]))
+
+
+class FrameSearch:
+    """Finds the frames in octets of a trunk that come in pieces, again behind each loss of alignment."""
+
+    def __init__(self, place: int = 0) -> None:
+        """The first octet has this place."""
+        self.losses = list[int]()           # places at which alignment was lost
+        self._held, self._place, self._aligned, self._wrong = bytearray(), place, False, 0
+
+    def take(self, octets: bytes) -> Iterator[tuple[int, bytes]]:
+        """Takes octets. Whole pairs of frames, one or more, with the place of the first octet."""
+        self._held += octets
+        while len(self._held) >= (DOUBLE if self._aligned else (SIGNALS + 1) * DOUBLE):
+            if not self._aligned:
+                at = next((at for at in range(DOUBLE) if is_frame(self._held, at)), None)
+                self._aligned, self._wrong = at is not None, 0
+                self._drop(DOUBLE if at is None else at)
+                continue
+            signals = bytes(self._held[:len(self._held) // DOUBLE * DOUBLE:DOUBLE])
+            count = len(signals) - len(signals.lstrip(bytes([FAS, FAS | 0x80])))
+            self._wrong = 0 if count else self._wrong + 1
+            if self._wrong == MOST_WRONG:
+                self.losses.append(self._place)
+                self._aligned = False
+                continue
+            size = max(count, 1) * DOUBLE
+            yield self._place, bytes(self._held[:size])
+            self._drop(size)
+
+    def _drop(self, size: int) -> None:
+        self._place += size
+        del self._held[:size]
 
 
 def is_trunk(octets: bytes) -> bool:

@@ -60,6 +60,16 @@ class SessionClock:
         behind = bisect.bisect_right(self.breaks, place, key=lambda each: each.place)
         return (self.begin or 0.0) + place / OCTETS_A_SECOND + self._later[behind]
 
+    def place(self, second: float) -> int:
+        """The place at a time; of one at which octets are missing that of the octet behind them."""
+        before = 0
+        for later, place in zip(self._later, [*(each.place for each in self.breaks), inf]):
+            found = max(before, round((second - (self.begin or 0.0) - later) * OCTETS_A_SECOND))
+            if found < place:
+                return found
+            before = int(place)
+        return before
+
     def lost(self, first: int, last: int) -> float:
         """The seconds of the trunk that are missing behind a place, up to another."""
         return sum(each.lost for each in self.breaks if first < each.place <= last)
@@ -126,8 +136,10 @@ def _breaks(notes: Sequence[FileNote]) -> Iterator[Break]:
         found, more = note.twice(owed, away) or (-1, 0.0)
         owed = 0.0 if found >= 0 else owed
         later = note.time - first.time - place / OCTETS_A_SECOND - shift + more
-        yield Break(place, later, max(0.0, away + more))
-        last, shift, inside = note, shift + later, more
+        last, inside = note, more
+        if max(away + more, abs(later)) >= LEAST:       # (less is when the file was begun, and no jump)
+            yield Break(place, later, max(0.0, away + more))
+            shift += later
         for number, (at, seconds) in enumerate(note.slips):
             if number != found and at > note.place:         # (what a program had in hand is missed before its file)
                 yield Break(at - first.place, seconds, seconds)

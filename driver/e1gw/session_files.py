@@ -5,12 +5,13 @@ import json
 import os
 import shutil
 import subprocess
+import sys
 from collections.abc import Iterator
-from dataclasses import dataclass, field
+from dataclasses import dataclass, field, replace
 from typing import IO, Any
 
 from .lines import SEIZURE_WAIT, WAIT
-from .session_clock import Break, FileNote, breaks_of, slips_of
+from .session_clock import Break, FileNote, SessionClock, breaks_of, slips_of
 
 PIECE = 1 << 16
 ENDINGS = ('.e1gw', '.e1gw.zst', '.rec', '.rec.zst')
@@ -33,12 +34,46 @@ class RecordedSession:
     place: int = 0                      # where on the trunk it begins
     state: str = ''                     # the file of what the gateway was then; none for a new one
 
+    @property
+    def clock(self) -> SessionClock:
+        """The times of its places."""
+        return SessionClock(self.begin, tuple(self.breaks))
+
+    def octets(self) -> Iterator[bytes]:
+        """Those of its files, one behind the other; - is standard input."""
+        for path in self.files:
+            yield from pieces(sys.stdin.buffer) if path == '-' else octets_of(path)
+
+    def cut(self, place: int) -> RecordedSession:
+        """The same from a place on, where the gateway is another one."""
+        return replace(self, begin=None if self.begin is None else self.clock.second(place), place=self.place + place,
+                       slips=self.slips and [(at - place, seconds) for at, seconds in self.slips if at > place],
+                       breaks=[each.behind(-place) for each in self.breaks if each.place > place])
+
 
 def kept(path: str, last: int | None = None) -> RecordedSession:
     """A session in one file, or what was kept in a folder. Of a folder the last octets of the trunk,
     this number, are enough, if it was kept what the gateway was before them."""
     if not os.path.isdir(path):
         return _told(RecordedSession([path]))
+    files = _sessions_in(path)[-1]
+    return _told(RecordedSession(files[_enough(files, last):] if last else files))
+
+
+def kept_between(folder: str, first: float, last: float) -> RecordedSession | None:
+    """What was kept in a folder of a time: files of one session, of which the first one is the last that has begun by
+    then, and of which it is known what the gateway was. None if all that is kept is behind it."""
+    for files in reversed(_sessions_in(folder)):
+        session = _told(RecordedSession(files))
+        begins = [session.clock.second(note_of(file).get('place', 0) - session.place) for file in files]
+        if session.begin is not None and begins[0] < last:
+            early = [n for n, begin in enumerate(begins) if begin <= first and state_of(files[n])]
+            return _told(RecordedSession(files[max(early, default=0):sum(begin < last for begin in begins)]))
+    return None
+
+
+def _sessions_in(path: str) -> list[list[str]]:
+    """The files of each session that is kept in a folder."""
     every = {name for name in os.listdir(path) if name.endswith(ENDINGS)}
     # While one is packed both are there, and the packed one is not whole.
     names = sorted((name for name in every if not name.endswith('.zst') or name.removesuffix('.zst') not in every),
@@ -49,9 +84,8 @@ def kept(path: str, last: int | None = None) -> RecordedSession:
     if len(trunks) > 1:
         raise InputError(f'{path} holds sessions of several trunks: {", ".join(sorted(trunks))}')
     files = _in_order([os.path.join(path, name) for name in names])
-    begun = _begun([note_of(file) for file in files])
-    files = files[begun[-1] if begun else 0:]
-    return _told(RecordedSession(files[_enough(files, last):] if last else files))
+    edges = sorted({0, *_begun([note_of(file) for file in files]), len(files)})
+    return [files[first:last] for first, last in zip(edges, edges[1:])]
 
 
 def _in_order(files: list[str]) -> list[str]:

@@ -21,6 +21,7 @@ from .test_texts import STATUS
 from .test_trunk import FOUR, aligned
 from .world import World, config_of
 from e1gw import ctl, ctl_all
+from e1gw.calls import FIELDS, CallLine, csv_line
 
 
 class CtlWordTests(unittest.TestCase):
@@ -171,6 +172,32 @@ class CtlAnswerTests(support.FolderCase):
             with self.assertRaises(BlockingIOError):
                 for _ in range(9):
                     waiting.enter_context(ctl_all.connected(self.path('full'), 0.05))
+
+    def test_calls(self) -> None:
+        """Those that have ended, of a file, and then those that go on; as many as are asked for."""
+        ended = [CallLine('west', str(n % 2 + 1), 'outgoing', f'2027-01-15T08:{n:02}:00.000Z', '',
+                          f'2027-01-15T08:{n:02}:30.500Z', 'gateway', 'pcma', '1', '2', '3', '4', f'1f-{n % 2 + 1}-{n}')
+                 for n in range(30)]
+        going = ended[0]._replace(seized='2027-01-15T09:00:00.000Z', ended='', by='', call='1f-1-99')
+        self.write('calls.csv', ''.join(f'{csv_line(line)}\n' for line in (FIELDS, *ended)))
+        self.trunks['west'].answers['status json'] = json.dumps(
+            {'calls': [going._asdict()], 'calls_file': self.path('calls.csv')}) + '\n\n'
+        for words, numbers in (('', range(10, 30)), ('--last 2', (28, 29)), ('--circuit 2 --last 2', (27, 29)),
+                               ('--since 2027-01-15T08:27:30.5Z', (27, 28, 29)), ('--since 2027-01-16', ()),
+                               ('--since 2027-01-15', range(30))):
+            status, told, _ = self.ctl('west', 'calls', *words.split())
+            names = [ended[n].call for n in numbers] + [going.call] * ('circuit' not in words)
+            self.assertEqual((status, [line.split()[-1] for line in told[1:]]), (0, names), words)
+        self.assertEqual(self.ctl('west', 'calls', '--last', '1')[1][:2], [
+            'trunk         n role     seized (UTC)            answered     ended        by               codec    '
+            '   sent received   lost   late  call',
+            'west          2 outgoing 2027-01-15 08:29:00.000              08:29:30.500 gateway          pcma     '
+            '      1        2      3      4  1f-2-29'])
+        self.assertEqual(self.ctl('west', 'status', '--last', '2')[0], 2)
+        self.trunks['east'].answers['status json'] = '{"calls": [], "calls_file": null}\n\n'
+        status, told, _ = self.ctl('--all', 'calls', '--last', '1')
+        self.assertEqual((status, told[1]), (1, 'east: it writes no --calls: there are no calls that have ended'))
+        self.assertEqual(len(told), 4)
 
     def test_lines_of_trunks(self) -> None:
         os.mkdir(self.path('etc'))

@@ -50,8 +50,10 @@ class OperatorTests(unittest.TestCase):
             self.assertEqual(said, 'seize 1: the trunk is stalled')
             world.step()
         self.assertEqual(world.known()['circuits'][0]['state'], 'seized')
+        (call,) = world.told()['calls']
+        self.assertRegex(call['call'], '^[0-9a-f]{8}-1-1$')
         self.next(events, event='flows')
-        self.next(events, event='state', circuit=1)
+        self.next(events, event='state', circuit=1, call=call['call'])
         self.next(events, event='command', circuit=1, answer='done')
         lines = [support.connected(world.path('ctl')) for _ in range(15)]
         for circuit, line in enumerate(lines, 1):

@@ -17,6 +17,9 @@ from e1gw.picture.main import gathered
 from e1gw.session import OCTETS_A_SECOND, Kind, trunk_record
 
 
+BEGIN = 1_800_000_000       # 2027-01-15 08:00:00 UTC
+
+
 def divided(records: Iterator[bytes], rng: random.Random) -> Iterator[bytes]:
     """The same with each record of the trunk in two, so that no piece has to begin with a frame."""
     for record in records:
@@ -31,6 +34,24 @@ def divided(records: Iterator[bytes], rng: random.Random) -> Iterator[bytes]:
 def octets_in(records: list[bytes]) -> int:
     """The octets of the trunk in records."""
     return sum(len(record) - 4 for record in records if record[0] == Kind.TRUNK)
+
+
+def keep(folder: str, pieces: list[list[bytes]], config: str, each: float) -> None:
+    """Keeps pieces of a session in a folder, each with the state in which it begins, so many seconds apart."""
+    ring, state, place = Ring(folder, 'west', 60), b'', 0
+    ring.zstd = None
+    for number, records in enumerate(pieces):
+        front, octets = ring.next(place), b''.join(records)
+        about = {'config': config, 'time': BEGIN + each * number, 'monotonic': each * number, 'place': place,
+                 'begins': 'middle' if state else 'start'}
+        ring.begin(front, about, state)
+        with open(f'{front}.e1gw', 'wb') as file:
+            file.write(octets)
+        load = ['--load', f'{front}.state'] if state else []
+        support.run('replay', '--config', config, *load, '--save', f'{folder}.last', given=octets)
+        state = support.octets_of(f'{folder}.last')
+        place += octets_in(records)
+    ring.close()
 
 
 class MidCallPictureTests(support.FolderCase):
@@ -49,24 +70,8 @@ class MidCallPictureTests(support.FolderCase):
         self.records = list(divided(made.given(), self.rng))
         whole = len(self.records)
         pieces = [self.records[whole * n // 4:whole * (n + 1) // 4] for n in range(4)]
-        self.keep(pieces, self.config)
+        keep(self.ring, pieces, self.config, 5.0)
         self.places = [octets_in(self.records[:whole * n // 4]) for n in range(4)]
-
-    def keep(self, pieces: list[list[bytes]], config: str) -> None:
-        """Keeps pieces of a session, each with the state in which it begins."""
-        ring, state, place = Ring(self.ring, 'west', 60), b'', 0
-        ring.zstd = None
-        for number, records in enumerate(pieces):
-            front, octets = ring.next(place), b''.join(records)
-            about = {'config': config, 'time': 1_800_000_000 + 5 * number, 'monotonic': 5 * number, 'place': place,
-                     'begins': 'middle' if state else 'start'}
-            ring.begin(front, about, state)
-            self.write(f'{front}.e1gw', octets)
-            load = ['--load', f'{front}.state'] if state else []
-            support.run('replay', '--config', config, *load, '--save', self.path('state'), given=octets)
-            state = support.octets_of(self.path('state'))
-            place += octets_in(records)
-        ring.close()
 
     def files(self, ending: str) -> list[str]:
         return sorted(os.path.join(self.ring, name) for name in os.listdir(self.ring) if name.endswith(ending))

@@ -199,9 +199,17 @@ class NotedTwiceTests(unittest.TestCase):
                 its = FileNote(0, DAY, 1.0, tuple(slips)).twice(away, away)
                 self.assertEqual(its and (its[0], round(its[1], 6)), found)
 
+    def test_when_a_file_was_begun_is_no_jump(self) -> None:
+        """It is seen some milliseconds late, each time otherwise; what adds up to a tenth of a second is one."""
+        second = OCTETS_A_SECOND
+        late = (0.0, 0.012, 0.003, 0.02, 0.07, 0.12)
+        breaks = session_clock.breaks_of([FileNote(n * second, DAY + n + each, 100 + n + each, ())
+                                          for n, each in enumerate(late)])
+        self.assertEqual([(each.place, round(each.seconds, 3)) for each in breaks], [(5 * second, 0.12)])
+
     def test_a_clock_that_was_set_is_no_outage(self) -> None:
         second = OCTETS_A_SECOND
         breaks = session_clock.breaks_of([FileNote(0, DAY, 100.0, ()),
                                           FileNote(second, DAY - 3568.2, 132.8, ((second + 9, 31.8),))])
         self.assertEqual([(each.place, round(each.seconds, 3), round(each.lost, 3)) for each in breaks],
-                         [(0, 0.0, 0.0), (OCTETS_A_SECOND, -3569.2, 31.8)])
+                         [(OCTETS_A_SECOND, -3569.2, 31.8)])

@@ -2,13 +2,19 @@
 from __future__ import annotations
 
 import functools
+import itertools
 import os
+import re
+import subprocess
+import tempfile
+from collections.abc import Iterable, Iterator
 from contextlib import suppress
 from dataclasses import dataclass
 
 from ..session_files import InputError, RecordedSession, kept
+from ..lines import wait_words
 from ..programs import program_of
-from ..session import MULTIFRAME
+from ..session import MULTIFRAME, records_for
 from .replay import Replay
 
 MIDDLE = 'the session begins in the middle; calls that were under way show as fault or blocked until they end'
@@ -71,3 +77,44 @@ def begin(path: str, last: int | None, config: str | None, program: str | None,
             return begun, '; '.join(notes)
         notes += [why] * (why not in notes)
     return started(session, asked, program, wait), '; '.join([*notes, MIDDLE])
+
+
+def begin_at(session: RecordedSession, place: int, circuit: int, config: str, program: str | None,
+             ) -> tuple[Begun, Iterator[bytes]]:
+    """A session from about a place of it on, and its octets, as far as they concern a circuit: up to there it is
+    replayed, and nothing is gathered. InputError if it cannot be known what the gateway was there."""
+    if session.middle and not session.state:
+        raise InputError(f'{os.path.basename(session.files[0])} has no state next to it')
+    with tempfile.TemporaryDirectory(prefix='e1gw-cut-') as folder:
+        path, saved = replaying(program), os.path.join(folder, 'state')
+        pieces, at = _of_circuit(circuit, session.octets()), 0
+        load = ['--load', session.state] if session.state else []
+        with tempfile.TemporaryFile() as errors, subprocess.Popen(
+                [path, 'replay', '--config', config, *load, *wait_words(session.wait), '--save', saved],
+                stdin=subprocess.PIPE, stdout=subprocess.DEVNULL, stderr=errors) as process:
+            assert process.stdin
+            with suppress(BrokenPipeError), process.stdin as sink:      # (if it has ended, it says why)
+                for piece, trunk in pieces:
+                    if at + trunk > place:
+                        pieces = itertools.chain([(piece, trunk)], pieces)
+                        break
+                    sink.write(piece)
+                    at += trunk
+            process.wait()
+            errors.seek(0)
+            others = re.compile(rf'circuit (?!{circuit} )\d+ begins as new')      # (whose configuration has changed)
+            for said in errors.read().decode(errors='replace').splitlines():
+                if not others.fullmatch(said):
+                    raise InputError(f'{session.state or session.files[0]} is not used ({said}); --config names the '
+                                     'file of that time')
+        return started(session.cut(at), config, program, None, saved), (piece for piece, _ in pieces)
+
+
+def _of_circuit(circuit: int, octets: Iterable[bytes]) -> Iterator[tuple[bytes, int]]:
+    """The whole records that concern a circuit, many at a time, with the octets of the trunk in them."""
+    held = b''
+    for piece in octets:
+        held += piece
+        size, trunk, records = records_for(circuit, held)
+        yield records, trunk
+        held = held[size:]

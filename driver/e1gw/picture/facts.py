@@ -366,16 +366,16 @@ class Facts:
                 row.cells[self.column] = row.cell
                 row.cell = Cell()
         if self.last and self.place > self.start + self.last:
-            self._forget(self.last)
+            self.forget(self.place - self.last)
         while (self.place - self.start) // self.width >= MOST:
             self._double()
         self.column = column = place // self.width
         for row in self.rows.values():
             row.cell = row.cells.pop(column, row.cell)
 
-    def _forget(self, last: int) -> None:
-        """Drops the columns that are too old."""
-        self.start = self.place - last
+    def forget(self, start: int) -> None:
+        """Drops the columns before a place."""
+        self.start = start
         oldest = self.start // self.width
         for row in self.rows.values():
             row.forget(self.start, oldest)

@@ -6,11 +6,10 @@ import os
 import sys
 import time
 from collections.abc import Callable, Iterator
-from typing import Any
 
 from ..faults import checked, number
 from ..session_clock import moment
-from ..session_files import InputError, RecordedSession, octets_of, pieces
+from ..session_files import InputError, RecordedSession
 from ..lines import read_config, with_wait
 from ..frames import raw_words_of
 from ..session import OCTETS_A_SECOND, circuits_of
@@ -78,43 +77,53 @@ class Progress:
     def octets(self) -> Iterator[bytes]:
         """The octets of the session."""
         for self._file, path in enumerate(self._files, 1):
-            yield from pieces(sys.stdin.buffer) if path == '-' else octets_of(path)
+            yield from RecordedSession([path]).octets()
 
     def read(self, place: int) -> None:
         """The session is read up to a place."""
         if self._now() < self._due or self._told and not self._is_terminal:
             return
         self._due, self._told = self._now() + EACH, True
-        where = f', file {self._file} of {len(self._files)}' if len(self._files) > 1 else ''
-        words = f'e1gw-picture: {duration(place)} of the trunk read{where}'
+        words = self.words(place)
         if self._is_terminal:
             print(f'{CLEARED}{words}', end='', file=sys.stderr, flush=True)
         else:
             print(f'{words}; it goes on', file=sys.stderr, flush=True)
 
+    def words(self, place: int) -> str:
+        """What is said at a place."""
+        where = f', file {self._file} of {len(self._files)}' if len(self._files) > 1 else ''
+        return f'e1gw-picture: {duration(place)} of the trunk read{where}'
+
     def end(self) -> None:
         print(CLEARED * (self._told and self._is_terminal), end='', file=sys.stderr)
 
 
-def facts_of(options: argparse.Namespace, begun: Begun, octets: Iterator[bytes]) -> tuple[Facts, Iterator[bytes]]:
-    """The facts known of a session before it is read, and its octets, with the datagrams of a capture if asked."""
+def facts_of(begun: Begun, last: int | None = None) -> Facts:
+    """The facts known of a session before it is read."""
     session, place = begun.session, begun.place
-    tables: dict[str, Any] = with_wait(read_config(begun.config), begun.wait)
-    facts = Facts(rows_of(tables), options.last)
+    facts = Facts(rows_of(with_wait(read_config(begun.config), begun.wait)), last)
     facts.slips = session.slips and [(place + at, seconds) for at, seconds in session.slips]
     facts.breaks = [each.behind(place) for each in session.breaks]
+    facts.begin = None if session.begin is None else session.begin - place / OCTETS_A_SECOND
+    return facts
+
+
+def captured(options: argparse.Namespace, begun: Begun, octets: Iterator[bytes]) -> tuple[Facts, Iterator[bytes]]:
+    """The facts of a session, and its octets, with the datagrams of a capture if asked."""
+    session, facts = begun.session, facts_of(begun, options.last)
     begin = options.begin if options.begin is not None else session.begin
     if options.capture:
-        octets, begin = merged(octets, options.capture, tables, facts, begin, session.place)
+        octets, begin = merged(octets, options.capture, read_config(begun.config), facts, begin, session.place)
         facts.told = ' (placed by the times of the capture)'
-    facts.begin = None if begin is None else begin - place / OCTETS_A_SECOND
+    facts.begin = None if begin is None else begin - begun.place / OCTETS_A_SECOND
     return facts, octets
 
 
 def gathered(options: argparse.Namespace, begun: Begun) -> tuple[Facts, str]:
     """The facts of a session, and a word about its end."""
     progress = Progress(begun.session, sys.stderr.isatty())
-    facts, octets = facts_of(options, begun, progress.octets())
+    facts, octets = captured(options, begun, progress.octets())
     reading = SessionReading(facts, begun.replay, begun.program, begun.place)
     try:
         reading.read(octets, progress.read)

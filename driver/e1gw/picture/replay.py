@@ -8,6 +8,7 @@ import socket
 import subprocess
 import tempfile
 import threading
+from collections.abc import Callable
 from contextlib import suppress
 
 from ..session_files import PIECE, InputError
@@ -27,6 +28,7 @@ class Replay:
         self._waits = queue.SimpleQueue[bytes]()        # octets to be written, up to the empty ones
         self._told, self._is_told = b'', False          # lines not taken yet; the last one has come
         self._tells: list[socket.socket] = []           # the socket, while it is connected
+        self.answered: Callable[[bytes], None] = lambda octets: None    # called with all that answers() returns
         with tempfile.TemporaryDirectory(prefix='e1gw-picture-') as folder:
             path = os.path.join(folder, 'tell')
             words = [program, 'replay', '--config', config, *(['--load', state] if state else []), *wait_words(wait),
@@ -70,6 +72,7 @@ class Replay:
             octets = os.read(self._from.fileno(), PIECE) if self._from in reads else None
             self._hear()
             if octets is not None:
+                self.answered(octets)
                 return octets
 
     def _hear(self) -> None:

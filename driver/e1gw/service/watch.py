@@ -127,9 +127,9 @@ class TrunkWatch:
 
     def tell(self, event: Event) -> None:
         """Tells a change to the journal and to all who follow."""
+        if event['event'] == 'state' and (call := self.status.calls.took(event)):
+            event['call'] = call
         tell_journal(event)
-        if event['event'] == 'state':
-            self.status.calls.took(event)
         self.pages.changed()
         text = json_line(event)
         for peer in self._server.followers():
@@ -162,6 +162,8 @@ class TrunkWatch:
         status = self.status.values() | {
             'name': self.wants.name, 'version': facts.get('version', ''), 'time': round(now, 3), 'fault': fault,
             'uptime': 0.0 if fault else round(now - facts.get('since', self._began), 3),
+            'calls': [line._asdict() for line in self.status.calls.going()],
+            'calls_file': self.wants.calls and os.path.abspath(self.wants.calls),
             'stale': self._counts.stale(), 'ended': self.ended | {'session': facts.get('session')},
             'renewed': self._resyncs,
             'commands': [{'command': name, 'answer': answer, 'count': n}

@@ -27,6 +27,7 @@ import os
 import struct
 import sys
 from contextlib import suppress
+from dataclasses import replace
 from typing import BinaryIO, Iterable, Iterator, NamedTuple
 
 from ..faults import checked, words_of_fault
@@ -35,7 +36,7 @@ from ..packets import BadCapture, packets
 from ..session import (CIRCUITS, SAMPLES_A_SECOND, BadPacket, BadSession, Kind, Record, Repetitions, datagram_record,
                        packet_of, records)
 from ..session_clock import SessionClock, moment
-from ..session_files import InputError, RecordedSession, kept, octets_of, pieces
+from ..session_files import InputError, kept
 
 NAME = os.path.basename(sys.argv[0])    # in the package e1gw-pcap
 GATEWAY, PEER = bytes([192, 0, 2, 1]), bytes([192, 0, 2, 2])  # RFC 5737, addresses for examples
@@ -95,31 +96,42 @@ class Timed(NamedTuple):
     went: bool
 
 
-def timed(octets: Iterable[bytes], clock: SessionClock, went: bool) -> Iterator[Timed]:
-    """The D and K records of a session with their times: those that the gateway wrote went behind the octets of the
-    trunk which follow them there."""
-    place, held, stamps = 0, list[Record](), StampTimes()
-    for record in records(octets):
+class PlacedRecords:
+    """D and K records of a session, which wait for their places: those that the gateway wrote went behind the octets of
+    the trunk that follow them there."""
+
+    def __init__(self, went: bool, place: int = 0) -> None:
+        self.place, self.held, self._went = place, list[Record](), went
+
+    def take(self, record: Record) -> list[tuple[int, Record]]:
+        """Takes a record. Those whose place is known with it."""
         if record.kind in (Kind.DATAGRAM, Kind.CODEC):
-            held.append(record)
-        after = place + len(record.body) * (record.kind is Kind.TRUNK)
-        if after > place:
-            second, place = clock.second(after if went else place), after
-            yield from (Timed(second, each, went) for each in held)
-            held.clear()
-        elif not place and len(held) >= MOST_HELD:
-            yield from (Timed(clock.second(0) + stamps.of(each), each, went) for each in held)
-            held.clear()
-    yield from (Timed(clock.second(place) + (0.0 if place else stamps.of(each)), each, went) for each in held)
+            self.held.append(record)
+        if record.kind is not Kind.TRUNK or not record.body:
+            return []
+        before, self.place = self.place, self.place + len(record.body)
+        placed, self.held = [(self.place if self._went else before, each) for each in self.held], []
+        return placed
+
+
+def timed(octets: Iterable[bytes], clock: SessionClock, went: bool) -> Iterator[Timed]:
+    """The D and K records of a session with their times."""
+    placed, stamps = PlacedRecords(went), StampTimes()
+    for record in records(octets):
+        yield from (Timed(clock.second(place), each, went) for place, each in placed.take(record))
+        if not placed.place and len(placed.held) >= MOST_HELD:
+            yield from (Timed(clock.second(0) + stamps.of(each), each, went) for each in placed.held)
+            placed.held.clear()
+    yield from (Timed(clock.second(placed.place) + (0.0 if placed.place else stamps.of(each)), each, went)
+                for each in placed.held)
 
 
 class Announcements:
     """Tells of each circuit's port and codec before its first packet, and again behind a change."""
 
-    def __init__(self, config: str | None) -> None:
-        tables = read_config(config) if config else {}
-        self._law = law_of(tables)
-        self._codecs = {n: (line.codec, line.payload) for n, line in lines_of(tables).items()} if config else {}
+    def __init__(self, law: str, codecs: dict[int, tuple[str, int]]) -> None:
+        """`codecs` has codec and payload type of each circuit, if they are known."""
+        self._law, self._codecs = law, codecs
         self._told = dict[int, bytes]()
         self._unknown = set[tuple[int, int]]()
 
@@ -190,29 +202,17 @@ def write_capture(packets: Iterable[tuple[float, bytes]], sink: BinaryIO) -> Non
         sink.write(struct.pack('<IIII', seconds, rest, len(octets), len(octets)) + octets)
 
 
-def session_of(path: str | None) -> RecordedSession:
-    """The session of a file or a folder, or of standard input."""
-    return kept(path) if path else RecordedSession([])
-
-
-def octets_in(session: RecordedSession) -> Iterator[bytes]:
-    """Its octets."""
-    if not session.files:
-        yield from pieces(sys.stdin.buffer)
-    for path in session.files:
-        yield from octets_of(path)
-
-
 def write_session(asked: argparse.Namespace, sink: BinaryIO) -> None:
     """Writes the capture of a session, and of what was given to the gateway."""
-    answers, given = session_of(asked.file), session_of(asked.given) if asked.given else None
+    answers, given = kept(asked.file or '-'), kept(asked.given) if asked.given else None
     dated = given if given and given.begin is not None else answers
-    begin = dated.begin if asked.begin is None else asked.begin
-    clock = SessionClock(begin, tuple(dated.breaks))
-    streams = [timed(octets_in(each), clock, each is answers) for each in (answers, given) if each]
-    named = dated.config if dated.config and os.path.exists(dated.config) else None
-    codecs = Announcements(asked.config or named)
-    write_capture(packets_of(heapq.merge(*streams, key=lambda each: each.time), asked.circuit, codecs), sink)
+    clock = dated.clock if asked.begin is None else replace(dated.clock, begin=asked.begin)
+    streams = [timed(each.octets(), clock, each is answers) for each in (answers, given) if each]
+    config = asked.config or (dated.config if dated.config and os.path.exists(dated.config) else None)
+    tables = read_config(config) if config else {}
+    codecs = {n: (line.codec, line.payload) for n, line in lines_of(tables).items()} if config else {}
+    write_capture(packets_of(heapq.merge(*streams, key=lambda each: each.time), asked.circuit,
+                             Announcements(law_of(tables), codecs)), sink)
 
 
 # ---- and back ----

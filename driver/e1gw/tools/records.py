@@ -23,16 +23,15 @@ import argparse
 import os
 import struct
 import sys
-from typing import BinaryIO, Iterable, Iterator
+from typing import BinaryIO, Iterator
 
 from ..faults import number, words_of_fault
 from ..session_files import InputError, note_of, octets_of, pieces
-from ..frames import DOUBLE, FAS, REVERSED, SIGNALS, is_frame, raw_words_of
+from ..frames import REVERSED, FrameSearch, raw_words_of
 from ..session import (CIRCUITS, FRAME, OCTETS_A_SECOND, BadPacket, BadSession, Kind, Record, packet_of, records,
                        trunk_record)
 
 NAME = os.path.basename(sys.argv[0])    # in the package e1gw-records
-MOST_WRONG = 3
 PIECE = 1 << 16
 WAVE_A, WAVE_MU = 6, 7              # the codes of A-law and mu-law in a WAV file
 
@@ -94,36 +93,11 @@ def write_records(source: Iterator[bytes], begin: int, end: int | None, sink: Bi
 
 # ---- one circuit ----
 
-def frames(pieces: Iterable[bytes]) -> Iterator[bytes]:
-    """The pairs of frames of a trunk, from the first alignment on."""
-    held, aligned, wrong, place = bytearray(), False, 0, 0
-    for piece in pieces:
-        held += piece
-        while len(held) >= SIGNALS * DOUBLE + DOUBLE:
-            if not aligned:
-                at = next((at for at in range(DOUBLE) if is_frame(held, at)), None)
-                aligned, wrong, skipped = at is not None, 0, DOUBLE if at is None else at
-                place += skipped
-                del held[:skipped]
-                continue
-            wrong = 0 if held[0] & 0x7F == FAS else wrong + 1
-            if wrong == MOST_WRONG:
-                print(f'records: frame alignment lost at octet {place}', file=sys.stderr)
-                aligned = False
-                continue
-            yield bytes(held[:DOUBLE])
-            place += DOUBLE
-            del held[:DOUBLE]
-    while aligned and len(held) >= DOUBLE:
-        yield bytes(held[:DOUBLE])
-        del held[:DOUBLE]
-
-
-def write_wave(octets: bytes, law: str, sink: BinaryIO) -> None:
-    """A WAV file of G.711."""
+def write_wave(octets: bytes | bytearray, law: str, sink: BinaryIO, channels: int = 1) -> None:
+    """A WAV file of G.711, of channels that take turns."""
     code = WAVE_A if law == 'A' else WAVE_MU
-    form = struct.pack('<HHIIHHH', code, 1, 8000, 8000, 1, 8, 0)
-    fact = struct.pack('<4sII', b'fact', 4, len(octets))
+    form = struct.pack('<HHIIHHH', code, channels, 8000, 8000 * channels, channels, 8, 0)
+    fact = struct.pack('<4sII', b'fact', 4, len(octets) // channels)
     padding = bytes(len(octets) % 2)
     body = (b'WAVE' + struct.pack('<4sI', b'fmt ', len(form)) + form + fact
             + struct.pack('<4sI', b'data', len(octets)) + octets + padding)
@@ -143,8 +117,12 @@ def kept_pieces(source: Iterator[bytes]) -> Iterator[bytes]:
 
 def hear(pieces: Iterator[bytes], circuit: int, law: str, sink: BinaryIO) -> None:
     """Writes what octets of a trunk have in the time slot of a circuit."""
-    slot = circuit if circuit < 16 else circuit + 1
-    heard = b''.join(bytes((pair[slot], pair[FRAME + slot])) for pair in frames(pieces))
+    frames, heard = FrameSearch(), bytearray()
+    for piece in pieces:
+        for _, pairs in frames.take(piece):
+            heard += pairs[circuit + (circuit > 15)::FRAME]
+    for place in frames.losses:
+        print(f'records: frame alignment lost at octet {place}', file=sys.stderr)
     if not heard:
         raise InputError('no frame was found in the octets of the trunk; for reversed bits use --from-raw --reverse, '
                          'for unaligned octets e1gw align')

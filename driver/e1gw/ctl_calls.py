@@ -1,0 +1,64 @@
+"""The calls of trunks, a line for each: those that have ended, by the file of each, and those that go on."""
+from __future__ import annotations
+
+from dataclasses import dataclass
+from itertools import islice, takewhile
+from typing import Iterable, Iterator
+
+from .calls import CallLine, read_calls
+from .ctl_all import status_of
+from .faults import words_of_fault
+from .session_clock import moment
+
+LAST = 20                   # calls that have ended, if nothing else is asked for
+WRITTEN = 3600.0            # seconds behind its end within which each has its line
+HEAD = (f'{"trunk":12}  n {"role":8} {"seized (UTC)":23} {"answered":12} {"ended":12} {"by":16} {"codec":7} '
+        f'{"sent":>8} {"received":>8} {"lost":>6} {"late":>6}  call')
+
+
+@dataclass(frozen=True)
+class Wanted:
+    """Which calls are listed: the last ones, those of a circuit, those that ended after a time."""
+
+    last: int | None = None
+    circuit: int | None = None
+    since: float | None = None
+
+    def of(self, ended: Iterable[CallLine]) -> list[CallLine]:
+        """Those of calls that have ended, the last one first."""
+        last, since = self.last, self.since or 0.0
+        if since:
+            ended = (each for each in takewhile(lambda each: moment(each.ended) >= since - WRITTEN, ended)
+                     if moment(each.ended) >= since)
+        return [*islice(self.circuits(ended), last or (None if since else LAST))]
+
+    def circuits(self, calls: Iterable[CallLine]) -> Iterator[CallLine]:
+        """Those of the circuit, if it is one alone."""
+        return (each for each in calls if self.circuit in (None, int(each.circuit)))
+
+
+def row_of(call: CallLine) -> str:
+    """A call in a line; answer and end are without the day."""
+    seized, answered, ended = (each.rstrip('Z').replace('T', ' ') for each in (call.seized, call.answered, call.ended))
+    return (f'{call.trunk:12} {call.circuit:>2} {call.direction:8} {seized or ended[:10]:23} {answered[11:]:12} '
+            f'{ended[11:]:12} {call.by:16} {call.codec:7} {call.sent:>8} {call.received:>8} {call.lost:>6} '
+            f'{call.late:>6}  {call.call}')
+
+
+def calls_listed(trunks: Iterable[tuple[str, str]], wanted: Wanted, patience: float) -> int:
+    """Prints the calls of trunks, the last one last; returns the status."""
+    status = 0
+    print(HEAD)
+    for name, path in trunks:
+        try:
+            told = status_of(path, patience)
+            file = told['calls_file']
+            ended = wanted.of(read_calls(file)) if file else []
+            for call in (*reversed(ended), *wanted.circuits(CallLine(**each) for each in told['calls'])):
+                print(row_of(call), flush=True)
+            if not file:
+                raise ValueError('it writes no --calls: there are no calls that have ended')
+        except (OSError, ValueError, KeyError) as fault:
+            print(f'{name}: {words_of_fault(fault)}', flush=True)
+            status = 1
+    return status

@@ -1,0 +1,170 @@
+"""e1gw-call: a call that is taken out of a ring, against the whole session."""
+from __future__ import annotations
+
+import csv
+import os
+import re
+import shutil
+import unittest
+
+from . import support
+from .picture_made import GATEWAY, MadeSession, PictureSender, packets
+from .properties import PropertyCase
+from .test_picture_beginning import BEGIN, divided, keep, octets_in
+from e1gw.calls import FIELDS, CallLine, csv_line, moment, read_calls
+from e1gw.packets import datagrams
+from e1gw.session import OCTETS_A_SECOND, Command, Kind, records_in
+from e1gw.session_clock import Break, SessionClock
+from e1gw.tools.call import EndedCall, begin_of
+
+COMMAND = os.path.join(support.TOP, 'tools', 'call')
+FRAME = 32
+SIGNALS = [('00', '10', 'seized'), ('00', '11', 'acked'), ('00', '01', 'answered'), ('10', '01', 'releasing'),
+           ('10', '10', 'idle')]       # ITU-T Q.421: a and b, forward and backward
+COMMANDS = {3: [('seize', 'done'), ('block', 'wrong role'), ('clear', 'done')],
+            4: [('seize', 'done'), ('clear', 'done')]}
+
+
+class RingCallTests(support.FolderCase):
+    """Circuit 3 is in a call from 1.1 to 4.8 s, circuit 4 from 5.6 to 7.3, in a ring of four files of two seconds."""
+
+    def setUp(self) -> None:
+        super().setUp()
+        chance = support.chance_of(self)
+        noise = chance.randbytes(16_000)
+        made = MadeSession(9.0, {3: {'prefill': 320}, 4: {'prefill': 320}}, speech=noise)
+        made.call(3, 1.1, 4.8)
+        made.call(4, 5.6, 7.3)
+        made.events.append((2.0, 'command', 3, Command.BLOCK))
+        made.plus(PictureSender(3, 1.25, 4.7, jitter=0.03, payloads=packets(noise)), PictureSender(4, 5.8, 7.2))
+        self.config, self.ring = self.write('west.toml', made.config()), self.path('ring')
+        self.records = [*divided(made.given(), chance)]
+        pieces, place = [list[bytes]() for _ in range(4)], 0
+        for record in self.records:
+            pieces[min(3, place // (2 * OCTETS_A_SECOND))].append(record)
+            place += octets_in([record])
+        keep(self.ring, pieces, self.config, 2.0)
+        lines = [('west', n, 'outgoing', *(moment(BEGIN + each) for each in times), 'gateway', 'pcma', 1, 2, 0, 0,
+                  f'1f-{n}-1') for n, *times in ((3, 1.12, 1.7, 4.83), (4, 5.6, 6.2, 7.4))]
+        self.write('ring/calls.csv', ''.join(f'{csv_line(line)}\n' for line in (FIELDS, *lines)))
+
+    def taken(self, name: str, status: int = 0) -> str:
+        """What the command says of a call."""
+        done, told, said = support.ran(COMMAND, name, self.ring, '-o', self.path('out'), '--program', support.program())
+        self.assertEqual(done, status, said)
+        self.assertTrue(all(os.stat(path).st_mode & 0o777 == 0o640 for path in told.split()))
+        return re.sub('.*; it goes on\n', '', said)       # (on a slow machine)
+
+    def test_a_call(self) -> None:
+        """Of each call the speech, packets and signals are those of the whole session, octet for octet."""
+        answers = support.run('replay', '--config', self.config, given=b''.join(self.records))
+        for circuit, begin in (3, 1.1), (4, 5.6):
+            self.assertEqual(self.taken(f'1f-{circuit}-1'), '')
+            wave = support.octets_of(self.path(f'out/1f-{circuit}-1.wav'))[58:]
+            slots = [b''.join(each.body for each in records_in(octets) if each.kind is Kind.TRUNK)[circuit::FRAME]
+                     for octets in (b''.join(self.records), answers)]
+            first, count = round((begin - 1) * 8000), len(wave) // 2 - 2     # (two frames at its end may be cut)
+            self.assertGreater(count, 20_000)
+            self.assertIn((wave[:2 * count:2], wave[1:2 * count:2]), [tuple(slot[at:at + count] for slot in slots)
+                                                                      for at in (first - 1, first, first + 1)])
+            rows = list(csv.reader(support.text_of(self.path(f'out/1f-{circuit}-1.csv')).splitlines()))[1:]
+            self.assertEqual([tuple(row[1:4]) for row in rows if row[3]], SIGNALS)
+            self.assertEqual([tuple(row[4:]) for row in rows if row[4]], COMMANDS[circuit])
+            self.assertEqual(rows[0][0], moment(BEGIN + begin))
+            self.packets(circuit, answers)
+            page = support.text_of(self.path(f'out/1f-{circuit}-1.html'))
+            self.assertIn(f'west: call 1f-{circuit}-1', page)
+            self.assertNotIn(f'circuit {7 - circuit}', page)
+
+    def packets(self, circuit: int, answers: bytes) -> None:
+        """Those of the capture have their places of the whole session: what went, behind the octets of its record."""
+        wanted = list[tuple[int, bytes, bool]]()
+        for went, octets in (False, b''.join(self.records)), (True, answers):
+            place, held = 0, list[bytes]()
+            for record in records_in(octets):
+                held += [record.body] * (record.kind is Kind.DATAGRAM and record.circuit == circuit)
+                if record.kind is Kind.TRUNK:
+                    wanted += [(place + len(record.body) * went, body, went) for body in held]
+                    place, held = place + len(record.body), []
+        with open(self.path(f'out/1f-{circuit}-1.pcap'), 'rb') as file:
+            found = [each for each in datagrams(file) if each.target == 5000 + 2 * circuit]
+        self.assertEqual(sorted((round((each.time - BEGIN) * OCTETS_A_SECOND), each.body, each.source_host == GATEWAY)
+                                for each in found), sorted(wanted))
+        self.assertEqual([each.time for each in found], sorted(each.time for each in found))
+
+    def test_what_is_not_kept_any_more(self) -> None:
+        files = sorted(name.removesuffix('.e1gw') for name in os.listdir(self.ring) if name.endswith('.e1gw'))
+        for gone, said in ((0, 'its begin is not kept any more: 0.9 s are missing'),
+                           (1, 'its begin is not kept any more: 2.9 s are missing')):
+            for ending in ('.e1gw', '.json', '.state'):
+                if os.path.exists(path := os.path.join(self.ring, files[gone] + ending)):
+                    os.unlink(path)
+            self.assertIn(said, self.taken('1f-3-1', 1))
+            self.assertIn(said, support.text_of(self.path('out/1f-3-1.html')))
+        shutil.rmtree(self.path('out'))
+        for name, said in (('1f-3-2', 'no line has 1f-3-2'), ('1f-3-1', 'nothing any more of 1f-3-1, which ended at')):
+            os.unlink(os.path.join(self.ring, f'{files[2]}.e1gw')) if name == '1f-3-1' else None
+            self.assertIn(said, self.taken(name, 1))
+            self.assertFalse(os.path.exists(self.path('out')))
+
+
+    def test_another_configuration(self) -> None:
+        """That of another circuit does not matter, that of this one does."""
+        for circuit, status in (7, 0), (4, 1):
+            self.write('west.toml', support.config_text({3: {'prefill': 320}, 4: {'prefill': 320},
+                                                         circuit: {'prefill': 480}}))
+            said = self.taken('1f-4-1', status)
+            self.assertRegex(said, 'circuit 4 begins as new.*--config names' if status else '^$')
+
+
+class CallLineTests(support.FolderCase):
+    def test_the_last_ones_first(self) -> None:
+        rows = [f'west,3,outgoing,,,2027-01-15T08:00:00.000Z,gateway,pcma,1,2,0,0,1f-3-{n}\n' for n in range(4)]
+        head = ','.join(FIELDS) + '\n'
+        self.write('calls.csv.1', head + ''.join(rows[:2]))
+        path = self.write('calls.csv', head + ''.join(rows[2:]) + rows[0][:-2])
+        self.assertEqual([each.call for each in read_calls(path)], ['1f-3-3', '1f-3-2', '1f-3-1', '1f-3-0'])
+        self.assertEqual([each.call for each in read_calls(path, '1f-3-1')], ['1f-3-1'])
+
+
+class EndedCallTests(unittest.TestCase):
+    def test_of_its_lines(self) -> None:
+        """Seizure or answer of the first one, the end of the last one, which comes first."""
+        line = CallLine('west', '3', 'outgoing', '2027-01-15T08:00:01.000Z', '2027-01-15T08:00:02.000Z',
+                        '2027-01-15T08:00:30.000Z', 'gateway', 'pcma', '1', '2', '0', '0', '1f-3-1')
+        bare, later = line._replace(seized='', answered=''), line._replace(seized='', ended='2027-01-15T08:01:00.000Z')
+        for lines, begin, end in (([line], 1, 30), ([later, line], 1, 60), ([later], 2, 60), ([bare], 30, 30)):
+            self.assertEqual(EndedCall.of(lines), EndedCall('1f-3-1', 'west', 3, BEGIN + begin, BEGIN + end))
+
+    def test_where_it_began(self) -> None:
+        """Of all calls of a line the one that its times are of, though they are somewhat late."""
+        second = OCTETS_A_SECOND
+        states = [(n * second, (n + 1) * second, state) for n, state in enumerate(
+            ('idle', 'seized', 'acked', 'answered', 'releasing', 'idle', 'acked', 'blocked', 'fault', 'idle'))]
+        for first, last, begin in ((1.1, 4.2, 1), (3.5, 3.9, 1), (6.2, 7.1, 6), (5.9, 6.1, 6), (4.0, 7.0, 6),
+                                   (7.2, 9.0, 6), (10.5, 12.0, None)):
+            found = begin_of(states, round(first * second), round(last * second))
+            self.assertEqual(found, begin and begin * second, first)
+
+
+class PlaceOfTimeTests(PropertyCase):
+    def test_a_place_and_its_time(self) -> None:
+        """Of each place the time leads back to it, and the time of an outage to its end."""
+        st = self.st
+
+        def check(begin: float, lost: list[tuple[int, float]], place: int) -> None:
+            breaks, at = list[Break](), 0
+            for octets, seconds in lost:
+                at += octets
+                breaks.append(Break(at, seconds, seconds))
+            clock = SessionClock(begin, tuple(breaks))
+            self.assertEqual(clock.place(clock.second(place)), place)
+            for each in breaks:
+                self.assertEqual(clock.place(clock.second(each.place) - each.seconds / 2), each.place)
+        self.holds(check, st.sampled_from((0.0, 1_800_000_000.0)),
+                   st.lists(st.tuples(st.integers(1, 10**7), st.integers(1, 100).map(float)), max_size=4),
+                   st.integers(0, 10**8))
+
+
+if __name__ == '__main__':
+    unittest.main()
