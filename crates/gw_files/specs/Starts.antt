@@ -34,7 +34,7 @@ pub record ReadsWhatWasWritten (disk : Disk) (first second : Contents) : Type 0 
 
 -- a start has this gateway of the log in a folder, or a new one, and no state is named to be loaded
 abbrev pub BeginsIn : List ℕ → GatewayConfig → Gateway → Type 0
-BeginsIn folder config gateway = BeginsFrom config (Some folder) None (λ place. place ≡ None) gateway
+BeginsIn folder config gateway = BeginsFrom config (Some folder) None gateway
 
 -- .. by what it was given of files that hold this
 abbrev pub IsGivenBy : (disk : Disk) (folder : List ℕ) (config : GatewayConfig) (gateway : Gateway)
