@@ -81,18 +81,31 @@ class RequestTests(unittest.TestCase):
         self.assertEqual(dahdi.buffers_of(Blocks(16, 8)), at(bytes(BUFFERS.size), (8, 8), (12, 496)))
 
     def test_devices(self) -> None:
-        """By the driver of a device, and by the signalling of the other channels of its span."""
+        """By the driver of a device."""
         with open(os.devnull, 'rb') as device, tempfile.TemporaryFile() as file:
             self.assertFalse(dahdi.is_channel(device.fileno()) or dahdi.is_channel(file.fileno()))
             with mock.patch('e1gw.dahdi.CHANNELS', 'mem'):
                 self.assertTrue(dahdi.is_channel(device.fileno()))
-        with tempfile.TemporaryDirectory() as folder, mock.patch('e1gw.dahdi.DEVICES', folder):
-            for place in range(2, 32):
-                os.mkdir(each := f'{folder}/dahdi!chan!003!{place:03}')
-                Path(each, 'sig').write_text('Slave\n', encoding='ascii')
-            self.assertTrue(DahdiChannel(-1).is_bundle(3) and DahdiChannel(-1).is_bundle(4))
-            Path(each, 'sig').write_text('Clear\n', encoding='ascii')
-            self.assertFalse(DahdiChannel(-1).is_bundle(3))
+
+    def test_bundles(self) -> None:
+        """Each other channel of a bundle is refused, though no program has it open."""
+        faults = dict[str, int]()
+
+        def refuses(path: str, flags: int) -> int:
+            self.assertEqual(flags, os.O_RDWR)
+            if number := faults.get(path, errno.EBUSY):
+                raise OSError(number, os.strerror(number))
+            return os.dup(0)
+        with tempfile.TemporaryDirectory() as folder, mock.patch('e1gw.dahdi.DEVICES', folder), \
+                mock.patch('e1gw.dahdi.os.open', refuses):
+            self.assertTrue(DahdiChannel(-1).is_bundle(3))
+            for number, is_bundle in (errno.EACCES, True), (0, False), (errno.ENXIO, False):
+                faults['/dev/dahdi/chan/003/031'] = number
+                self.assertEqual((number, DahdiChannel(-1).is_bundle(3)), (number, is_bundle))
+            for used, is_bundle in ('1', False), ('0', True):
+                os.makedirs(each := f'{folder}/dahdi!chan!004!002', exist_ok=True)
+                Path(each, 'in_use').write_text(f'{used}\n', encoding='ascii')
+                self.assertEqual(DahdiChannel(-1).is_bundle(4), is_bundle)
 
     def test_blocks(self) -> None:
         for frames, buffers in (16, 8), (64, 16), (1, 2), (32, 32):
