@@ -25,6 +25,9 @@ CLEAR = 1 << 7              # the signalling of a clear channel
 MOST_FRAMES = 64            # of a block: the most that the program reads at once
 MOST_BUFFERS, MOST_OCTETS = 32, 32_768
 FRAMES_A_MS = 8
+# What a span counts, by names of ITU-T G.821 and of its driver.
+COUNTS = ('bipolar_violations', 'crc4_errors', 'e_bits', 'alignment_signal_errors', 'framing_errors', 'code_violations',
+          'bit_errors', 'errored_seconds', 'interrupts_missed')
 CONFIGURES = 'clear=1-31 (for the first span) in /etc/dahdi/system.conf, then dahdi_cfg'
 
 
@@ -104,7 +107,7 @@ class ChannelFacts:
 
 @dataclass(frozen=True)
 class SpanFacts:
-    """A span: its name, alarms and channels, and what it has counted, by names of ITU-T G.821 and of its driver."""
+    """A span: its name, alarms and channels, and what it has counted."""
 
     number: int
     name: str
@@ -129,12 +132,10 @@ def channel_facts(octets: bytes) -> ChannelFacts:
 
 def span_facts(octets: bytes) -> SpanFacts:
     number, name, _, alarms, _, _, *rest = SPAN.unpack(octets)
-    bipolar, crc4, e_bits, frame, framing, code, bits, _, seconds, missed, _, _, channels, *_ = rest
+    *counts, _, seconds, missed, _, _, channels = rest[:13]
     known = Alarm(alarms & sum(Alarm))
-    return SpanFacts(number, name.partition(b'\0')[0].decode(errors='replace'), known, channels, {
-        'bipolar_violations': bipolar, 'crc4_errors': crc4, 'e_bits': e_bits, 'alignment_signal_errors': frame,
-        'framing_errors': framing, 'code_violations': code, 'bit_errors': bits, 'errored_seconds': seconds,
-        'interrupts_missed': missed})
+    return SpanFacts(number, name.partition(b'\0')[0].decode(errors='replace'), known, channels,
+                     dict(zip(COUNTS, (*counts, seconds, missed))))
 
 
 def blocks_of(octets: bytes) -> Blocks:
