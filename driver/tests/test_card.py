@@ -153,26 +153,35 @@ class SetUpTests(unittest.TestCase):
 @unittest.skipUnless(shutil.which('strace'), 'strace makes the errors')
 class EventTests(support.FolderCase):
     def test_while_nobody_takes_it(self) -> None:
-        """While an event waits, each read of what has come fails. The program goes on, and asks once a millisecond."""
+        """While an event waits, each read of what has come fails, and each write. The program goes on, and asks once or
+        twice a millisecond."""
         self.write('trunk.toml', support.config_text({}))
         os.mkfifo(device := self.path('device'))
-        both, log, said = os.open(device, os.O_RDWR), self.path('log'), self.path('said')
-        os.write(both, bytes(512))
-        words = ['strace', '-I2', '-f', '-P', device, '-e', 'trace=read', '-e', 'inject=read:error=500', '-o', log,
-                 support.program(), 'trunk', '--config', self.path('trunk.toml'), '--control', self.path('control')]
-        with open(said, 'wb') as errors, subprocess.Popen(words, stdin=both, stdout=errors, stderr=errors) as process:
-            support.until(lambda: self.reads(log) > 10 or process.poll() is not None)
-            began, before = time.monotonic(), self.reads(log)
-            support.until(lambda: self.reads(log) > before + 200 or process.poll() is not None)
+        for call, more in ('read', ('--control', self.path('control'))), ('read', ()), ('write', ()):
+            with self.subTest(call=call, more=more):
+                both, log = os.open(device, os.O_RDWR), self.path('log')
+                os.write(both, bytes(512))
+                self.tried(both, log, [
+                    'strace', '-I2', '-f', '-P', device, '-e', f'trace={call}', '-e', f'inject={call}:error=500',
+                    '-o', log, support.program(), 'trunk', '--config', self.path('trunk.toml'), *more])
+                os.close(both)
+                os.remove(log)
+
+    def tried(self, both: int, log: str, words: list[str]) -> None:
+        """Runs a program at a device, whose failures are in a log."""
+        with open(self.path('said'), 'wb') as errors, \
+                subprocess.Popen(words, stdin=both, stdout=both, stderr=errors) as process:
+            support.until(lambda: self.failures(log) > 10 or process.poll() is not None)
+            began, before = time.monotonic(), self.failures(log)
+            support.until(lambda: self.failures(log) > before + 600 or process.poll() is not None)
             took = time.monotonic() - began
             status = process.poll()
             process.terminate()
-        os.close(both)
-        self.assertIsNone(status, support.text_of(said))
-        self.assertGreater(took, 0.1)
+        self.assertIsNone(status, support.text_of(self.path('said')))
+        self.assertGreater(took, 0.25)
 
     @staticmethod
-    def reads(log: str) -> int:
+    def failures(log: str) -> int:
         return support.text_of(log).count('(errno 500)') if os.path.exists(log) else 0
 
 
