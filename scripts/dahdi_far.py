@@ -15,7 +15,7 @@ from e1gw.tools.exchange import Called
 
 FRAMES, SLOTS = 16, 31
 SIGNALLING = 15             # where slot 16 is in a frame of slots 1 to 31
-BLOCKS = Blocks(FRAMES, 8)
+BLOCKS = Blocks(FRAMES, 16)
 
 
 def is_first(octets: bytes, at: int) -> bool:

@@ -27,7 +27,7 @@ from e1gw.testing.service import ask
 
 PORTS = (24002, 34002), (24102, 34102)      # of e1gw-config, local and its peer's, of both sites
 THIRTY = range(1, 31)
-DEFAULT = Blocks(16, 8)
+DEFAULT = Blocks(16, 16)
 NOBODY = 65534
 # What a card counts, in the order in which our module gives them.
 COUNTS = ('bipolar_violations', 'crc4_errors', 'e_bits', 'alignment_signal_errors', 'framing_errors', 'code_violations',
@@ -186,7 +186,7 @@ def alarms() -> str:
         pair.are_heard(BACK)
     asks(pair.are_answered(), f'{pair.west.states()}, {pair.east.states()}')
     asks(west.programs() == program, 'an alarm has ended the program of the west')
-    inside.has_all(west.service.said() + pair.east.service.said(), 'card: .* alarm')
+    inside.has_all(west.service.said() + pair.east.service.said(), 'card: [A-Z ]+ alarm')
     asks(max(shares) < 1.5 * shares[0], f'the program has {shares} of a core, at first without an alarm')
     return f'the program has {100 * max(shares):.1f} % of a core at most, {100 * shares[0]:.1f} % without an alarm'
 
@@ -277,6 +277,7 @@ def refused() -> str:
                 NOBODY, partial(open_device, DEVICES[0], DEVICES[0], DEFAULT, True))))
         inside.has_all('\n'.join(said), '/dev/dahdi/')
     finally:
+        os.chmod('/dev/dahdi/chan/001/001', 0o660)
         inside.unconfigure()
         inside.configure()
         pair.west.end()
@@ -361,7 +362,7 @@ def delays() -> str:
     """What blocks of so many frames cost, and what is lost with them."""
     Shared.end()
     for frames in 1, 2, 4, 8, 16, 32, 64:
-        pair = Pair('--block', str(frames), '--buffers', str(min(32, 32768 // (31 * frames), max(8, 128 // frames))))
+        pair = Pair('--block', str(frames), '--buffers', str(min(32, 32768 // (31 * frames), max(16, 256 // frames))))
         try:
             pair.calls()
             before, began = [site.losses() for site in pair.sites], time.monotonic()
