@@ -13,26 +13,44 @@ import tempfile
 from pathlib import Path
 from typing import Iterator
 
-from dahdi_build import CannotBuild, MachineFiles, linked, put, staged_python
+from dahdi_build import PYTHON, UNITS, CannotBuild, MachineFiles, put, put_libraries, staged_python
 from paths import TOP
 
 QEMU = 'qemu-system-x86_64'
 MEMORY = 640                # MiB
-APPEND = 'console=ttyS0 loglevel=1 panic=-1 mitigations=off lpj=4000000 tsc=reliable quiet'
-# The first process: what each Linux has, and then the scenes.
+APPEND = 'console=ttyS0 loglevel=1 panic=-1 mitigations=off lpj=4000000 tsc=reliable quiet ' \
+    'systemd.unit=scenes.service systemd.show_status=0 systemd.log_level=err'
+# The first process makes the root one that systemd can leave out of sight of units, and becomes systemd.
 INIT = '''#!/bin/busybox sh
-export PATH=/usr/sbin:/usr/bin:/sbin:/bin HOME=/ LC_ALL=C.UTF-8 PYTHONPATH=/e1gw/driver:/e1gw/scripts
 /bin/busybox --install -s /bin
-mount -t proc proc /proc; mount -t sysfs sys /sys; mount -t devtmpfs dev /dev
-mkdir -p /dev/shm; mount -t tmpfs shm /dev/shm; mount -t tmpfs tmp /tmp
-ln -s /proc/self/fd /dev/fd; ip link set lo up
-cd /tmp
-python3.11 -B -m dahdi_scenes {words} < /dev/null
-poweroff -f
+mkdir /new
+mount -t tmpfs root /new
+cp -a [!nps]* /new
+mkdir /new/proc /new/sys
+ln -s /bin/env /new/usr/bin/env
+exec switch_root /new /lib/systemd/systemd
+'''
+SERVICE = '''[Unit]
+After=basic.target
+[Service]
+Type=oneshot
+Environment=PATH=/usr/sbin:/usr/bin:/sbin:/bin HOME=/ LC_ALL=C.UTF-8 PYTHONPATH=/e1gw/driver:/e1gw/scripts
+WorkingDirectory=/tmp
+ExecStart=/usr/bin/python3.11 -B -m dahdi_scenes {words}
+StandardOutput=file:/dev/ttyS0
+ExecStopPost=/bin/poweroff -f
 '''
 KERNEL = re.compile(r'\s*$|\[ *[0-9.]+\]')      # what the kernel says
 SCENES = ('dahdi_far.py', 'dahdi_inside.py', 'dahdi_scenes.py', 'dahdi_start.py', 'dahdi_talk.py', 'paths.py')
-READ = 'docs/START.md', 'docs/SYMPTOMS.md', 'dist/system/e1gw-trunk@.service', 'dist/system/e1gw.rules'
+# What the package has, and where.
+PACKAGE = {
+    'dist/system/e1gw-trunk@.service': f'{UNITS}/e1gw-trunk@.service',
+    'dist/system/e1gw-.service.d/10-e1gw.conf': f'{UNITS}/e1gw-.service.d/10-e1gw.conf',
+    'dist/system/example.toml': 'etc/e1gw/example.toml', 'dist/system/dscp': 'usr/lib/e1gw/dscp',
+    'dist/system/e1gw.sysusers': 'usr/lib/sysusers.d/e1gw.conf', 'driver/launch': 'usr/lib/e1gw/launch',
+    'dist/system/e1gw.rules': 'usr/lib/udev/rules.d/61-e1gw.rules',
+    'docs/START.md': 'e1gw/docs/START.md', 'docs/SYMPTOMS.md': 'e1gw/docs/SYMPTOMS.md'}
+COMMANDS = 'e1gw-config', 'e1gw-ctl', 'e1gw-trunk'
 
 
 def entry(name: str, mode: int, octets: bytes) -> bytes:
@@ -60,20 +78,32 @@ def write_archive(folder: Path, file: Path) -> None:
         archive.write(entry('TRAILER!!!', 0, b''))
 
 
+def put_package(its: MachineFiles, folder: Path, program: str) -> None:
+    """What the package has of a trunk, and what Debian has of Python and of users."""
+    for name, place in PACKAGE.items():
+        put(Path(TOP, name), folder / place)
+    shutil.copytree(Path(TOP, 'driver/e1gw'), folder / 'usr/lib/e1gw/e1gw',
+                    ignore=shutil.ignore_patterns('__pycache__'))
+    put(program, folder / 'usr/bin/e1gw')
+    for name in COMMANDS:
+        (folder / 'usr/bin' / name).symlink_to('../lib/e1gw/launch')
+    (folder / 'usr/bin/python3').symlink_to(Path(PYTHON).name)
+    for name, text in ('passwd', 'root:x:0:0::/:/bin/sh\n'), ('group', 'root:x:0:\n'), ('machine-id', f'{1:032}\n'):
+        (folder / 'etc' / name).write_text(text)
+
+
 def put_programs(its: MachineFiles, folder: Path, programs: dict[str, str]) -> None:
     """The Python programs and the scenes as they are now, compiled, and built programs with their libraries."""
     shutil.copytree(Path(TOP, 'driver'), folder / 'e1gw/driver',
                     ignore=shutil.ignore_patterns('__pycache__', 'tests'))
     for name in SCENES:
         put(Path(TOP, 'scripts', name), folder / 'e1gw/scripts' / name)
-    for name in READ:
-        put(Path(TOP, name), folder / 'e1gw' / name)
-    staged_python(its, '-m', 'compileall', '-q', '-s', str(folder), str(folder / 'e1gw'))
+    put_package(its, folder, programs['e1gw'])
+    for name in 'e1gw', 'usr/lib/e1gw':
+        staged_python(its, '-m', 'compileall', '-q', '-s', str(folder), str(folder / name))
     for name, path in programs.items():
         put(path, folder / 'e1gw/out' / name)
-        for library in linked(Path(path)):
-            if not (its.image / library.lstrip('/')).exists():
-                put(library, folder / library.lstrip('/'))
+        put_libraries(its, Path(path), folder)
 
 
 def boot(its: MachineFiles, programs: dict[str, str], scenes: list[str], seconds: int) -> Iterator[str]:
@@ -82,7 +112,8 @@ def boot(its: MachineFiles, programs: dict[str, str], scenes: list[str], seconds
         own, ram = Path(work, 'own'), Path(work, 'ram')
         own.mkdir()
         put_programs(its, own, programs)
-        (own / 'init').write_text(INIT.format(words=shlex.join(scenes)))
+        (own / UNITS / 'scenes.service').write_text(SERVICE.format(words=shlex.join(scenes)))
+        (own / 'init').write_text(INIT)
         (own / 'init').chmod(0o755)
         for folder in its.image, own:
             write_archive(folder, ram)

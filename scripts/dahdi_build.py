@@ -1,5 +1,5 @@
-"""What the machine of scripts/dahdi boots: Debian's kernel, DAHDI's modules built for it, and a root with Python, made
-in a folder that is kept. Packages are downloaded by apt-get and unpacked there; none is installed."""
+"""What the machine of scripts/dahdi boots: Debian's kernel, DAHDI's modules built for it, and a root with systemd, udev
+and Python, made in a folder that is kept. Packages are downloaded by apt-get and unpacked there; none is installed."""
 from __future__ import annotations
 
 import glob
@@ -14,8 +14,9 @@ from typing import Callable, Iterable, Iterator
 
 from paths import TOP
 
-PACKAGES = ('busybox-static', 'dahdi', 'dahdi-source', 'libpython3.11-minimal', 'libpython3.11-stdlib',
-            'libtonezone2.0', 'python3.11-minimal')
+PACKAGES = ('busybox-static', 'dahdi', 'dahdi-source', 'libapparmor1', 'libcap-ng0', 'libcap2', 'libip4tc2', 'libkmod2',
+            'libpython3.11-minimal', 'libpython3.11-stdlib', 'libseccomp2', 'libssl3', 'libsystemd-shared',
+            'libtonezone2.0', 'python3.11-minimal', 'systemd', 'udev')
 ALARMS = Path(TOP, 'scripts/dahdi_alarms.c')        # our own module
 MODULES = ('dahdi', 'dahdi_dynamic', 'dahdi_dynamic_loc', 'dahdi_dummy', ALARMS.stem)   # (dummy gives the interrupt)
 CONFIG = ('DAHDI_BUILD_ALL=', 'HOTPLUG_FIRMWARE=yes', 'CONFIG_DAHDI=m', 'CONFIG_DAHDI_DYNAMIC=m',
@@ -26,7 +27,18 @@ LIBRARY = 'usr/lib/python3.11'
 IMPORTED = ('compileall', 'encodings.ascii', 'encodings.idna', 'encodings.latin_1', 'e1gw.__main__', 'e1gw.config',
             'e1gw.ctl', 'e1gw.exchange', 'e1gw.service.service', 'e1gw.testing.openr2', 'e1gw.testing.service',
             'e1gw.tools.exchange', 'shlex')
-COPIED = ('usr/sbin/dahdi_cfg', 'bin/busybox', PYTHON)
+COPIED = ('usr/sbin/dahdi_cfg', 'bin/busybox', PYTHON, 'bin/journalctl', 'bin/systemctl', 'bin/systemd-sysusers',
+          'bin/udevadm', 'lib/systemd/systemd', 'lib/systemd/systemd-journald')
+FILES = ('lib/udev/rules.d/50-udev-default.rules', 'lib/udev/rules.d/60-dahdi.rules',
+         'lib/udev/rules.d/99-systemd.rules', *(f'usr/share/dahdi/dahdi_{name}' for name in (
+             'handle_device', 'span_config')))
+# What systemd starts at boot, and what the units of the package name.
+UNITS = 'lib/systemd/system'
+WANTED = ('sockets.target.wants/systemd-journald.socket', 'sockets.target.wants/systemd-journald-dev-log.socket',
+          'sockets.target.wants/systemd-udevd-control.socket', 'sockets.target.wants/systemd-udevd-kernel.socket',
+          'sysinit.target.wants/systemd-journald.service', 'sysinit.target.wants/systemd-sysusers.service',
+          'sysinit.target.wants/systemd-udev-trigger.service', 'sysinit.target.wants/systemd-udevd.service')
+LIBRARIES = 'lib/x86_64-linux-gnu', 'usr/lib/x86_64-linux-gnu', 'usr/lib/x86_64-linux-gnu/systemd'
 LISTS = 'import importlib, sys; [importlib.import_module(name) for name in sys.argv[1:]]; ' \
     'print(*(each.__file__ for each in list(sys.modules.values()) if getattr(each, "__file__", None)), sep="\\n")'
 
@@ -146,10 +158,14 @@ def library_files(its: MachineFiles) -> list[Path]:
     return sorted(path for path in listed if path.is_relative_to(its.root))
 
 
-def linked(path: Path) -> Iterator[str]:
-    """The libraries of a program, as the linker of this system finds them, and that one."""
-    done = subprocess.run(['ldd', path], capture_output=True, text=True, check=False)
-    yield from re.findall(r'(/\S+) \(0x', done.stdout)
+def linked(its: MachineFiles, path: Path) -> Iterator[tuple[str, str]]:
+    """The libraries of a program, as the linker of this system finds them, of the unpacked ones first, and that one:
+    each with its place in the machine."""
+    folders = ':'.join(f'{its.root}/{name}' for name in LIBRARIES)
+    done = subprocess.run(['ldd', path], capture_output=True, text=True, check=False,
+                          env={'PATH': os.environ['PATH'], 'LD_LIBRARY_PATH': folders})
+    for found in re.findall(r'(/\S+) \(0x', done.stdout):
+        yield found, found.removeprefix(str(its.root)).lstrip('/')
 
 
 def put(source: Path | str, place: Path) -> None:
@@ -158,33 +174,46 @@ def put(source: Path | str, place: Path) -> None:
     shutil.copy2(source, place)
 
 
-def put_libraries(its: MachineFiles, path: Path) -> None:
-    """Copies the libraries of a program into the image."""
-    for library in linked(path):
-        if not (place := its.image / library.lstrip('/')).exists():
-            put(library, place)
+def put_libraries(its: MachineFiles, path: Path, folder: Path) -> None:
+    """Copies the libraries of a program into a folder, but for those of the image."""
+    for library, place in linked(its, path):
+        if not any((each / place).exists() for each in (its.image, folder)):
+            put(library, folder / place)
+
+
+def put_units(its: MachineFiles) -> None:
+    """Copies targets, and what is started at boot."""
+    units = its.image / UNITS
+    for path in (its.root / UNITS).glob('*.target'):
+        if not path.is_symlink():
+            put(path, units / path.name)
+    for name in WANTED:
+        wants, _, unit = name.partition('/')
+        put(its.root / UNITS / unit, units / unit)
+        (units / wants).mkdir(exist_ok=True)
+        (units / name).symlink_to(f'../{unit}')
 
 
 def make_image(its: MachineFiles) -> None:
     """Makes the image: modules, tools, Python and what it imports, compiled."""
     shutil.rmtree(its.image, ignore_errors=True)
-    for folder in 'dev', 'etc/dahdi', 'proc', 'run', 'sys', 'tmp':
+    for folder in 'dev', 'etc/dahdi', 'proc', 'run', 'sys', 'tmp', 'var':
         (its.image / folder).mkdir(parents=True)
     for name in MODULES:
         place = its.image / 'modules' / f'{name}.ko'
         put(its.drivers / f'{name}.ko', place)
         ran('strip', '-g', place)
-    for copied in COPIED:
+    for copied in COPIED + FILES:
         put(its.root / copied, its.image / copied)
-    for tonezone in its.root.glob('usr/lib/**/libtonezone.so.2*'):
-        put(tonezone, its.image / 'lib/x86_64-linux-gnu' / tonezone.name)
+    (its.image / 'lib/systemd/systemd-udevd').symlink_to('/bin/udevadm')
+    put_units(its)
     for path in library_files(its):
         put(path, its.image / path.relative_to(its.root))
     staged_python(its, '-m', 'compileall', '-q', str(its.image / LIBRARY))
-    for each in (its.image / copied for copied in COPIED):
-        put_libraries(its, each)
+    for each in (its.root / copied for copied in COPIED):
+        put_libraries(its, each, its.image)
     for each in map(Path, glob.glob(f'{its.image}/{LIBRARY}/lib-dynload/*.so')):
-        put_libraries(its, each)
+        put_libraries(its, each, its.image)
 
 
 def is_kept(folder: Path) -> bool:

@@ -7,7 +7,7 @@ from typing import Callable
 
 from dahdi_inside import DEVICES      # (which makes e1gw known)
 from e1gw.card_opening import open_device
-from e1gw.dahdi import Blocks
+from e1gw.dahdi import Blocks, DahdiChannel
 from e1gw.exchange import FAS, NFAS, Exchange
 from e1gw.session import FRAME, MULTIFRAME
 from e1gw.testing.openr2 import OpenR2
@@ -15,7 +15,7 @@ from e1gw.tools.exchange import Called
 
 FRAMES, SLOTS = 16, 31
 SIGNALLING = 15             # where slot 16 is in a frame of slots 1 to 31
-BLOCKS = Blocks(FRAMES, 8)
+BLOCKS = Blocks(FRAMES, 16)
 
 
 def is_first(octets: bytes, at: int) -> bool:
@@ -67,8 +67,11 @@ class FarEnd:
         os.setpriority(os.PRIO_PROCESS, threading.get_native_id(), -20)     # (an exchange has a machine of its own)
         frames = Multiframes()
         while not self._ends.is_set():
-            came = frames.take(os.read(self._file, BLOCKS.octets()))
-            os.write(self._file, without_slot_0(self._step(came)))
+            try:
+                came = frames.take(os.read(self._file, BLOCKS.octets()))
+                os.write(self._file, without_slot_0(self._step(came)))
+            except OSError:         # (of an event, as long as it is not taken)
+                DahdiChannel(self._file).event()
 
     def close(self) -> None:
         self._ends.set()

@@ -9,9 +9,9 @@ import struct
 import subprocess
 import sys
 import time
-from contextlib import suppress
+from contextlib import contextmanager, suppress
 from pathlib import Path
-from typing import Any, Callable, Iterable
+from typing import Any, Callable, Iterable, Iterator
 
 from paths import TOP
 from e1gw.dahdi import NUMBER, SPAN, SpanFacts, request_of, span_facts
@@ -27,6 +27,8 @@ CLEAR, LAW = 'clear=1-31\nclear=32-62\n', 'alaw=1-62\n'
 LOADED = 'dahdi', 'dahdi_dynamic', 'dahdi_dynamic_loc', 'dahdi_dummy'
 ALARMS = 'dahdi_alarms'                             # our own module
 SOON = 20.0                 # seconds for what has to happen
+BACK = 2.0                  # for a trunk to be there again once its card is
+MOST = 800                  # characters of what was found instead
 
 
 class SceneFailed(Exception):
@@ -39,7 +41,7 @@ def until(condition: Callable[[], Any], what: str, seconds: float = SOON,
     began = time.monotonic()
     while not condition():
         if time.monotonic() > began + seconds:
-            raise SceneFailed(f'not within {seconds:g} s: {what}' + (f', but {found()}' if found else ''))
+            raise SceneFailed(f'not within {seconds:g} s: {what}' + (f', but {str(found())[:MOST]}' if found else ''))
         time.sleep(0.02)
     return time.monotonic() - began
 
@@ -150,17 +152,14 @@ def remove(span: int) -> Path:
 def give_back(span: int, folder: Path) -> None:
     """Gives it back, with its numbers."""
     (folder / 'assign_span').write_text(f'1:{span + 1}:{1 + SLOTS * span}', encoding='ascii')
-    configure()
+    ran('dahdi_cfg')
 
 
 def configure(text: str = CLEAR + LAW) -> int:
-    """Has dahdi_cfg configure the channels, and names those that udev would name."""
+    """Has dahdi_cfg configure the channels, which udev has named."""
     Path('/etc/dahdi/system.conf').write_text(text, encoding='ascii')
-    status = ran('dahdi_cfg')
-    for number, device in enumerate(DEVICES, 1):
-        if not os.path.islink(device):
-            os.symlink(f'/dev/dahdi/chan/{number:03}/001', device)
-    return status
+    ran('udevadm', 'settle')
+    return ran('dahdi_cfg')
 
 
 def unconfigure() -> None:
@@ -173,14 +172,30 @@ def span_of(number: int) -> SpanFacts:
     return span_facts(control(SPAN_STATUS, NUMBER.pack(number) + bytes(SPAN.size - NUMBER.size)))
 
 
-def tell(span: int, alarms: int, maintenance: bool = False) -> None:
-    """A span has these alarms, as its card's own driver would tell."""
-    parameter('told', f'{span + 1} {alarms} {maintenance:d}')
+def tell(span: int, alarms: int, maintenance: bool = False, count: int = 0) -> None:
+    """A span has these alarms, as its card's own driver would tell, and counts from this one on."""
+    parameter('told', f'{span + 1} {alarms} {maintenance:d} {count}')
 
 
 def cut(span: int | None) -> None:
     """Nothing comes to a span, or to each something again."""
     parameter('cut', str(0 if span is None else span + 1))
+
+
+def slip(span: int) -> None:
+    """Frames for a span are lost: 8, which are no whole multiframe."""
+    parameter('slip', str(span + 1))
+
+
+@contextmanager
+def told() -> Iterator[None]:
+    """Our module is there, which makes alarms; afterwards there is none."""
+    asks(ran('insmod', f'/modules/{ALARMS}.ko') == 0, 'our module is not loaded')
+    try:
+        yield
+    finally:
+        cut(None)
+        ran('rmmod', ALARMS)
 
 
 def parameter(name: str, text: str) -> None:

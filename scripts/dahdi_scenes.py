@@ -4,6 +4,7 @@ from __future__ import annotations
 
 import os
 import signal
+import subprocess
 import sys
 import time
 import traceback
@@ -14,20 +15,24 @@ from typing import Callable, Iterator
 
 import dahdi_inside as inside
 from paths import TOP
-from dahdi_inside import DEVICES, Site, SceneFailed, asks, until
+from dahdi_inside import BACK, DEVICES, Site, SceneFailed, asks, until
 from dahdi_far import FarEnd, openr2, simulated
 from dahdi_start import pasted
 from dahdi_talk import Comparison, Talk, figures
-from e1gw.card_opening import open_device
+from e1gw.card_opening import NO_CARD, open_device
 from e1gw.dahdi import Alarm, Blocks
 from e1gw.events import words_of
 from e1gw.testing.openr2 import OpenR2
+from e1gw.testing.service import ask
 
 PORTS = (24002, 34002), (24102, 34102)      # of e1gw-config, local and its peer's, of both sites
 THIRTY = range(1, 31)
-BACK = 2.0                  # seconds after which a trunk is there again once its card is
-DEFAULT = Blocks(16, 8)
+DEFAULT = Blocks(16, 16)
 NOBODY = 65534
+# What a card counts, in the order in which our module gives them.
+COUNTS = ('bipolar_violations', 'crc4_errors', 'e_bits', 'alignment_signal_errors', 'framing_errors', 'code_violations',
+          'bit_errors', 'errored_seconds', 'interrupts_missed')
+FIRST = 11
 R2 = 'R2 call of libopenr2'
 
 
@@ -138,7 +143,7 @@ def removed() -> str:
     time.sleep(3)
     inside.give_back(1, card)
     back = until(lambda: pair.east.transport().get('red') == 0, 'the east has its card again', BACK)
-    pair.are_heard()
+    pair.are_heard(BACK)
     until(lambda: pair.west.said('card: RED alarm over'), 'the west says that RED is over', BACK)
     asks(pair.are_answered(), f'{pair.west.states()}, {pair.east.states()}')
     asks(pair.west.programs() == program, 'the alarm has ended the program of the west')
@@ -163,9 +168,8 @@ def alarms() -> str:
     pair = Shared.begun()
     pair.calls()
     west, program = pair.west, pair.west.programs()
-    asks(inside.ran('insmod', f'/modules/{inside.ALARMS}.ko') == 0, 'our module is not loaded')
     shares = [share(program[0], 2)]
-    try:
+    with inside.told():
         for alarm, is_maintenance in TOLD:
             inside.tell(0, alarm, is_maintenance)
             has_alarm(west, alarm)
@@ -178,14 +182,11 @@ def alarms() -> str:
         shares.append(share(program[0], 2))
         inside.cut(None)
         until(lambda: west.said('card: YELLOW alarm over'), 'YELLOW is over')
-        until(lambda: pair.east.said('card: RED alarm over'), 'RED is over')
-    finally:
-        inside.cut(None)
-        inside.ran('rmmod', inside.ALARMS)
-    pair.are_heard()
+        until(lambda: pair.east.said('card: RED alarm over'), 'RED is over', BACK)
+        pair.are_heard(BACK)
     asks(pair.are_answered(), f'{pair.west.states()}, {pair.east.states()}')
     asks(west.programs() == program, 'an alarm has ended the program of the west')
-    inside.has_all(west.service.said() + pair.east.service.said(), 'card: ')
+    inside.has_all(west.service.said() + pair.east.service.said(), 'card: [A-Z ]+ alarm')
     asks(max(shares) < 1.5 * shares[0], f'the program has {shares} of a core, at first without an alarm')
     return f'the program has {100 * max(shares):.1f} % of a core at most, {100 * shares[0]:.1f} % without an alarm'
 
@@ -196,6 +197,37 @@ def has_alarm(site: Site, alarm: Alarm) -> None:
     key = str(alarm.name).lower()
     until(lambda: site.transport().get(key) == 1, f'the {site.name} has {name}', found=site.transport)
     asks(site.said(words_of({'event': 'card', 'what': name, 'on': True})), f'the {site.name} says nothing of {name}')
+
+
+def slips() -> str:
+    """A slip ends no call; what a card counts is told by its name."""
+    pair = Shared.begun()
+    pair.calls()
+    west, east = pair.sites
+    before = east.losses()
+    with inside.told():
+        inside.slip(1)
+        until(lambda: east.losses() > before, 'the east has lost slot 16', found=east.losses)
+        pair.are_heard(BACK)
+        inside.tell(0, 0, count=FIRST)
+        numbers = range(FIRST, FIRST + len(COUNTS))
+        until(lambda: [west.transport().get(name) for name in COUNTS] == [*numbers], 'the counts', found=west.transport)
+        inside.has_all(east.service.said() + ask(west.service.control, b'status'), '(card: span|slot)')
+        inside.tell(0, 0)
+    asks(pair.are_answered(), f'{west.states()}, {east.states()}')
+    return f'slot 16 is found again, thirty calls stay; {len(COUNTS)} counts, each under its name'
+
+
+def reset() -> str:
+    """Channels are configured again while they are open."""
+    pair = Shared.begun()
+    pair.calls()
+    inside.unconfigure()
+    time.sleep(1)
+    inside.configure()
+    pair.are_heard(BACK)
+    asks(pair.are_answered(), f'{pair.west.states()}, {pair.east.states()}')
+    return 'alignment is found again, thirty calls stay'
 
 
 def unloaded() -> str:
@@ -210,16 +242,17 @@ def unloaded() -> str:
     until(lambda: inside.unload() == 0, 'the driver is unloaded')
     asks(not Path(DEVICES[0]).exists(), 'the channel is still there')
     time.sleep(1)
+    asks(pair.west.said(NO_CARD), 'the west says nothing of its driver')
     inside.load()
     took = max(until(site.transport_is_open, f'{site.name} has its card again', BACK) for site in pair.sites)
-    pair.are_heard()
+    pair.are_heard(BACK)
     return f'open {took:.1f} s behind the driver; calls: {pair.west.states()}'
 
 
 REFUSALS = (
     # (what, the device, the channels of dahdi_cfg, whether --clear was given, what is said)
     ('in use', DEVICES[0], '', True, 'in use by .*e1gw.*'),
-    ('no such channel', '/dev/dahdi/9', '', True, 'No such file.*lsdahdi'),
+    ('no such channel', '/dev/dahdi/99', '', True, 'No such file.*lsdahdi'),
     ('one of a bundle', '/dev/dahdi/chan/002/005', '', True, 'busy.*give its first one'),
     ('without --clear', DEVICES[1], '', False, 'DAHDI keeps time slot 0: --clear'),
     ('single channels', DEVICES[1], 'clear=1-31\nbchan=32-62\n', True, 'channel 32 is one of 64 kbit/s: clear='),
@@ -238,12 +271,13 @@ def refused() -> str:
                 inside.unconfigure()
                 inside.configure(channels + inside.LAW)
             said.append(inside.matches(what, words, partial(open_device, device, device, DEFAULT, is_clear)))
-        for mode, words in (0o660, 'be in the group 0'), (0o600, 'e1gw.rules of the package'):
+        for mode, words in (0o660, 'be in the group e1gw'), (0o600, 'e1gw.rules goes to'):
             os.chmod('/dev/dahdi/chan/001/001', mode)
             said.append(inside.matches('as nobody', words, lambda: inside.as_user(
                 NOBODY, partial(open_device, DEVICES[0], DEVICES[0], DEFAULT, True))))
         inside.has_all('\n'.join(said), '/dev/dahdi/')
     finally:
+        os.chmod('/dev/dahdi/chan/001/001', 0o660)
         inside.unconfigure()
         inside.configure()
         pair.west.end()
@@ -328,7 +362,7 @@ def delays() -> str:
     """What blocks of so many frames cost, and what is lost with them."""
     Shared.end()
     for frames in 1, 2, 4, 8, 16, 32, 64:
-        pair = Pair('--block', str(frames), '--buffers', str(min(32, 32768 // (31 * frames), max(8, 128 // frames))))
+        pair = Pair('--block', str(frames), '--buffers', str(min(32, 32768 // (31 * frames), max(16, 256 // frames))))
         try:
             pair.calls()
             before, began = [site.losses() for site in pair.sites], time.monotonic()
@@ -352,6 +386,8 @@ SCENES = (
     Scene('killed', killed),
     Scene('removed', removed),
     Scene('alarms', alarms),
+    Scene('slips', slips),
+    Scene('reset', reset),
     Scene('unloaded', unloaded),
     Scene('refused', refused),
     Scene('simulated exchange', simulated_exchange),
@@ -374,9 +410,11 @@ def tried(scene: Scene) -> bool:
 
 
 def last_lines() -> Iterator[str]:
-    """Of what the trunks have said."""
+    """Of what the trunks have said, and of the journal."""
     for path in sorted(Path('/tmp').glob('*.log')):
         yield from (f'  {path.stem}: {line}' for line in path.read_text(encoding='utf-8').splitlines()[-16:])
+    journal = subprocess.run(['journalctl', '-q', '-o', 'cat', '-n', '16'], capture_output=True, text=True, check=False)
+    yield from (f'  {line}' for line in journal.stdout.splitlines())
 
 
 def main() -> None:

@@ -16,7 +16,7 @@ FOLDER = '/dev/dahdi/'                  # of DAHDI's devices, with its driver an
 NO_CARD = 'no card has it now; is its driver loaded (lsdahdi), and was dahdi_cfg run? it is opened once it is there'
 ADVICE = {errno.ENOENT: NO_CARD, errno.ENXIO: NO_CARD, errno.ENODEV: NO_CARD,
           errno.EPERM: 'the unit was started before the driver was there: restart it'}
-RULE = 'only root may: e1gw.rules of the package goes to /etc/udev/rules.d'
+RULE = 'only root may: e1gw.rules goes to /etc/udev/rules.d'
 
 
 def is_card(path: str) -> bool:

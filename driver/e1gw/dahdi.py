@@ -17,7 +17,7 @@ from dataclasses import dataclass
 from .slots import SLOTS
 
 CHANNELS = 'dahdi_channels'         # what the driver calls its devices
-DEVICES, SLAVE = '/sys/bus/dahdi_channels/devices', 'Slave'     # (a unit does not see /proc/dahdi)
+DEVICES, NODES = '/sys/bus/dahdi_channels/devices', '/dev/dahdi/chan'      # of all channels
 PARAMETERS, BUFFERS = struct.Struct('=12i40s11iI'), struct.Struct('=6i')
 SPAN = struct.Struct('=i20s40s7i5I7i40s40s40s40s2i6s')
 NUMBER = struct.Struct('=i')
@@ -25,6 +25,9 @@ CLEAR = 1 << 7              # the signalling of a clear channel
 MOST_FRAMES = 64            # of a block: the most that the program reads at once
 MOST_BUFFERS, MOST_OCTETS = 32, 32_768
 FRAMES_A_MS = 8
+# What a span counts, by names of ITU-T G.821 and of its driver.
+COUNTS = ('bipolar_violations', 'crc4_errors', 'e_bits', 'alignment_signal_errors', 'framing_errors', 'code_violations',
+          'bit_errors', 'errored_seconds', 'interrupts_missed')
 CONFIGURES = 'clear=1-31 (for the first span) in /etc/dahdi/system.conf, then dahdi_cfg'
 
 
@@ -104,7 +107,7 @@ class ChannelFacts:
 
 @dataclass(frozen=True)
 class SpanFacts:
-    """A span: its name, alarms and channels, and what it has counted, by names of ITU-T G.821 and of its driver."""
+    """A span: its name, alarms and channels, and what it has counted."""
 
     number: int
     name: str
@@ -129,12 +132,10 @@ def channel_facts(octets: bytes) -> ChannelFacts:
 
 def span_facts(octets: bytes) -> SpanFacts:
     number, name, _, alarms, _, _, *rest = SPAN.unpack(octets)
-    bipolar, crc4, e_bits, frame, framing, code, bits, _, seconds, missed, _, _, channels, *_ = rest
+    *counts, _, seconds, missed, _, _, channels = rest[:13]
     known = Alarm(alarms & sum(Alarm))
-    return SpanFacts(number, name.partition(b'\0')[0].decode(errors='replace'), known, channels, {
-        'bipolar_violations': bipolar, 'crc4_errors': crc4, 'e_bits': e_bits, 'alignment_signal_errors': frame,
-        'framing_errors': framing, 'code_violations': code, 'bit_errors': bits, 'errored_seconds': seconds,
-        'interrupts_missed': missed})
+    return SpanFacts(number, name.partition(b'\0')[0].decode(errors='replace'), known, channels,
+                     dict(zip(COUNTS, (*counts, seconds, missed))))
 
 
 def blocks_of(octets: bytes) -> Blocks:
@@ -149,9 +150,21 @@ def buffers_of(blocks: Blocks) -> bytes:
 
 # ---- the channel ----
 
-def signalling_of(path: str) -> str:
-    with open(path, encoding='ascii', errors='replace') as text:
-        return text.read().strip()
+def is_in_use(span: int, place: int) -> bool:
+    """Whether a program has a channel open; False if that is not known."""
+    with suppress(OSError), open(f'{DEVICES}/dahdi!chan!{span:03}!{place:03}/in_use', encoding='ascii') as text:
+        return text.read().strip() == '1'
+    return False
+
+
+def is_slave(span: int, place: int) -> bool:
+    """Whether a channel is one of a bundle, not its first: it is refused though no program has it open. True if that is
+    not known. (sysfs has the signalling, which is the first one's, and a unit does not see /proc/dahdi.)"""
+    try:
+        os.close(os.open(f'{NODES}/{span:03}/{place:03}', os.O_RDWR))
+    except OSError as fault:
+        return fault.errno != errno.ENXIO and not is_in_use(span, place)
+    return False
 
 
 def is_channel(file: int) -> bool:
@@ -189,11 +202,8 @@ class DahdiChannel:
         return int(NUMBER.unpack(self.ask(Request.GET_EVENT, bytes(NUMBER.size)))[0])
 
     def is_bundle(self, span: int) -> bool:
-        """Whether it gives all slots of its span: all others are its slaves; True if that is not known."""
-        others = (f'{DEVICES}/dahdi!chan!{span:03}!{place:03}/sig' for place in range(2, SLOTS + 1))
-        with suppress(OSError):
-            return all(signalling_of(path) == SLAVE for path in others)
-        return True
+        """Whether it gives all slots of its span: all others are its slaves."""
+        return all(is_slave(span, place) for place in range(2, SLOTS + 1))
 
     def write(self, octets: bytes) -> None:
         os.write(self.file, octets)

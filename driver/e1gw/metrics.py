@@ -4,7 +4,7 @@ from __future__ import annotations
 import time
 from typing import Any, Iterable, Mapping
 
-from .dahdi import Alarm, Blocks
+from .dahdi import COUNTS, Alarm, Blocks
 from .events import LOSSES, REMOTE
 from .lines import State
 
@@ -211,7 +211,8 @@ def _card_line(status: Status) -> list[str]:
     if 'span' not in its:
         return []
     alarms = ', '.join(name for each in Alarm if its[str(each.name).lower()] for name in each.names())
-    return [f'card: span {its["span"]}, {alarms or "no alarm"}; {Blocks(its["block"], its["buffers"]).words()}']
+    counts = ''.join(f', {name.replace("_", " ")} {its[name]}' for name in COUNTS if its.get(name))
+    return [f'card: span {its["span"]}, {alarms or "no alarm"}{counts}; {Blocks(its["block"], its["buffers"]).words()}']
 
 
 def _crc4_line(status: Status) -> list[str]:

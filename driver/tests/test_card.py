@@ -81,18 +81,31 @@ class RequestTests(unittest.TestCase):
         self.assertEqual(dahdi.buffers_of(Blocks(16, 8)), at(bytes(BUFFERS.size), (8, 8), (12, 496)))
 
     def test_devices(self) -> None:
-        """By the driver of a device, and by the signalling of the other channels of its span."""
+        """By the driver of a device."""
         with open(os.devnull, 'rb') as device, tempfile.TemporaryFile() as file:
             self.assertFalse(dahdi.is_channel(device.fileno()) or dahdi.is_channel(file.fileno()))
             with mock.patch('e1gw.dahdi.CHANNELS', 'mem'):
                 self.assertTrue(dahdi.is_channel(device.fileno()))
-        with tempfile.TemporaryDirectory() as folder, mock.patch('e1gw.dahdi.DEVICES', folder):
-            for place in range(2, 32):
-                os.mkdir(each := f'{folder}/dahdi!chan!003!{place:03}')
-                Path(each, 'sig').write_text('Slave\n', encoding='ascii')
-            self.assertTrue(DahdiChannel(-1).is_bundle(3) and DahdiChannel(-1).is_bundle(4))
-            Path(each, 'sig').write_text('Clear\n', encoding='ascii')
-            self.assertFalse(DahdiChannel(-1).is_bundle(3))
+
+    def test_bundles(self) -> None:
+        """Each other channel of a bundle is refused, though no program has it open."""
+        faults = dict[str, int]()
+
+        def refuses(path: str, flags: int) -> int:
+            self.assertEqual(flags, os.O_RDWR)
+            if number := faults.get(path, errno.EBUSY):
+                raise OSError(number, os.strerror(number))
+            return os.dup(0)
+        with tempfile.TemporaryDirectory() as folder, mock.patch('e1gw.dahdi.DEVICES', folder), \
+                mock.patch('e1gw.dahdi.os.open', refuses):
+            self.assertTrue(DahdiChannel(-1).is_bundle(3))
+            for number, is_bundle in (errno.EACCES, True), (0, False), (errno.ENXIO, False):
+                faults['/dev/dahdi/chan/003/031'] = number
+                self.assertEqual((number, DahdiChannel(-1).is_bundle(3)), (number, is_bundle))
+            for used, is_bundle in ('1', False), ('0', True):
+                os.makedirs(each := f'{folder}/dahdi!chan!004!002', exist_ok=True)
+                Path(each, 'in_use').write_text(f'{used}\n', encoding='ascii')
+                self.assertEqual(DahdiChannel(-1).is_bundle(4), is_bundle)
 
     def test_blocks(self) -> None:
         for frames, buffers in (16, 8), (64, 16), (1, 2), (32, 32):
@@ -140,26 +153,35 @@ class SetUpTests(unittest.TestCase):
 @unittest.skipUnless(shutil.which('strace'), 'strace makes the errors')
 class EventTests(support.FolderCase):
     def test_while_nobody_takes_it(self) -> None:
-        """While an event waits, each read of what has come fails. The program goes on, and asks once a millisecond."""
+        """While an event waits, each read of what has come fails, and each write. The program goes on, and asks once or
+        twice a millisecond."""
         self.write('trunk.toml', support.config_text({}))
         os.mkfifo(device := self.path('device'))
-        both, log, said = os.open(device, os.O_RDWR), self.path('log'), self.path('said')
-        os.write(both, bytes(512))
-        words = ['strace', '-I2', '-f', '-P', device, '-e', 'trace=read', '-e', 'inject=read:error=500', '-o', log,
-                 support.program(), 'trunk', '--config', self.path('trunk.toml'), '--control', self.path('control')]
-        with open(said, 'wb') as errors, subprocess.Popen(words, stdin=both, stdout=errors, stderr=errors) as process:
-            support.until(lambda: self.reads(log) > 10 or process.poll() is not None)
-            began, before = time.monotonic(), self.reads(log)
-            support.until(lambda: self.reads(log) > before + 200 or process.poll() is not None)
+        for call, more in ('read', ('--control', self.path('control'))), ('read', ()), ('write', ()):
+            with self.subTest(call=call, more=more):
+                both, log = os.open(device, os.O_RDWR), self.path('log')
+                os.write(both, bytes(512))
+                self.tried(both, log, [
+                    'strace', '-I2', '-f', '-P', device, '-e', f'trace={call}', '-e', f'inject={call}:error=500',
+                    '-o', log, support.program(), 'trunk', '--config', self.path('trunk.toml'), *more])
+                os.close(both)
+                os.remove(log)
+
+    def tried(self, both: int, log: str, words: list[str]) -> None:
+        """Runs a program at a device, whose failures are in a log."""
+        with open(self.path('said'), 'wb') as errors, \
+                subprocess.Popen(words, stdin=both, stdout=both, stderr=errors) as process:
+            support.until(lambda: self.failures(log) > 10 or process.poll() is not None)
+            began, before = time.monotonic(), self.failures(log)
+            support.until(lambda: self.failures(log) > before + 600 or process.poll() is not None)
             took = time.monotonic() - began
             status = process.poll()
             process.terminate()
-        os.close(both)
-        self.assertIsNone(status, support.text_of(said))
-        self.assertGreater(took, 0.1)
+        self.assertIsNone(status, support.text_of(self.path('said')))
+        self.assertGreater(took, 0.25)
 
     @staticmethod
-    def reads(log: str) -> int:
+    def failures(log: str) -> int:
         return support.text_of(log).count('(errno 500)') if os.path.exists(log) else 0
 
 

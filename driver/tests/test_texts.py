@@ -160,8 +160,8 @@ class TrunkTextTests(unittest.TestCase):
                 ({'role': 'standby', 'fed': True}, 3, 'two machines: standby, fed'),
                 ({'role': 'active', 'fed': True, 'differs': []}, 3, 'two machines: the standby is fed'),
                 ({'transport': {'packets': 1}}, 3, metrics.COLUMNS), ({'transport': None}, 3, metrics.COLUMNS),
-                ({'transport': CARD | {'red': False, 'loopback': False}}, 3, 'card: span 2, no alarm; 4 blocks of 8 '
-                 'frames, 1 ms each'),
+                ({'transport': CARD | {'red': False, 'loopback': False, 'e_bits': 0, 'code_violations': 5}}, 3,
+                 'card: span 2, no alarm, code violations 5; 4 blocks of 8 frames, 1 ms each'),
                 ({'crc4': CRC4 | {'aligned': False, 'given_up': 0}}, 3, 'CRC-4: no multiframe alignment, lost 35; '
                  'errored 32 of 31 submultiframes, the other end reports 33'),
                 ({'crc4': CRC4 | {'aligned': None, 'given_up': 0}}, 3, 'CRC-4: not counted yet, lost 35; errored 32 '

@@ -151,7 +151,7 @@ impl<O: TrunkOutput, F: PieceFilter> TrunkOutput for FilteredOutput<O, F> {
 
     ghost has_waited = { λ d. O.has_waited d.outgoing };
 
-    ghost may_have_room = { λ d. O.may_have_room d.outgoing };
+    ghost may_have_room = { λ d d'. O.may_have_room d.outgoing d'.outgoing };
 
     fn write(&mut self, octets: &[u8]) -> Result<Option<usize>, DeviceFault>
         ensures bound { IfOk result (λ n. IfSome n (λ m. m ≤ length octets.now)) }

@@ -31,6 +31,13 @@ WasRead Ended = ⊥
 abbrev pub ReadResult : Type 0
 ReadResult = Result DeviceRead DeviceFault
 
+-- what holds if a read took octets
+abbrev pub IfTaken : Result DeviceRead DeviceFault → Type 0 → Type 0
+IfTaken (Ok (Octets n)) fact = fact
+IfTaken (Ok NoneNow) fact = ⊤
+IfTaken (Ok Ended) fact = ⊤
+IfTaken (Err e) fact = ⊤
+
 -- the octets that a read took into a room
 abbrev pub octets_taken : Result DeviceRead DeviceFault → List ℕ → List ℕ
 octets_taken (Ok (Octets n)) room = take n room

@@ -1,5 +1,5 @@
 -- What it is to wait for a descriptor (module `waiting`).
-use Rattle.std.specs.Prelude.{◌≡◌, ◌⊎◌, ℤ, Bool, true, false, None}
+use Rattle.std.specs.Prelude.{◌≡◌, ◌⊎◌, ℤ, Bool, true, false, Some, None}
 use Rattle.mio.specs.Events.{items}
 use Rattle.mio.specs.declared.interest.Interest.{Interest}
 use Rattle.gw_trunk.specs.declared.waiting.Waiting.{Waiting}
@@ -11,11 +11,24 @@ pub record WaitsFor (descriptor : ℤ) (interest : Interest) (waiting : Waiting)
   pub watched : SystemWatches waiting.poll descriptor 0 agreed
   pub descriptor_is : waiting.descriptor ≡ descriptor
   pub interest_is : waiting.interest ≡ interest
+  pub untried : waiting.is_refused ≡ false
 
--- the system was asked to report what came before, and then to wait without an end; or it refused the first
+-- the last wait had ended, and nothing came of it: the system was asked to wait for a millisecond, and not
+-- for what came before
+abbrev pub Rests : Waiting → Waiting → Type 0
+Rests waiting waiting' = (waiting.is_refused ≡ true)
+    × SystemReports waiting'.poll (Some 1000000) (items waiting'.events)
+    × (waiting' ≡ record waiting { poll = waiting'.poll; events = waiting'.events; is_refused = false })
+
+-- .. or it was asked to report what came before, and then to wait without an end; or it refused the first
 abbrev pub Waits : Waiting → Waiting → Type 0
-Waits waiting waiting' =
-    (SystemRenews waiting.poll waiting.descriptor waiting.interest false × (waiting' ≡ waiting))
+Waits waiting waiting' = Rests waiting waiting'
+    ⊎ ((waiting.is_refused ≡ false)
+    × ((SystemRenews waiting.poll waiting.descriptor waiting.interest false × (waiting' ≡ waiting))
     ⊎ (SystemRenews waiting.poll waiting.descriptor waiting.interest true
     × SystemReports waiting'.poll None (items waiting'.events)
-    × (waiting' ≡ record waiting { poll = waiting'.poll; events = waiting'.events }))
+    × (waiting' ≡ record waiting {
+      poll = waiting'.poll;
+      events = waiting'.events;
+      is_refused = true;
+    }))))

@@ -1,14 +1,14 @@
 //! How a trunk's descriptor is read and written without waiting (`TrunkInput`, `TrunkOutput`).
 
 ghost use Rattle.std.specs.Prelude.{◌≡◌, ◌<◌, ◌≤◌, ◌++◌, ℕ, List, [], length, take, IfOk, IfErr, IfSome, ⊤};
-ghost use Rattle.std.specs.Prelude.{IfNone, Some, None, Ok, Err, ◌+◌};
+ghost use Rattle.std.specs.Prelude.{IfNone, Some, None, Ok, Err, ◌+◌, ◌⊎◌};
 ghost use Rattle.std.specs.Prelude.{Bool, true, false, if◌then◌else◌, Option};
 ghost use Rattle.std.specs.Io.KnownBytes.{IsAtEnd};
 ghost use Rattle.gw_trunk.specs.Device.{IsTaken, WasRead, ReadResult, octets_taken, written_of, IsForLater};
-ghost use Rattle.gw_trunk.specs.Device.{HasFailed};
+ghost use Rattle.gw_trunk.specs.Device.{HasFailed, IfTaken};
 ghost use Rattle.gw_trunk.specs.Pieces.{AsksRecord};
 ghost use Rattle.gw_trunk.specs.System.{SystemIsReady, SystemRefusesStream, SystemReportedNone};
-ghost use Rattle.gw_trunk.specs.Waiting.{Waits, WaitsFor};
+ghost use Rattle.gw_trunk.specs.Waiting.{Rests, Waits, WaitsFor};
 
 use crate::device_calls::{DeviceReader, DeviceWriter, is_for_later};
 use crate::logged_reader::LoggedReader;
@@ -153,8 +153,8 @@ pub trait TrunkOutput {
     /// Holds of a device if it was waited for 20 ms, and no room was reported.
     ghost has_waited: { Self → Type 0 } = { λ _. ⊤ };
 
-    /// Holds of a device if the last wait for a while ended because it may have room.
-    ghost may_have_room: { Self → Type 0 } = { λ _. ⊤ };
+    /// Relates a device before and after a wait for a while that ended because it may have room.
+    ghost may_have_room: { Self → Self → Type 0 } = { λ _ _. ⊤ };
 
     /// Takes octets from the front of `octets`, and returns how many; None if it can take none now. It never
     /// waits.
@@ -175,12 +175,13 @@ pub trait TrunkOutput {
         ensures slow { slow_waits self.new ≡ slow_waits self.old }
         ensures sleeps { sleeps self.old self.new };
 
-    /// Waits until it may take octets, until it has taken none for 20 ms at most. Returns whether it may.
+    /// Waits until it may take octets, until it has taken none for 20 ms at most. Returns whether it may. It
+    /// rests for a moment where one that might have taken octets took none.
     fn wait_a_while(&mut self) -> bool
         ensures went { went self.new ≡ went self.old }
         ensures slow { slow_waits self.new ≡ slow_waits self.old + (if result then 0 else 1) }
         ensures waited { result ≡ false → is_slow self.old ≡ false → has_waited self.new }
-        ensures room { result ≡ true → may_have_room self.new };
+        ensures room { result ≡ true → may_have_room self.old self.new };
 }
 
 /// A reader over a descriptor. What came is what the calls of the reader gave.
@@ -289,7 +290,8 @@ impl<R: DeviceReader> TrunkInput for FromDevice<R> {
 
     ghost has_failed = { λ d. HasFailed (λ kind. R.has_read d.reader.reader (Err kind)) };
 
-    ghost reads = { λ _ d room _. R.was_offered d.reader.reader room };
+    ghost reads = { λ _ d room read. R.was_offered d.reader.reader room
+        × IfTaken read (d.waiting.is_refused ≡ false) };
 
     ghost sleeps = { λ d d'. Waits d.waiting d'.waiting };
 
@@ -298,7 +300,10 @@ impl<R: DeviceReader> TrunkInput for FromDevice<R> {
     fn read(&mut self, room: &mut [u8]) -> Result<DeviceRead, DeviceFault> {
         match self.reader.read(room) {
             Ok(0) => Ok(DeviceRead::Ended),
-            Ok(n) => Ok(DeviceRead::Octets(n)),
+            Ok(n) => {
+                self.waiting.note_moved();
+                Ok(DeviceRead::Octets(n))
+            }
             Err(kind) if is_for_later(kind) => Ok(DeviceRead::NoneNow),
             Err(_) => Err(DeviceFault),
         }
@@ -321,7 +326,8 @@ impl<W: DeviceWriter> TrunkOutput for ToDevice<W> {
 
     ghost has_failed = { λ d. HasFailed (λ kind. W.has_written d.writer (Err kind)) };
 
-    ghost has_taken = { λ d n. W.has_written d.writer (Ok n) × (d.is_slow ≡ false) };
+    ghost has_taken = { λ d n. W.has_written d.writer (Ok n) × (d.is_slow ≡ false)
+        × (d.waiting.is_refused ≡ false) };
 
     ghost was_given = { λ d. W.was_given d.writer };
 
@@ -335,13 +341,15 @@ impl<W: DeviceWriter> TrunkOutput for ToDevice<W> {
 
     ghost has_waited = { λ d. SystemReportedNone d.waiting 20_000_000 };
 
-    ghost may_have_room = { λ d. (limit : ℕ) × SystemIsReady d.waiting limit };
+    ghost may_have_room = { λ d d'. Rests d.waiting d'.waiting ⊎ ((d.waiting.is_refused ≡ false)
+        × (d'.waiting.is_refused ≡ true) × ((limit : ℕ) × SystemIsReady d'.waiting limit)) };
 
     fn write(&mut self, octets: &[u8]) -> Result<Option<usize>, DeviceFault> {
         match self.writer.write_now(octets) {
             Ok(n) => {
                 self.log.append(octets, n);
                 self.is_slow = false;
+                self.waiting.note_moved();
                 Ok(Some(n))
             }
             Err(kind) if is_for_later(kind) => Ok(None),
@@ -355,6 +363,9 @@ impl<W: DeviceWriter> TrunkOutput for ToDevice<W> {
     }
 
     fn wait_a_while(&mut self) -> bool {
+        if self.waiting.rest() {
+            return true;
+        }
         let limit = if self.is_slow { 0 } else { A_WHILE_MS };
         if self.waiting.wait_for(Duration::from_millis(limit)) {
             return true;

@@ -3,7 +3,7 @@
 ghost use Rattle.std.specs.Prelude.{◌≡◌, true, false, IfOk, IfErr};
 ghost use Rattle.std.specs.Duration.{as_nanos};
 ghost use Rattle.gw_trunk.specs.System.{SystemIsReady, SystemRefusesStream, SystemReportedNone};
-ghost use Rattle.gw_trunk.specs.Waiting.{Waits, WaitsFor};
+ghost use Rattle.gw_trunk.specs.Waiting.{Rests, Waits, WaitsFor};
 
 use crate::readiness::{open_poll, renew, wait_for_events, watch_descriptor};
 use mio::unix::SourceFd;
@@ -12,6 +12,9 @@ use std::io;
 use std::net::Net;
 use std::time::Duration;
 
+// How long it is waited for a device that gives or takes nothing, though it could.
+const A_MOMENT_MS: u64 = 1;
+
 /// Waits for one descriptor of the system, which the caller keeps open.
 #[derive(Drop)]
 pub struct Waiting {
@@ -19,6 +22,9 @@ pub struct Waiting {
     events: Events,
     descriptor: i32,
     interest: Interest,
+    // Whether the last wait has ended and nothing came of it since: a device may have an event that somebody
+    // else takes.
+    is_refused: bool,
 }
 
 impl Waiting {
@@ -39,16 +45,42 @@ impl Waiting {
             events,
             descriptor,
             interest,
+            is_refused: false,
         })
     }
 
-    /// Waits until the descriptor is ready, or a signal comes. (It is registered again each time, so that the
-    /// system reports what came before.)
+    /// Notes that something came of a wait.
+    pub fn note_moved(&mut self)
+        ensures { self.new ≡ record self.old { is_refused = false } }
+    {
+        self.is_refused = false;
+    }
+
+    /// Waits for a moment if the last wait has ended and nothing came of it; returns whether it did.
+    pub fn rest(&mut self) -> bool
+        ensures yes { result ≡ true → Rests self.old self.new }
+        ensures no { result ≡ false → (self.old.is_refused ≡ false) × (self.new ≡ self.old) }
+    {
+        if !self.is_refused {
+            return false;
+        }
+        self.is_refused = false;
+        let moment = Duration::from_millis(A_MOMENT_MS);
+        wait_for_events(&mut self.poll, &mut self.events, Some(moment));
+        true
+    }
+
+    /// Waits until the descriptor is ready, or a signal comes; or it rests. (It is registered again each
+    /// time, so that the system reports what came before.)
     pub fn wait(&mut self)
         ensures { Waits self.old self.new }
     {
+        if self.rest() {
+            return;
+        }
         if renew(&self.poll, self.descriptor, self.interest) {
             wait_for_events(&mut self.poll, &mut self.events, None);
+            self.is_refused = true;
         }
     }
 
@@ -58,7 +90,9 @@ impl Waiting {
     pub fn wait_for(&mut self, limit: Duration) -> bool
         ensures none { result ≡ false → SystemReportedNone self.new (as_nanos limit) }
         ensures some { result ≡ true → SystemIsReady self.new (as_nanos limit) }
+        ensures noted { self.new.is_refused ≡ result }
     {
+        self.is_refused = true;
         let registry = self.poll.registry();
         let source = &mut SourceFd(&self.descriptor);
         if registry
@@ -67,9 +101,9 @@ impl Waiting {
         {
             return true;
         }
-        match self.poll.poll(&mut self.events, Some(limit)) {
-            Ok(()) => !self.events.is_empty(),
-            Err(_) => true,
+        if self.poll.poll(&mut self.events, Some(limit)).is_ok() {
+            self.is_refused = !self.events.is_empty();
         }
+        self.is_refused
     }
 }

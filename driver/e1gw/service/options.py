@@ -25,7 +25,7 @@ from .watch import WatchWants
 
 WATCHED = 'control', 'http', 'json', 'calls'      # what an operator may have of a trunk
 LONGEST_NAME = 'program'    # of a socket in the folder
-BLOCK, BUFFERS = 16, 8      # of a DAHDI card: frames of a block, and how many there are
+BLOCK, BUFFERS = 16, 16     # of a DAHDI card: frames of a block, and how many there are
 
 
 def add_options(words: argparse.ArgumentParser) -> None:
