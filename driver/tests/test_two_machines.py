@@ -6,6 +6,7 @@ import contextlib
 import json
 import math
 import os
+import re
 import select
 import signal
 import socket
@@ -382,7 +383,7 @@ class SatopNumberTests(PairCase):
         first = self.numbers(self.packets).index(octets // SIZE)
         self.are_from(0, self.packets[:first])
         self.are_from(octets, self.packets[first:])
-        self.goes(lambda: a.ask('role') == 'standby, fed')
+        self.goes(lambda: re.search('(?<!not )fed by', a.told()))       # (until then it knows what it had itself)
         self.clock.stops()                                  # the machine dies
         log, fed = b.log(), a.fed_log()
         os.kill(b.process_of('satop'), signal.SIGSTOP)      # (it sends nothing more)

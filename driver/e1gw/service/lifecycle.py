@@ -145,7 +145,7 @@ class TrunkCarrier:
                 renew_log(self.places.log, self._gone)
                 self._gone = None
         with suppress(OSError):             # (a folder that is full: then it is the one before)
-            put_file(self.places.config, self.versions.config(), 0o600)
+            put_file(self.places.config, self.versions.now.config_octets(), 0o600)
 
     def _goes_on(self, program: TrunkProgram) -> None:
         """A program is up."""
@@ -298,6 +298,10 @@ class TrunkCarrier:
         self.ends.set()
         self.wake.set()
 
+    def version(self) -> ProgramVersion:
+        """That of the program of now, or of the next one."""
+        return self.program.version if self.program else self.versions.now
+
     def place(self) -> int:
         """The octet of the trunk behind all that was taken."""
         return self.reader.octets
@@ -307,7 +311,7 @@ class TrunkCarrier:
         if self.status is not None:
             return
         program, reader, self._noted = self.program, self.reader, (time.monotonic(), self.trunk.note())
-        version = program.version if program else self.versions.now
+        version = self.version()
         place, octets = reader.noted()
         self._handover.put(ServiceNote(
             self.wants.opens, os.getpid(), start_of(os.getpid()), version.senders, version.name,

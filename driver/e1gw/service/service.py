@@ -78,7 +78,8 @@ async def opened_watch(asked: argparse.Namespace, carrier: TrunkCarrier, request
 
 def reader_of(asked: argparse.Namespace, carrier: TrunkCarrier) -> LogReader:
     """Reads what the programs of a trunk log."""
-    return LogReader(carrier.places.log, asked.gap / 1000, recording_of(asked), carrier.note, carrier.versions.config)
+    return LogReader(carrier.places.log, asked.gap / 1000, recording_of(asked), carrier.note,
+                     lambda: carrier.version().config_octets())
 
 
 def catch_signals(carrier: TrunkCarrier, requests: ReloadRequests) -> None:

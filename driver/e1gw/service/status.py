@@ -47,14 +47,12 @@ class OperatedTrunk:
 
     def config_path(self) -> str:
         """Of the configuration of the program of now."""
-        carrier = self._carrier
-        return (carrier.program.version if carrier.program else carrier.versions.now).config_path()
+        return self._carrier.version().config_path()
 
     def facts(self) -> dict[str, Any]:
         """Since when it is open, why it is not or not recorded, its version and its pair, as plain values."""
         carrier, pair = self._carrier, self._carrier.pair
-        version = carrier.program.version if carrier.program else carrier.versions.now
-        return carrier.trunk.facts() | {'version': version.name, 'pair': pair.facts() if pair else {},
+        return carrier.trunk.facts() | {'version': carrier.version().name, 'pair': pair.facts() if pair else {},
                                         'session': carrier.reader.why()}
 
     def flow(self) -> dict[str, Any]:
@@ -87,11 +85,10 @@ class OperatedTrunk:
         """What happened behind an octet of the trunk, as far as the log reaches."""
         carrier = self._carrier
         pairs = carrier.reader.pairs_since(since)
-        version = carrier.program.version if carrier.program else carrier.versions.now
         if not pairs:
             return None
         try:
-            text = await told_again(version, [pair for _, pair in pairs], carrier.places.folder)
+            text = await told_again(carrier.version(), [pair for _, pair in pairs], carrier.places.folder)
         except OSError as fault:
             logger.warning('what the calls did meanwhile is not known: %s', words_of_fault(fault))
             return None

@@ -52,6 +52,9 @@ class ProgramVersion:
     def config_path(self) -> str:
         return f'/dev/fd/{self.config}'
 
+    def config_octets(self) -> bytes:
+        return octets_in(self.config)
+
     def ports(self) -> frozenset[int]:
         """The circuits that have one."""
         tables = tables_of(read_config(self.config_path()))
@@ -222,7 +225,3 @@ class VersionHistory:
         self.refused = why
         given_up, self.now, self.before, self.trial = self.now, self.before, None, None
         return given_up
-
-    def config(self) -> bytes:
-        """The configuration of now."""
-        return octets_in(self.now.config)
