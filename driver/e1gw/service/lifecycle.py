@@ -243,7 +243,9 @@ class TrunkCarrier:
             await end_left(self.places, GRACE)
         elif step.act is Act.ANEW:
             logger.error('%s: the log is put aside, and a new one begins', self.why)
-            self._put_aside()
+            put_aside(self.places.log)
+            self.lost = ANEW
+            self.reader.begins_anew()
         elif step.pause:
             logger.error('%s: the next one begins in %g s', self.why, step.pause)
             await either(step.pause, self.ends)
@@ -254,14 +256,6 @@ class TrunkCarrier:
         for line in program.process.news():
             if not self.trunk.takes(line):
                 logger.info('program: %s', line)
-
-    def _put_aside(self) -> None:
-        """A log that has nothing which can be loaded gives way to a new one."""
-        aside = f'{self.places.log}.damaged'
-        shutil.rmtree(aside, ignore_errors=True)
-        os.rename(self.places.log, aside)
-        self.lost = ANEW
-        self.reader.begins_anew()
 
     def finish(self, why: str, status: int) -> None:
         """No other program follows."""
@@ -363,6 +357,13 @@ def renew_log(folder: str, pair: LogPair) -> None:
     except OSError:
         shutil.rmtree(new, ignore_errors=True)
         raise
+
+
+def put_aside(folder: str) -> None:
+    """A log that has nothing which can be loaded gives way to a new one."""
+    aside = f'{folder}.damaged'
+    shutil.rmtree(aside, ignore_errors=True)
+    os.rename(folder, aside)
 
 
 def load_stored(path: str, folder: str) -> bool:

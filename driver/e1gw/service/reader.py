@@ -26,8 +26,8 @@ logger = logging.getLogger(__name__)
 
 class LogReader:
     """Reads the log of a trunk, in this folder. `note` has what the next service has to know noted, and `config` gives
-    that of the program of now. `found` is called with what is found of the flow, and `told` says at which octet the trunk
-    is, if the log does not."""
+    that of the program of now. `found` is called with what is found of the flow, and `told` says at which octet the
+    trunk is, if the log does not."""
 
     def __init__(self, folder: str, gap: float, wants: RecordingWants | None, note: Callable[[], None],
                  config: Callable[[], bytes]) -> None:
