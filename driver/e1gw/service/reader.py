@@ -4,6 +4,7 @@ from __future__ import annotations
 
 import asyncio
 import logging
+import os
 import time
 from contextlib import suppress
 from dataclasses import replace
@@ -59,12 +60,19 @@ class LogReader:
         self._recording = TrunkRecording(wants, self._note, left)
         if left and left.path and self._reaches(left.place):
             self._begun, self._place, self.octets = left.begun, left.place, left.octets
+            if left.keep and not os.path.exists(f'{left.path}.json'):       # (it had said no more than its name)
+                for state in self._states():
+                    if state.place == left.place:
+                        self._see_file(state, True)
             self._close()
 
     def _reaches(self, place: int) -> bool:
         """Whether the log has all behind a place."""
-        states = [self._files.state(number) for number in (0, 1)] if self.has_log() and self._files else []
-        return any(state.place <= place for state in states if state)
+        return any(state.place <= place for state in self._states())
+
+    def _states(self) -> list[LogState]:
+        """Those that the log has now."""
+        return [*filter(None, map(self._files.state, (0, 1)))] if self.has_log() and self._files else []
 
     def has_log(self, folder: str = '') -> bool:
         """Whether the folder, or another one from now on, has the log that is read; opens one that is there."""

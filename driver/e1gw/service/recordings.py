@@ -182,7 +182,8 @@ class TrunkRecording:
         if self._file >= 0 and self.ring:
             os.close(self._file)
             self._file = -1
-        if self.ring or not self._path:
+        is_named = bool(self._path) and (not self.ring or not os.path.exists(f'{self._path}.json'))
+        if not is_named:
             self._path = self.ring.next(begin.octets) if self.ring else self.wants.session
         self._written = begin.place, begin.octets, size_of(self.wants.session) if not self.ring else 0
         self._announce()
