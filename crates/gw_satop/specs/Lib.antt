@@ -12,3 +12,4 @@ pub mod Playing
 pub mod Opening
 pub mod FarEnd
 pub mod System
+pub mod ClockWaits

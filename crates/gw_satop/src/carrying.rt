@@ -28,6 +28,9 @@ pub trait Clock {
     /// Relates a clock before and after it was asked for the time to the time that it told.
     ghost tells: { Self → Self → ℕ → Type 0 } = { λ _ _ _. ⊤ };
 
+    /// Relates a clock before and after a wait to the time that it waited until.
+    ghost waits_until: { Self → Self → ℕ → Type 0 } = { λ _ _ _. ⊤ };
+
     /// Holds of the counts that it reported last.
     ghost has_told: { Self → Counts → Type 0 } = { λ _ _. ⊤ };
 
@@ -39,7 +42,8 @@ pub trait Clock {
 
     /// Waits until something may have come, or for this time.
     fn wait(&mut self, until: u64)
-        ensures { waits self.new ≡ waits self.old + 1 };
+        ensures waits { waits self.new ≡ waits self.old + 1 }
+        ensures until { waits_until self.old self.new until };
 
     /// Reports counts. It never waits.
     fn report(&mut self, counts: &Counts)

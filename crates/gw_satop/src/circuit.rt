@@ -2,6 +2,7 @@
 
 ghost use Rattle.std.specs.Prelude.{◌≡◌, ◌⊎◌, ◌++◌, ◌∷◌, ◌+◌, ◌<◌, ◌≤◌, [], ℕ, Bool, List, length, drop};
 ghost use Rattle.std.specs.Prelude.{true, false, nat_lt, IfOk, IfErr};
+ghost use Rattle.gw_trunk.specs.Device.{ReadResult};
 ghost use Rattle.gw_satop.specs.declared.line.Receiver.{Receiver};
 ghost use Rattle.gw_satop.specs.declared.pace.PlayClock.{PlayClock};
 ghost use Rattle.gw_satop.specs.Doing.{HasReadTrunk, HearsAll, IsDueNow, PlaysDue, RefusesOctets};
@@ -312,6 +313,8 @@ impl<I: TrunkInput, O: TrunkOutput, P: Peer> SatopCircuit<I, O, P> {
             self.old.pace self.new.pace }
         ensures ended { IfOk result (λ ended. ended ≡ true → I.has_ended self.new.incoming) }
         ensures reads { IfOk result (HasReadTrunk I.came I.has_none self.old.incoming self.new.incoming) }
+        ensures offers { IfOk result (λ _. (read : ReadResult)
+            × I.reads self.old.incoming self.new.incoming 2048 read) }
         ensures fault { IfErr result (λ _. I.has_failed self.new.incoming) }
         ensures received { P.received self.new.peer ≡ P.received self.old.peer }
         ensures receiver { self.new.receiver ≡ self.old.receiver }

@@ -1,7 +1,7 @@
 //! The far end of an emulated circuit: its UDP address, and the socket that hears it alone (`Peer`).
 
 ghost use Rattle.std.specs.Prelude.{◌≡◌, ◌≤◌, ◌++◌, ◌∷◌, ℕ, Bool, List, [], length, take, IfSome, IfNone};
-ghost use Rattle.std.specs.Prelude.{IfOk, IfErr, OnOk};
+ghost use Rattle.std.specs.Prelude.{IfOk, IfErr, OnOk, pos};
 ghost use Rattle.gw_satop.specs.FarEnd.{HasFoundNone, IsBySocket};
 ghost use Rattle.gw_satop.specs.Opening.{FailsToJoin, HasAddress, IsJoined, LacksAddress, SystemFinds};
 ghost use Rattle.gw_satop.specs.Opening.{SystemRefusesPeer, SystemRefusesSocket};
@@ -10,7 +10,7 @@ ghost use Rattle.gw_udp.specs.Socket.{KeepsBound};
 use crate::log::History;
 use gw_records::AtStart;
 use gw_udp::Socket;
-use mio::{Registry, Token};
+use mio::{Poll, Token};
 use std::io;
 use std::io::{Error, ErrorKind};
 use std::net::{Net, SocketAddr, ToSocketAddrs};
@@ -92,13 +92,15 @@ impl<S: Socket> UdpPeer<S> {
         })
     }
 
-    /// Has the system say what comes to the socket, by this token. False if it does not.
-    pub fn watch(&mut self, registry: &Registry, token: Token) -> bool
+    /// Has the system say to this poll what comes to the socket, by this token. False if it does not.
+    pub fn watch(&mut self, poll: &Poll, token: Token) -> bool
         ensures received { self.new.received ≡ self.old.received }
         ensures sent { self.new.sent ≡ self.old.sent }
-        ensures watched { S.watches self.new.socket token.0 result }
+        ensures opened { self.new.opened ≡ self.old.opened }
+        ensures address { self.new.address ≡ self.old.address }
+        ensures watched { S.watches self.new.socket poll.now token.0 result }
     {
-        self.socket.watch(registry, token)
+        self.socket.watch(poll, token)
     }
 }
 
@@ -125,6 +127,7 @@ fn find<N: Net>(net: &N, text: &str) -> io::Result<Option<SocketAddr>>
 #[tactic(auto, unfolding(crate::specs::Opening::SystemRefusesSocket))]
 fn socket_at<S: Socket, N: Net>(net: &N, here: SocketAddr) -> io::Result<S>
     ensures ok { IfOk result (λ s. S.is_bound s here) }
+    ensures room { IfOk result (λ s. S.makes_room s (pos 1_048_576)) }
     ensures err { IfErr result (SystemRefusesSocket here) }
 {
     let socket = S::bind(net, here)?;

@@ -2,7 +2,7 @@
 
 ghost use Rattle.std.specs.Prelude.{◌≡◌, ◌⊎◌, [], length, false, IfOk, IfErr, ⊤};
 ghost use Rattle.gw_trunk.specs.System.{SystemReportedNone};
-ghost use Rattle.gw_trunk.specs.Waiting.{Waits};
+ghost use Rattle.gw_trunk.specs.Waiting.{Waits, WaitsFor};
 ghost use Rattle.gw_satop.specs.Opening.{SystemRefusesTrunk};
 
 use gw_records::Log;
@@ -68,6 +68,7 @@ impl<I: TrunkInput + Drop> WhenReady<I, Waiting> {
         descriptor: i32,
     ) -> io::Result<WhenReady<I, Waiting>>
         ensures ok { IfOk result (λ r. r.incoming ≡ incoming) }
+        ensures waiting { IfOk result (λ r. WaitsFor descriptor Interest.READABLE r.waiting) }
         ensures err { IfErr result SystemRefusesTrunk }
     {
         Ok(WhenReady {
@@ -87,6 +88,7 @@ fn device<R: DeviceReader + Drop>(
 ) -> io::Result<FromDevice<R>>
     ensures reader { IfOk result (λ d. d.reader.start.value ≡ reader) }
     ensures ok { IfOk result (λ d. d.reader.log.octets ≡ []) }
+    ensures waiting { IfOk result (λ d. WaitsFor descriptor Interest.READABLE d.waiting) }
     ensures err { IfErr result SystemRefusesTrunk }
 {
     FromDevice::open(rt, reader, descriptor)
@@ -100,6 +102,8 @@ pub fn open_input<R: DeviceReader + Drop>(
 ) -> io::Result<WhenReady<FromDevice<R>, Waiting>>
     ensures reader { IfOk result (λ r. r.incoming.reader.start.value ≡ reader) }
     ensures ok { IfOk result (λ r. r.incoming.reader.log.octets ≡ []) }
+    ensures ready { IfOk result (λ r. WaitsFor descriptor Interest.READABLE r.waiting) }
+    ensures waiting { IfOk result (λ r. WaitsFor descriptor Interest.READABLE r.incoming.waiting) }
     ensures err { IfErr result SystemRefusesTrunk }
 {
     let incoming = device(rt, reader, descriptor)?;
@@ -115,6 +119,7 @@ pub fn open_output<W: DeviceWriter + Drop>(
 ) -> io::Result<ToDevice<W>>
     ensures writer { IfOk result (λ d. d.start.value ≡ writer) }
     ensures ok { IfOk result (λ d. d.log.octets ≡ []) }
+    ensures waiting { IfOk result (λ d. WaitsFor descriptor Interest.WRITABLE d.waiting) }
     ensures err { IfErr result SystemRefusesTrunk }
 {
     ToDevice::open(rt, writer, descriptor)
@@ -130,6 +135,8 @@ impl<I: TrunkInput, W: Readiness> TrunkInput for WhenReady<I, W> {
     ghost has_none = { λ r. W.is_unready r.waiting ⊎ I.has_none r.incoming };
 
     ghost has_failed = { λ r. I.has_failed r.incoming };
+
+    ghost reads = { λ r r' room read. W.is_unready r'.waiting ⊎ I.reads r.incoming r'.incoming room read };
 
     ghost sleeps = { λ r r'. W.sleeps r.waiting r'.waiting × (r'.incoming ≡ r.incoming) };
 

@@ -1,9 +1,13 @@
 //! How `satop` waits, for the socket and the trunk until a time, and reports counts (`SystemClock`).
 
-ghost use Rattle.std.specs.Prelude.{◌≡◌, ◌⊎◌, Bool, length, IfErr, IfOk};
+ghost use Rattle.std.specs.Prelude.{◌≡◌, ◌⊎◌, Bool, Some, length, pos, IfErr, IfOk};
+ghost use Rattle.std.specs.Duration.{as_nanos};
+ghost use Rattle.mio.specs.Events.{items};
 ghost use Rattle.gw_satop.specs.Opening.{SystemRefusesTrunk};
+ghost use Rattle.gw_satop.specs.ClockWaits.{HasTrunkAt, WaitsUntil};
 ghost use Rattle.gw_satop.specs.System.{SystemShows, SystemPrintsCounts, TellsTime, micros};
-ghost use Rattle.gw_trunk.specs.System.{SystemReportedNone};
+ghost use Rattle.gw_trunk.specs.System.{SystemRenews, SystemReportedNone, SystemReports, SystemWatches};
+ghost use Rattle.gw_trunk.specs.Waiting.{WaitsFor};
 
 use crate::carrying::Clock;
 use crate::counts::Counts;
@@ -49,17 +53,19 @@ impl<'r, R: Net + rt::Clock + Eprint + AllocGlobal> SystemClock<'r, R> {
     ) -> io::Result<SystemClock<'r, R>>
         ensures received { peer.new.received ≡ peer.old.received }
         ensures sent { peer.new.sent ≡ peer.old.sent }
-        ensures watched { IfOk result (λ _. (agreed : Bool) × S.watches peer.new.socket 1 agreed) }
+        ensures opened { peer.new.opened ≡ peer.old.opened }
+        ensures address { peer.new.address ≡ peer.old.address }
+        ensures trunk { IfOk result (HasTrunkAt descriptor) }
+        ensures watched { IfOk result (λ clock. (agreed : Bool)
+            × S.watches peer.new.socket clock.poll 1 agreed) }
+        ensures errors { IfOk result (λ clock. WaitsFor (pos 2) Interest.WRITABLE clock.errors) }
         ensures err { IfErr result SystemRefusesTrunk }
     {
         let poll = Poll::new(rt)?;
         let events = Events::with_capacity(rt.alloc(), 4)?;
         // (A regular file can't be waited for, and never has to be.)
-        let trunk = &mut SourceFd(&descriptor);
-        let _ = poll
-            .registry()
-            .register(trunk, Token(TRUNK), Interest::READABLE);
-        let _ = peer.watch(poll.registry(), Token(FAR_END));
+        let _ = watch_trunk(&poll, descriptor);
+        let _ = peer.watch(&poll, Token(FAR_END));
         Ok(SystemClock {
             rt,
             started: Instant::now(rt)?,
@@ -71,6 +77,38 @@ impl<'r, R: Net + rt::Clock + Eprint + AllocGlobal> SystemClock<'r, R> {
             waits: Log::new(),
         })
     }
+}
+
+// Has the system report what comes of the trunk's descriptor. False if it does not.
+#[tactic(auto, unfolding(gw_trunk::specs::System::SystemWatches))]
+fn watch_trunk(poll: &Poll, descriptor: i32) -> bool
+    ensures { SystemWatches poll.now descriptor 0 result }
+{
+    let registry = poll.registry();
+    let trunk = &mut SourceFd(&descriptor);
+    registry
+        .register(trunk, Token(TRUNK), Interest::READABLE)
+        .is_ok()
+}
+
+// Has the system report anew what came of it before. False if it does not.
+#[tactic(auto, unfolding(gw_trunk::specs::System::SystemRenews))]
+fn renew_trunk(poll: &Poll, descriptor: i32) -> bool
+    ensures { SystemRenews poll.now descriptor Interest.READABLE result }
+{
+    let registry = poll.registry();
+    let trunk = &mut SourceFd(&descriptor);
+    registry
+        .reregister(trunk, Token(TRUNK), Interest::READABLE)
+        .is_ok()
+}
+
+// Waits for events, for this time at most. There are none if the system refuses.
+#[tactic(auto, unfolding(gw_trunk::specs::System::SystemReports))]
+fn wait_for_events(poll: &mut Poll, events: &mut Events, limit: Duration)
+    ensures { SystemReports poll.new (Some (as_nanos limit)) (items events.new) }
+{
+    let _ = poll.poll(events, Some(limit));
 }
 
 // The whole microseconds of a time.
@@ -88,6 +126,16 @@ fn passed_since(rt: &impl rt::Clock, started: &Instant) -> Option<Duration>
     started.elapsed(rt).ok()
 }
 
+// The time since a start; the last one if the system does not say it.
+fn time_since(rt: &impl rt::Clock, started: &Instant, last: u64) -> u64
+    ensures { TellsTime started.now last result }
+{
+    match passed_since(rt, started) {
+        Some(passed) => micros_of(passed),
+        None => last,
+    }
+}
+
 // Prints counts on standard error.
 #[tactic(auto, unfolding(crate::specs::System::SystemPrintsCounts))]
 fn print_counts(rt: &impl Eprint, counts: &Counts)
@@ -103,25 +151,22 @@ impl<R: rt::Clock + Eprint> Clock for SystemClock<'_, R> {
 
     ghost tells = { λ s s' told. TellsTime s.started s.now told };
 
+    ghost waits_until = { WaitsUntil };
+
     ghost has_told = { λ s counts. SystemPrintsCounts counts ⊎ SystemReportedNone s.errors 0 };
 
     fn now(&mut self) -> u64 {
-        if let Some(passed) = passed_since(self.rt, &self.started) {
-            self.now = micros_of(passed);
-        }
+        self.now = time_since(self.rt, &self.started, self.now);
         self.now
     }
 
     fn wait(&mut self, until: u64) {
-        let left = until.saturating_sub(self.now());
+        self.now = time_since(self.rt, &self.started, self.now);
+        let left = until.saturating_sub(self.now);
         // (It is registered again each time, so that the system reports what came before.)
-        let trunk = &mut SourceFd(&self.descriptor);
-        let registry = self.poll.registry();
-        let ready = registry.reregister(trunk, Token(TRUNK), Interest::READABLE);
-        let limit = if ready.is_ok() { left } else { 0 };
-        let _ = self
-            .poll
-            .poll(&mut self.events, Some(Duration::from_micros(limit)));
+        let agreed = renew_trunk(&self.poll, self.descriptor);
+        let limit = Duration::from_micros(if agreed { left } else { 0 });
+        wait_for_events(&mut self.poll, &mut self.events, limit);
         self.waits.append(&[0], 1);
     }
 

@@ -22,7 +22,7 @@ use Rattle.gw_udp.specs.declared.udp.OpenFault.TheVariants as faults
 -- The fault of a failed call for a circuit: out of memory if the system said so, otherwise a fault of this
 -- circuit.
 abbrev pub Blames : ℕ → kinds.ErrorKind → OpenFault → Type 0
-Blames circuit kind faults.OutOfMemory = kind ≡ errors.OutOfMemory
+Blames circuit kind faults.OutOfMemory = (kind ≡ errors.OutOfMemory) × MemoryIsRefused
 Blames circuit kind (faults.Socket c) = (c ≡ circuit) × (kind ≢ errors.OutOfMemory)
 
 -- the addresses of a host and of a peer are of different families
@@ -48,9 +48,9 @@ LacksSocket refuses looks_up host port =
     ⊎ LacksAddress looks_up (string_bytes port.peer_host) port.peer_port)
     ⊎ (AreOfTwoFamilies looks_up host port ⊎ IsRefused refuses looks_up host port.local_port)
 
--- a fault of this circuit for this reason; it can be want of memory
+-- a fault of this circuit for this reason; or memory was refused
 abbrev pub IsFaultOf : ℕ → Type 0 → OpenFault → Type 0
-IsFaultOf circuit why faults.OutOfMemory = why
+IsFaultOf circuit why faults.OutOfMemory = MemoryIsRefused
 IsFaultOf circuit why (faults.Socket c) = (c ≡ circuit) × why
 
 -- the first circuit with ports that has no socket: all before it have theirs
@@ -63,13 +63,11 @@ pub record IsFirstWithout {S : Type 0} (is_bound : Bound S) (refuses : BindRefus
   pub lacks : (d : Option Port)
       → IsSomeAnd (slice_index_or ports (circuit - 1) d) (LacksSocket refuses looks_up host)
 
--- The sockets cannot be opened for this reason: this is the first circuit without one, or memory was refused,
--- by the system with an error of one of them.
+-- The sockets cannot be opened for this reason: this is the first circuit without one, or memory was refused.
 abbrev pub FailsToOpen : {S : Type 0} → Bound S → BindRefused → LookUp → List ℕ → SourceFilter
     → List (Option Port)
     → OpenFault → Type 0
 FailsToOpen is_bound refuses looks_up host senders ports faults.OutOfMemory = MemoryIsRefused
-    ⊎ ((circuit : ℕ) × IsFirstWithout is_bound refuses looks_up host senders ports circuit)
 FailsToOpen is_bound refuses looks_up host senders ports (faults.Socket circuit) =
     IsFirstWithout is_bound refuses looks_up host senders ports circuit
 

@@ -1,5 +1,5 @@
 -- Which sockets the system says that datagrams have come to (module `readiness`).
-use Rattle.std.specs.Prelude.{◌≡◌, ◌⊎◌, ◌==◌, ◌||◌, ◌-◌, ◌<◌, ⊤, ℕ, Bool, false, List, Option}
+use Rattle.std.specs.Prelude.{◌≡◌, ◌⊎◌, ◌==◌, ◌||◌, ◌+◌, ◌-◌, ◌<◌, ⊤, ℕ, Bool, false, List, Option}
 use Rattle.std.specs.Prelude.{MatchOption, slice_index_or}
 use Rattle.std.specs.Prelude.{if◌then◌else◌}
 use Rattle.std.specs.List.{list_any}
@@ -10,8 +10,8 @@ use Rattle.gw_udp.specs.declared.readiness.Readiness.{Readiness}
 
 -- The system was asked what came, and reported these events. Std says nothing of that, so this holds of all;
 -- but it is unfolded only where the system is asked, so for all others it holds of events reported.
-unfoldable pub SystemReports : {P : Type 0} → P → List Event → Type 0
-SystemReports poll events = ⊤
+unfoldable pub SystemHasReported : {P : Type 0} → P → List Event → Type 0
+SystemHasReported poll events = ⊤
 
 -- events have one of this token
 abbrev pub comes : ℕ → List Event → Bool
@@ -28,13 +28,14 @@ AreNoted events came came' = (k : ℕ) → k < 30 → has_come came' k ≡ (has_
 -- The system was asked what came to sockets, and this is noted; nothing is if there is no poller.
 abbrev pub AsksSystem : Option Poller → List Bool → List Bool → Type 0
 AsksSystem poller came came' = MatchOption poller (came' ≡ came)
-    (λ p. (events : List Event) × SystemReports p.poll events × AreNoted events came came')
+    (λ p. (events : List Event) × SystemHasReported p.poll events × AreNoted events came came')
 
--- Whether something came to the socket of a circuit since this was last asked, as noted or as the system says
--- now. It is noted no more, and what came to other sockets is still.
+-- Whether something came to the socket of a circuit since this was last asked, as noted, or as the system
+-- says now: it is asked in the 250th receive since. It is noted no more, and what came to others is still.
 pub record IsAsked (r r' : Readiness) (circuit : ℕ) (is : Bool) : Type 0 where
   pub looked : Readiness
-  pub looks : (looked.came ≡ r.came) ⊎ AsksSystem looked.poller r.came looked.came
+  pub looks : ((r.receives + 1 < 250) × (r'.receives ≡ r.receives + 1) × (looked.came ≡ r.came))
+      ⊎ ((r'.receives ≡ 0) × AsksSystem looked.poller r.came looked.came)
   pub is_noted : is ≡ has_come looked.came (circuit - 1)
   pub others : (k : ℕ) → k < 30
       → has_come r'.came k ≡ (if k == circuit - 1 then false else has_come looked.came k)

@@ -2,6 +2,7 @@
 use Rattle.std.specs.Prelude.{ℕ, Bool, List, Option, Some, None, Result, Ok, Err}
 use Rattle.std.specs.declared.io.Error.{Error}
 use Rattle.std.specs.declared.net.socket_addr.SocketAddr.{SocketAddr}
+use Rattle.mio.specs.declared.poll.Poll.{Poll}
 use Rattle.gw_records.specs.declared.ports.PortFault.{PortFault}
 
 -- relates a socket and the address that it is bound to
@@ -12,9 +13,9 @@ Bound S = S → SocketAddr → Type 0
 abbrev pub KeepsBound : {S : Type 0} → Bound S → S → S → Type 0
 KeepsBound is_bound old new = (a : SocketAddr) → is_bound old a → is_bound new a
 
--- relates a socket, a token, and whether the system says by it what comes to the socket
+-- relates a socket, a poll, a token, and whether the system says by these what comes to the socket
 abbrev pub Watched : Type 0 → Type 1
-Watched S = S → ℕ → Bool → Type 0
+Watched S = S → Poll → ℕ → Bool → Type 0
 
 -- of an address at which the system gave no socket, and its error
 abbrev pub BindRefused : Type 1

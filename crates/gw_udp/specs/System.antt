@@ -1,7 +1,7 @@
 -- What the calls of the system do with a datagram socket. Std says nothing of that, so the relations
 -- `System..` hold of every call; but each is unfolded only in the function that makes the call, so for all
 -- others they hold of calls that were made and of answers received.
-use Rattle.std.specs.Prelude.{◌⊎◌, ⊤, ℕ, List, length, Result, Ok, Err}
+use Rattle.std.specs.Prelude.{◌⊎◌, ⊤, ℕ, ℤ, List, length, Result, Ok, Err}
 use Rattle.std.specs.declared.io.Error.{Error}
 use Rattle.std.specs.declared.net.socket_addr.SocketAddr.{SocketAddr}
 use Rattle.gw_udp.specs.Outcome.{IsReceived, IsSent, WasRefused}
@@ -24,9 +24,14 @@ SystemTakesAll socket = ⊤
 unfoldable pub SystemJoins : Bound SystemSocket
 SystemJoins socket peer = ⊤
 
--- the system was asked to say by this token what comes to the socket, and this is whether it agreed
+-- the system was asked to say to this poll by this token what comes to the socket, and this is whether it
+-- agreed
 unfoldable pub SystemRegisters : Watched SystemSocket
-SystemRegisters socket token agreed = ⊤
+SystemRegisters socket poll token agreed = ⊤
+
+-- the system was asked to keep this many octets of datagrams that wait
+unfoldable pub SystemMakesRoom : SystemSocket → ℤ → Type 0
+SystemMakesRoom socket octets = ⊤
 
 -- the system received for a socket before and after the call, with this answer, and the room afterwards
 unfoldable pub SystemReceives : SystemSocket → SystemSocket → Result (ℕ × SocketAddr) Error → List ℕ → Type 0

@@ -1,6 +1,6 @@
 -- The sockets of circuits, and the effect of a receive and a send for a circuit.
 use Rattle.std.specs.Prelude.{◌≡◌, ◌≢◌, ◌⊎◌, ◌-◌, ◌<◌, ◌≤◌, ℕ, zero, suc, List, slice_index_or, ⊤}
-use Rattle.std.specs.Prelude.{Option, Some, None, Result, Ok, Err, string_bytes}
+use Rattle.std.specs.Prelude.{Bool, MatchOption, Option, Some, None, Result, Ok, Err, string_bytes}
 use Rattle.std.specs.declared.net.socket_addr.SocketAddr.{SocketAddr}
 use Rattle.std.specs.Net.Addr.{is_ipv4}
 use Rattle.std.specs.Net.Socket.{socket_ip}
@@ -9,7 +9,8 @@ use Rattle.gw_records.specs.declared.ports.PortFault.{PortFault}
 use Rattle.gw_records.specs.Ports.{Addresses}
 use Rattle.gw_udp.specs.Names.{LookUp, IsAddressOf}
 use Rattle.gw_udp.specs.SourceFilter.{IsAccepted}
-use Rattle.gw_udp.specs.Socket.{Bound, Received, Sent}
+use Rattle.gw_udp.specs.Socket.{Bound, Received, Sent, Watched}
+use Rattle.gw_udp.specs.declared.readiness.Poller.{Poller}
 use Rattle.gw_udp.specs.declared.source_filter.SourceFilter.{SourceFilter}
 use Rattle.gw_udp.specs.declared.source_filter.SourceFilter.TheVariants.{Peer}
 use Rattle.gw_udp.specs.declared.udp.Endpoint.{Endpoint}
@@ -44,6 +45,18 @@ abbrev pub HasEndpoints : {S : Type 0} → Bound S → LookUp → List ℕ → S
 HasEndpoints {S} is_bound looks_up host senders ports endpoints n =
     (i : ℕ) (d : Option Port) (e : Option (Endpoint S)) → i < n
     → IsEndpoint is_bound looks_up host senders (slice_index_or ports i d) (slice_index_or endpoints i e)
+
+-- what comes to a socket is told by this poller, if there is one, under the number of its circuit less 1, and
+-- the socket takes datagrams of its peer
+pub record Hears {S : Type 0} (watches : Watched S) (is_joined : Bound S) (is_open : S → Type 0)
+    (poller : Option Poller) (place : ℕ) (e : Endpoint S) : Type 0 where
+  pub watched : MatchOption poller ⊤ (λ p. (agreed : Bool) × watches e.socket p.poll place agreed)
+  pub takes : is_joined e.socket e.peer ⊎ is_open e.socket
+
+-- .. of each of the first this many circuits that has one
+abbrev pub EachHears : {S : Type 0} → (ℕ → Endpoint S → Type 0) → List (Option (Endpoint S)) → ℕ → Type 0
+EachHears {S} hears endpoints n = (i : ℕ) (d : Option (Endpoint S)) → i < n
+    → MatchOption (slice_index_or endpoints i d) ⊤ (hears i)
 
 -- all circuits except this one are unchanged
 abbrev pub KeepsOthers : {S : Type 0} → ℕ → List (Option (Endpoint S)) → List (Option (Endpoint S)) → Type 0

@@ -9,7 +9,7 @@ ghost use Rattle.gw_udp.specs.Socket.{KeepsBound, ReceivesAny};
 use crate::resting::Resting;
 use crate::socket::Socket;
 use gw_records::PortFault;
-use mio::{Registry, Token};
+use mio::{Poll, Token};
 use std::io;
 use std::net::{Net, SocketAddr};
 
@@ -40,13 +40,22 @@ impl<S: Socket> Socket for Resting<S> {
 
     ghost watches = { λ s. S.watches s.socket };
 
+    ghost makes_room = { λ s. S.makes_room s.socket };
+
     ghost refuses = { S.refuses };
 
     ghost receives = { RestingReceives S.receives };
 
+    ghost asks = { Asks S.receives };
+
     ghost sends = { RestingSends S.sends };
 
-    fn bind<N: Net>(net: &N, address: SocketAddr) -> io::Result<Resting<S>> {
+    fn bind<N: Net>(net: &N, address: SocketAddr) -> io::Result<Resting<S>>
+        ensures ok { IfOk result (λ s. RestingIsBound S.is_bound s address) }
+        ensures open { IfOk result (λ s. S.is_open s.socket) }
+        ensures most { IfOk result (λ s. s.most ≡ 7) }
+        ensures err { IfErr result (λ e. S.refuses address e) }
+    {
         Ok(Resting {
             socket: S::bind(net, address)?,
             rests: 0,
@@ -62,13 +71,14 @@ impl<S: Socket> Socket for Resting<S> {
         self.socket.make_room(octets);
     }
 
-    fn watch(&mut self, registry: &Registry, token: Token) -> bool
+    fn watch(&mut self, poll: &Poll, token: Token) -> bool
         ensures bound { KeepsBound (RestingIsBound S.is_bound) self.old self.new }
+        ensures joined { KeepsBound S.is_joined self.old.socket self.new.socket }
         ensures open { S.is_open self.old.socket → S.is_open self.new.socket }
-        ensures watched { S.watches self.new.socket token.0 result }
+        ensures watched { S.watches self.new.socket poll.now token.0 result }
         ensures most { self.new.most ≡ (if result then 799 else self.old.most) }
     {
-        let watched = self.socket.watch(registry, token);
+        let watched = self.socket.watch(poll, token);
         if watched {
             self.most = WATCHED_RESTS;
         }

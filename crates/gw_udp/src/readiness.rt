@@ -1,8 +1,8 @@
 //! Which sockets the system says that a datagram has come to.
 
-ghost use Rattle.std.specs.Prelude.{◌≡◌, ◌==◌, ◌||◌, ◌<◌, ℕ};
+ghost use Rattle.std.specs.Prelude.{◌≡◌, ◌==◌, ◌||◌, ◌-◌, ◌<◌, ℕ, Bool, MatchOption, ⊤};
 ghost use Rattle.mio.specs.Events.{items};
-ghost use Rattle.gw_udp.specs.Ready.{AreNoted, AsksSystem, IsAsked, SystemReports, has_come};
+ghost use Rattle.gw_udp.specs.Ready.{AreNoted, AsksSystem, IsAsked, SystemHasReported, has_come};
 ghost use Rattle.gw_udp.specs.Socket.{KeepsBound};
 
 use crate::socket::Socket;
@@ -60,9 +60,9 @@ fn note_all(events: &Events, came: &mut [bool; 30])
 }
 
 // Asks the system what has come, without a wait. There are no events if it refuses.
-#[tactic(auto, unfolding(crate::specs::Ready::SystemReports))]
+#[tactic(auto, unfolding(crate::specs::Ready::SystemHasReported))]
 fn ask_now(poller: &mut Poller)
-    ensures { SystemReports poller.new.poll (items poller.new.events) }
+    ensures { SystemHasReported poller.new.poll (items poller.new.events) }
 {
     let _ = poller.poll.poll(&mut poller.events, Some(Duration::ZERO));
 }
@@ -92,19 +92,21 @@ impl Readiness {
     /// Has the system say what comes to the socket of the circuit of this number.
     pub(crate) fn watch<S: Socket>(&self, circuit: u8, socket: &mut S)
         ensures bound { KeepsBound S.is_bound socket.old socket.new }
+        ensures joined { KeepsBound S.is_joined socket.old socket.new }
         ensures open { S.is_open socket.old → S.is_open socket.new }
+        ensures watched { MatchOption self.now.poller ⊤
+            (λ p. (agreed : Bool) × S.watches socket.new p.poll (circuit - 1) agreed) }
     {
         if let Some(poller) = &self.poller {
-            let _ = socket.watch(
-                poller.poll.registry(),
-                Token(usize::from(circuit.saturating_sub(1))),
-            );
+            let token = Token(usize::from(circuit.saturating_sub(1)));
+            let _ = socket.watch(&poller.poll, token);
         }
     }
 
     /// Asks the system which sockets datagrams have come to. The next 249 receives ask it no more.
     pub(crate) fn look(&mut self)
-        ensures { AsksSystem self.new.poller self.old.came self.new.came }
+        ensures asks { AsksSystem self.new.poller self.old.came self.new.came }
+        ensures counts { self.new.receives ≡ 0 }
     {
         self.receives = 0;
         ask_system(&mut self.poller, &mut self.came);
@@ -116,7 +118,7 @@ impl Readiness {
     pub(crate) fn came(&mut self, circuit: CircuitNo) -> bool
         ensures { IsAsked self.old self.new circuit result }
     {
-        self.receives = self.receives.wrapping_add(1);
+        self.receives = self.receives.saturating_add(1);
         if self.receives >= RECEIVES {
             self.look();
         }

@@ -1,15 +1,15 @@
 //! The trait of a non-blocking datagram socket, and the system's as one (`Socket`).
 
-ghost use Rattle.std.specs.Prelude.{◌≡◌, ◌≤◌, ℕ, List, length, Ok, None, IfOk, IfErr, IfSome, IsTrue};
+ghost use Rattle.std.specs.Prelude.{◌≡◌, ◌≤◌, ℕ, ℤ, List, length, Ok, None, IfOk, IfErr, IfSome, IsTrue};
 ghost use Rattle.std.specs.Prelude.{IsFalse, OnOk, ⊤};
 ghost use Rattle.gw_udp.specs.Socket.{Bound, KeepsBound, BindRefused, Received, ReceivesAny, Sent, Watched};
 ghost use Rattle.gw_udp.specs.System.{IsBoundAt, SystemJoins, SystemTakesAll, SystemRegisters, LacksBound};
-ghost use Rattle.gw_udp.specs.System.{ReceivesOnce, SendsTo};
+ghost use Rattle.gw_udp.specs.System.{ReceivesOnce, SendsTo, SystemMakesRoom};
 
 use crate::outcome::{received, sent, was_refused};
 use crate::system_socket::SystemSocket;
 use gw_records::PortFault;
-use mio::{Registry, Token};
+use mio::{Poll, Token};
 use std::io;
 use std::net::{Net, SocketAddr};
 
@@ -26,14 +26,20 @@ pub trait Socket: Drop {
     /// Holds of a socket that takes datagrams from every sender.
     ghost is_open: { Self → Type 0 } = { λ _. ⊤ };
 
-    /// Relates a socket, a token, and whether the system says by it what comes to the socket.
-    ghost watches: { Watched Self } = { λ _ _ _. ⊤ };
+    /// Relates a socket, a poll, a token, and whether the system says by these what comes to the socket.
+    ghost watches: { Watched Self } = { λ _ _ _ _. ⊤ };
+
+    /// Relates a socket and the octets of datagrams that the system was asked to keep for it.
+    ghost makes_room: { Self → ℤ → Type 0 } = { λ _ _. ⊤ };
 
     /// Relates an address at which the system refused a socket, and its error.
     ghost refuses: { BindRefused } = { λ _ _. ⊤ };
 
     /// Relates a socket before and after a receive, the answer, and the room afterwards.
     ghost receives: { Received Self } = { λ _ _ _ _. ⊤ };
+
+    /// .. that asked the system.
+    ghost asks: { Received Self } = { λ _ _ _ _. ⊤ };
 
     /// Relates a socket before and after a send, the destination, the datagram, and the answer.
     ghost sends: { Sent Self } = { λ _ _ _ _ _. ⊤ };
@@ -53,34 +59,40 @@ pub trait Socket: Drop {
     /// The error is the system's; then all senders are accepted.
     fn connect(&mut self, peer: SocketAddr) -> io::Result<()>
         ensures joined { OnOk result (is_joined self.new peer) }
+        ensures open { IfErr result (λ _. is_open self.old → is_open self.new) }
         ensures bound { KeepsBound is_bound self.old self.new };
 
     /// Asks the system to keep this many octets of datagrams that wait. It may keep fewer.
-    fn make_room(&self, octets: i32);
+    fn make_room(&self, octets: i32)
+        ensures { makes_room self.now octets };
 
-    /// Has the system say what comes to the socket, by this token. False if it does not.
-    fn watch(&mut self, registry: &Registry, token: Token) -> bool
+    /// Has the system say to this poll what comes to the socket, by this token. False if it does not.
+    fn watch(&mut self, poll: &Poll, token: Token) -> bool
         ensures bound { KeepsBound is_bound self.old self.new }
+        ensures joined { KeepsBound is_joined self.old self.new }
         ensures open { is_open self.old → is_open self.new }
-        ensures watched { watches self.new token.0 result };
+        ensures watched { watches self.new poll.now token.0 result };
 
     /// Whether a receive now finds none without asking the system. If so, this was that receive. `came` is
     /// whether the system has said that something came.
     fn rests(&mut self, came: bool) -> bool
         ensures rests { IsTrue result → (room : List ℕ) → receives self.old self.new (Ok None) room }
-        ensures stays { IsFalse result → self.new ≡ self.old };
+        ensures stays { IsFalse result → self.new ≡ self.old }
+        ensures asks { IsTrue came → IsFalse result };
 
     /// Receives the first datagram that waits into the front of `room`, and returns its length, in octets,
     /// and its sender. None if none waits.
     fn receive(&mut self, room: &mut [u8]) -> Result<Option<(usize, SocketAddr)>, PortFault>
         ensures bound { IfOk result (λ got. IfSome got (λ g. g.0 ≤ length room.new)) }
-        ensures receives { receives self.old self.new result room.new };
+        ensures receives { receives self.old self.new result room.new }
+        ensures asks { asks self.old self.new result room.new };
 
     /// Receives the first datagram that waits, as [`receive`](Socket::receive) does, and returns its length
     /// alone, in octets.
     fn receive_any(&mut self, room: &mut [u8]) -> Result<Option<usize>, PortFault>
         ensures bound { IfOk result (λ got. IfSome got (λ n. n ≤ length room.new)) }
-        ensures receives { ReceivesAny receives self.old self.new result room.new };
+        ensures receives { ReceivesAny receives self.old self.new result room.new }
+        ensures asks { ReceivesAny asks self.old self.new result room.new };
 
     /// Sends a datagram to an address.
     ///
@@ -99,9 +111,13 @@ impl Socket for SystemSocket {
 
     ghost watches = { SystemRegisters };
 
+    ghost makes_room = { SystemMakesRoom };
+
     ghost refuses = { LacksBound };
 
     ghost receives = { ReceivesOnce };
+
+    ghost asks = { ReceivesOnce };
 
     ghost sends = { SendsTo };
 
@@ -119,8 +135,8 @@ impl Socket for SystemSocket {
         self.ask_for_room(octets);
     }
 
-    fn watch(&mut self, registry: &Registry, token: Token) -> bool {
-        self.register(registry, token)
+    fn watch(&mut self, poll: &Poll, token: Token) -> bool {
+        self.register(poll, token)
     }
 
     #[inline]

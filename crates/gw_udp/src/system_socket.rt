@@ -1,14 +1,14 @@
 //! The system's datagram socket, each call of it in a function of its own (`SystemSocket`).
 
-ghost use Rattle.std.specs.Prelude.{◌≤◌, length, IfOk, OnOk};
+ghost use Rattle.std.specs.Prelude.{◌≤◌, length, IfErr, IfOk, OnOk};
 ghost use Rattle.gw_udp.specs.Socket.{KeepsBound};
 ghost use Rattle.gw_udp.specs.System.{IsBoundAt, SystemBinds, SystemNeverWaits, SystemTakesAll};
 ghost use Rattle.gw_udp.specs.System.{SystemJoins, SystemRegisters, SystemReceives, SystemReceivesAny};
-ghost use Rattle.gw_udp.specs.System.{SystemSends};
+ghost use Rattle.gw_udp.specs.System.{SystemMakesRoom, SystemSends};
 
 use libc::net;
 use mio::unix::SourceFd;
-use mio::{Interest, Registry, Token};
+use mio::{Interest, Poll, Token};
 use std::io;
 use std::net::{Net, SocketAddr, UdpSocket};
 use std::os::fd::AsRawFd;
@@ -44,12 +44,16 @@ impl SystemSocket {
     pub(crate) fn join(&mut self, peer: SocketAddr) -> io::Result<()>
         ensures joined { OnOk result (SystemJoins self.new peer) }
         ensures bound { KeepsBound IsBoundAt self.old self.new }
+        ensures open { IfErr result (λ _. SystemTakesAll self.old → SystemTakesAll self.new) }
     {
         self.socket.connect(peer)
     }
 
     // Asks for room for this many octets of datagrams that wait.
-    pub(crate) fn ask_for_room(&self, octets: i32) {
+    #[tactic(auto, unfolding(crate::specs::System::SystemMakesRoom))]
+    pub(crate) fn ask_for_room(&self, octets: i32)
+        ensures { SystemMakesRoom self.now octets }
+    {
         let mut value = [0u8; 16];
         value[..4].copy_from_slice(&octets.to_ne_bytes());
         let fd = self.socket.as_raw_fd();
@@ -58,10 +62,10 @@ impl SystemSocket {
 
     // Asks to be told what comes, by this token. False if that is refused.
     #[tactic(auto, unfolding(crate::specs::System::SystemRegisters))]
-    pub(crate) fn register(&self, registry: &Registry, token: Token) -> bool
-        ensures { SystemRegisters self.now token.0 result }
+    pub(crate) fn register(&self, poll: &Poll, token: Token) -> bool
+        ensures { SystemRegisters self.now poll.now token.0 result }
     {
-        registry
+        poll.registry()
             .register(
                 &mut SourceFd(&self.socket.as_raw_fd()),
                 token,

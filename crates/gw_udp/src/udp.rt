@@ -1,13 +1,15 @@
 //! How each circuit's socket is opened, receives from accepted senders and sends (`UdpPorts`).
 
-ghost use Rattle.std.specs.Prelude.{◌≡◌, ◌≢◌, ◌≤◌, ℕ, List, vec_len, vec_capacity, length, Ok, None};
-ghost use Rattle.std.specs.Prelude.{IfOk, IfErr, IfSome, IsSomeAnd};
+ghost use Rattle.std.specs.Prelude.{◌≡◌, ◌≢◌, ◌⊎◌, ◌-◌, ◌≤◌, ℕ, Bool, List, Option, vec_len, vec_capacity};
+ghost use Rattle.std.specs.Prelude.{length, slice_index_or, Ok, None, IfOk, IfErr, IfSome, IsSomeAnd};
+ghost use Rattle.std.specs.Prelude.{MatchOption, ⊤};
 ghost use Rattle.std.specs.Prelude.{IsTrue, IsFalse, OnErr, string_bytes};
 ghost use Rattle.std.specs.IoError.{error_kind};
 ghost use Rattle.gw_records.specs.Ports.{Receives, Sends, CountsFault, KeepsSends, KeepsReceives};
 ghost use Rattle.gw_state.specs.Memory.{MemoryIsRefused};
 ghost use Rattle.gw_udp.specs.Names.{IsAddressOf, LacksAddress, SystemLooksUp};
-ghost use Rattle.gw_udp.specs.Udp.{IsEndpointOf, IsEndpoint, HasEndpoints, KeepsOthers};
+ghost use Rattle.gw_udp.specs.Ready.{IsAsked};
+ghost use Rattle.gw_udp.specs.Udp.{EachHears, Hears, IsEndpointOf, IsEndpoint, HasEndpoints, KeepsOthers};
 ghost use Rattle.gw_udp.specs.Opening.{Blames, LacksSocket, IsFaultOf, FailsToOpen};
 ghost use Rattle.gw_udp.specs.Socket.{KeepsBound};
 ghost use Rattle.gw_udp.specs.Udp.{ReceivesFrom, EndpointReceives, EndpointSends, TakesFrom};
@@ -75,6 +77,7 @@ pub struct UdpPorts<S: Socket> {
 }
 
 // The fault of an error: out of memory, or a fault of this circuit.
+#[tactic(auto, unfolding(gw_state::specs::Memory::MemoryIsRefused))]
 fn fault_of(circuit: u8, error: &Error) -> OpenFault
     ensures { Blames circuit (error_kind error.now) result }
 {
@@ -112,6 +115,7 @@ fn address_of<L: NameLookup>(
 fn restrict<S: Socket>(socket: &mut S, senders: SourceFilter, peer: SocketAddr)
     ensures bound { KeepsBound S.is_bound socket.old socket.new }
     ensures open { senders ≢ SourceFilter.Peer → S.is_open socket.old → S.is_open socket.new }
+    ensures takes { S.is_open socket.old → S.is_joined socket.new peer ⊎ S.is_open socket.new }
 {
     if let SourceFilter::Peer = senders {
         let _ = socket.connect(peer);
@@ -128,6 +132,8 @@ fn open_endpoint<S: Socket, L: NameLookup>(
 ) -> Result<Endpoint<S>, OpenFault>
     ensures ok { IfOk result (IsEndpointOf (TakesFrom S.is_bound S.is_open asked.now.senders)
         (L.looks_up asked.now.names.now) asked.now.host.now asked.now.senders port.now) }
+    ensures hears { IfOk result
+        (Hears S.watches S.is_joined S.is_open readiness.now.poller (circuit - 1)) }
     ensures err { IfErr result (IsFaultOf circuit
         (LacksSocket S.refuses (L.looks_up asked.now.names.now) asked.now.host.now port.now)) }
 {
@@ -163,6 +169,8 @@ fn endpoint_of<S: Socket, L: NameLookup>(
 ) -> Result<Option<Endpoint<S>>, OpenFault>
     ensures ok { IfOk result (IsEndpoint (TakesFrom S.is_bound S.is_open asked.now.senders)
         (L.looks_up asked.now.names.now) asked.now.host.now asked.now.senders port.now) }
+    ensures hears { IfOk result (λ e. MatchOption e ⊤
+        (Hears S.watches S.is_joined S.is_open readiness.now.poller (circuit - 1))) }
     ensures err { IfErr result (IsFaultOf circuit
         (IsSomeAnd port.now (LacksSocket S.refuses (L.looks_up asked.now.names.now) asked.now.host.now))) }
 {
@@ -185,6 +193,7 @@ fn receive_accepted<S: Socket>(
 ) -> Result<Option<usize>, PortFault>
     ensures bound { IfOk result (λ got. IfSome got (λ n. n ≤ length room.new)) }
     ensures received { ReceivesFrom S.receives senders peer.now socket.old socket.new result room.new }
+    ensures asks { ReceivesFrom S.asks senders peer.now socket.old socket.new result room.new }
 {
     for _turn in 0..MOST_STRANGERS {
         match socket.receive(room)? {
@@ -209,6 +218,7 @@ fn receive_from<S: Socket>(
 ) -> Result<Option<usize>, PortFault>
     ensures bound { IfOk result (λ got. IfSome got (λ n. n ≤ length room.new)) }
     ensures received { ReceivesFrom S.receives senders peer.now socket.old socket.new result room.new }
+    ensures asks { ReceivesFrom S.asks senders peer.now socket.old socket.new result room.new }
 {
     match senders {
         SourceFilter::Any => socket.receive_any(room),
@@ -229,6 +239,8 @@ fn rests_at<S: Socket>(
         → EndpointReceives S.receives circuit endpoints.old endpoints.new (Ok None) room }
     ensures stays { IsFalse result → endpoints.new ≡ endpoints.old }
     ensures others { KeepsOthers circuit endpoints.old endpoints.new }
+    ensures asks { IsTrue came → IsTrue result
+        → (d : Option (Endpoint S)) → slice_index_or endpoints.old (circuit - 1) d ≡ None }
     ensures some { 1 ≤ circuit }
 {
     match &mut endpoints[usize::from(circuit.get()) - 1] {
@@ -248,6 +260,7 @@ fn ask_at<S: Socket>(
     ensures bound { IfOk result (λ got. IfSome got (λ n. n ≤ length room.new)) }
     ensures own { EndpointReceives S.receives circuit endpoints.old endpoints.new
         result room.new }
+    ensures asks { EndpointReceives S.asks circuit endpoints.old endpoints.new result room.new }
     ensures others { KeepsOthers circuit endpoints.old endpoints.new }
 {
     let at = usize::from(circuit.get()) - 1;
@@ -274,6 +287,8 @@ fn receive_at<S: Socket>(
     ensures bound { IfOk result (λ got. IfSome got (λ n. n ≤ length room.new)) }
     ensures own { EndpointReceives S.receives circuit endpoints.old endpoints.new
         result room.new }
+    ensures asks { IsTrue came
+        → EndpointReceives S.asks circuit endpoints.old endpoints.new result room.new }
     ensures others { KeepsOthers circuit endpoints.old endpoints.new }
     ensures some { 1 ≤ circuit }
 {
@@ -336,6 +351,8 @@ impl<S: Socket> UdpPorts<S> {
         ensures ok { IfOk result (λ opened.
             HasEndpoints (TakesFrom S.is_bound S.is_open senders) SystemLooksUp host.now senders ports.now
             opened.endpoints.items 30) }
+        ensures hears { IfOk result (λ p. EachHears (Hears S.watches S.is_joined S.is_open p.readiness.poller)
+            p.endpoints.items 30) }
         ensures fresh { IfOk result (λ p. IsFresh p.endpoints.items p.opened.value.items p.log.calls) }
         ensures err { IfErr result
             (FailsToOpen (TakesFrom S.is_bound S.is_open senders) S.refuses SystemLooksUp host.now senders
@@ -368,9 +385,13 @@ impl<S: Socket> UdpPorts<S> {
 }
 
 impl<S: Socket> Ports for UdpPorts<S> {
+    ghost use Rattle.std.specs.Prelude.{List, Bool};
+    ghost use Rattle.gw_udp.specs.Ready.{AsksSystem};
     ghost use Rattle.gw_udp.specs.Telling.{told};
 
     ghost tells = { told };
+
+    ghost has_looked = { λ p. (came : List Bool) × AsksSystem p.readiness.poller came p.readiness.came };
 
     fn look(&mut self) {
         self.readiness.look();
@@ -384,6 +405,9 @@ impl<S: Socket> Ports for UdpPorts<S> {
         ensures sends_stay { KeepsSends (told self.old) (told self.new) }
         ensures own { EndpointReceives S.receives circuit self.old.endpoints.items self.new.endpoints.items
             result room.new }
+        ensures asks { (came : Bool) × IsAsked self.old.readiness self.new.readiness circuit came
+            × (IsTrue came → EndpointReceives S.asks circuit self.old.endpoints.items
+            self.new.endpoints.items result room.new) }
         ensures others { KeepsOthers circuit self.old.endpoints.items self.new.endpoints.items }
     {
         let came = self.readiness.came(circuit);

@@ -1,6 +1,14 @@
 -- A trunk over SAToP, as the command line asks for it (module `carrying`).
 use Rattle.std.specs.Prelude.{◌≡◌, ◌⊎◌, ◌*◌, ◌/◌, ⊤, ℕ, Bool, true, List, [], ◌∷◌, ◌++◌, Some, None}
-use Rattle.std.specs.Prelude.{is_some}
+use Rattle.std.specs.Prelude.{is_some, pos}
+use Rattle.std.specs.declared.net.socket_addr.SocketAddr.{SocketAddr}
+use Rattle.mio.specs.declared.interest.TheConstants.Interest.{READABLE, WRITABLE}
+use Rattle.mio.specs.declared.poll.Poll.{Poll}
+use Rattle.gw_trunk.specs.declared.waiting.Waiting.{Waiting}
+use Rattle.gw_trunk.specs.System.{SystemWatches}
+use Rattle.gw_trunk.specs.Waiting.{WaitsFor}
+use Rattle.gw_udp.specs.System.{IsBoundAt, SystemJoins, SystemRegisters}
+use Rattle.gw_udp.specs.declared.system_socket.SystemSocket.{SystemSocket}
 use Rattle.std.specs.Prelude.{min, max, Result, IsErrAnd, MatchResult, MatchOption, codes}
 use Rattle.std.specs.Int.{w16, w32, from_be_bytes}
 use Rattle.gw_records.specs.declared.outcome.Totals.{Totals}
@@ -11,7 +19,7 @@ use Rattle.gw_satop.specs.declared.line.Receiver.{Receiver}
 use Rattle.gw_satop.specs.declared.pace.PlayClock.{PlayClock}
 use Rattle.gw_satop.specs.declared.sender.Sender.{Sender}
 use Rattle.gw_satop.specs.Counts.{CountsSends}
-use Rattle.gw_satop.specs.Opening.{FailsToJoin, SystemRefusesTrunk}
+use Rattle.gw_satop.specs.Opening.{FailsToJoin, IsJoined, SystemRefusesTrunk}
 use Rattle.gw_satop.specs.Session.{PlaysAll, SendsAll}
 use Rattle.satop_playout.specs.Calls.{IsSize}
 use Rattle.satop_playout.specs.declared.Replacement.TheVariants as fills
@@ -125,8 +133,36 @@ FailsToOpen command fault = ((fault ≡ program_faults.Nothing) × LacksWord com
     ⊎ ((fault ≡ program_faults.PacketSize) × SaysOtherSize command)
     ⊎ LacksSocket command fault ⊎ LacksStream fault
 
+-- a socket was opened at one end that the command says, which takes datagrams of the other alone
+pub record HasFarEnd (command : CommandLine) (socket : SystemSocket) (address : SocketAddr) : Type 0 where
+  pub local : List ℕ
+  pub peer : List ℕ
+  pub says_local : text_in (codes "local") command ≡ Some local
+  pub says_peer : text_in (codes "peer") command ≡ Some peer
+  pub joined : IsJoined IsBoundAt SystemJoins local peer socket address
+
+-- one poll has what comes of standard input and to a socket
+abbrev pub ReportsBoth : Poll → SystemSocket → Type 0
+ReportsBoth poll socket = ((agreed : Bool) × SystemWatches poll (pos 0) 0 agreed)
+    × ((agreed : Bool) × SystemRegisters socket poll 1 agreed)
+
+-- A circuit has the far end that the command says, and standard input and output. Both are waited for there,
+-- and what comes to the socket with the first.
+pub record HasEnds (command : CommandLine) : Type 0 where
+  pub opened : SystemSocket
+  pub address : SocketAddr
+  pub far_end : HasFarEnd command opened address
+  pub socket : SystemSocket
+  pub poll : Poll
+  pub reported : ReportsBoth poll socket
+  pub input : Waiting
+  pub input_is : WaitsFor (pos 0) READABLE input
+  pub output : Waiting
+  pub output_is : WaitsFor (pos 1) WRITABLE output
+
 -- the circuit that the command asks for was carried
 pub record HasCircuit (command : CommandLine) (told : Result Totals ProgramFault) : Type 0 where
+  pub ends : HasEnds command
   pub traffic : CircuitTraffic
   pub set_up : IsSetUp command traffic.receiver traffic.sender traffic.pace
   pub carried : CarriesSatop traffic told

@@ -1,9 +1,11 @@
 //! How the emulated circuit that the command line asks for is opened and carried (`emulate`).
 
-ghost use Rattle.std.specs.Prelude.{◌≡◌, ◌⊎◌, ◌≤◌, ◌^◌, [], IfOk, IfErr};
+ghost use Rattle.std.specs.Prelude.{◌≡◌, ◌⊎◌, ◌≤◌, ◌^◌, [], IfOk, IfErr, pos};
 ghost use Rattle.clap.specs.Words.{subcommand_rows_of};
 ghost use Rattle.run_satop.specs.Asked.{IsAsked};
-ghost use Rattle.run_satop.specs.Satop.{CarriesSatop, DoesSatop};
+ghost use Rattle.run_satop.specs.Satop.{CarriesSatop, DoesSatop, HasFarEnd, ReportsBoth};
+ghost use Rattle.mio.specs.declared.interest.TheConstants.Interest.{READABLE, WRITABLE};
+ghost use Rattle.gw_trunk.specs.Waiting.{WaitsFor};
 ghost use Rattle.gw_machine.specs.CommandLine.{CommandLine};
 ghost use Rattle.gw_satop.specs.Doing.{RefusesOctets};
 ghost use Rattle.gw_satop.specs.Session.{HasSettings};
@@ -75,13 +77,16 @@ fn emulate_between<
     asked: CircuitAsked,
     ends: CircuitEnds<I, O, P, M>,
 ) -> Result<Totals, ProgramFault>
+    requires input { WaitsFor (pos 0) READABLE (I.ready ends.incoming) }
+    requires output { WaitsFor (pos 1) WRITABLE (O.waiting ends.outgoing) }
+    requires reported { ReportsBoth (M.poll ends.clock) (P.socket ends.peer) }
     requires came { I.came ends.incoming ≡ [] }
     requires went { O.went ends.outgoing ≡ [] }
     requires received { P.received ends.peer ≡ [] }
     requires sent { P.sent ends.peer ≡ [] }
     ensures { (command : CommandLine)
         → IsAsked command asked.settings asked.timing asked.rtp asked.sequence
-        → DoesSatop command result }
+        → HasFarEnd command (P.opened ends.peer) (P.address ends.peer) → DoesSatop command result }
 {
     let receiver = open_receiver(rt, asked.settings, asked.rtp.is_some())?;
     let sender = Sender::new(start_of(rt, asked.settings.size, asked.rtp, asked.sequence));
@@ -104,11 +109,12 @@ fn emulate_over<P: Peer + FarEnd + Drop, M: Clock + CircuitClock + Drop>(
     clock: M,
     streams: (Stdin, Stdout),
 ) -> Result<Totals, ProgramFault>
+    requires reported { ReportsBoth (M.poll clock) (P.socket peer) }
     requires received { P.received peer ≡ [] }
     requires sent { P.sent peer ≡ [] }
     ensures { (command : CommandLine)
         → IsAsked command asked.settings asked.timing asked.rtp asked.sequence
-        → DoesSatop command result }
+        → HasFarEnd command (P.opened peer) (P.address peer) → DoesSatop command result }
 {
     let (input, output) = streams;
     let incoming = open_stdin(rt, input)?;

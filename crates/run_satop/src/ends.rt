@@ -1,9 +1,11 @@
 //! What an emulated circuit opens: its socket, standard input and output, the clock and the received half.
 
-ghost use Rattle.std.specs.Prelude.{◌≡◌, [], IfOk, IfErr, OnErr, MatchOption};
+ghost use Rattle.std.specs.Prelude.{◌≡◌, [], IfOk, IfErr, OnErr, MatchOption, pos};
 ghost use Rattle.clap.specs.Words.{subcommand_rows_of};
 ghost use Rattle.gw_state.specs.Memory.{MemoryIsRefused};
-ghost use Rattle.run_satop.specs.Satop.{FailsToOpen, LacksStream};
+ghost use Rattle.mio.specs.declared.interest.TheConstants.Interest.{READABLE, WRITABLE};
+ghost use Rattle.gw_trunk.specs.Waiting.{WaitsFor};
+ghost use Rattle.run_satop.specs.Satop.{FailsToOpen, HasFarEnd, LacksStream, ReportsBoth};
 ghost use Rattle.run_satop.specs.Satop.{IsDrawn16, IsDrawn32, SystemFills};
 ghost use Rattle.gw_satop.specs.Line.{HasPlayed};
 
@@ -89,6 +91,7 @@ pub(crate) fn open_far_end(
     rt: &impl Machine,
     matches: &ArgMatches<'_>,
 ) -> Result<UdpPeer<SystemSocket>, ProgramFault>
+    ensures ok { IfOk result (λ p. HasFarEnd (subcommand_rows_of matches.now) p.opened.value p.address) }
     ensures received { IfOk result (λ p. p.received.datagrams ≡ []) }
     ensures sent { IfOk result (λ p. p.sent.datagrams ≡ []) }
     ensures err { IfErr result (FailsToOpen (subcommand_rows_of matches.now)) }
@@ -111,6 +114,7 @@ pub(crate) fn open_stdin(
     input: Stdin,
 ) -> Result<WhenReady<FromDevice<Stdin>, Waiting>, ProgramFault>
     ensures came { IfOk result (λ r. r.incoming.reader.log.octets ≡ []) }
+    ensures ready { IfOk result (λ r. WaitsFor (pos 0) READABLE r.waiting) }
     ensures err { IfErr result LacksStream }
 {
     match open_input(rt, input, STDIN) {
@@ -125,6 +129,7 @@ pub(crate) fn open_stdout(
     output: Stdout,
 ) -> Result<ToDevice<Stdout>, ProgramFault>
     ensures went { IfOk result (λ d. d.log.octets ≡ []) }
+    ensures waiting { IfOk result (λ d. WaitsFor (pos 1) WRITABLE d.waiting) }
     ensures err { IfErr result LacksStream }
 {
     match open_output(rt, output, STDOUT) {
@@ -140,6 +145,9 @@ pub(crate) fn open_clock<'r, R: Machine>(
 ) -> Result<SystemClock<'r, R>, ProgramFault>
     ensures received { peer.new.received ≡ peer.old.received }
     ensures sent { peer.new.sent ≡ peer.old.sent }
+    ensures opened { peer.new.opened ≡ peer.old.opened }
+    ensures address { peer.new.address ≡ peer.old.address }
+    ensures reported { IfOk result (λ clock. ReportsBoth clock.poll peer.new.socket) }
     ensures err { IfErr result LacksStream }
 {
     match SystemClock::open(rt, STDIN, peer) {

@@ -19,7 +19,7 @@ use Rattle.gw_switch.specs.declared.gateway.Gateway.{Gateway}
 use Rattle.gw_machine.specs.System.{EndedSaved, HasServed, LacksSession, NotBegun, SystemFiles}
 use Rattle.gw_machine.specs.System.Performed.{Lacked, Done}
 use Rattle.gw_machine.specs.CommandLine.{CommandLine, TakesAsked, files_in}
-use Rattle.run_trunk.specs.Trunks.{AsksEnd, CarriesTrunk, HasTrunk, IsEndedBy, LacksControl, LacksEnds}
+use Rattle.run_trunk.specs.Trunks.{CarriesTrunk, HasTrunk, IsEndedBy, LacksControl, LacksEnds}
 use Rattle.run_trunk.specs.Trunks.{LacksStream, ServesBy, ServesTrunk, told_behind}
 use Rattle.gw_trunk.specs.declared.device.DeviceFault.{DeviceFault}
 
@@ -54,13 +54,9 @@ end_alone command lacks descriptor none named =
     nothing_served command lacks program_faults.Nothing (inl (inr (inr (refl, (none, (descriptor, named))))))
 
 -- where the command names no descriptor for the end, nothing is to be asked
-pub none_asked : (command : CommandLine) → ((n : ℕ) → ¬ SaysNumberIn 16 (codes "end") command n)
-    → AsksEnd command
-none_asked command none n named = absurd (none n named)
-
--- a descriptor that asks for the end asks for it of some wait
-pub asked_of : (command : CommandLine) (poll : Poll) → IsEndedBy command poll → AsksEnd command
-asked_of command poll ended n named = (poll, ended n named)
+pub none_asked : (command : CommandLine) (poll : Poll) → ((n : ℕ) → ¬ SaysNumberIn 16 (codes "end") command n)
+    → IsEndedBy command poll
+none_asked command poll none n named = absurd (none n named)
 
 module _ (s s' : SourceState) (k k' : SinkState) {X P T : Type 0} {x x' : X} {command : CommandLine}
     {law : Law} {lacks : ProgramFault → Type 0} {saves : Result (Unit {0}) ProgramFault → Type 0}
@@ -95,7 +91,10 @@ trunk_so : {command : CommandLine} {law : Law} {gateway : Gateway}
     → ((passed : Traffic) (ended : Result Totals ProgramFault) → does passed ended → does' passed ended)
     → HasTrunk command law gateway does told → HasTrunk command law gateway does' told
 trunk_so is t = record {
-  asked = t.asked;
+  poll = t.poll;
+  input = t.input;
+  waiting = t.waiting;
+  output_is = t.output_is;
   passed = t.passed;
   ended = t.ended;
   done = is t.passed t.ended t.done;

@@ -1,5 +1,6 @@
 -- What it means that the trunk that the command line names is served.
-use Rattle.std.specs.Prelude.{◌≡◌, ◌⊎◌, ℕ, Bool, pos, List, true, Some, None, Ok, Err, OnOk, Result, codes}
+use Rattle.std.specs.Prelude.{◌≡◌, ◌⊎◌, ℕ, ℤ, Bool, pos, List, true, Some, None, Ok, Err, OnOk, Result, codes}
+use Rattle.mio.specs.declared.interest.TheConstants.Interest.{WRITABLE}
 use Rattle.mio.specs.declared.poll.Poll.{Poll}
 use Rattle.e1_g711.specs.declared.Law.{Law}
 use Rattle.gw_switch.specs.declared.GatewayConfig.{GatewayConfig}
@@ -14,7 +15,9 @@ use Rattle.gw_session.specs.Serve.{SessionStreams}
 use Rattle.gw_session.specs.Tape.{TapeState}
 use Rattle.gw_command.specs.Command.{SaysNumberIn, text_in}
 use Rattle.gw_trunk.specs.declared.device.DeviceFault.{DeviceFault}
+use Rattle.gw_trunk.specs.declared.waiting.Waiting.{Waiting}
 use Rattle.gw_trunk.specs.System.{SystemRefusesDoor, SystemRefusesStream, SystemWatches}
+use Rattle.gw_trunk.specs.Waiting.{WaitsFor}
 use Rattle.run_trunk.specs.Filters.{Comes, EndIsTold, Goes, IsPlaceOf}
 use Rattle.run_trunk.specs.Serving.{Carried, Traffic}
 use Rattle.gw_machine.specs.System.{EndedSaved, LacksTapeOrPorts, NotBegun, Serves}
@@ -69,10 +72,17 @@ abbrev pub IsEndedBy : {P : Type 0} → CommandLine → P → Type 0
 IsEndedBy command poll = (descriptor : ℕ) → SaysNumberIn 16 (codes "end") command descriptor
     → SystemWatches poll (pos descriptor) 10 true
 
--- .. of one of the system's waits
-abbrev pub AsksEnd : CommandLine → Type 0
-AsksEnd command = (descriptor : ℕ) → SaysNumberIn 16 (codes "end") command descriptor
-    → (poll : Poll) × SystemWatches poll (pos descriptor) 10 true
+-- the system was asked to report what comes of a descriptor
+abbrev pub IsReported : ℤ → Poll → Type 0
+IsReported descriptor poll = (agreed : Bool) × SystemWatches poll descriptor 0 agreed
+
+-- .. of standard input, and of what the command names for the end
+abbrev pub IsInputOf : CommandLine → Poll → Type 0
+IsInputOf command poll = IsReported (pos 0) poll × IsEndedBy command poll
+
+-- standard output is what is waited for, until it can be written
+abbrev pub IsOutput : Waiting → Type 0
+IsOutput waiting = WaitsFor (pos 1) WRITABLE waiting
 
 -- the result of a trunk whose session ended so: that a write failed, if its device did at the very end
 abbrev pub told_behind : Result Totals ProgramFault → Result Bool DeviceFault → Result Totals ProgramFault
@@ -80,12 +90,16 @@ told_behind (Ok totals) (Ok all) = Ok totals
 told_behind (Ok totals) (Err fault) = Err (program_faults.Session run_faults.Write)
 told_behind (Err fault) output = Err fault
 
--- What the command names for the end was seen to. Octets came from a trunk and were sent to it, clients
--- asked and were answered, and this was done of it by the gateway. What came and what was sent passed the
--- filters that the command asks for. What the command asks to be told at the end was told, if it ended well.
+-- The trunk was waited for at standard input and output, and what the command names for the end with the
+-- first. Octets came from it and were sent to it, clients asked and were answered, and this was done of it
+-- by the gateway. What came and what was sent passed the filters that the command asks for. What the command
+-- asks to be told at the end was told, if it ended well.
 pub record HasTrunk (command : CommandLine) (law : Law) (gateway : Gateway)
     (does : Traffic → Result Totals ProgramFault → Type 0) (told : Result Totals ProgramFault) : Type 0 where
-  pub asked : AsksEnd command
+  pub poll : Poll
+  pub input : IsInputOf command poll
+  pub waiting : Waiting
+  pub output_is : IsOutput waiting
   pub passed : Traffic
   pub ended : Result Totals ProgramFault
   pub done : does passed ended

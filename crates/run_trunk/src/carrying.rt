@@ -1,13 +1,13 @@
 //! How the trunk that the command line asks for is opened and served (`serve`).
 
-ghost use Rattle.std.specs.Prelude.{◌≡◌, ◌%◌, [], IfOk, IfErr, None, OnOk, codes, is_some};
+ghost use Rattle.std.specs.Prelude.{◌≡◌, ◌%◌, [], IfOk, IfErr, None, OnOk, codes, is_some, pos};
 ghost use Rattle.clap.specs.Words.{subcommand_rows_of};
 ghost use Rattle.gw_command.specs.Command.{HasFlag, text_in};
 ghost use Rattle.gw_machine.specs.System.{LacksSession};
 ghost use Rattle.gw_machine.specs.CommandLine.{TakesAsked, files_in};
 ghost use Rattle.run_trunk.specs.Filters.{AreAsked, EndIsTold};
-ghost use Rattle.run_trunk.specs.Trunks.{AsksEnd, IsEndedBy, LacksControl, LacksStream, ServesTrunk};
-ghost use Rattle.run_trunk.specs.Trunks.{LacksServing, ServesBy, told_behind};
+ghost use Rattle.run_trunk.specs.Trunks.{IsEndedBy, IsInputOf, IsOutput, IsReported, LacksControl};
+ghost use Rattle.run_trunk.specs.Trunks.{LacksServing, LacksStream, ServesBy, ServesTrunk, told_behind};
 
 use crate::filters::{
     Incoming, PrintedSlots, TrunkFilters, filtered_input, filtered_output, filters_as_asked,
@@ -39,6 +39,7 @@ const STDOUT: i32 = 1;
 // Opens the trunk at standard input, without clients.
 fn open_stdin(rt: &impl Machine, input: Stdin) -> Result<FromDevice<Stdin>, ProgramFault>
     ensures came { IfOk result (λ incoming. incoming.reader.log.octets ≡ []) }
+    ensures reported { IfOk result (λ incoming. IsReported (pos 0) incoming.waiting.poll) }
     ensures err { IfErr result LacksStream }
 {
     match FromDevice::open(rt, input, STDIN) {
@@ -50,6 +51,7 @@ fn open_stdin(rt: &impl Machine, input: Stdin) -> Result<FromDevice<Stdin>, Prog
 // Opens the trunk at standard output.
 fn open_stdout(rt: &impl Machine, output: Stdout) -> Result<ToDevice<Stdout>, ProgramFault>
     ensures went { IfOk result (λ outgoing. outgoing.log.octets ≡ []) }
+    ensures waiting { IfOk result (λ outgoing. IsOutput outgoing.waiting) }
     ensures err { IfErr result LacksStream }
 {
     match ToDevice::open(rt, output, STDOUT) {
@@ -68,6 +70,7 @@ fn open_control(
     ensures came { IfOk result (λ both. both.0.reader.log.octets ≡ []) }
     ensures asked { IfOk result (λ both. both.0.asked.octets ≡ []) }
     ensures told { IfOk result (λ both. both.1.log.octets ≡ []) }
+    ensures reported { IfOk result (λ both. IsReported (pos 0) both.0.clients.poll) }
     ensures err { IfErr result (LacksControl path.now) }
 {
     match open_clients(rt, input, STDIN, path) {
@@ -154,7 +157,8 @@ fn carry_from<
     gateway: &mut Gateway,
     ends: TrunkEnds<'r, R, I, O, A>,
 ) -> Result<Totals, ProgramFault>
-    requires asks { AsksEnd (subcommand_rows_of matches.now) }
+    requires input { IsInputOf (subcommand_rows_of matches.now) (I.poll ends.incoming) }
+    requires output { IsOutput (O.waiting ends.outgoing) }
     requires came { I.came ends.incoming ≡ [] }
     requires asked { I.asked ends.incoming ≡ [] }
     requires went { O.went ends.outgoing ≡ [] }
@@ -218,7 +222,8 @@ fn carry<
     ends: TrunkEnds<'r, R, I, O, A>,
 ) -> Result<Totals, ProgramFault>
     requires takes { TakesAsked (subcommand_rows_of matches.now) (Y.files system.now) }
-    requires asks { AsksEnd (subcommand_rows_of matches.now) }
+    requires input { IsInputOf (subcommand_rows_of matches.now) (I.poll ends.incoming) }
+    requires output { IsOutput (O.waiting ends.outgoing) }
     requires came { I.came ends.incoming ≡ [] }
     requires asked { I.asked ends.incoming ≡ [] }
     requires went { O.went ends.outgoing ≡ [] }
@@ -278,7 +283,7 @@ fn serve_clients<R: Machine, Y: System>(
     output: Stdout,
 ) -> Result<Totals, ProgramFault>
     requires takes { TakesAsked (subcommand_rows_of matches.now) (Y.files system.now) }
-    requires ended { IsEndedBy (subcommand_rows_of matches.now) incoming.clients.poll }
+    requires input { IsInputOf (subcommand_rows_of matches.now) incoming.clients.poll }
     requires came { incoming.reader.log.octets ≡ [] }
     requires asked { incoming.asked.octets ≡ [] }
     requires told { answers.log.octets ≡ [] }

@@ -2,6 +2,9 @@
 //!
 //! What passes octets on to one of these, or puts others in their place, is refused by its type.
 
+ghost use Rattle.mio.specs.declared.poll.Poll.{Poll};
+ghost use Rattle.gw_trunk.specs.declared.waiting.Waiting.{Waiting};
+
 use crate::filters::{Incoming, Outgoing};
 use gw_filtered::{Phase, Switch};
 use gw_machine::Machine;
@@ -11,13 +14,19 @@ use mio::net::UnixStream;
 use std::rt::{Stdin, Stdout};
 
 /// Standard input, with clients or without.
-pub(crate) trait TrunkSource {}
+pub(crate) trait TrunkSource {
+    /// What the system reports its octets to.
+    ghost poll: { Self → Poll };
+}
 
 /// The same with all slots, aligned and then checked.
 pub(crate) trait FilteredSource {}
 
 /// Standard output.
-pub(crate) trait TrunkDevice: TrunkOutput {}
+pub(crate) trait TrunkDevice: TrunkOutput {
+    /// What waits until it takes octets.
+    ghost waiting: { Self → Waiting };
+}
 
 /// Standard output by whole multiframes, with those of CRC-4, and without slot 0.
 pub(crate) trait MultiframeDevice {}
@@ -25,14 +34,20 @@ pub(crate) trait MultiframeDevice {}
 /// The clients of the trunk, or none.
 pub(crate) trait AnswersDevice {}
 
-impl TrunkSource for FromDevice<Stdin> {}
+impl TrunkSource for FromDevice<Stdin> {
+    ghost poll = { λ d. d.waiting.poll };
+}
 
-impl TrunkSource for WithClients<Stdin> {}
+impl TrunkSource for WithClients<Stdin> {
+    ghost poll = { λ d. d.clients.poll };
+}
 
 impl<R: Machine, I: TrunkInput + TrunkSource, S: DeviceSlots, K: Switch, L: Switch> FilteredSource
     for Incoming<'_, '_, R, I, S, K, L> {}
 
-impl TrunkDevice for ToDevice<Stdout> {}
+impl TrunkDevice for ToDevice<Stdout> {
+    ghost waiting = { λ d. d.waiting };
+}
 
 impl<O: TrunkDevice, S: DeviceSlots, L: Switch, P: Phase> MultiframeDevice
     for Outgoing<O, S, L, P> {}

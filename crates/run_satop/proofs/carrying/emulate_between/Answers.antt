@@ -3,10 +3,22 @@ use Rattle.run_satop.proofs.SetUp.{set_up, stops}
 use Rattle.run_satop.proofs.carrying.emulate_between.Goals as goal
 
 pub returns-in_err-receiver : goal.returns-in_err-receiver
-returns-in_err-receiver g c = λ command is. inl (stops command c.from_residual.result (search rules))
+returns-in_err-receiver g c = λ command is far. inl (stops command c.from_residual.result (search rules))
 
 pub returns : goal.returns
-returns g c = λ command is. inr (record {
+returns g c = λ command is far. inr (record {
+  ends = record {
+    opened = _;
+    address = _;
+    far_end = far;
+    socket = _;
+    poll = _;
+    reported = c.requires.reported;
+    input = _;
+    input_is = c.requires.input;
+    output = _;
+    output_is = c.requires.output;
+  };
   traffic = _;
   set_up = set_up command _ _ _ _ _ _ _ _ _ is
       (rw c.new-circuit.ensures.receiver c.in_ok-receiver.ensures.settings)

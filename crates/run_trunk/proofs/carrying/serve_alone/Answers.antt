@@ -15,5 +15,8 @@ returns-in_err-open_stdout g c = no_stream _ _ c.from_residual-in_err-open_stdou
 pub returns-in_err-filters_as_asked : goal.returns-in_err-filters_as_asked
 returns-in_err-filters_as_asked g c = no_stream _ _ c.from_residual-in_err-filters_as_asked.result (search rules)
 
-pub carry-requires-clause-asks : goal.carry-requires-clause-asks
-carry-requires-clause-asks g c = none_asked (subcommand_rows_of c.args.matches.now) c.in_default.ensures.none
+pub carry-requires-clause-input : goal.carry-requires-clause-input
+carry-requires-clause-input g c = (
+  c.in_ok-open_stdin.ensures.reported,
+  none_asked (subcommand_rows_of c.args.matches.now) _ c.in_default.ensures.none,
+)

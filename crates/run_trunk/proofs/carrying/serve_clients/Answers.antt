@@ -1,6 +1,5 @@
 use Rattle.std.proofs.Common.{rules}
-use Rattle.clap.specs.Words.{subcommand_rows_of}
-use Rattle.run_trunk.proofs.Served.{asked_of, no_stream}
+use Rattle.run_trunk.proofs.Served.{no_stream}
 use Rattle.run_trunk.proofs.carrying.serve_clients.Goals as goal
 
 pub returns-in_err-outgoing : goal.returns-in_err-outgoing
@@ -8,6 +7,3 @@ returns-in_err-outgoing g c = no_stream _ _ c.from_residual.result (search rules
 
 pub returns-in_err-filters : goal.returns-in_err-filters
 returns-in_err-filters g c = no_stream _ _ c.from_residual-in_err-filters.result (search rules)
-
-pub carry-requires-clause-asks : goal.carry-requires-clause-asks
-carry-requires-clause-asks g c = asked_of (subcommand_rows_of c.args.matches.now) _ c.requires.ended

@@ -2,12 +2,12 @@ use Rattle.std.proofs.Common.{◌≡◌, ◌+◌, ◌-◌, arith, refl, rules}
 use Rattle.std.proofs.lemmas.List.{get_or_default}
 use Rattle.std.proofs.lemmas.Result.{err_from_is_err_and}
 use Rattle.gw_udp.proofs.Calls.{are_bound}
-use Rattle.gw_udp.proofs.Opening.{fault_since, first_without, one_more}
+use Rattle.gw_udp.proofs.Opening.{fault_since, first_without, hears_more, one_more}
 use Rattle.std.specs.Prelude.{IsSomeAnd, Option, slice_index_or}
 use Rattle.gw_config.specs.declared.config.Port.{Port}
 use Rattle.gw_udp.specs.Names.{SystemLooksUp}
 use Rattle.gw_udp.specs.Opening.{LacksSocket}
-use Rattle.gw_udp.specs.Udp.{TakesFrom}
+use Rattle.gw_udp.specs.Udp.{Hears, TakesFrom}
 use Rattle.gw_udp.proofs.udp.UdpPorts.open.Goals as goal
 
 pub returns-in_err-endpoint-clause-err : goal.returns-in_err-endpoint-clause-err
@@ -35,6 +35,11 @@ loop-number-preserved g c =
       some = omega arith;
       len = search rules;
       memory = search rules;
+      hears = rw (count, c.push_reserved.ensures.items) (hears_more
+          (Hears g.S.Socket.watches g.S.Socket.is_joined g.S.Socket.is_open c.open-readiness.result.poller)
+          c.loop-number.endpoints.items _ (c.loop-number.number - 1)
+          (omega (arith, c.loop-number.invariant.len, c.loop-number.endpoints.ok))
+          c.loop-number.invariant.hears c.in_ok-endpoint.ensures.hears);
       own = rw (count, c.push_reserved.ensures.items) (one_more
           (TakesFrom g.S.Socket.is_bound g.S.Socket.is_open c.args.senders) SystemLooksUp c.args.host.now
           c.args.senders c.args.ports.now c.loop-number.endpoints.items _ _ (c.loop-number.number - 1)
