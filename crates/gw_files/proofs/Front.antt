@@ -1,16 +1,14 @@
 -- The front of a configuration says what the whole says.
-use Rattle.std.proofs.Common.{◌≡◌, inl, inr, ℕ, ◌<◌, ◌≤◌, ◌++◌, List, [], length, take, nat_lt, Bool, true, false}
+use Rattle.std.proofs.Common.{◌≡◌, inr, ℕ, ◌<◌, ◌≤◌, ◌++◌, List, [], length, take, nat_lt, Bool, true, false}
 use Rattle.std.proofs.Common.{Option, Some, None, Result, Err, refl, sym, ap, ◌∙◌, arith}
-use Rattle.std.specs.Prelude.{IfSome, IfOk, IfErr, Ok, option_map}
-use Rattle.std.specs.declared.fs.File.{File}
+use Rattle.std.specs.Prelude.{IfSome, IfErr, Ok, option_map}
 use Rattle.std.specs.declared.io.Error.{Error}
 use Rattle.std.proofs.lemmas.Bool.{lt-ltb, ltb-true, ltb-false}
 use Rattle.std.proofs.lemmas.List.{take_all, length-take}
 use Rattle.gw_config.specs.declared.config.Config.{Config}
 use Rattle.gw_config.specs.declared.fault.FaultKind.TheVariants as kinds
 use Rattle.gw_config.specs.Octets.{meaning_of_octets, at_top}
-use Rattle.gw_machine.specs.Files.{SystemFailsToRead, SystemOpens, SystemReads}
-use Rattle.gw_machine.specs.Setup.{Says, IsMeant, IsRefusedOf, LacksConfig, LacksConfigAt, PathGives}
+use Rattle.gw_machine.specs.Setup.{Says, IsRefusedOf, LacksConfig}
 use Rattle.gw_machine.specs.declared.program_fault.ProgramFault.{ProgramFault}
 
 -- what is too long is refused, whatever it is
@@ -60,24 +58,3 @@ pub lacks_meaning : (Refuses : Error → Type 0) (Given : List ℕ → Type 0) (
     → IfErr r (IsRefusedOf Given) → IfErr r (LacksConfig Refuses Given)
 lacks_meaning Refuses Given (Ok config) h = tt
 lacks_meaning Refuses Given (Err fault) h = inr h
-
--- octets that a file gave were given at its path
-gives_at : (path : List ℕ) (file : File) → SystemOpens path file → (octets : List ℕ) → SystemReads file octets
-    → PathGives path octets
-gives_at path file opened octets reads = record { file = file; opened = opened; reads = reads }
-
--- a configuration that a file means is meant at its path
-pub meant_at : (path : List ℕ) (file : File) (r : Result Config ProgramFault) → SystemOpens path file
-    → IfOk r (IsMeant (SystemReads file)) → IfOk r (IsMeant (PathGives path))
-meant_at path file (Ok config) opened h =
-    record { octets = h.octets; given = gives_at path file opened h.octets h.given; means = h.means }
-meant_at path file (Err fault) opened h = tt
-
--- .. and where it has none, its path has none
-pub lacks_at : (path : List ℕ) (file : File) (r : Result Config ProgramFault) → SystemOpens path file
-    → IfErr r (LacksConfig (SystemFailsToRead file) (SystemReads file)) → IfErr r (LacksConfigAt path)
-lacks_at path file (Ok config) opened h = tt
-lacks_at path file (Err fault) opened h = elim h [
-  | inl e ↦ inl (e.0, inr (file, opened, e.1), e.2)
-  | inr n ↦ inr (refused_so _ _ (Err fault) (gives_at path file opened) n)
-]

@@ -1,3 +1,4 @@
+pub mod Made
 mod Front
 mod Loading
 pub mod Results
@@ -8,4 +9,5 @@ pub mod Configured
 pub mod Replaying
 pub mod Disks
 pub mod Starting
+pub mod Lives
 mod Rows

@@ -19,7 +19,7 @@ use Rattle.gw_session.specs.Tape.{TapeState}
 use Rattle.log_files.specs.Pairs.{Contents, HasNothingWhole, IsNewest, Kept, LeavesKept, LogState, MayLeave}
 use Rattle.log_files.specs.Pairs.{StandsFor}
 use Rattle.log_files.specs.Stores.{WhereKnown}
-use Rattle.gw_log.specs.Calls.{LeavesBehind, LogsAreLeft, WasServed}
+use Rattle.gw_log.specs.Calls.{AreLogged, LeavesBehind, LogsAreLeft, WasServed}
 use Rattle.gw_log.specs.Logs.{CanFollow, HalfCheckpointed, LeavesOf, TrunkLogState, kept_as}
 use Rattle.gw_machine.specs.State.{BeginsWaiting}
 use Rattle.gw_files.specs.Starts.{AreStarts, BeginsIn, Disk, HasLogged, HaveLogged, IsGivenBy, IsStart}
@@ -29,7 +29,7 @@ use Rattle.gw_files.proofs.Disks.{IsOver, blank_nothing, none_newest, one_newest
 use Rattle.gw_files.proofs.Replaying.{resumes}
 
 -- two pairs have a gateway with this history: the newest is a state of it, and the records behind that
-record HasKept (config : GatewayConfig) (first second : Contents) (history : List Event) : Type 0 where
+pub record HasKept (config : GatewayConfig) (first second : Contents) (history : List Event) : Type 0 where
   turn : ℕ
   place : ℕ
   saved : Gateway
@@ -43,7 +43,7 @@ record HasKept (config : GatewayConfig) (first second : Contents) (history : Lis
   history_is : history ≡ before ++ events records
 
 -- .. or nothing, and nothing has happened yet
-abbrev Holds : GatewayConfig → Contents → Contents → List Event → Type 0
+abbrev pub Holds : GatewayConfig → Contents → Contents → List Event → Type 0
 Holds config first second history =
     (HasNothingWhole first × HasNothingWhole second × (history ≡ [])) ⊎ HasKept config first second history
 
@@ -141,7 +141,7 @@ module _ (left_law : LogsAreLeft) (go_on : LoadedGatewaysGoOn) (one_reading : At
     (folder : List ℕ) (config : GatewayConfig) (fits : ConfigFits config)
   where
     -- a start begins with the gateway that the files have
-    begins_with : (disk : Disk) (history : List Event) (next : Gateway)
+    pub begins_with : (disk : Disk) (history : List Event) (next : Gateway)
         → Holds config disk.first disk.second history → (begins : BeginsIn folder config next)
         → IsGivenBy disk folder config next begins → HasHistory config next history
     begins_with disk history next (inl none) (inl from) given =
@@ -159,7 +159,7 @@ module _ (left_law : LogsAreLeft) (go_on : LoadedGatewaysGoOn) (one_reading : At
         (is : IsStart folder config disk start)
       where
         -- what has happened to the gateway of a start
-        stands_now : HasHistory config start.gateway (history ++ given_wait start.wait)
+        pub stands_now : HasHistory config start.gateway (history ++ given_wait start.wait)
         stands_now =
             let first = begins_with disk history is.begins.first held is.begins.begun is.given in
             waited config start.gateway history is.begins start.wait is.begins.asked first
@@ -177,7 +177,7 @@ module _ (left_law : LogsAreLeft) (go_on : LoadedGatewaysGoOn) (one_reading : At
             is.over.is is.held.first_is is.held.second_is)
 
         -- what it has logged, and the two pairs have
-        abbrev Leaves : Contents → Contents → Type 0
+        abbrev pub Leaves : Contents → Contents → Type 0
         Leaves newest other = (logged : List Event) × HasLogged start logged
             × Holds config newest other (history ++ logged)
 
@@ -265,16 +265,20 @@ module _ (left_law : LogsAreLeft) (go_on : LoadedGatewaysGoOn) (one_reading : At
           | inr k ↦ inl (k.0, k.2)
         ]
 
-        -- a start that was killed behind calls
+        -- what a start has logged that was killed behind calls
+        abbrev pub LeavesServed : Contents → Contents → Type 0
+        LeavesServed newest other = (records : List Record) × AreLogged start.log start.calls records
+            × Holds config newest other (history ++ (given_wait start.wait ++ events records))
+
         served_left : (newest other : Contents) → start.log.files.newest.contents ≡ Some newest
             → start.log.files.other.contents ≡ Some other
-            → WasServed start.gateway start.opened start.log start.calls → Leaves newest other
+            → WasServed start.gateway start.opened start.log start.calls → LeavesServed newest other
         served_left newest other one two served =
             let told = left_law config start.gateway start.opened start.log start.calls is.unused follows served in
             let records = told.1.0 in
             let left : LeavesBehind start.gateway start.log records = told.1.2 in (
-              given_wait start.wait ++ events records,
-              inr (records, told.1.1, refl),
+              records,
+              told.1.1,
               inr (record {
                 turn = left.left.turn;
                 place = left.place;
@@ -299,15 +303,26 @@ module _ (left_law : LogsAreLeft) (go_on : LoadedGatewaysGoOn) (one_reading : At
             | inl new ↦ half_new newest other one two half.0 half.1 new.0 new.1 new.2 new.3
             | inr k ↦ half_kept newest other one two half.0 half.1 k.0 k.1 k.2
           ]
-          | inr served ↦ served_left newest other one two served
+          | inr served ↦
+              let l = served_left newest other one two served in
+              (given_wait start.wait ++ events l.0, inr (l.0, l.1, refl), l.2)
         ]
 
         -- what it leaves
-        one_start : Leaves start.left.first start.left.second
+        pub one_start : Leaves start.left.first start.left.second
         one_start = elim is.left [
           | inl h ↦ leaves start.left.first start.left.second h.0 h.1
           | inr h ↦
               let l = leaves start.left.second start.left.first h.0 h.1 in (l.0, l.1, turned l.2)
+        ]
+
+        -- .. behind calls
+        pub served_start : WasServed start.gateway start.opened start.log start.calls
+            → LeavesServed start.left.first start.left.second
+        served_start served = elim is.left [
+          | inl h ↦ served_left start.left.first start.left.second h.0 h.1 served
+          | inr h ↦
+              let l = served_left start.left.second start.left.first h.0 h.1 served in (l.0, l.1, turned l.2)
         ]
 
     -- starts, one behind the other

@@ -1,4 +1,6 @@
+pub mod FileCalls
 pub mod Files
+pub mod Lives
 pub mod LogContents
 pub mod LogFolder
 pub mod LogTape
@@ -7,3 +9,4 @@ pub mod Recording
 pub mod ReportsFile
 pub mod Resuming
 pub mod Starts
+pub mod StateCalls

@@ -1,4 +1,4 @@
-//! How a file is looked at, opened, created, written, synced and renamed.
+//! How a file is looked at, opened, created, written, synced, renamed and removed.
 
 ghost use Rattle.std.specs.Prelude.{IfOk, IfErr, OnOk};
 ghost use Rattle.std.specs.Io.KnownBytes.{Appends};
@@ -100,4 +100,9 @@ pub(crate) fn rename_file(rt: &impl Machine, from: &str, to: &str) -> io::Result
     ensures err { IfErr result (SystemRefusesFile to.now) }
 {
     fs::rename(rt, from, to)
+}
+
+/// Removes the file at a path. The error is the system's.
+pub(crate) fn remove_file(rt: &impl Machine, path: &str) -> io::Result<()> {
+    fs::remove_file(rt, path)
 }

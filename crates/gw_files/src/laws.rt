@@ -1,4 +1,5 @@
-//! A law of the program's deaths: what the next start begins with.
+//! Laws of the program's deaths: what the next start begins with, and what was sent.
+ghost use Rattle.gw_files.specs.Lives.{StartsAnswerTheirLogs};
 ghost use Rattle.gw_files.specs.Starts.{StartsGoOn};
 
 /// For every list of starts of one configuration on one folder, which was empty before the first, each killed
@@ -10,4 +11,15 @@ pub fn starts_go_on()
     gw_log::laws::logs_are_left();
     gw_state::laws::loaded_gateways_go_on();
     gw_session::laws::at_most_one_reading();
+}
+
+/// .. and what each start sent is the first of what answers what it has logged, behind all that those before
+/// it have logged, and all of that but for a part of the last record's.
+pub fn starts_answer_their_logs()
+    ensures { StartsAnswerTheirLogs }
+{
+    gw_log::laws::logs_are_left();
+    gw_state::laws::loaded_gateways_go_on();
+    gw_session::laws::at_most_one_reading();
+    gw_session::laws::cut_sessions_answer_their_logs();
 }

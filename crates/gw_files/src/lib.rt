@@ -2,6 +2,7 @@
 //! and the reports of CRC-4.
 #![tactic(auto)]
 
+mod file_system;
 mod files;
 pub mod laws;
 mod log_contents;
@@ -16,6 +17,7 @@ mod resuming;
 mod setup;
 mod state;
 
+pub use file_system::{FileSystem, LocalFiles};
 pub use log_folder::{LogLock, lock_log};
 pub use log_tape::begin_log;
 pub use nowhere::Nowhere;

@@ -5,11 +5,12 @@ ghost use Rattle.std.specs.declared.io.Error.{Error};
 ghost use Rattle.gw_config.specs.Octets.{meaning_of_octets};
 ghost use Rattle.log_files.specs.Area.{HasAreaOf};
 ghost use Rattle.gw_files.specs.Files.{SystemReads, SystemFailsToRead};
-ghost use Rattle.gw_machine.specs.Setup.{Says, IsRefusedOf, LacksConfig, LacksConfigAt, IsMeant, PathGives};
+ghost use Rattle.gw_machine.specs.Setup.{Says, IsRefusedOf, LacksConfigAt, IsMeant, PathGives};
+ghost use Rattle.gw_files.specs.FileCalls.{FileCall, IsOne, MakesSuch, is_done};
 
-use crate::files::open_file;
+use crate::file_system::FileSystem;
 use gw_config::Config;
-use gw_machine::{Machine, ProgramFault};
+use gw_machine::ProgramFault;
 use log_files::read_area;
 use std::alloc::Global;
 use std::io;
@@ -77,32 +78,24 @@ impl<R: Read + Drop> Text for R {
     }
 }
 
-// The configuration in the octets of a text, up to its end.
-fn config_of<T: Text>(alloc: Global, text: T) -> Result<Config, ProgramFault>
-    ensures says { IfSome (T.holds text) (λ octets. Says result (meaning_of_octets octets)) }
-    ensures meant { IfOk result (IsMeant (T.gives text)) }
-    ensures err { IfErr result (LacksConfig (T.fails text) (T.gives text)) }
-{
-    let mut octets = Vec::new(alloc);
-    match text.read_up_to(MOST_OCTETS, &mut octets) {
-        Ok(()) => meaning_of(alloc, octets.as_slice()),
-        Err(error) => Err(ProgramFault::of(&error, ProgramFault::File)),
-    }
-}
-
-/// The configuration in a file.
+/// The configuration in a file. If it is known what the file has, it is what all its octets mean.
 ///
 /// # Errors
 ///
 /// [`ProgramFault::File`] if the system refuses the file or a read of it, [`ProgramFault::Config`] if its
 /// octets are no configuration, [`ProgramFault::OutOfMemory`].
 #[inline(never)]
-pub fn read_config(rt: &impl Machine, path: &str) -> Result<Config, ProgramFault>
+pub fn read_config<F: FileSystem>(files: &mut F, path: &str) -> Result<Config, ProgramFault>
+    ensures says { IfSome (F.holds files.old path.now)
+        (λ octets. Says result (meaning_of_octets octets)) }
     ensures meant { IfOk result (IsMeant (PathGives path.now)) }
     ensures err { IfErr result (LacksConfigAt path.now) }
+    ensures calls { MakesSuch F.has_made files.old files.new
+        (IsOne (FileCall.Read path.now 65537) (is_done result)) }
 {
-    match open_file(rt, path) {
-        Ok(file) => config_of(rt.alloc(), file),
+    let mut octets = Vec::new(files.alloc());
+    match files.read(path, MOST_OCTETS, &mut octets) {
+        Ok(()) => meaning_of(files.alloc(), octets.as_slice()),
         Err(error) => Err(ProgramFault::of(&error, ProgramFault::File)),
     }
 }

@@ -1,7 +1,7 @@
 //! How a state's file is read for `--load`, and written, synced and renamed for `--save`.
 
 ghost use Rattle.std.specs.Prelude.{◌≡◌, ◌≢◌, ◌⊎◌, ◌≤◌, ◌^◌, [], IfOk, IfErr, IfSome, OnErr, OnOk};
-ghost use Rattle.std.specs.Prelude.{length, option_map, string_bytes, true, false, None};
+ghost use Rattle.std.specs.Prelude.{◌∷◌, length, option_map, string_bytes, true, false, None};
 ghost use Rattle.gw_state.specs.Memory.{MemoryIsRefused};
 ghost use Rattle.gw_switch.specs.Standing.{HasHistory};
 ghost use Rattle.gw_files.specs.Files.{SystemRefusesFile, SystemRenames, SystemShowsFile};
@@ -12,8 +12,11 @@ ghost use Rattle.gw_machine.specs.State.{IsFromState, HasBegun, Waits, BeginsWai
 ghost use Rattle.gw_machine.specs.State.{load_trouble, IsCheckpoint, IsStateIn, Keeps};
 ghost use Rattle.gw_machine.specs.State.{IsWritten, IsUnwritten, unfinished};
 ghost use Rattle.gw_machine.specs.Renewals.{AreTold, SystemTellsNew};
+ghost use Rattle.gw_files.specs.FileCalls.{Does, FileCall, Makes, MakesSuch, is_done};
+ghost use Rattle.gw_files.specs.StateCalls.{KeepsBy, ReplacesBy, SavesBy, writing};
 
-use crate::files::{create_file, file_len, open_file, rename_file, sync_file, write_file};
+use crate::file_system::FileSystem;
+use crate::files::open_file;
 use crate::resuming::resumed_gateway;
 use crate::setup::Text;
 use gw_circuit::CircuitConfig;
@@ -21,7 +24,7 @@ use gw_machine::{Machine, ProgramFault};
 use gw_state::{LoadFault, Loaded, load_gateway, state_file};
 use gw_switch::{Gateway, GatewayConfig};
 use std::alloc::{AllocError, Global};
-use std::{fs, io};
+use std::io;
 
 // No state is as long: the longest has some 220,000 octets.
 const MOST_OCTETS: usize = 1_048_576;
@@ -243,36 +246,43 @@ fn unfinished(alloc: Global, path: &str) -> Result<String, AllocError>
 }
 
 // Writes octets to a new file at a path, which the disk keeps. The error is the system's.
-fn write_new(rt: &impl Machine, octets: &[u8], path: &str) -> io::Result<()>
+fn write_new<F: FileSystem>(files: &mut F, octets: &[u8], path: &str) -> io::Result<()>
     ensures ok { OnOk result (IsWritten path.now octets.now) }
     ensures err { IfErr result (IsUnwritten path.now) }
+    ensures calls { MakesSuch F.has_made files.old files.new
+        (Does (writing path.now octets.now) (is_done result)) }
 {
-    let mut file = create_file(rt, path)?;
-    write_file(&mut file, octets)?;
-    sync_file(&file)?;
+    let mut file = files.create(path)?;
+    files.write(&mut file, octets)?;
+    files.sync(&file)?;
     Ok(())
 }
 
 // Writes octets to a new file at a path, and gives it another one. What can't be written whole is removed.
 // The error is the system's.
-fn replace(rt: &impl Machine, octets: &[u8], new: &str, path: &str) -> io::Result<()>
+fn replace<F: FileSystem>(files: &mut F, octets: &[u8], new: &str, path: &str) -> io::Result<()>
     ensures written { OnOk result (IsWritten new.now octets.now) }
     ensures renamed { OnOk result (SystemRenames new.now path.now) }
     ensures err { IfErr result (λ error. IsUnwritten new.now error ⊎ SystemRefusesFile path.now error) }
+    ensures calls { MakesSuch F.has_made files.old files.new
+        (ReplacesBy new.now path.now octets.now (is_done result)) }
 {
-    if let Err(error) = write_new(rt, octets, new) {
-        let _ = fs::remove_file(rt, new);
-        return Err(error);
+    match write_new(files, octets, new) {
+        Ok(()) => files.rename(new, path),
+        Err(error) => {
+            let _ = files.remove(new);
+            Err(error)
+        }
     }
-    rename_file(rt, new, path)
 }
 
 // Whether the path has nothing, or a regular file that may be replaced.
-fn is_replaced(rt: &impl Machine, path: &str) -> bool
+fn is_replaced<F: FileSystem>(files: &mut F, path: &str) -> bool
     ensures yes { result ≡ true → IsReplaced path.now }
     ensures no { result ≡ false → SystemShowsFile path.now None }
+    ensures calls { Makes F.has_made files.old files.new (FileCall.Look path.now ∷ []) }
 {
-    match file_len(rt, path) {
+    match files.look(path) {
         Ok(Some(_)) => true,
         Ok(None) => false,
         Err(_) => true,
@@ -281,36 +291,40 @@ fn is_replaced(rt: &impl Machine, path: &str) -> bool
 
 // Keeps octets in the file at a path. They are written beside it, synced and renamed. If that fails, the old
 // file stays as it was.
-fn keep_at(rt: &impl Machine, octets: &[u8], path: &str) -> Result<(), ProgramFault>
-    ensures { Keeps path.now octets.now result }
+fn keep_at<F: FileSystem>(files: &mut F, octets: &[u8], path: &str) -> Result<(), ProgramFault>
+    ensures kept { Keeps path.now octets.now result }
+    ensures calls { MakesSuch F.has_made files.old files.new
+        (KeepsBy path.now octets.now (is_done result)) }
 {
-    if !is_replaced(rt, path) {
+    if !is_replaced(files, path) {
         return Err(ProgramFault::NotSaved);
     }
-    let new = match unfinished(rt.alloc(), path) {
+    let new = match unfinished(files.alloc(), path) {
         Ok(new) => new,
         Err(_) => return Err(ProgramFault::OutOfMemory),
     };
-    match replace(rt, octets, new.as_str(), path) {
+    match replace(files, octets, new.as_str(), path) {
         Ok(()) => Ok(()),
         Err(error) => Err(ProgramFault::of(&error, ProgramFault::NotSaved)),
     }
 }
 
 /// Saves the state of a gateway to a file, if one is named.
-pub fn keep_gateway(
-    rt: &impl Machine,
+pub fn keep_gateway<F: FileSystem>(
+    files: &mut F,
     config: &GatewayConfig,
     gateway: &Gateway,
     path: Option<&str>,
 ) -> Result<(), ProgramFault>
-    ensures { IsSaved (option_map (λ path. path.now) path.entry) config.now gateway.now result }
+    ensures saved { IsSaved (option_map (λ path. path.now) path.entry) config.now gateway.now result }
+    ensures calls { MakesSuch F.has_made files.old files.new
+        (SavesBy (option_map (λ path. path.now) path.entry) config.now gateway.now (is_done result)) }
 {
     let Some(path) = path else {
         return Ok(());
     };
-    match state_file(rt.alloc(), config, gateway) {
-        Ok(octets) => keep_at(rt, octets.as_slice(), path),
+    match state_file(files.alloc(), config, gateway) {
+        Ok(octets) => keep_at(files, octets.as_slice(), path),
         Err(_) => Err(ProgramFault::OutOfMemory),
     }
 }

@@ -424,3 +424,31 @@ logs_are_left config gateway opened log calls unused follows served = (
       (inl (begun_goes config gateway opened served.begun unused follows served.checkpointed)) served.behind
       served.called,
 )
+
+-- the first of good records are good
+first_good : (first rest : List Record) → AllByRecursion (IsGood all_kinds) (first ++ rest)
+    → AllByRecursion (IsGood all_kinds) first
+first_good [] rest good = tt
+first_good (r ∷ first) rest good = (good.0, first_good first rest good.1)
+
+-- the records of calls are good
+pub called_good : (log log' : TrunkLogState) (calls : List Call) → WereCalled log log' calls
+    → AllByRecursion (IsGood all_kinds) (records_in calls)
+called_good log log' [] called = tt
+called_good log log' (Call.Append records ∷ calls) (next, called, more) =
+    All-join (IsGood all_kinds) records (records_in calls) called.0 (called_good next log' calls more)
+called_good log log' (call ∷ calls) (next, called, more) = called_good next log' calls more
+
+-- so are those in a log
+pub logged_good : (log : TrunkLogState) (calls : List Call) (records : List Record) → AreLogged log calls records
+    → AllByRecursion (IsGood all_kinds) (records_in calls) → AllByRecursion (IsGood all_kinds) records
+logged_good log calls records are good = elim are.cut [
+  | inl same ↦ rw same (first_good are.took are.rest (rw (are.all) at good))
+  | inr c ↦
+      let split : records_in calls ≡ records ++ records_in c.after =
+      ap records_in c.calls_are ∙ flat_map-append records_of c.before (Call.Append c.last ∷ c.after)
+      ∙ sym (append_assoc (records_in c.before) c.last (records_in c.after))
+      ∙ ap (λ (rs : List Record). (rs ++ c.last) ++ records_in c.after) (sym c.took_are)
+      ∙ ap (λ (rs : List Record). rs ++ records_in c.after) (sym c.records_are) in
+      first_good records (records_in c.after) (rw split at good)
+]

@@ -14,8 +14,8 @@ use clap::ArgMatches;
 use gw_command::{load_of, log_of, save_of, seizure_wait_of, tell_of};
 use gw_config::Config;
 use gw_files::{
-    OneOf, Recording, RecordingFile, Tape, begin, begin_gateway, begin_log, keep_gateway,
-    read_config,
+    LocalFiles, OneOf, Recording, RecordingFile, Tape, begin, begin_gateway, begin_log,
+    keep_gateway, read_config,
 };
 use gw_log::TrunkLog;
 use gw_machine::{Machine, ProgramFault, System, print_fault};
@@ -144,7 +144,7 @@ impl<R: Machine> System for Local<'_, R> {
     ghost reports = { λ _. SystemTells };
 
     fn read_config(&self) -> Result<Config, ProgramFault> {
-        read_config(self.rt, self.path)
+        read_config(&mut LocalFiles::new(self.rt), self.path)
     }
 
     fn begin_gateway(&self, config: &Config) -> Result<Gateway, ProgramFault> {
@@ -153,7 +153,8 @@ impl<R: Machine> System for Local<'_, R> {
     }
 
     fn save_gateway(&self, config: &Config, gateway: &Gateway) -> Result<(), ProgramFault> {
-        keep_gateway(self.rt, &config.gateway, gateway, self.save)
+        let files = &mut LocalFiles::new(self.rt);
+        keep_gateway(files, &config.gateway, gateway, self.save)
     }
 
     fn begin_tape(&self, config: &Config, gateway: &Gateway) -> Result<Self::Tape, ProgramFault> {

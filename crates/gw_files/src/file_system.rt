@@ -1,0 +1,145 @@
+//! What is done with files, none of it beside these calls (`FileSystem`).
+
+ghost use Rattle.std.specs.Prelude.{◌≡◌, ◌++◌, ◌∷◌, [], ℕ, List, Option, IfOk, IfErr, IfSome, OnOk};
+ghost use Rattle.std.specs.Prelude.{option_map, take, None};
+
+use crate::files::{
+    create_file, file_len, open_file, remove_file, rename_file, sync_file, write_file,
+};
+use crate::setup::Text;
+use gw_machine::Machine;
+use std::alloc::Global;
+use std::fs::File;
+use std::io;
+
+/// The files of a machine. The relations belong to the type, so a generic caller has them only for calls that
+/// it made: it can make none that its list of calls has not.
+pub trait FileSystem {
+    ghost use Rattle.std.specs.declared.fs.File.{File};
+    ghost use Rattle.gw_machine.specs.Files.{SystemCreates, SystemFailsToWrite, SystemRefusesFile};
+    ghost use Rattle.gw_machine.specs.Files.{SystemRenames, SystemShowsFile, SystemSyncs, SystemTakes};
+    ghost use Rattle.gw_machine.specs.Setup.{IsUnreadAt, PathGives};
+    ghost use Rattle.gw_files.specs.FileCalls.{FileCall, Makes, is_done};
+
+    /// An open file.
+    type File: Drop;
+
+    /// Holds of the calls that were made, of which the latest is the first.
+    ghost has_made: { Self → List FileCall → Type 0 };
+
+    /// The octets of the file at a path, where they are known.
+    ghost holds: { Self → List ℕ → Option (List ℕ) };
+
+    /// What the system has for an open file.
+    ghost system: { Self.File → File };
+
+    /// Where memory is taken.
+    fn alloc(&self) -> Global;
+
+    /// The length of the regular file at a path; None if there is something else.
+    fn look(&mut self, path: &str) -> io::Result<Option<u64>>
+        ensures shows { IfOk result (SystemShowsFile path.now) }
+        ensures err { IfErr result (SystemRefusesFile path.now) }
+        ensures calls { Makes has_made self.old self.new (FileCall.Look path.now ∷ []) };
+
+    /// Reads the file at a path, at most so many octets, and appends them.
+    fn read(&mut self, path: &str, most: u64, octets: &mut Vec<u8>) -> io::Result<()>
+        ensures bytes { OnOk result (IfSome (option_map (take most) (holds self.old path.now))
+            (λ xs. octets.new.items ≡ octets.old.items ++ xs)) }
+        ensures gives { OnOk result ((given : List ℕ) × PathGives path.now given
+            × (octets.new.items ≡ octets.old.items ++ given)) }
+        ensures err { IfErr result (IsUnreadAt path.now) }
+        ensures calls { Makes has_made self.old self.new
+            (FileCall.Read path.now most (is_done result) ∷ []) };
+
+    /// Creates the file at a path, or empties the one that is there, which keeps its permissions.
+    fn create(&mut self, path: &str) -> io::Result<Self::File>
+        ensures creates { IfOk result (λ file. SystemCreates path.now 416 (system file)) }
+        ensures err { IfErr result (SystemRefusesFile path.now) }
+        ensures calls { Makes has_made self.old self.new
+            (FileCall.Create path.now (is_done result) ∷ []) };
+
+    /// Writes octets to a file, all of them.
+    fn write(&mut self, file: &mut Self::File, octets: &[u8]) -> io::Result<()>
+        ensures takes { OnOk result (SystemTakes (system file.old) (system file.new) octets.now) }
+        ensures err { IfErr result (SystemFailsToWrite (system file.old)) }
+        ensures calls { Makes has_made self.old self.new
+            (FileCall.Write octets.now (is_done result) ∷ []) };
+
+    /// Has the disk keep what a file took.
+    fn sync(&mut self, file: &Self::File) -> io::Result<()>
+        ensures syncs { OnOk result (SystemSyncs (system file.now)) }
+        ensures err { IfErr result (SystemFailsToWrite (system file.now)) }
+        ensures calls { Makes has_made self.old self.new (FileCall.Sync (is_done result) ∷ []) };
+
+    /// Gives the file at a path another one, in place of what is there.
+    fn rename(&mut self, from: &str, to: &str) -> io::Result<()>
+        ensures renames { OnOk result (SystemRenames from.now to.now) }
+        ensures err { IfErr result (SystemRefusesFile to.now) }
+        ensures calls { Makes has_made self.old self.new
+            (FileCall.Rename from.now to.now (is_done result) ∷ []) };
+
+    /// Removes the file at a path.
+    fn remove(&mut self, path: &str) -> io::Result<()>
+        ensures calls { Makes has_made self.old self.new
+            (FileCall.Remove path.now (is_done result) ∷ []) };
+}
+
+/// The files of this machine.
+#[derive(Drop)]
+pub struct LocalFiles<'r, R> {
+    rt: &'r R,
+}
+
+impl<'r, R> LocalFiles<'r, R> {
+    /// The files of a machine.
+    pub fn new(rt: &'r R) -> LocalFiles<'r, R> {
+        LocalFiles { rt }
+    }
+}
+
+#[tactic(auto, unfolding(crate::specs::FileCalls::SystemHasMade))]
+impl<R: Machine> FileSystem for LocalFiles<'_, R> {
+    ghost use Rattle.gw_files.specs.FileCalls.{SystemHasMade};
+
+    type File = File;
+
+    ghost has_made = { SystemHasMade };
+
+    ghost holds = { λ _ _. None };
+
+    ghost system = { λ file. file };
+
+    fn alloc(&self) -> Global {
+        self.rt.alloc()
+    }
+
+    fn look(&mut self, path: &str) -> io::Result<Option<u64>> {
+        file_len(self.rt, path)
+    }
+
+    fn read(&mut self, path: &str, most: u64, octets: &mut Vec<u8>) -> io::Result<()> {
+        let file = open_file(self.rt, path)?;
+        file.read_up_to(most, octets)
+    }
+
+    fn create(&mut self, path: &str) -> io::Result<File> {
+        create_file(self.rt, path)
+    }
+
+    fn write(&mut self, file: &mut File, octets: &[u8]) -> io::Result<()> {
+        write_file(file, octets)
+    }
+
+    fn sync(&mut self, file: &File) -> io::Result<()> {
+        sync_file(file)
+    }
+
+    fn rename(&mut self, from: &str, to: &str) -> io::Result<()> {
+        rename_file(self.rt, from, to)
+    }
+
+    fn remove(&mut self, path: &str) -> io::Result<()> {
+        remove_file(self.rt, path)
+    }
+}
