@@ -40,7 +40,7 @@ input_octets (SessionInput.Trunk ts) = turns_have_octets ts
 input_octets _ = refl
 
 -- the octets of inputs are as many as their turns
-inputs_octets : (inputs : List SessionInput) → length (octets (events_through inputs)) ≡ length (turns inputs)
+pub inputs_octets : (inputs : List SessionInput) → length (octets (events_through inputs)) ≡ length (turns inputs)
 inputs_octets [] = refl
 inputs_octets (input ∷ inputs) =
     ap length (octets-append (events_in input) (events_through inputs))

@@ -125,15 +125,15 @@ open_end records octets more rs ending good e r =
     open_start r.rest more later.0 ending (good_behind rs later.0 (rw (← later.1) good)) behind r.ends
 
 -- What was recorded, read up to a cut: its whole records are the first events that happened.
-record CutReads (tape' : TapeState) (happened : List Event) (passed records : List Record) (behind : List ℕ)
+pub record CutReads (tape' : TapeState) (happened : List Event) (passed records : List Record) (behind : List ℕ)
     (ending : RecordsEnd) : Type 0 where
-  later : List Event
-  first : happened ≡ events (passed ++ records) ++ later
-  cut : is_open ending ≡ true
-  all : tape'.ended ≡ false → behind ≡ [] → (ending ≡ endings.End) × (later ≡ [])
+  pub later : List Event
+  pub first : happened ≡ events (passed ++ records) ++ later
+  pub cut : is_open ending ≡ true
+  pub all : tape'.ended ≡ false → behind ≡ [] → (ending ≡ endings.End) × (later ≡ [])
 
 -- so it is, of every session that was recorded
-cut_reads : (tape tape' : TapeState) (happened : List Event) (passed records : List Record) (octets behind : List ℕ)
+pub cut_reads : (tape tape' : TapeState) (happened : List Event) (passed records : List Record) (octets behind : List ℕ)
     (ending : RecordsEnd) → Recorded tape tape' happened → HasRecorded tape tape' passed octets behind
     → Reads all_kinds octets records ending → CutReads tape' happened passed records behind ending
 cut_reads tape tape' happened passed records octets behind ending p has read =

@@ -2,6 +2,8 @@
 use Rattle.gw_session.proofs.Common.{◌≡◌, ℕ, List, [], ◌∷◌, ◌++◌, take, refl, arith, Some, None, Ok, Err, map, Reply}
 use Rattle.gw_session.proofs.Common.{Record, Reads, end_of, render, all_kinds, replicate, has_bad_kind, has_bad_circuit}
 use Rattle.gw_session.proofs.Common.{has_bad_length, is_cut, has_bad_command, Answers, Obeys, Changes}
+use Rattle.gw_session.proofs.Common.{Act, Gateway, false, length, drop}
+use Rattle.gw_session.specs.Killed.{sent_in, answers_in, taken_at_last, taken_at_next}
 use Rattle.q421_line.specs.declared.LineFault.TheVariants as line
 use Rattle.q421_line.specs.Commands.{fault_number}
 use Rattle.gw_circuit.specs.declared.Dropped.TheVariants as dropped
@@ -114,3 +116,35 @@ cut_datagram : map (λ n. end_of all_kinds (take n later)) (0 ∷ 1 ∷ 2 ∷ 3 
     ≡ Some endings.End ∷ (replicate 4 (Some endings.Truncated) ++ None ∷ [])
 unfolding end_of has_bad_kind has_bad_circuit has_bad_length is_cut has_bad_command
 cut_datagram = refl
+
+-- the acts for a trunk record with two packets, and for another one with none, on a tape that takes an octet for each
+abbrev two_records : Gateway → List Act
+two_records gateway =
+    Act.Keeps gateway false (Some [])
+    ∷ Act.Sends 7 (5 ∷ []) false (Some (1 ∷ []))
+    ∷ Act.Sends 8 (6 ∷ []) false (Some (1 ∷ []))
+    ∷ Act.Answers false (Some (1 ∷ []))
+    ∷ Act.Keeps gateway false (Some (1 ∷ []))
+    ∷ Act.Answers false (Some (1 ∷ 2 ∷ [])) ∷ []
+
+abbrev each_cut : List ℕ
+each_cut = 0 ∷ 1 ∷ 2 ∷ 3 ∷ 4 ∷ 5 ∷ 6 ∷ []
+
+-- cut behind each act: how many packets are sent and answers written
+cut_counts : (gateway : Gateway)
+    → (map (λ n. length (sent_in (take n (two_records gateway)))) each_cut ≡ 0 ∷ 0 ∷ 1 ∷ 2 ∷ 2 ∷ 2 ∷ 2 ∷ [])
+    × (map (λ n. answers_in (take n (two_records gateway))) each_cut ≡ 0 ∷ 0 ∷ 0 ∷ 0 ∷ 1 ∷ 1 ∷ 2 ∷ [])
+cut_counts gateway = (refl, refl)
+
+-- .. and what the log has at least, and at most
+cut_logs : (gateway : Gateway)
+    → (map (λ n. taken_at_last (Some []) (take n (two_records gateway))) each_cut
+    ≡ Some [] ∷ Some [] ∷ Some (1 ∷ []) ∷ Some (1 ∷ []) ∷ Some (1 ∷ []) ∷ Some (1 ∷ []) ∷ Some (1 ∷ 2 ∷ []) ∷ [])
+    × (map (λ n. taken_at_next (drop n (two_records gateway)) (Some (1 ∷ 2 ∷ []))) each_cut
+    ≡ Some [] ∷ Some (1 ∷ []) ∷ Some (1 ∷ []) ∷ Some (1 ∷ []) ∷ Some (1 ∷ []) ∷ Some (1 ∷ 2 ∷ []) ∷ Some (1 ∷ 2 ∷ [])
+    ∷ [])
+cut_logs gateway = (refl, refl)
+
+-- the packet of the one that was sent
+first_packet : (gateway : Gateway) → sent_in (take 2 (two_records gateway)) ≡ (7, 5 ∷ []) ∷ []
+first_packet gateway = refl

@@ -17,3 +17,4 @@ pub mod Exchange
 pub mod ServeLaws
 pub mod RecordingLaws
 pub mod Recovery
+pub mod Killed
