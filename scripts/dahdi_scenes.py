@@ -21,7 +21,8 @@ from dahdi_start import pasted
 from dahdi_talk import Comparison, Talk, figures
 from e1gw.card_opening import NO_CARD, open_device
 from e1gw.dahdi import Alarm, Blocks
-from e1gw.events import words_of
+from e1gw.events import CardAlarm, CardAlarmChanged
+from e1gw.lines import UNKNOWN
 from e1gw.testing.openr2 import OpenR2
 from e1gw.testing.service import ask
 
@@ -71,8 +72,10 @@ class Pair:
         return self.west.states() == self.east.states() == {'answered'}
 
     def goes_on(self, before: list[int]) -> bool:
-        """Whether the west has another program than before, and both have alignment."""
-        return bool(set(self.west.programs()) - set(before)) and all(site.is_heard() for site in self.sites)
+        """Whether the west has another program than before, and both have alignment. (A service that has just begun
+        was told nothing yet.)"""
+        is_told = UNKNOWN not in self.west.states()
+        return bool(set(self.west.programs()) - set(before)) and is_told and all(s.is_heard() for s in self.sites)
 
     def talk(self, seconds: float) -> list[Comparison]:
         return Talk(PORTS, THIRTY, seconds).run()
@@ -196,7 +199,7 @@ def has_alarm(site: Site, alarm: Alarm) -> None:
     name, = alarm.names()
     key = str(alarm.name).lower()
     until(lambda: site.transport().get(key) == 1, f'the {site.name} has {name}', found=site.transport)
-    asks(site.said(words_of({'event': 'card', 'what': name, 'on': True})), f'the {site.name} says nothing of {name}')
+    asks(site.said(CardAlarmChanged(CardAlarm(name), True).words()), f'the {site.name} says nothing of {name}')
 
 
 def slips() -> str:

@@ -1,15 +1,19 @@
 """Runs tests of driver/tests for scripts/mutants: mutant_tests.py DRIVER FILE writes which lines of driver/e1gw each of
-them reaches, as JSON; mutant_tests.py DRIVER tries the edits of standard input, a line of JSON each.
+them reaches, here and in processes that it starts, as JSON; mutant_tests.py DRIVER tries the edits of standard input, a
+line of JSON each.
 
-Only tests that pass, need no built program and take less than LONGEST, and only what they run in their own process."""
+Only tests that pass, are not skipped for want of a built program, and take less than LONGEST."""
 from __future__ import annotations
 
+import ctypes
 import itertools
 import json
 import os
 import select
+import shutil
 import signal
 import sys
+import tempfile
 import threading
 import time
 import unittest
@@ -17,15 +21,23 @@ from contextlib import suppress
 from types import CodeType, FrameType
 from typing import Any, Iterator
 
-LONGEST, WAITED = 4, 60     # seconds of processor of a test, and of waiting
+from mutant_trace import lines_of
+
+LONGEST, WAITED = 4, 180    # seconds of processor of a test, and of waiting
 CALLS = 100_000             # calls in a test that are looked at; those behind them reach nothing new
+SUBREAPER = 36              # of prctl(2): what is left of a test becomes a child of this process
+REACHED = 'E1GW_REACHED'    # where processes that a test starts note what they reach
+# What each of them runs first.
+TRACES = '''import os, sys
+if {0!r} in os.environ:
+    sys.path.append({1!r})
+    from mutant_trace import trace
+    sys.path.pop()
+    trace({2!r}, os.environ[{0!r}])
+'''
 
 
 # ---- which tests reach what ----
-
-def lines_of(code: CodeType) -> set[int]:
-    return {line for _, _, line in code.co_lines() if line}
-
 
 def each_of(tests: unittest.TestSuite) -> Iterator[unittest.TestCase]:
     for each in tests:
@@ -67,12 +79,21 @@ def reached_by(test: unittest.TestCase, folder: str) -> dict[str, list[int]] | N
 
 
 def measure(driver: str, path: str) -> None:
+    around, folder = tempfile.mkdtemp(), os.path.join(driver, 'e1gw')
+    with open(f'{around}/sitecustomize.py', 'w', encoding='utf-8') as file:
+        file.write(TRACES.format(REACHED, os.path.dirname(os.path.abspath(__file__)), folder))
+    os.environ |= {'PYTHONPATH': around, REACHED: f'{around}/reached'}
     for each in (signal.SIGPROF, signal.SIGALRM):
         signal.signal(each, too_long)
     tests: dict[str, Any] = {}
     for test in each_of(unittest.TestLoader().discover(os.path.join(driver, 'tests'), top_level_dir=driver)):
         begun = time.monotonic()
-        if (lines := reached_by(test, os.path.join(driver, 'e1gw'))) is not None:
+        with open(os.environ[REACHED], 'w+', encoding='ascii') as file:
+            lines, notes = reached_by(test, folder), file.readlines()
+        end_left()
+        if lines is not None:
+            for module, line in map(str.split, notes):
+                lines.setdefault(module, []).append(int(line))
             tests[test.id()] = {'seconds': time.monotonic() - begun, 'lines': lines}
     with open(path, 'w', encoding='utf-8') as file:
         json.dump(tests, file)
@@ -87,6 +108,16 @@ def run(names: list[str]) -> int:
     result.failfast = True
     unittest.TestLoader().loadTestsFromNames(names).run(result)
     return len(result.failures + result.errors + result.unexpectedSuccesses)
+
+
+def end_left() -> None:
+    """Ends all that a test has left."""
+    with suppress(ChildProcessError):
+        while True:
+            with open(f'/proc/self/task/{os.getpid()}/children', encoding='ascii') as file:
+                for pid in map(int, file.read().split()):
+                    os.kill(pid, signal.SIGKILL)
+            os.waitpid(-1, 0)
 
 
 def tried(path: str, text: str, names: list[str], seconds: float) -> str:
@@ -108,6 +139,9 @@ def tried(path: str, text: str, names: list[str], seconds: float) -> str:
         os.killpg(child, signal.SIGKILL)
     status = os.waitpid(child, 0)[1]
     os.close(ends)
+    end_left()
+    for name in os.listdir(tempfile.gettempdir()):
+        shutil.rmtree(os.path.join(tempfile.gettempdir(), name), ignore_errors=True)
     with open(path, 'w', encoding='utf-8') as file:
         file.write(before)
     return 'endless' if not is_over else 'caught' if status else 'survives'
@@ -115,6 +149,7 @@ def tried(path: str, text: str, names: list[str], seconds: float) -> str:
 
 def main(driver: str, path: str = '') -> None:
     sys.path[0] = driver
+    ctypes.CDLL(None).prctl(SUBREAPER, 1)
     answers, null = os.fdopen(os.dup(1), 'w'), os.open(os.devnull, os.O_RDWR)
     orders = os.fdopen(os.dup(0))
     for file in range(3):

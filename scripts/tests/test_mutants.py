@@ -39,7 +39,10 @@ def least(one: int, other: int) -> int:
 def nobody() -> bool:
     return True
 '''
-TESTS = '''import unittest
+TESTS = '''import os
+import subprocess
+import sys
+import unittest
 
 from e1gw.numbers import SEVEN, least
 
@@ -49,7 +52,10 @@ class NumberTests(unittest.TestCase):
         self.assertEqual((least(1, 2), least(2, 1), SEVEN < 9), (1, 2 - 1, True))
 
     def test_program(self) -> None:
-        raise unittest.SkipTest('no program')
+        if os.environ['E1GW'] == '/none':
+            raise unittest.SkipTest('no program')
+        words = [sys.executable, '-c', 'from e1gw.numbers import nobody; print(nobody())']
+        self.assertEqual(subprocess.run(words, capture_output=True).stdout, b'True\\n')
 '''
 LOOP = 'ENDS = True\n\ndef ends() -> bool:\n    return ENDS\n'
 WAITS = '''import unittest
@@ -116,6 +122,7 @@ class Mutants(FolderCase):
         self.assertEqual((status, told[-1]), (1, '4 passed, 3 failed'))
         self.assertIn('driver/e1gw/numbers.py:10: a constant changed, reached by no test', told)
         rows = '\n'.join(line for line in told if line.startswith(('numbers: ', '  => ')))
+        self.assertEqual(self.ran('numbers', '--left', '43')[1][-1], '4 passed, 0 failed')
         status, told = self.ran('numbers', '--seed', '7', listed=f'# The rows.\n\n{rows}\n  a reason\n')
         self.assertEqual((status, told[-1]), (0, '4 passed, 0 failed'))
         listed = f'{rows}\n  a reason\nnumbers: SEVEN = 6\n  => SEVEN = 7\n  another\n'
@@ -123,6 +130,11 @@ class Mutants(FolderCase):
         self.assertEqual((status, told[-1]), (1, '3 passed, 1 failed'))
         with open(f'{self.top}/driver/e1gw/numbers.py', encoding='utf-8') as file:
             self.assertEqual(file.read(), MODULE)
+
+    def test_processes_of_a_test(self) -> None:
+        """With a program the tests that need one are run, and what they start is seen."""
+        status, told = self.ran('numbers', '--program', '/bin/true')
+        self.assertEqual((status, told[-1]), (1, '5 passed, 2 failed'))
 
     def test_one_that_does_not_end(self) -> None:
         self.write('driver/e1gw/loop.py', LOOP)
