@@ -55,7 +55,7 @@ class CallNames:
         """Gives lines of which nobody has told yet the counts that were noted last. What names those counts."""
         for n, line in lines.items():
             line.seizures, line.answers, line.unacknowledged, line.faults = self._last.get(n, 0), 0, 0, 0
-        self.life = self.life or self._noted_life
+        self.life = self.life or self._noted_life or secrets.token_hex(4)
         return self.life
 
     def begin(self, session: str, told: Seizures, lines: Mapping[int, Line], are_known: bool = False) -> None:

@@ -5,14 +5,17 @@ import csv
 import io
 import os
 import time
+from contextlib import suppress
 from dataclasses import dataclass, replace
 from typing import Callable, Iterable, Iterator, Mapping, NamedTuple
 
 from .counts import DatagramCounts
-from .lines import IN_CALL, Event, Line, Role, State
+from .events import LineChanged
+from .lines import IN_CALL, Line, Role, State
 
 MOST_OCTETS = 10 << 20      # of a file, before it is FILE.1
 KEPT = 9                    # FILE.1 to FILE.9
+LAST = 1 << 20              # octets of it, which have the lines of seconds
 EACH = ('sent', 'admitted', 'lost', 'Late')     # what is counted, by the words of the counts
 
 
@@ -45,6 +48,16 @@ def read_calls(path: str, word: str = '') -> Iterator[CallLine]:
             lines = [line for line in file if word in line and line.endswith('\n')]
         rows = [row for row in csv.reader(lines) if len(row) == len(FIELDS) and row[1].isdecimal()]
         yield from (CallLine(*row) for row in reversed(rows))
+
+
+def has_line(path: str, line: str) -> bool:
+    """Whether a line is among the last ones of a file and the one that it has followed."""
+    for each in (path, f'{path}.1'):
+        with suppress(OSError), open(each, 'rb') as file:
+            file.seek(-min(LAST, file.seek(0, os.SEEK_END)), os.SEEK_END)
+            if f'{line}\n'.encode() in file.read():
+                return True
+    return False
 
 
 def csv_line(fields: Iterable[object]) -> str:
@@ -82,22 +95,26 @@ class CallRecord:
 
 @dataclass(frozen=True)
 class CallsNote:
-    """What another service goes on with: the octet of the trunk up to which changes were told, the calls, and the
-    counts at the end of the last call of each circuit."""
+    """What another service goes on with: the octet of the trunk up to which changes were told, and the time of day
+    then; each line's state and how often it was seized; the calls, and the counts at the end of the last call of each
+    circuit; and lines of calls that may not be in their file yet."""
 
     place: int
+    at: float
+    states: dict[int, tuple[str, int]]
     calls: tuple[CallRecord, ...]
     before: dict[int, dict[str, int]]
+    lines: tuple[str, ...]
 
 
 class CallLog:
-    """Follows the calls of a trunk. `put` is given a line for each; `clock` is that of the day."""
+    """Follows the calls of a trunk. `put` is given a line for each, once it is noted; `clock` is that of the day."""
 
     def __init__(self, trunk: str, lines: Mapping[int, Line], counts: DatagramCounts, put: Callable[[str], None],
                  clock: Callable[[], float] = time.time) -> None:
         self._trunk, self._lines, self._counts, self._put, self._clock = trunk, lines, counts, put, clock
         self._calls: dict[int, CallRecord] = {}
-        self._ended: list[CallRecord] = []                # whose packets are not all counted yet
+        self.lines: list[str] = []                        # of calls that have ended, which are to be put
         self._before: dict[int, dict[str, int]] = {}   # the counts at the end of the last call of each circuit
         self.life = ''
         self.changed: frozenset[int] = frozenset()      # circuits that were configured otherwise while nobody told
@@ -106,10 +123,9 @@ class CallLog:
         """These are the counts from now on."""
         self._counts = counts
 
-    def took(self, event: Event) -> str:
+    def took(self, event: LineChanged) -> str:
         """A change of a line's state. The id of the call that it is of, if it is of one."""
-        circuit, was, state = event['circuit'], State(event['was']), State(event['state'])
-        unwatched = event.get('unwatched', False)
+        circuit, was, state, unwatched = event.circuit, event.was, event.state, bool(event.unwatched)
         if was not in IN_CALL and state in IN_CALL:
             self._begin(circuit, None if unwatched else self._clock())
         call = self._calls.get(circuit)
@@ -145,6 +161,11 @@ class CallLog:
             if line.state in IN_CALL and n not in self._calls:
                 self._begin(n, None)
                 self._calls[n].answered = self._clock() if line.state is State.ANSWERED else None
+        self.counts_on()
+
+    def counts_on(self) -> None:
+        """Counts of packets are known again, of circuits of which none were, or that may be new."""
+        for n in self._lines:
             now = self._now(n)
             self._before[n] = {word: min(self._before.get(n, now).get(word, 0), count) for word, count in now.items()}
 
@@ -173,39 +194,37 @@ class CallLog:
         call.ended, call.by, call.number = self._clock(), by, call.number or line.seizures
         if by != 'reload':
             call.codec, call.counts = by == 'unwatched' and call.codec or line.codec, None
-        self._ended.append(self._calls.pop(call.circuit))
-        if by == 'reload':
-            self.look()             # now: the counts of its circuit begin at 0 again
+        del self._calls[call.circuit]
+        now = self._now(call.circuit)
+        self.lines.append(csv_line(self._line(call, now)))
+        self._before[call.circuit] = now
 
-    def look(self) -> None:
-        """To be called now and then: writes the calls that have ended."""
-        while self._ended:
-            self._write(self._ended.pop(0))
+    def give(self) -> None:
+        """Puts the lines, which are noted: another service would put them."""
+        while self.lines:
+            self._put(self.lines.pop(0))
 
-    def note(self, place: int) -> CallsNote:
-        """What another service goes on with; changes were told up to this place."""
-        return CallsNote(place, (*self._calls.values(),), self._before)
+    def note(self, place: int, at: float, waiting: Iterable[str]) -> CallsNote:
+        """What another service goes on with; changes were told up to this place at that time, and these lines wait."""
+        states = {n: (str(line.state), line.seizures) for n, line in self._lines.items()}
+        return CallsNote(place, at, states, (*self._calls.values(),), self._before, (*waiting, *self.lines))
 
     def take_up(self, note: CallsNote) -> None:
         """Goes on with the calls that another service has noted."""
         self._calls = {call.circuit: replace(call, unacknowledged=0) for call in note.calls}
         self._before = note.before
+        for n, (state, seizures) in note.states.items():
+            self._lines[n].state, self._lines[n].seizures = State(state), seizures
 
     def finish(self) -> None:
         """The trunk is no longer carried: writes all."""
         for call in list(self._calls.values()):
             self._end(call, 'stop')
-        self.look()
+        self.give()
 
     def _now(self, circuit: int) -> dict[str, int]:
         counts = self._counts.circuits[circuit]
         return {**counts.counts(), 'lost': counts.stream.lost}
-
-    def _write(self, call: CallRecord) -> None:
-        now = self._now(call.circuit)
-        line = self._line(call, now)
-        self._before[call.circuit] = now
-        self._put(csv_line(line))
 
     def _line(self, call: CallRecord, now: Mapping[str, int]) -> CallLine:
         before = self._before.get(call.circuit, {})

@@ -84,6 +84,13 @@ class DatagramCounts:
         for row in self.circuits.values():
             row.settle()
 
+    def go_on(self, known: DatagramCounts) -> None:
+        """What was told up to now is what is known of each circuit."""
+        for n, row in self.circuits.items():
+            its, told = known.circuits[n].stream, row.told
+            row.before = ToldCounts(its.accepted - told.accepted, its.lost - told.lost, 0,
+                                    tuple(map(sub, its.refused, told.refused)))
+
     def take(self, circuit: int, told: ToldCounts) -> None:
         """What a session has counted for a circuit up to now, of which nothing is known one by one."""
         self.circuits[circuit].told = told

@@ -5,7 +5,7 @@ from __future__ import annotations
 from dataclasses import dataclass
 from typing import Any
 
-from .lines import Event
+from .events import Crc4Change, Crc4Changed
 
 # What is counted, by the names that the program prints.
 COUNTS = ('submultiframes', 'errored', 'far_end_errored', 'multiframes_found', 'multiframes_lost', 'given_up')
@@ -27,7 +27,7 @@ class ErroredSubmultiframes:
         self.on = False
         self._errored = self._checked = self._quiet = 0
 
-    def add(self, errored: int, checked: int) -> dict[str, Any] | None:
+    def add(self, what: Crc4Change, errored: int, checked: int) -> list[Crc4Changed]:
         """What is reported with further counts."""
         began = not self.on and errored > 0
         if began:
@@ -37,8 +37,8 @@ class ErroredSubmultiframes:
         self._quiet = 0 if errored else self._quiet + 1
         if began or self.on and self._quiet >= QUIET:
             self.on = began
-            return {'on': began, 'count': self._errored, 'of': self._checked}
-        return None
+            return [Crc4Changed(what, began, self._errored, self._checked)]
+        return []
 
 
 @dataclass(frozen=True)
@@ -60,7 +60,7 @@ class Crc4:
         self._errors = {'errored': ErroredSubmultiframes(), 'far_end_errored': ErroredSubmultiframes()}
         self._last = dict[str, int]()           # of this program, at the last count
 
-    def take(self, counts: dict[str, int]) -> list[Event]:
+    def take(self, counts: dict[str, int]) -> list[Crc4Changed]:
         """The counts of a program up to now; returns what is to be reported."""
         more = {name: counts[name] - self._last.get(name, 0) for name in COUNTS}
         for name, count in more.items():
@@ -68,21 +68,22 @@ class Crc4:
         stood, begins = self.aligned, not self._last and not counts['multiframes_found']
         self.aligned = counts['multiframes_found'] > counts['multiframes_lost'] or bool(stood and begins)
         self._last = counts
-        return [{'event': 'crc4', **each} for each in (*self._alignment(stood, more), *self._errored(more))]
+        return self._alignment(stood, more) + self._errored(more)
 
-    def _alignment(self, stood: bool | None, more: dict[str, int]) -> list[Event]:
-        told: list[Event] = []
+    def _alignment(self, stood: bool | None, more: dict[str, int]) -> list[Crc4Changed]:
+        told = list[Crc4Changed]()
         if more['given_up']:
-            told.append({'what': 'given up', 'on': True, 'count': more['given_up']})
+            told.append(Crc4Changed(Crc4Change.GIVEN_UP, True, more['given_up']))
         if self.aligned != stood:
-            told.append({'what': 'found' if self.aligned else 'lost' if stood else 'none', 'on': not self.aligned})
+            what = Crc4Change.FOUND if self.aligned else Crc4Change.LOST if stood else Crc4Change.NONE
+            told.append(Crc4Changed(what, not self.aligned))
         if more['multiframes_lost'] and self.aligned:
-            told.append({'what': 'lost and found', 'on': True, 'count': more['multiframes_lost']})
+            told.append(Crc4Changed(Crc4Change.LOST_AND_FOUND, True, more['multiframes_lost']))
         return told
 
-    def _errored(self, more: dict[str, int]) -> list[Event]:
-        return [{'what': name.replace('_', ' '), **change} for name, errors in self._errors.items()
-                if (change := errors.add(more[name], more['submultiframes']))]
+    def _errored(self, more: dict[str, int]) -> list[Crc4Changed]:
+        return [told for name, errors in self._errors.items() for told in errors.add(
+            Crc4Change(name.replace('_', ' ')), more[name], more['submultiframes'])]
 
     def follows(self) -> None:
         """Another program follows on this device, whose counts begin at 0."""

@@ -1,15 +1,18 @@
 """Gives commands to trunks in service: e1gw-ctl PATH COMMAND.., e1gw-ctl --all COMMAND.., e1gw-ctl
 
 PATH is the socket of --control of e1gw-trunk, or the name of a trunk, whose socket is /run/e1gw/NAME/control.
-COMMAND is one of e1gw-trunk(1): seize N, clear N, answer N, clear-back N, block N, unblock N, codec N CODEC TYPE,
-status, status N, status json, events, on-loss, role, promote, demote, move, reload, quit, help. N may be several
-circuits: seize 1-4,7. calls lists those of the file of --calls that --last, --circuit and --since select, and those
-that go on, each with the id that e1gw-call takes. move NODE, as root, has Pacemaker move the trunk. With a PATH and no
+COMMAND is one of e1gw-trunk(1): seize N, clear N, answer N, clear-back N, codec N CODEC TYPE, status, status N, status
+json, events, on-loss, role, promote, demote, move, reload, quit, help. N may be several circuits: seize 1-4,7.
+
+block N takes circuits out of service once their calls have ended, or --now; unblock N takes that back. drain does it
+for all, and waits until no call is left, or for --within MINUTES. calls lists those of the file of --calls that --last,
+--circuit and --since select, and those that go on, each with the id that e1gw-call takes. outages lists those between
+--since and --until, by the file of --json. move NODE, as root, has Pacemaker move the trunk. With a PATH and no
 command, commands are read from standard input, a line each. --all gives the command to each trunk of this machine.
 Without any word there is a line for each trunk of this machine.
 
 Statuses: 0 all was done; 1 a trunk refused something, or does not answer; 2 the command line, or nobody listens at
-PATH.
+PATH; 3 calls are left.
 """
 from __future__ import annotations
 
@@ -22,14 +25,21 @@ from contextlib import suppress
 from pathlib import Path
 from typing import BinaryIO
 
-from .ctl_all import PATIENCE, SOCKETS, connected, overview, trunks_here
-from .ctl_calls import Wanted, calls_listed
+from .ctl_all import PATIENCE, SOCKETS, answer_of, connected, overview, trunks_here
+from .ctl_calls import Wanted, calls_listed, outages_listed
+from .ctl_drain import drain
 from .faults import checked, number, words_of_fault
 from .session import CIRCUITS
 from .session_clock import moment
 
 ASKING = ('status', 'events', 'help', 'metrics', 'role')
 SEVERAL = ('seize', 'clear', 'answer', 'clear-back', 'block', 'unblock', 'codec')
+TAKEN = {'block': 'drain', 'unblock': 'undrain'}        # what an operator blocks is kept (e1gw-trunk(1))
+
+
+# The commands that have these options.
+OPTIONS = {'last': ('calls',), 'circuit': ('calls',), 'since': ('calls', 'outages'), 'until': ('outages',),
+           'csv': ('outages',), 'now': ('block', 'drain'), 'within': ('drain',)}
 
 
 def path_of(word: str) -> str:
@@ -62,17 +72,9 @@ def each_circuit(command: str) -> list[str]:
     words = command.split()
     if len(words) < 2 or words[0] not in SEVERAL:
         return [command]
+    if words[0] in TAKEN:
+        return [' '.join([TAKEN[words[0]], part, *words[2:]]) for part in words[1].split(',')]
     return [' '.join([words[0], circuit, *words[2:]]) for circuit in circuits_of(words[1])]
-
-
-def answer_of(stream: BinaryIO) -> list[str]:
-    """The lines of an answer. EOFError where the trunk ends before it."""
-    lines: list[str] = []
-    while (line := stream.readline()) not in (b'', b'\n'):
-        lines.append(line.decode(errors='replace').rstrip('\n'))
-    if line == b'' and not lines:
-        raise EOFError
-    return lines
 
 
 def ask(stream: BinaryIO, line: socket.socket, command: str, front: str = '') -> bool:
@@ -135,18 +137,26 @@ def started(asked: argparse.Namespace, parser: argparse.ArgumentParser, patience
         parser.error('a word is empty, or cannot be printed')
     if asked.all and (not words or words == ['events']):
         parser.error('--all wants a command that is answered at once')
-    if words[-1:] == ['calls'] and len(words) == 2 - asked.all:
-        trunks = trunks_here() if asked.all else [(asked.path, path_of(asked.path))]
-        return calls_listed(trunks, Wanted(asked.last, asked.circuit, asked.since), patience)
-    if asked.last or asked.circuit or asked.since:
-        parser.error('--last, --circuit and --since are for calls')
+    command = words[not asked.all:]
+    for option, names in OPTIONS.items():
+        if getattr(asked, option) is not None and not {*names} & {*command[:1]}:
+            parser.error(f'--{option} is for {" and ".join(names)}')
+    trunks = trunks_here() if asked.all else [(asked.path, path_of(asked.path))] if command else []
+    match command:
+        case ['calls']:
+            return calls_listed(trunks, Wanted(asked.last, asked.circuit, asked.since), patience)
+        case ['outages']:
+            return outages_listed(trunks, asked.since, asked.until, bool(asked.csv), patience)
+        case ['drain']:
+            return drain(trunks, asked.within, bool(asked.now), patience)
+        case ['move', node] if not asked.all:
+            return move(asked.path, node)
+    command += ['now'] * bool(asked.now)
     if asked.all:
-        return run_all(words, patience)
-    if asked.command and asked.command[0] in [name for name, _ in trunks_here()]:
-        parser.error(f'{asked.command[0]} is a trunk: a command goes to one of them, and with --all to each')
-    if len(asked.command) == 2 and asked.command[0] == 'move':
-        return move(asked.path, asked.command[1])
-    return run(path_of(asked.path), asked.command) if asked.path else overview(patience)
+        return run_all(command, patience)
+    if command and command[0] in [name for name, _ in trunks_here()]:
+        parser.error(f'{command[0]} is a trunk: a command goes to one of them, and with --all to each')
+    return run(path_of(asked.path), command) if asked.path else overview(patience)
 
 
 def next_words(parsed_args: argparse.Namespace, **_: object) -> list[str]:
@@ -156,8 +166,8 @@ def next_words(parsed_args: argparse.Namespace, **_: object) -> list[str]:
         return [name for name, _ in trunks_here()]
     match words[not parsed_args.all:]:
         case []:
-            return [*SEVERAL, 'status', 'calls', 'events', 'on-loss', 'role', 'promote', 'demote', 'move', 'reload',
-                    'quit', 'help']
+            return [*SEVERAL, 'drain', 'status', 'calls', 'outages', 'events', 'on-loss', 'role', 'promote', 'demote',
+                    'move', 'reload', 'quit', 'help']
         case ['status']:
             return ['json', *circuits]
         case ['reload']:
@@ -178,8 +188,13 @@ def main(patience: float = PATIENCE) -> None:
     parser.add_argument('--last', metavar='N', type=number(1, 10**6), help='calls: the last N [default: 20, or all '
                         'with --since]')
     parser.add_argument('--circuit', metavar='N', type=number(1, 30), help='calls: those of a circuit')
-    parser.add_argument('--since', metavar='TIME', type=checked(moment, 'a time such as 2026-11-23T07:30:00Z'),
-                        help='calls: those that ended after TIME, in UTC')
+    parser.add_argument('--now', action='store_true', default=None, help='block, drain: calls are cleared')
+    parser.add_argument('--within', metavar='MINUTES', type=number(0, 10_000, float), help='drain: waits no longer '
+                        'for the end of calls')
+    time = checked(moment, 'a time such as 2026-11-23T07:30:00Z')
+    parser.add_argument('--since', metavar='TIME', type=time, help='calls, outages: those that ended after TIME (UTC)')
+    parser.add_argument('--until', metavar='TIME', type=time, help='outages: those that began before TIME')
+    parser.add_argument('--csv', action='store_true', default=None, help='outages: as CSV')
     for each in (parser.add_argument('path', metavar='PATH', nargs='?'),
                  parser.add_argument('command', metavar='COMMAND', nargs='*')):
         setattr(each, 'completer', next_words)

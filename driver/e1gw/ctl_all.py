@@ -6,11 +6,11 @@ import os
 import socket
 import struct
 import time
-from typing import Any, BinaryIO, Mapping
+from typing import Any, BinaryIO, Callable, Iterable, Iterator, Mapping, NamedTuple
 
 from .events import REMOTE
 from .faults import words_of_fault
-from .metrics import state_of
+from .metrics import drain_words, state_of
 
 SOCKETS, UNITS = '/run/e1gw', '/etc/e1gw'
 PATIENCE = 5.0              # seconds that a trunk has to answer
@@ -31,7 +31,7 @@ def units_here() -> list[str]:
     """The trunks that have options of a unit."""
     try:
         names = os.listdir(UNITS)
-    except FileNotFoundError:
+    except OSError:         # (it is not there, or not to be read)
         return []
     return [name.removesuffix('.options') for name in names if name.endswith('.options')]
 
@@ -51,6 +51,16 @@ def connected(path: str, patience: float) -> socket.socket:
     return line
 
 
+def answer_of(stream: BinaryIO) -> list[str]:
+    """The lines of an answer. EOFError where the trunk ends before it."""
+    lines: list[str] = []
+    while (line := stream.readline()) not in (b'', b'\n'):
+        lines.append(line.decode(errors='replace').rstrip('\n'))
+    if line == b'' and not lines:
+        raise EOFError
+    return lines
+
+
 def status_of(path: str, patience: float) -> dict[str, Any]:
     """The status that a trunk answers. OSError or ValueError where it answers none."""
     with connected(path, patience) as line:
@@ -62,31 +72,75 @@ def status_of(path: str, patience: float) -> dict[str, Any]:
     return found
 
 
-def line_of(name: str, status: Mapping[str, Any]) -> str:
-    """A trunk in a line."""
-    rows = status['circuits']
-    calls = sum(row['state'] == 'answered' for row in rows)
-    lost, late = sum(row['lost'] for row in rows), sum(row['datagrams'].get('Late', 0) for row in rows)
-    since = '' if status.get('fault') else time.strftime('%Y-%m-%d %H:%M',
-                                                         time.gmtime(status['time'] - status['uptime']))
-    far = [what for what, on in status['remote_alarm'].items() if on]
-    alarms = f'; the other end: {", ".join(REMOTE[what] for what in far)}' if far and status['trunk_up'] else ''
-    ended = [what for what, why in status['ended'].items() if why is not None]
-    told = (f'; ended: {", ".join(ended)}' if ended else '') + ('; not fed' if status.get('fed') is False else '')
-    return (f'{name:12} {status["version"]:8} {since:17} {calls:5} {lost:8} {late:8}  '
-            f'{state_of(status)}{alarms}{told}')
+def each_status(trunks: Iterable[tuple[str, str]], patience: float, work: Callable[[str, Any], None]) -> int:
+    """Does a work with the status of each trunk, and prints why it cannot; returns the status."""
+    status = 0
+    for name, path in trunks:
+        try:
+            work(name, status_of(path, patience))
+        except (OSError, ValueError, KeyError) as fault:
+            print(f'{name}: {words_of_fault(fault)}', flush=True)
+            status = 1
+    return status
+
+
+class TrunkLine(NamedTuple):
+    """A trunk in a line: what its columns show."""
+
+    name: str
+    version: str = ''
+    since: str = ''
+    calls: str = ''
+    lost: str = ''
+    late: str = ''
+    state: str = ''
+
+    @classmethod
+    def of(cls, name: str, status: Mapping[str, Any]) -> TrunkLine:
+        """That of a status."""
+        rows = status['circuits']
+        since = '' if status.get('fault') else time.strftime('%Y-%m-%d %H:%M',
+                                                             time.gmtime(status['time'] - status['uptime']))
+        far = [what for what, on in status['remote_alarm'].items() if on]
+        alarms = f'; the other end: {", ".join(REMOTE[what] for what in far)}' if far and status['trunk_up'] else ''
+        ended = [what for what, why in status['ended'].items() if why is not None]
+        told = (f'; ended: {", ".join(ended)}' if ended else '') + ('; not fed' if status.get('fed') is False else '')
+        told += f'; {drains}' if (drains := drain_words(rows)) else ''
+        late = sum(row['datagrams'].get('Late', 0) for row in rows)
+        return cls(name, status['version'], since, str(sum(row['state'] == 'answered' for row in rows)),
+                   str(sum(row['lost'] for row in rows)), str(late), f'{state_of(status)}{alarms}{told}')
+
+    def __str__(self) -> str:
+        front = f'{self.version:8} {self.since:17} {self.calls:>5} {self.lost:>8} {self.late:>8}  ' * bool(self.version)
+        return f'{self.name:12} {front}{self.state}'
+
+
+class TrunkHere(NamedTuple):
+    """A trunk of this machine: whether it is in service, its line, and its status if it answers."""
+
+    is_in_service: bool
+    line: TrunkLine
+    status: dict[str, Any] | None = None
+
+
+def asked_trunks(patience: float) -> Iterator[TrunkHere]:
+    """Each trunk of this machine, asked within these seconds."""
+    here = trunks_here()
+    for name, path in here:
+        try:
+            status = status_of(path, patience)
+            yield TrunkHere(True, TrunkLine.of(name, status), status)
+        except (OSError, ValueError, KeyError) as fault:
+            yield TrunkHere(True, TrunkLine(name, state=f'does not answer: {words_of_fault(fault, path)}'))
+    for name in sorted(set(units_here()) - {name for name, _ in here} - {EXAMPLE}):
+        yield TrunkHere(False, TrunkLine(name, state=f'not in service: systemctl status e1gw-trunk@{name}'))
 
 
 def overview(patience: float) -> int:
     """Prints a line for each trunk of this machine; returns the status."""
-    here, status = trunks_here(), 0
+    failed = 0
     print(HEAD)
-    for name, path in here:
-        try:
-            print(line_of(name, status_of(path, patience)), flush=True)
-        except (OSError, ValueError, KeyError) as fault:
-            print(f'{name:12} does not answer: {words_of_fault(fault, path)}', flush=True)
-            status = 1
-    for name in sorted(set(units_here()) - {name for name, _ in here} - {EXAMPLE}):
-        print(f'{name:12} not in service: systemctl status e1gw-trunk@{name}')
-    return status
+    for each in asked_trunks(patience):
+        print(each.line, flush=True)
+        failed |= each.is_in_service and not each.status
+    return failed

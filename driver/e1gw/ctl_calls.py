@@ -1,19 +1,23 @@
-"""The calls of trunks, a line for each: those that have ended, by the file of each, and those that go on."""
+"""The calls of trunks, a line for each: those that have ended, by the file of each, and those that go on. Outages, too,
+by the file of events."""
 from __future__ import annotations
 
 from dataclasses import dataclass
 from itertools import islice, takewhile
-from typing import Iterable, Iterator
+from math import inf
+from typing import Any, Iterable, Iterator, Mapping
 
-from .calls import CallLine, read_calls
-from .ctl_all import status_of
-from .faults import words_of_fault
+from .calls import CallLine, csv_line, read_calls
+from .ctl_all import each_status
+from .outages import FIELDS, outages_in
 from .session_clock import moment
 
 LAST = 20                   # calls that have ended, if nothing else is asked for
 WRITTEN = 3600.0            # seconds behind its end within which each has its line
 HEAD = (f'{"trunk":12}  n {"role":8} {"seized (UTC)":23} {"answered":12} {"ended":12} {"by":16} {"codec":7} '
         f'{"sent":>8} {"received":>8} {"lost":>6} {"late":>6}  call')
+
+OUTAGE = '{:12} {:13} {:24} {:24} {:>11} {:>15} {:>15}  {:14} {}'
 
 
 @dataclass(frozen=True)
@@ -47,18 +51,26 @@ def row_of(call: CallLine) -> str:
 
 def calls_listed(trunks: Iterable[tuple[str, str]], wanted: Wanted, patience: float) -> int:
     """Prints the calls of trunks, the last one last; returns the status."""
-    status = 0
+    def lists(_: str, told: Mapping[str, Any]) -> None:
+        file = told['calls_file']
+        ended = wanted.of(read_calls(file)) if file else []
+        for call in (*reversed(ended), *wanted.circuits(CallLine(**each) for each in told['calls'])):
+            print(row_of(call), flush=True)
+        if not file:
+            raise ValueError('it writes no --calls: there are no calls that have ended')
     print(HEAD)
-    for name, path in trunks:
-        try:
-            told = status_of(path, patience)
-            file = told['calls_file']
-            ended = wanted.of(read_calls(file)) if file else []
-            for call in (*reversed(ended), *wanted.circuits(CallLine(**each) for each in told['calls'])):
-                print(row_of(call), flush=True)
-            if not file:
-                raise ValueError('it writes no --calls: there are no calls that have ended')
-        except (OSError, ValueError, KeyError) as fault:
-            print(f'{name}: {words_of_fault(fault)}', flush=True)
-            status = 1
-    return status
+    return each_status(trunks, patience, lists)
+
+
+def outages_listed(trunks: Iterable[tuple[str, str]], since: float | None, until: float | None, is_csv: bool,
+                   patience: float) -> int:
+    """Prints the outages of trunks between two times; returns the status."""
+    def lists(name: str, told: Mapping[str, Any]) -> None:
+        if not told['events_file']:
+            raise ValueError('it writes no --json FILE: its outages are not known')
+        with open(told['events_file'], encoding='utf-8', errors='replace') as lines:
+            for each in outages_in(lines, since or 0.0, inf if until is None else until):
+                its = each.fields(told.get('name', name))
+                print(csv_line(its) if is_csv else OUTAGE.format(*its).rstrip(), flush=True)
+    print(csv_line(FIELDS) if is_csv else OUTAGE.format(*FIELDS))
+    return each_status(trunks, patience, lists)

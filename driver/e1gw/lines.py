@@ -5,15 +5,12 @@ import ipaddress
 import tomllib
 from dataclasses import dataclass
 from enum import StrEnum
-from typing import Any, Callable, Mapping
+from typing import Any, Iterable, Mapping
 
 from .session import CIRCUITS, SAMPLES_A_SECOND, Codec, Command
 
 SEIZURE_WAIT = 200          # milliseconds after which a seizure is released, if nothing else is asked for
 WAIT = 'seizure_wait'       # the name of that time next to the tables of a configuration
-
-Event = dict[str, Any]
-Tell = Callable[[Event], None]
 
 
 class Role(StrEnum):
@@ -93,6 +90,12 @@ class Line:
         self.faults += state is State.FAULT
         self.since = now
 
+    def ending(self) -> Command | None:
+        """What ends its call, if this end can: clear at the outgoing end, clear-back at the incoming one."""
+        if self.role is Role.OUTGOING:
+            return Command.CLEAR if self.state in IN_CALL else None
+        return Command.CLEAR_BACK if self.state is State.ANSWERED else None
+
     def status(self, now: float) -> dict[str, Any]:
         """All that is known of it, as plain values."""
         opened = 0 if self.opened is None else now - self.opened
@@ -103,6 +106,17 @@ class Line:
             'faults': self.faults, 'open': round(self.open_for + opened, 3), 'codec': self.codec,
             'payload': self.payload, 'configured_codec': self.configured[0], 'configured_payload': self.configured[1],
             'prefill': self.prefill, 'jitter_buffer_ms': self.prefill * 1000 / SAMPLES_A_SECOND}
+
+
+def circuit_words(circuits: Iterable[int]) -> str:
+    """Circuits in words, as 3, 10-15."""
+    ranges: list[list[int]] = []
+    for n in sorted(circuits):
+        if ranges and ranges[-1][-1] == n - 1:
+            ranges[-1][1:] = [n]
+        else:
+            ranges.append([n])
+    return ', '.join('-'.join(map(str, each)) for each in ranges)
 
 
 def read_config(path: str) -> dict[str, Any]:

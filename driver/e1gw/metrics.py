@@ -6,13 +6,14 @@ from typing import Any, Iterable, Mapping
 
 from .dahdi import COUNTS, Alarm, Blocks
 from .events import LOSSES, REMOTE
-from .lines import State
+from .lines import State, circuit_words
 
 Status = Mapping[str, Any]
 Labels = Mapping[str, object]
 Samples = Iterable[tuple[Labels, float | int]] | float | int
 
 ALIGNED, NOT_OPEN = 'aligned', 'not open'
+DRAIN_WORDS = {'drained': 'blocked by the operator', 'drains': 'blocked once their calls have ended'}
 TRANSPORT = 'e1gw_transport'        # of what a transport tells, its own names and kinds
 # A number of each circuit's row: its name, what it is, its key, and how many of its units are one.
 CIRCUIT_NUMBERS = (
@@ -123,6 +124,8 @@ def _of_circuits(status: Status) -> list[Family]:
         ('e1gw_circuit_state', 'The state of each line: 1 for the one that it is in.',
          [({**labels, 'role': row['role'], 'state': state}, state == row['state']) for labels, row in rows
           for state in State]),
+        ('e1gw_circuit_drain', '1 where the operator has blocked the circuit, once its call has ended.',
+         [(labels, row['drain'] is not None) for labels, row in rows]),
         *((name, about, [(labels, row[key] if unit == 1 else round(row[key] / unit, 6)) for labels, row in rows])
           for name, about, key, unit in CIRCUIT_NUMBERS),
         ('e1gw_rtp_packets_total', 'RTP packets sent, and received and not discarded.',
@@ -169,7 +172,8 @@ def state_of(status: Status) -> str:
         status['alarm'], LOSSES, ALIGNED)
 
 
-def _head(status: Status) -> list[str]:
+def head_of(status: Status) -> list[str]:
+    """The lines above the circuits."""
     clock = status['clock']
     at = time.strftime('%H:%M:%S', time.gmtime(status['time']))
     lines = [
@@ -180,10 +184,17 @@ def _head(status: Status) -> list[str]:
         'alignment lost: ' + ', '.join(f'{what} {n}' for what, n in status['losses'].items())
         + f'; stalls {clock["stalls"]}{_slips(clock)}']
     lines += _pair_line(status) + _card_line(status) + _crc4_line(status)
+    lines += filter(None, [drain_words(status['circuits'])])
     lines += [f'ended: {what}: {why}' for what, why in status['ended'].items() if why is not None]
     if status['stale']:
         lines.append('the counts of packets are not those of now')
     return lines
+
+
+def drain_words(rows: Iterable[Status]) -> str:
+    """Which of these circuits the operator has blocked; nothing without any."""
+    its = {what: [row['circuit'] for row in rows if row.get('drain') == what] for what in DRAIN_WORDS}
+    return '; '.join(f'{DRAIN_WORDS[what]}: {circuit_words(circuits)}' for what, circuits in its.items() if circuits)
 
 
 def _slips(clock: Status) -> str:
@@ -243,10 +254,12 @@ COLUMNS = (' n role     state       TxAB RxAB in state calls answered connected 
 
 def table(status: Status) -> str:
     """The state of a trunk for people."""
-    return '\n'.join([*_head(status), COLUMNS, *(_row(status, row) for row in status['circuits'])]) + '\n'
+    return '\n'.join([*head_of(status), COLUMNS, *(_row(status, row) for row in status['circuits'])]) + '\n'
 
 
 def circuit_table(status: Status, circuit: int) -> str:
     """The row of one circuit, below its head."""
     rows = [_row(status, row) for row in status['circuits'] if row['circuit'] == circuit]
-    return '\n'.join([COLUMNS, *(rows or [f'{circuit:2} has no table in the configuration, and no call yet'])])
+    told = drain_words([row for row in status['circuits'] if row['circuit'] == circuit])
+    return '\n'.join([COLUMNS, *(rows or [f'{circuit:2} has no table in the configuration, and no call yet']),
+                      *filter(None, [told])])

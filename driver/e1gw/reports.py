@@ -5,7 +5,8 @@ import time
 from typing import Any, Callable, Mapping
 
 from .counts import DatagramCounts, ToldCounts
-from .lines import LEADS, OPEN, PAIRS, UNKNOWN, Alignment, Line, Role, State, Tell, law_of, lines_of
+from .events import (AlarmChanged, AlignmentFound, AlignmentLost, CodecChanged, LineChanged, Placed, RemoteAlarmChanged)
+from .lines import IN_CALL, LEADS, OPEN, PAIRS, UNKNOWN, Alignment, Line, Role, State, law_of, lines_of
 from .session import Codec, Command, codec_record, command_record
 
 VERSION = '1'
@@ -21,7 +22,7 @@ class TrunkState:
     """The lines and the alarms of a trunk, as a follower tells them. Its clock is this machine's. `tell` is called with
     each change, `began` with each whole state."""
 
-    def __init__(self, config: Mapping[str, Any], tell: Tell, counts: DatagramCounts,
+    def __init__(self, config: Mapping[str, Any], tell: Callable[[Placed], None], counts: DatagramCounts,
                  clock: Callable[[], float] = time.monotonic, began: Callable[[], None] = lambda: None) -> None:
         self.law, self.lines, self.tell = law_of(config), lines_of(config), tell
         self.counts, self.began, self._clock = counts, began, clock
@@ -71,6 +72,14 @@ class TrunkState:
         self._led.clear()
         self.seizures = {}
 
+    def told_again(self, place: int, clock: Callable[[], float]) -> TrunkState:
+        """What is told of these lines, from this place on, by another one that tells, with counts of its own."""
+        again = TrunkState({}, self.tell, DatagramCounts(), clock)
+        again.lines, again.alarms, again.remote, again.losses = self.lines, self.alarms, self.remote, self.losses
+        again.known = self.known
+        again.begin(place)
+        return again
+
     def lost(self) -> None:
         """Nobody tells any more."""
         self.live, self.counts.ended = False, 'nobody tells'
@@ -113,15 +122,15 @@ class TrunkState:
             lost = bool(int(bit))
             if self.known and lost is not self.alarms[what]:
                 self.losses[what] += lost
-                self._event('lost' if lost else 'aligned', what=str(what))
-            self._alarm('alarm', self.alarms, what, lost)
+                self.tell(AlignmentLost(what, self.place) if lost else AlignmentFound(what, self.place))
+            self._alarm(AlarmChanged, self.alarms, what, lost)
         for what, bit in (Alignment.FRAME, far_frame), (Alignment.MULTIFRAME, far_multiframe):
-            self._alarm('remote alarm', self.remote, what, bool(int(bit)))
+            self._alarm(RemoteAlarmChanged, self.remote, what, bool(int(bit)))
 
-    def _alarm(self, event: str, alarms: dict[Alignment, bool], what: Alignment, on: bool) -> None:
+    def _alarm(self, kind: type[AlarmChanged], alarms: dict[Alignment, bool], what: Alignment, on: bool) -> None:
         if alarms[what] is not on:
             alarms[what] = on
-            self._event(event, what=str(what), on=on)
+            self.tell(kind(what, on, self.place))
 
     def _counts(self, circuit: str, accepted: str, lost: str, jitter: str, *refused: str) -> None:
         told = ToldCounts(int(accepted), int(lost), int(jitter), tuple(map(int, refused)))
@@ -151,7 +160,7 @@ class TrunkState:
             return line.begin(State(state), self._clock())
         if (codec, int(payload_type)) != (line.codec, line.payload):
             line.codec, line.payload = codec, int(payload_type)
-            self._event('codec', circuit=line.circuit, codec=codec, payload=line.payload)
+            self.tell(CodecChanged(line.circuit, codec, line.payload, self.place))
         if state != line.state:
             self._move(line, State(state))
 
@@ -161,9 +170,7 @@ class TrunkState:
         commanded = self._led.pop(line.circuit, None)
         if before is State.SEIZED and state in (State.RELEASING, State.IDLE) and self.live and not commanded:
             line.unacknowledged += 1
+        if line.role is Role.OUTGOING and before is State.IDLE and state in IN_CALL and not commanded:
+            line.seizures += 1          # (of which nobody was told)
         line.changed(before, self._clock())
-        self._event('state', circuit=line.circuit, role=str(line.role), was=str(before), state=str(state),
-                    **({} if self.live else {'unwatched': True}))
-
-    def _event(self, event: str, **fields: Any) -> None:
-        self.tell({'event': event, **fields, 'place': self.place})
+        self.tell(LineChanged(line.circuit, line.role, before, state, self.place, None if self.live else True))

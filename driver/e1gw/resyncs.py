@@ -13,7 +13,7 @@ from dataclasses import dataclass, field
 from math import inf
 from typing import Callable, Iterable
 
-from .lines import Event
+from .events import BuffersRestarted, Tell
 from .session import OCTETS_A_SECOND, DatagramRefusal
 
 REFUSED_FOR = 0.5           # seconds of the trunk whose datagrams are looked at
@@ -81,7 +81,7 @@ class OpenCall:
 class Resyncs:
     """Restarts the playout of calls that need it, by `restart(circuits)`."""
 
-    def __init__(self, restart: Callable[[list[int]], None], tell: Callable[[Event], None]) -> None:
+    def __init__(self, restart: Callable[[list[int]], None], tell: Tell) -> None:
         self._restart, self._tell = restart, tell
         self._calls: dict[int, OpenCall] = {}
 
@@ -112,4 +112,4 @@ class Resyncs:
                 call.restarted(place)
         for why, circuits in due.items():
             self._restart(circuits)
-            self._tell({'event': 'renewed', 'why': why, 'circuits': sorted(circuits)})
+            self._tell(BuffersRestarted(why, tuple(sorted(circuits))))

@@ -6,7 +6,7 @@ import re
 from dataclasses import dataclass
 from typing import Any
 
-from .lines import Event
+from .events import SlotsChange, SlotsChanged
 
 SAID = re.compile(r'slots (?:lost|found ([0-9]+))')
 SLOTS = 31                  # octets of a frame
@@ -29,19 +29,19 @@ class Slots:
         self.silent, self.lost, self.moved = True, 0, 0
         self._delay: int | None = None      # as it was found last
 
-    def take(self, line: str) -> list[Event]:
+    def take(self, line: str) -> list[SlotsChanged]:
         """A line that a program says; returns what is to be reported, nothing of another line."""
         if not (said := SAID.fullmatch(line)):
             return []
         self.silent = said[1] is None
         if self.silent:
             self.lost += 1
-            return [{'event': 'slots', 'what': 'lost'}]
+            return [SlotsChanged(SlotsChange.LOST)]
         before, self._delay = self._delay, int(said[1])
         if by := 0 if before is None else (self._delay - before) % SLOTS:
             self.moved += 1
-            return [{'event': 'slots', 'what': 'moved', 'by': by}]
-        return [{'event': 'slots', 'what': 'found'}]
+            return [SlotsChanged(SlotsChange.MOVED, by)]
+        return [SlotsChanged(SlotsChange.FOUND)]
 
     def follows(self) -> None:
         """Another program follows, which has to find slot 16."""

@@ -75,6 +75,9 @@ class RingCallTests(support.FolderCase):
             page = support.text_of(self.path(f'out/1f-{circuit}-1.html'))
             self.assertIn(f'west: call 1f-{circuit}-1', page)
             self.assertNotIn(f'circuit {7 - circuit}', page)
+            whole, *parts = re.findall(r'(\d+) sent, (\d+) received', page)
+            self.assertEqual([sum(map(int, each)) for each in zip(*parts)], [*map(int, whole)])
+            self.assertEqual({*re.findall(r'<audio [^>]*src="([^"#]*)', page)}, {f'1f-{circuit}-1.wav'})
 
     def packets(self, circuit: int, answers: bytes) -> None:
         """Those of the capture have their places of the whole session: what went, behind the octets of its record."""

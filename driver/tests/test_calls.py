@@ -13,6 +13,7 @@ from .properties import PropertyCase
 from e1gw.call_names import CallNames
 from e1gw.calls import FIELDS, KEPT, MOST_OCTETS, CallLog, is_another_gateway, moment
 from e1gw.counts import REASONS, CircuitCounts, DatagramCounts, ToldCounts
+from e1gw.events import LineChanged
 from e1gw.lines import IN_CALL, Line, Role, State
 from e1gw.service import events
 
@@ -21,10 +22,11 @@ class CallEndTests(unittest.TestCase):
     def test_a_seizure_that_is_not_acknowledged(self) -> None:
         rows, lines, moments = list[str](), {1: Line(1)}, iter((1_000_000_000.0, 1_000_000_001.25))
         calls = CallLog('west', lines, DatagramCounts(), rows.append, lambda: next(moments))
-        for was, state in ('idle', 'seized'), ('seized', 'releasing'), ('releasing', 'idle'):
-            calls.took({'event': 'state', 'circuit': 1, 'was': was, 'state': state, 'place': 100})
-            lines[1].unacknowledged += state == 'seized'
-        calls.look()
+        for was, state in ((State.IDLE, State.SEIZED), (State.SEIZED, State.RELEASING), (State.RELEASING, State.IDLE)):
+            calls.took(LineChanged(1, Role.OUTGOING, was, state, 100))
+            lines[1].unacknowledged += state is State.SEIZED
+        self.assertEqual(rows, [])                  # (they are noted first)
+        calls.give()
         self.assertEqual(rows, ['west,1,outgoing,2001-09-09T01:46:40.000Z,,2001-09-09T01:46:41.250Z,not acknowledged,'
                                 'pcma,0,0,0,0,-1-0'])
 
@@ -91,7 +93,8 @@ class CalledTrunk:
             ours = (n == 1) is (was is not State.CLEAREDBACK)
             self.ends(n, away or ('fault' if state is State.FAULT else 'not acknowledged' if is_refused else
                                   'gateway' if ours else 'exchange'), 'before' if away else line.codec)
-        self.calls.took({'circuit': n, 'was': was, 'state': state, **({'unwatched': True} if away else {})})
+        self.calls.took(LineChanged(n, Role.OUTGOING, was, state, 0, True if away else None))
+        self.calls.give()
 
     def leaves(self, states: tuple[State, State], is_reload: bool) -> None:
         """Nobody tells, and then one does. With a reload circuit 1 is begun as new meanwhile."""
@@ -134,13 +137,12 @@ class CallPropertyTests(PropertyCase):
             trunk = CalledTrunk(first)
             for what, words in steps:
                 trunk.day += 1
-                trunk.calls.look() if what == 'look' else getattr(trunk, what)(*words)
+                getattr(trunk, what)(*words)
             trunk.stops()
         self.holds(check, states, st.lists(st.one_of(
             st.tuples(st.just('moves'), st.tuples(circuit, state)),
             st.tuples(st.just('takes'), st.tuples(circuit, st.integers(0, 9))),
-            st.tuples(st.just('leaves'), st.tuples(states, st.booleans())),
-            st.tuples(st.just('look'), st.none())), max_size=40))
+            st.tuples(st.just('leaves'), st.tuples(states, st.booleans()))), max_size=40))
 
 
 class CallFileTests(support.FolderCase):

@@ -18,8 +18,7 @@ from . import support
 from e1gw import card_opening, dahdi
 from e1gw.dahdi import (BUFFERS, NUMBER, PARAMETERS, SPAN, Alarm, Blocks, CardFault, DahdiChannel, Request,
                         channel_facts, span_facts)
-from e1gw.events import words_of
-from e1gw.lines import Event
+from e1gw.events import CardAlarm, CardAlarmChanged, Event
 from e1gw.service.card import GONE, CardWatch
 
 
@@ -194,7 +193,7 @@ class CardWatchTests(unittest.TestCase):
         return CardWatch(self.channel, self.told.append)
 
     def words(self) -> list[str]:
-        told, self.told[:] = [words_of(event) for event in self.told], []
+        told, self.told[:] = [event.words() for event in self.told], []
         return told
 
     def test_alarms(self) -> None:
@@ -254,4 +253,4 @@ class CardWatchTests(unittest.TestCase):
                     watch.end()
                 near.getsockname()
         asyncio.run(run())
-        self.assertEqual([event['what'] for event in self.told], ['RED'])
+        self.assertEqual(self.told, [CardAlarmChanged(CardAlarm.RED, True)])

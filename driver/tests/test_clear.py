@@ -9,7 +9,6 @@ import unittest
 from . import support
 from .test_program_killed import CIRCUITS
 from .test_service_killed import RestartedKeeperCase
-from e1gw.events import words_of
 from e1gw.exchange import slot_of
 from e1gw.session import FRAME, MULTIFRAME, packet_of
 from e1gw.slots import SLOTS, Slots
@@ -21,7 +20,7 @@ MOVED = 'slots moved by {}: slot 16 found again, speech goes on'
 
 class SlotsTests(unittest.TestCase):
     def told(self, known: Slots, *lines: str) -> list[str]:
-        return [words_of(event) for line in lines for event in known.take(line)]
+        return [event.words() for line in lines for event in known.take(line)]
 
     def test_what_the_program_says(self) -> None:
         """The first find is compared with none; later ones also if another program or service follows."""

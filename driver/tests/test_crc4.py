@@ -5,11 +5,9 @@ the program."""
 from __future__ import annotations
 
 import unittest
-from typing import Any
 
-from e1gw import crc4, metrics
+from e1gw import crc4
 from e1gw.crc4 import Crc4, counts_in
-from e1gw.events import words_of
 
 FRAME, HALF, MULTIFRAME = 32, 256, 512      # octets; half a multiframe is a submultiframe
 SIGNAL = (0, 0, 1, 0, 1, 1)                 # in frames 1, 3, .., 11 (G.704, table 5B)
@@ -123,7 +121,7 @@ class Crc4CountTests(unittest.TestCase):
         known = Crc4()
         for numbers, times, told in rows:
             for number in range(times):
-                events = [words_of(event) for event in known.take(self.counts(*numbers))]
+                events = [event.words() for event in known.take(self.counts(*numbers))]
                 self.assertEqual(events, [] if number and told else told, numbers)
         self.assertEqual(known.counts, self.counts(5903, 919, 2, 5, 5, 1))
         known.ended()
@@ -139,19 +137,5 @@ class Crc4CountTests(unittest.TestCase):
             known.follows()
             self.assertEqual([event for its in counts for event in known.take(its)], [])
         (lost,) = known.take(nothing)
-        self.assertEqual(words_of(lost), 'CRC multiframe alignment lost')
+        self.assertEqual(lost.words(), 'CRC multiframe alignment lost')
         self.assertEqual(known.counts, self.counts(3 * 988, 0, 0, 3, 0, 0))
-
-    def test_metrics(self) -> None:
-        known, status = Crc4(), dict[str, Any](crc4=None)
-        self.assertEqual(metrics.crc4_families(status), [])
-        status['crc4'] = known.status()
-        text = ''.join(metrics.family(*each) for each in metrics.crc4_families(status))
-        self.assertNotRegex(text, r'(?m)^e1gw_crc4_aligned')        # nothing is known yet
-        known.take(self.counts(9988, 3, 2, 1, 0, 0))
-        status['crc4'] = known.status()
-        text = ''.join(metrics.family(*each) for each in metrics.crc4_families(status))
-        self.assertEqual([line for line in text.splitlines() if not line.startswith('#')], [
-            'e1gw_crc4_aligned 1', 'e1gw_crc4_submultiframes_total 9988', 'e1gw_crc4_errored_total{end="this"} 3',
-            'e1gw_crc4_errored_total{end="other"} 2', 'e1gw_crc4_alignments_total 1',
-            'e1gw_crc4_alignment_losses_total 0', 'e1gw_crc4_given_up_total 0'])

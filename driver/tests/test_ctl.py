@@ -8,7 +8,6 @@ import json
 import os
 import re
 import shutil
-import socket
 import sys
 import tempfile
 import threading
@@ -18,10 +17,9 @@ from unittest import mock
 from . import support
 from .limits import LONG
 from .test_texts import STATUS
-from .test_trunk import FOUR, aligned
-from .world import World, config_of
 from e1gw import ctl, ctl_all
 from e1gw.calls import FIELDS, CallLine, csv_line
+from e1gw.outages import FIELDS as FIELDS_OF_OUTAGES
 
 
 class CtlWordTests(unittest.TestCase):
@@ -29,6 +27,7 @@ class CtlWordTests(unittest.TestCase):
         for command, each in (('seize 1-3,7', ['seize 1', 'seize 2', 'seize 3', 'seize 7']),
                               ('codec 4-5 pcma 8', ['codec 4 pcma 8', 'codec 5 pcma 8']), ('seize 3', ['seize 3']),
                               ('seize x-3', ['seize x-3']), ('seize 1-999999', ['seize 1-999999']),
+                              ('block 1-3,7 now', ['drain 1-3 now', 'drain 7 now']), ('unblock 3', ['undrain 3']),
                               ('seize', ['seize']), ('status', ['status']), ('on-loss clear 3', ['on-loss clear 3'])):
             self.assertEqual(ctl.each_circuit(command), each)
 
@@ -199,6 +198,53 @@ class CtlAnswerTests(support.FolderCase):
         self.assertEqual((status, told[1]), (1, 'east: it writes no --calls: there are no calls that have ended'))
         self.assertEqual(len(told), 4)
 
+    def drains(self, name: str, *looks: tuple[int, ...]) -> None:
+        """A trunk drains, and at each look has calls in these circuits."""
+        its, rows = self.trunks[name].answers, iter(looks)
+
+        def looked(_: float) -> None:
+            its['status json'] = json.dumps({'circuits': [
+                {'circuit': n, 'state': 'answered' if n < 8 else 'acked', 'drain': 'drains'} for n in next(rows)]
+                + [{'circuit': 9, 'state': 'idle', 'drain': 'drained'}]}) + '\n\n'
+        its |= {f'drain 1-30{now}': f'told\ndrain 1-30{now}: done\n\n' for now in ('', ' now')}
+        looked(0)
+        self.enterContext(mock.patch('e1gw.ctl_drain.time.sleep', looked))
+
+    def drained(self, *words: str) -> tuple[int | str | None, list[str]]:
+        status, told, _ = self.ctl(*words)
+        return status, [re.sub(r'^\d\d:\d\d:\d\d ', '', line) for line in told]
+
+    def test_drain(self) -> None:
+        """A line whenever calls have ended, up to the last one, or the end of the time; the circuits stay blocked."""
+        last = 'west: its circuits stay blocked: e1gw-ctl west unblock 1-30 takes that back'
+        self.drains('west', (6, 7, 8), (6, 7, 8), (7,), ())
+        self.assertEqual(self.drained('west', 'drain', '--now'), (
+            0, ['west: 6-7 answered, 8 acked', 'west: 7 answered', 'west: no call is left', last]))
+        self.assertEqual(self.trunks['west'].asked[0], 'drain 1-30 now')
+        self.drains('west', (6,))
+        self.assertEqual(self.drained('west', 'drain', '--within', '0'), (
+            3, ['west: 6 answered', 'calls are left after 0 minutes', last]))
+        with mock.patch('e1gw.ctl_drain.time.sleep', side_effect=KeyboardInterrupt):
+            self.assertEqual(self.drained('west', 'drain'), (3, ['west: 6 answered', 'calls are left', last]))
+        self.drains('west', ())
+        self.trunks['east'].answers = {'drain 1-30': 'drain 1-30: the other machine is to carry the trunk\n\n'}
+        self.assertEqual(self.drained('--all', 'drain'), (
+            1, ['east: drain 1-30: the other machine is to carry the trunk', 'west: no call is left', last]))
+        for words in ('status', 'drain 7'), ('unblock', '7'):
+            self.assertEqual(self.ctl('west', *words, '--within', '3')[0], 2)
+
+    def test_outages(self) -> None:
+        """Of the file of a trunk; as text, and as CSV."""
+        self.write('events', json.dumps({'time': 1.8e9, 'event': 'gap', 'seconds': 0.25, 'place': 7}) + '\n')
+        self.trunks['west'].answers['status json'] = json.dumps({'events_file': self.path('events')}) + '\n\n'
+        self.assertEqual(self.ctl('west', 'outages', '--csv', '--since', '2027-01-15')[1], [
+            ','.join(FIELDS_OF_OUTAGES), 'west,slip,2027-01-15T07:59:59.750Z,2027-01-15T08:00:00.000Z,0.250,7,7,,'])
+        self.assertEqual(self.ctl('west', 'outages')[1][1].split(), [
+            'west', 'slip', '2027-01-15T07:59:59.750Z', '2027-01-15T08:00:00.000Z', '0.250', '7', '7'])
+        self.assertEqual(len(self.ctl('west', 'outages', '--until', '2027-01-15')[1]), 1)
+        self.trunks['east'].answers['status json'] = '{"events_file": null}\n\n'
+        self.assertEqual(self.ctl('--all', 'outages')[:2][0], 1)
+
     def test_lines_of_trunks(self) -> None:
         os.mkdir(self.path('etc'))
         for name in ('west', 'north', 'example'):
@@ -208,7 +254,7 @@ class CtlAnswerTests(support.FolderCase):
         self.trunks['east'].answers['status json'] = '[]\n\n'
         self.assertEqual(self.ctl(), (1, [
             ctl_all.HEAD, f'east         does not answer: {self.trunks["east"].path}: its answer is no status',
-            ctl_all.line_of('west', STATUS),
+            str(ctl_all.TrunkLine.of('west', STATUS)),
             'north        not in service: systemctl status e1gw-trunk@north'], ''))
         self.trunks['east'].answers = self.trunks['west'].answers
         self.assertEqual(self.ctl()[0], 0)
@@ -268,49 +314,3 @@ class CtlAnswerTests(support.FolderCase):
                 ('west', ['quit'], False, []), ('west', None, False, ['seize', 'clear'])):
             found = ctl.next_words(parser(path=path, command=command, all=is_all))
             self.assertEqual(found[:2], words, (path, command))
-
-
-class CtlMachineTests(unittest.TestCase):
-    """Two trunks, west in service and east that does not answer, and a unit that is not in service."""
-
-    def setUp(self) -> None:
-        self.world = World(config_of(FOUR))
-        self.addCleanup(self.world.__exit__)
-        aligned(self.world)
-        for name in ('run/west', 'run/east', 'etc'):
-            os.makedirs(self.world.path(name))
-        os.symlink(self.world.path('ctl'), self.world.path('run/west/control'))
-        with socket.socket(socket.AF_UNIX) as dead:
-            dead.bind(self.world.path('run/east/control'))
-        for name in ('west', 'north', 'example'):
-            open(self.world.path(f'etc/{name}.options'), 'w', encoding='utf-8').close()
-        for name, folder in (('SOCKETS', 'run'), ('UNITS', 'etc')):
-            patch = mock.patch.object(ctl_all, name, self.world.path(folder))
-            patch.start()
-            self.addCleanup(patch.stop)
-
-    def ctl(self, *words: str) -> tuple[int | str | None, list[str]]:
-        said = io.StringIO()
-        with mock.patch.object(sys, 'argv', ['e1gw-ctl', *words]), contextlib.redirect_stdout(said), \
-                self.assertRaises(SystemExit) as ended:
-            ctl.main(LONG)
-        return ended.exception.code, said.getvalue().splitlines()
-
-    def test_each_trunk_and_one(self) -> None:
-        version, path = support.run('--version').decode().split()[1], self.world.path('ctl')
-        status, lines = self.ctl()
-        self.assertEqual((status, len(lines)), (1, 4))
-        self.assertRegex(lines[2], rf'^west +{re.escape(version)} +\d{{4}}-\d\d-\d\d \d\d:\d\d +0 +0 +0  aligned$')
-        self.assertRegex(lines[1], r'^east +does not answer: .*/run/east/control: Connection refused$')
-        self.assertRegex(lines[3], r'^north +not in service: systemctl status e1gw-trunk@north$')
-        status, lines = self.ctl('--all', 'status', '1')
-        self.assertEqual((status, len(lines)), (1, 3))
-        self.assertTrue(lines[0].startswith('east: it does not answer: '))
-        self.assertRegex(lines[2], '^west:  1 outgoing idle ')
-        self.assertEqual(self.ctl(path, 'seize', '1-2'), (0, ['seize 1: done', 'seize 2: done']))
-        self.assertEqual(self.ctl(path, 'seize', '1,40'), (1, ['seize 1: not idle', 'seize 40: circuits are 1 to 30']))
-        said = self.world.status()
-        self.assertEqual((said['name'], said['version']), ('trunk', version))
-        self.assertTrue(self.world.ask('status').startswith(f'trunk trunk, e1gw {version}, up '))
-        self.assertEqual(self.world.ask('status 31'), 'status 31: circuits are 1 to 30')
-        self.assertRegex(self.world.ask('status 2').splitlines()[1], '^ 2 outgoing')

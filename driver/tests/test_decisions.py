@@ -35,7 +35,7 @@ class AfterEndTests(unittest.TestCase):
                 is_death = step.act is Act.START and not (end.is_well and end.wish is not Wish.NONE and end.was_up)
                 self.assertEqual(step.pause, FIRST_PAUSE if is_death else 0.0)
                 is_counted = is_death or step.act is Act.GO_BACK and end.was_up or \
-                    step.act is Act.ANEW and end.fault is not ProgramFault.LOG_LOST
+                    step.act is Act.NEW_LOG and end.fault is not ProgramFault.LOG_LOST
                 self.assertEqual(step.deaths != OFTEN, is_counted)
 
     def wanted(self, end: ProgramEnd) -> Act:
@@ -44,14 +44,14 @@ class AfterEndTests(unittest.TestCase):
         is_asked = end.is_well and end.wish is not Wish.NONE
         rules = (
             (end.wish is Wish.END, Act.FINISH),
-            (not end.was_up and end.fault is ProgramFault.LOG_LOST, Act.ANEW),
+            (not end.was_up and end.fault is ProgramFault.LOG_LOST, Act.NEW_LOG),
             (not end.was_up and end.fault is ProgramFault.LOG_IN_USE, Act.TAKE_LOG),
             (not end.was_up and end.trial is not None, Act.GO_BACK),
             (end.wish is Wish.DEMOTE, Act.STAND_BY),
             (not end.was_up and end.is_first, Act.FINISH),
             (end.was_up and is_asked, Act.START),
             (end.was_up and end.is_trunk_over, Act.REOPEN if end.reopens else Act.FINISH),
-            (last_chance, Act.GO_BACK), (not end.was_up and end.is_killed, Act.ANEW), (True, Act.START))
+            (last_chance, Act.GO_BACK), (not end.was_up and end.is_killed, Act.NEW_LOG), (True, Act.START))
         return next(act for holds, act in rules if holds)
 
     def test_status(self) -> None:

@@ -113,16 +113,6 @@ class FilterServiceTests(support.FolderCase):
         world.step(100)
         self.assertEqual(world.ask('seize 1'), 'seize 1: no alignment')
 
-    def test_both(self) -> None:
-        world = aligned(self.world('--align', '--crc4'))
-        call(world, 1)
-        world.step(SECOND)
-        world.until(lambda: world.told()['crc4']['aligned'] is not None)
-        status = world.status()
-        self.assertTrue(status['crc4']['aligned'])
-        self.assertEqual((status['crc4']['errored'], status['crc4']['multiframes_found']), (0, 1))
-        self.is_right(world.heard)
-
     def test_the_program_dies_inside_a_multiframe(self) -> None:
         """The exchange keeps the alignment of frames and multiframes."""
         for options in ('--crc4',), ('--crc4', '--align'):
@@ -137,35 +127,6 @@ class FilterServiceTests(support.FolderCase):
                     world.line.sendall(octets[count:])
                     world.exchange.hear(back + support.read_from(world.line, MULTIFRAME - count))
                     self.goes_on(world)
-
-    def test_another_program_follows(self) -> None:
-        """Counts go on, also where it follows at once, and nothing has happened to the line."""
-        world = self.world('--crc4')
-        world.step(2 * SECOND)
-        for _ in range(3):
-            self.assertEqual(world.ask('reload'), 'reload: done')
-        world.step(2 * SECOND)
-        world.until(lambda: world.told()['crc4']['multiframes_found'] > 1)
-        status, said = world.quit()
-        self.assertEqual((status, said.count('CRC'), said.count('CRC multiframe alignment found')), (0, 1, 1), said)
-
-    def test_it_comes_again(self) -> None:
-        """The trunk, inside a frame."""
-        for option in '--align', '--crc4':
-            with self.subTest(option), FilteredWorld(option, '--reopen') as world:
-                aligned(world)
-                call(world, 1)
-                world.line.sendall(b'\xD5' * 77)
-                support.all_read(world.line)
-                with world.new_listener() as listener:
-                    world.line.close()
-                    world.take(listener)
-                world.exchange, world.last = support.Exchange(), 0xFF
-                world.exchange.pairs[1] = 1
-                world.step(60)
-                world.connected()
-                world.until(lambda: bool(world.status()['trunk_up']))
-                self.goes_on(world)
 
     def test_a_state_that_ends_inside_a_frame(self) -> None:
         """The next start sends CRC-4 in the frames of the gateway with that state."""

@@ -2,9 +2,6 @@
 from __future__ import annotations
 
 import asyncio
-import contextlib
-import importlib.util
-import io
 import os
 import re
 import signal
@@ -14,56 +11,23 @@ import sys
 import threading
 import unittest
 from concurrent.futures import ThreadPoolExecutor
-from unittest import mock
 
-from . import limits, support
+from . import support
 from .support import SECONDS
 from .test_program_killed import KeeperCase
 from .test_service_killed import RestartedKeeperCase
 from .world import LAUNCHER
-from e1gw import ctl
 from e1gw.service import trunk
+from e1gw.service.commands import MOST_CLIENTS
 from e1gw.service.events import EventFile
-from e1gw.service.options import wants_of
-from e1gw.service.pages import MOST_VISITORS
+from e1gw.service.pages import MOST_READERS, MOST_VISITORS
 from e1gw.service.handover import CannotBegin
-from e1gw.service.service import make_own, parser
+from e1gw.service.service import make_own
 from e1gw.testing.service import ask
 from e1gw.tie.site import STRANGERS
 from e1gw.trunks import Stream
 
 OWN = 20                    # descriptors of a tie itself
-
-
-class StartFaultTests(KeeperCase):
-    """A program cannot begin."""
-
-    def test_a_state_with_which_each_one_dies(self) -> None:
-        """After five deaths the trunk begins without it."""
-        self.other_program(
-            f'trunk) for word; do [ -e "$word/state.0" ] && kill -9 $$; done; exec {support.program()} "$@"')
-        self.starts(**self.within(decisions_WITHIN=limits.LONG))
-        self.calls()
-        os.kill(self.program, signal.SIGKILL)
-        self.awaits(r'the program ended by signal 9 \(SIGKILL\): the log is put aside, and a new one begins')
-        self.assertIn('; all calls begin anew', self.goes_on())
-        self.ends()
-
-    def test_a_port_that_is_taken_for_a_time(self) -> None:
-        """The state is not why. After the fifth try the calls were given up."""
-        flag = self.path('taken')
-        self.other_program(f'trunk) [ -e {flag} ] && {{ echo socket 3 >&2; exit 1; }}; exec {support.program()} "$@"')
-        self.starts()
-        self.calls()
-        self.write('taken', '')
-        os.kill(self.program, signal.SIGKILL)
-        for _ in range(2):
-            self.awaits('the program says: socket 3: the next one begins in ')
-        os.unlink(flag)
-        self.goes_on_behind()
-        self.step(20)
-        self.as_uncut()
-        self.ends()
 
 
 class TakenPortTests(KeeperCase):
@@ -161,34 +125,12 @@ class LineFileTests(support.FolderCase):
             elif number == 1:
                 os.unlink(self.path('calls'))
         file.close()
+        self.assertEqual({os.stat(self.path(name)).st_mode & 0o777 for name in ('moved', 'calls')}, {0o640})
         moved, calls = (support.text_of(self.path(name)) for name in ('moved', 'calls'))
         self.assertEqual((moved, calls, ended), ('head\nline 0\n', 'head\nline 2\n', []))
 
 
 class OpeningTests(unittest.IsolatedAsyncioTestCase):
-    async def test_one_that_ends_at_once(self) -> None:
-        """A device that fails each read, or a proxy whose other end is away, is tried later, but each second: so one
-        that is back is taken within two. (The module is loaded once more, for its own limits.)"""
-        found = importlib.util.find_spec('e1gw.service.trunk')
-        assert found and found.loader
-        anew = importlib.util.module_from_spec(found)
-        with mock.patch.dict(sys.modules, {found.name: anew}):
-            found.loader.exec_module(anew)
-        waits: list[float] = []
-
-        async def either(seconds: float, *events: asyncio.Event) -> None:
-            waits.append(seconds)
-
-        def opens() -> Stream:
-            file = os.open(os.devnull, os.O_RDWR)
-            return Stream(file, file, os.devnull)
-        files = anew.TrunkFiles(anew.LineOptions(opens))
-        with mock.patch.multiple(anew, either=either, QUICK=limits.LONG):
-            for _ in range(10):
-                await files.reopen(asyncio.Event())
-                await files.finish()
-        self.assertEqual(waits, [0.0, 0.25, 0.5, *[1.0] * 7])
-
     async def test_one_that_is_opened_too_late(self) -> None:
         """The other machine was to carry the trunk, or the end was asked for, while a thread waited for the other end.
         What it opened then was held by nobody, and the device by this machine."""
@@ -237,27 +179,9 @@ class UnitLimitTests(unittest.TestCase):
     def test_descriptors_for_all_who_may_connect(self) -> None:
         """Visitors of its pages could use up those of a tie, which then found neither its trunk nor the other site."""
         self.assertGreater(self.value('e1gw-tie', 'LimitNOFILE'), MOST_VISITORS + 2 * STRANGERS + OWN)
+        self.assertGreater(self.value('e1gw-trunk', 'LimitNOFILE'), MOST_VISITORS + MOST_READERS + MOST_CLIENTS + OWN)
 
     def test_units_never_give_up(self) -> None:
         """A name server, or an address, that was away for three minutes at the start left a trunk down for good."""
         for unit in 'e1gw-trunk', 'e1gw-tie':
             self.assertEqual(self.value(unit, 'StartLimitIntervalSec'), 0, unit)
-
-
-class NameTests(unittest.TestCase):
-    def test_names_of_trunks(self) -> None:
-        """With these no page could be read, or no session kept."""
-        for name in 'a/b', 'a\nb', os.fsdecode(b'\xff'):
-            with self.subTest(name), self.assertRaisesRegex(ValueError, 'is no name'):
-                wants_of(parser().parse_args(['--config', 'c', '--unix', 'u', '--name', name]))
-
-    def test_words_of_commands(self) -> None:
-        """A script whose variable is empty got a list of trunks, and status 0."""
-        rows = (['', 'quit'], ['p', ''], ['p', ' '], ['p', 'seize 1\nquit'], ['p', os.fsdecode(b'\xff')])
-        for words in rows:
-            said = io.StringIO()
-            with self.subTest(words), mock.patch.object(sys, 'argv', ['e1gw-ctl', *words]), \
-                    contextlib.redirect_stderr(said), self.assertRaises(SystemExit) as ended:
-                ctl.main()
-            self.assertEqual((ended.exception.code, 'Traceback' in said.getvalue()), (2, False))
-            self.assertIn('a word is empty, or cannot be printed', said.getvalue())

@@ -42,12 +42,12 @@ class PagesTests(unittest.TestCase):
             self.assertLessEqual(named, options)
 
     def test_commands(self) -> None:
-        commands = {*control.COMMANDS, 'codec', 'status', 'events', 'on-loss', 'role', 'promote', 'demote', 'move',
-                    'reload', 'quit', 'help'}
+        commands = {*control.COMMANDS, 'drain', 'undrain', 'codec', 'status', 'events', 'on-loss', 'role', 'promote',
+                    'demote', 'move', 'reload', 'quit', 'help'}
         text = page('e1gw-trunk.1').split('.Sh COMMANDS')[1].split('.Sh FILES')[0]
         named = {word for line in re.findall(r'^\.It Ic .*', text, re.M) for word in re.findall(r'Ic ([\w-]+)', line)}
         self.assertEqual(named, commands)
-        self.assertEqual({*offered('trunk1')}, commands | {'calls'})       # (which e1gw-ctl does itself)
+        self.assertEqual({*offered('trunk1')}, commands - {'undrain'} | {'calls', 'outages'})   # (of e1gw-ctl itself)
         self.assertEqual({word for word in commands if word in (control.__doc__ or '')}, commands)
 
     def test_codecs(self) -> None:

@@ -238,7 +238,7 @@ class PicturePageTests(unittest.TestCase):
             facts.turn(3600 * OCTETS_A_SECOND)
             facts.begin = begin
             text = draw(facts, 'x')
-            self.assertEqual(re.findall(r'<svg viewBox="0 0 (\d{4}) ', text), ['1140'] * 2)
+            self.assertEqual(re.findall(r'<svg viewBox="126 0 (\d{4}) ', text), ['1014'] * 2)
             times = re.findall(rf'<text x="([\d.]+)" y="\d+" class="tick" text-anchor="(\w+)">{last}<', text)
             self.assertEqual(times, [('1139.0', 'end')] * 2)
 

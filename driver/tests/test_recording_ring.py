@@ -7,12 +7,13 @@ import os
 import stat
 import time
 import types
+import unittest
 from collections import deque
 from unittest import mock
 
 from . import support
 from .properties import PropertyCase
-from e1gw.recording_ring import MOST_EARLIER, MOST_OWN, MOST_SLIPS, Ring
+from e1gw.recording_ring import MOST_EARLIER, MOST_OWN, MOST_SLIPS, Ring, seconds_of
 from e1gw.session import OCTETS_A_SECOND
 from e1gw.session_files import kept, note_of
 
@@ -66,6 +67,14 @@ class RingCase(support.FolderCase):
             found[seconds[0]] = seconds
         self.assertEqual(len(found), len(self.files('.json')))
         return [second for place in sorted(found) for second in found[place]]
+
+
+class KeptTimeTests(unittest.TestCase):
+    def test_times(self) -> None:
+        self.assertEqual([seconds_of(text) for text in ('60s', '1m', '2h', '3d', '090s')], [60, 60, 7200, 259200, 90])
+        for text in ('', '59s', '0h', '1', 's', '1x', '-1h', '1.5h', '\u0663h', '1hh', '1 h'):
+            with self.subTest(text), self.assertRaises(ValueError):
+                seconds_of(text)
 
 
 class RingTests(RingCase):

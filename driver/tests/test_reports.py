@@ -8,6 +8,7 @@ from unittest import mock
 
 from . import support
 from e1gw.counts import DatagramCounts
+from e1gw.events import Disconnected, Event, LineChanged
 from e1gw.reports import BadTelling, TrunkState
 from e1gw.session import DatagramRefusal
 from e1gw.service import status
@@ -34,7 +35,7 @@ class ToldTests(unittest.TestCase):
         self.now, self.events = 100.0, list[dict[str, Any]]()
         self.counted: list[tuple[int, ...]] = []
         self.counts = DatagramCounts(lambda *answer: self.counted.append(answer))
-        self.told = TrunkState({'law': 'A', 'circuit': [{'number': 1, 'prefill': 320}]}, self.events.append,
+        self.told = TrunkState({'law': 'A', 'circuit': [{'number': 1, 'prefill': 320}]}, self.hears,
                                self.counts, lambda: self.now)
         self.told.begin()
         self.take(*BEGIN, 'now')
@@ -55,6 +56,9 @@ class ToldTests(unittest.TestCase):
         found: dict[str, Any] = self.told.status()['circuits'][number - 1] | self.counts.status(number)
         return found
 
+    def hears(self, event: Event) -> None:
+        self.events.append(event.plain())
+
     def names(self) -> list[tuple[Any, ...]]:
         """What was told: the event, and what, or the state."""
         return [(event['event'], *(event[key] for key in ('what', 'on', 'was', 'state', 'codec') if key in event))
@@ -68,7 +72,7 @@ class ToldTests(unittest.TestCase):
 
     def test_nothing_was_told_yet(self) -> None:
         """No circuit is in fault for that."""
-        told = TrunkState({'law': 'A'}, self.events.append, self.counts)
+        told = TrunkState({'law': 'A'}, self.hears, self.counts)
         self.assertEqual({row['state'] for row in told.status()['circuits']}, {'unknown'})
 
     def test_a_row_of_the_manual(self) -> None:
@@ -220,7 +224,7 @@ class ReportReadingTests(support.FolderCase, unittest.IsolatedAsyncioTestCase):
     async def test_a_change_while_the_state_is_asked_for(self) -> None:
         """It was taken before the one that the loop had read and not taken yet: a line was in a state of long ago, or
         two halves of lines were none. What is not understood ends the connection."""
-        events, config = list[dict[str, Any]](), self.write('trunk.toml', 'law = "A"\n[[circuit]]\nnumber = 1\n')
+        events, config = list[Event](), self.write('trunk.toml', 'law = "A"\n[[circuit]]\nnumber = 1\n')
         tell = self.path('tell')
         trunk = mock.Mock(**{
             'places.return_value.tell': tell, 'config_path.return_value': config, 'facts.return_value': {},
@@ -247,6 +251,5 @@ class ReportReadingTests(support.FolderCase, unittest.IsolatedAsyncioTestCase):
                     await asyncio.sleep(0.001)
             follows.cancel()
             await asyncio.wait([follows])
-        self.assertEqual([each['state'] for each in events if each['event'] == 'state'], ['seized', 'acked'])
-        self.assertEqual(events[-1], {'event': 'disconnected', 'from': 'program',
-                                      'why': f'{tell}: not understood: alarms perhaps'})
+        self.assertEqual([each.state for each in events if isinstance(each, LineChanged)], ['seized', 'acked'])
+        self.assertEqual(events[-1], Disconnected('program', f'{tell}: not understood: alarms perhaps'))

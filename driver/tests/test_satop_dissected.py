@@ -3,7 +3,6 @@ from __future__ import annotations
 
 import shutil
 import subprocess
-import time
 
 from . import support
 from .far_end import FarEnd
@@ -15,7 +14,6 @@ FIELDS = ['pwsatop.cw.lbit', 'pwsatop.cw.rbit', 'pwsatop.cw.rsv', 'pwsatop.cw.fr
           'pwsatop.cw.seqno', 'pwsatop.payload.len']
 RTP_FIELDS = ['rtp.version', 'rtp.marker', 'rtp.p_type', 'rtp.seq', 'rtp.timestamp', 'rtp.ssrc', 'rtp.payload']
 NOTED = '_ws.malformed or _ws.expert'
-SILENCE = 0.1                           # seconds without packets
 PORT = 5000                             # in the file; the packets' own ports are whatever was free
 
 
@@ -73,18 +71,6 @@ class SatopDissectedTests(support.FolderCase):
     def test_the_greatest_packets(self) -> None:
         rows = self.numbers(self.sent(OCTETS[:2560], 2, '--size', '1280'))
         self.assertEqual([row[4:5] + row[6:] for row in rows], [[0, 1280]] * 2)
-
-    def test_bit_r_in_silence(self) -> None:
-        """No packet comes: bit R is set from 100 ms on; bit L never is."""
-        far, packets = FarEnd(), list[bytes]()
-        try:
-            while len(packets) < 100 and not (packets and packets[-1][0]):
-                packets += far.packets(OCTETS[:256], 1)
-                time.sleep(SILENCE / 10)
-        finally:
-            far.close()
-        rows = self.numbers(packets)
-        self.assertEqual([row[:2] for row in rows], [[0, 0]] * (len(rows) - 1) + [[0, 1]])
 
     def test_an_rtp_header(self) -> None:
         """It has the number of the control word and a timestamp of 8000 a second (RFC 4553, 4.3.2)."""

@@ -12,10 +12,8 @@ from .far_end import FarEnd
 from .test_ports_asked import waiting_at
 
 SIZE = 256
-JITTER = 4                  # packets, by default
 FIRST = 65_530              # the number of the first packet, so that the numbers wrap
 ONES = b'\xff' * SIZE
-SILENCE = 0.1               # seconds
 
 
 def trunk(place: int) -> int:
@@ -125,37 +123,3 @@ class SatopClockTests(SatopPlayedCase):
         counts = far.counts()
         self.assertEqual([counts[name] for name in ('received', 'too_far', 'restarts')], [30, 7, 1])
         self.assertIn(counts['silences'], (1, 2))       # (there may be one behind the last packet)
-
-    def test_packets_that_come_too_fast(self) -> None:
-        """After a second's packets, no more than a thousandth above the rate are played."""
-        begun, count, silences = time.monotonic(), 1200, 1
-        while silences:         # (those of a machine that stalls, perhaps at the end)
-            far, begun = self.far_end(), time.monotonic()
-            for n in range(count + JITTER):
-                far.send(FIRST + n, 0, octets(n))
-                far.played((n - JITTER + 1) * SIZE)
-            self.assertLessEqual(count, 1000 + 1001 * (time.monotonic() - begun))
-            counts = far.counts()
-            silences = counts['silences']
-        self.assertEqual([counts[name] for name in ('received', 'lost', 'too_far')], [count + JITTER, 0, 0])
-        self.assertTrue(far.played(count * SIZE) == packets(*range(count)))
-
-    def test_a_stall_is_no_silence(self) -> None:
-        """What came while the process stood still is read first."""
-        far = self.far_end()
-        while not self.stalled(far):
-            far = self.far_end()
-        # (In a silence ones would be played. Behind the last packet there may be one.)
-        self.see(far, packets(*range(56)), received=60, lost=0, late=0)
-
-    def stalled(self, far: FarEnd) -> bool:
-        """Stops its process for longer than a silence while packets come. Returns whether there was none before."""
-        begun = time.monotonic()
-        self.send(far, *range(10))
-        far.played(6 * SIZE)
-        with far.at_once():
-            pause = time.monotonic() - begun
-            time.sleep(1.5 * SILENCE)
-            for n in range(10, 60):
-                far.send(FIRST + n, 0, octets(n))
-        return pause < SILENCE

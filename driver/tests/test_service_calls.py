@@ -7,6 +7,7 @@ import os
 import signal
 import unittest
 from datetime import datetime
+from types import SimpleNamespace
 from typing import Any
 
 from . import support
@@ -14,6 +15,7 @@ from .test_program_killed import CIRCUITS
 from .test_service_killed import RestartedKeeperCase
 from e1gw.calls import CallLog, CallRecord, CallsNote
 from e1gw.counts import DatagramCounts
+from e1gw.events import LineChanged
 from e1gw.exchange import IDLE, SEIZED
 from e1gw.lines import Role, State, lines_of
 from e1gw.service.missed import MissedReports
@@ -85,7 +87,7 @@ class TakenUpCallsTests(unittest.TestCase):
         self.log = CallLog('west', self.lines, DatagramCounts(), self.told.append, lambda: 50.0)
 
     def written(self) -> list[dict[str, Any]]:
-        self.log.look()
+        self.log.give()
         rows = csv.DictReader(['trunk,circuit,direction,seized,answered,ended,by,codec,sent,received,lost,late,call',
                                *self.told])
         return [{name: row[name][11:22] if name in ('seized', 'ended') else row[name]
@@ -93,7 +95,7 @@ class TakenUpCallsTests(unittest.TestCase):
 
     def test_states_at_the_begin(self) -> None:
         """One that goes on has no line yet; one that has ended has; so has one behind which there is another one."""
-        self.log.take_up(CallsNote(7, tuple(CallRecord(n, float(n), 3, number=2) for n in (1, 2, 3)), {}))
+        self.log.take_up(CallsNote(7, 0.0, {}, tuple(CallRecord(n, float(n), 3, number=2) for n in (1, 2, 3)), {}, ()))
         for n, seizures in ((1, 2), (2, 2), (3, 3)):
             self.lines[n].seizures = seizures
         self.lines[1].state = self.lines[3].state = State.ACKED
@@ -104,16 +106,49 @@ class TakenUpCallsTests(unittest.TestCase):
         self.told.clear()
         for n in (1, 3):
             self.lines[n].state = State.IDLE
-            self.log.took({'circuit': n, 'was': 'acked', 'state': 'idle'})
+            self.log.took(LineChanged(n, Role.OUTGOING, State.ACKED, State.IDLE, 0))
         self.assertEqual([(row['circuit'], row['seized'], row['by'], row['call']) for row in self.written()], [
             ('1', '00:00:01.00', 'exchange', 'life-1-2'), ('3', '', 'exchange', 'life-3-3')])
 
+    def test_counts_of_each_call(self) -> None:
+        """What was counted before it is not of it, nor what another gateway has counted up to its begin. What was not
+        counted before begins at nothing. Each has a name as long as it goes on."""
+        its: dict[str, int] = {'sent': 5, 'admitted': 4}
+        circuits = dict.fromkeys(self.lines, SimpleNamespace(counts=lambda: its, stream=SimpleNamespace(lost=2)))
+        counts: Any = SimpleNamespace(circuits=circuits, stale=lambda: False)
+        self.log.counted_by(counts)
+        rows: list[tuple[dict[str, int], dict[str, int], str]] = [
+            ({}, {}, ',0,0,0,0,'), ({}, {'sent': 9, 'admitted': 7, 'Late': 3}, ',4,3,0,3,'),
+            ({'sent': 2, 'Late': 4}, {'sent': 3, 'admitted': 9}, ',1,2,0,1,')]
+        self.lines[2].seizures, self.lines[2].state = 3, State.ACKED       # (which nobody has seen begin)
+        for before, more, row in rows:
+            its |= before
+            self.log.begun('life')
+            self.lines[1].seizures += 1
+            for was, state in (State.IDLE, State.ACKED), (State.ACKED, State.IDLE):
+                self.lines[1].state = state
+                self.log.took(LineChanged(1, Role.OUTGOING, was, state, 0))
+                self.assertEqual([line.call for line in self.log.going()],
+                                 ['life-2-3', *[f'life-1-{self.lines[1].seizures}'] * (state is State.ACKED)])
+                its |= more
+            self.log.give()
+            self.assertIn(row, self.told[-1])
+        counts.stale = lambda: True
+        self.log.finish()
+        self.assertIn(',stop,pcma,,,,,', self.told[-1])
+
 
 class MissedReportsTests(unittest.TestCase):
-    def test_known_to(self) -> None:
-        text = b'e1gw tell 1 A\nat 0\nnow\nat 512\nalarms 0\nat 1024\nend\n'
-        for octet, known in ((99, text[:14]), (100, text[:23]), (612, text[:39]), (5000, text)):
-            self.assertEqual(MissedReports(100, 1124, text).known_to(octet), known)
+    def test_what_was_missed(self) -> None:
+        """The state where it begins, and what was told behind that, up to an octet."""
+        state, more = b'e1gw tell 1 A\nat 8\n', b'at 512\nline  1 c\nat 1024\ncounts 1 9\nalarms 1\nend\n'
+        text = state + b'alarms 0\nline  1 a\nline  2 b\ncounts 1 5\nseizures 0\nnow\n' + more
+        first, then = b'line  1 a\nline  2 b\ncounts 1 5\n', b'line  1 c\nline  2 b\ncounts 1 5\n'
+        for since, last, at, circuits, changes in (
+                (108, 108, 8, first, b''), (100, 700, 8, first, more[:17]), (50, 5000, 8, first, more),
+                (612, 611, 512, then, b''), (700, 2000, 600, then, more[17:])):
+            self.assertEqual(MissedReports(since, False, 100, 1124, text).parts(last), (
+                b'e1gw tell 1 A\nat %d\nalarms 0\n' % at, circuits, b'now\n' + changes), (since, last))
 
 
 if __name__ == '__main__':

@@ -107,38 +107,6 @@ class RestartedKeeperCase(KeeperCase):
 class KilledKeeperTests(RestartedKeeperCase):
     """It is killed, and started again as systemd does it."""
 
-    def test_what_systemd_keeps_and_is_told(self) -> None:
-        """Descriptors of a program of which nothing is noted are forgotten."""
-        self.manager.files['line-in'] = os.open(os.devnull, os.O_RDONLY)
-        self.begins()
-        self.keeper.send_signal(signal.SIGHUP)
-        self.goes_on()
-        self.settles()
-        self.ends()
-        support.until(lambda: not self.manager.files)
-        told = [line.partition('=')[0] for line in self.manager.told if not line.startswith('FD')]
-        self.assertIn('WATCHDOG', told)
-        self.assertEqual([word for word in told if word != 'WATCHDOG'],
-                         ['READY', 'STATUS', 'RELOADING', 'MONOTONIC_USEC', 'READY', 'STATUS', 'STOPPING'])
-
-    def test_another_trunk(self) -> None:
-        """What was killed of another trunk in the same folder is none of its business."""
-        self.begins()
-        other = [word if word != self.path('control') else self.path('other') for word in self.command]
-        self.kill_keeper()
-        done = subprocess.Popen(other, stderr=subprocess.PIPE, stdin=subprocess.DEVNULL)
-        line = self.device.line
-        self.device.accept()
-        assert done.stderr
-        said = done.stderr.readline() + done.stderr.readline()
-        done.terminate()
-        done.communicate(timeout=SECONDS)
-        self.assertNotIn(b'killed', said)
-        self.device.line.close()
-        self.device.line = line
-        self.comes_back()
-        self.survives()
-
     def test_an_update_that_fails(self) -> None:
         """A service that could not take up ended the trunk. The program goes on, and the next service takes it up."""
         self.command[2] = self.path('e1gw-trunk')

@@ -10,6 +10,7 @@ import glob
 import itertools
 import json
 import os
+import re
 import shutil
 import signal
 import subprocess
@@ -26,17 +27,18 @@ from .test_recorder import RecorderCase
 from .test_trunk import catches, is_there
 from .world import words_of
 from e1gw.exchange import IDLE, SEIZED
-from e1gw.lines import config_text, no_peers
+from e1gw.lines import config_text
+from e1gw.service.log_folder import LogPair
 from e1gw.service.memory import in_memory
-from e1gw.service.reload import calls_of
 from e1gw.service.version import ProgramVersion, with_addresses
-from e1gw.session import Codec, Kind, codec_record, records_in
+from e1gw.session import (MULTIFRAME, Codec, Command, Kind, codec_record, command_record, records_in,
+                          trunk_record)
 from e1gw.testing.service import ask
 
 HELD = 12                   # multiframes that a device holds which nobody reads
 NAMELESS = 35               # a signal of real time: the service could not tell it, and no program followed
+MORE = 5                    # events by chance behind these
 SIGNALS = NAMELESS, signal.SIGKILL, signal.SIGSTOP, signal.SIGTERM, signal.SIGSEGV
-HANGS = 15.0                # seconds, which no program takes that does not hang, on a machine that stalls
 
 
 def refusals(right: str) -> list[tuple[str | None, str]]:
@@ -52,6 +54,7 @@ class ServiceEventsCase(RestartedKeeperCase, RecorderCase):
 
     keeps: tuple[str, ...] = ()
     limits: dict[str, Any] = {}
+    part = 0                    # which half of the events happens
 
     def begins(self, *options: str) -> None:
         """With all that may be wanted of a trunk, in a folder that can be full (if the test may mount one)."""
@@ -60,8 +63,9 @@ class ServiceEventsCase(RestartedKeeperCase, RecorderCase):
         if self.is_small:
             self.addCleanup(os.system, f'umount -l {self.memory}')
         self.right = support.text_of(self.config)
-        self.ended, self.refused = 0, itertools.cycle(refusals(self.right))
-        self.signals = itertools.cycle(SIGNALS)
+        self.ended, skipped = 0, 3 * self.part
+        self.signals = itertools.islice(itertools.cycle(SIGNALS), skipped, None)
+        self.refused = itertools.islice(itertools.cycle(refusals(self.right)), skipped, None)
         own = [word for name in ('state', 'calls', 'json', 'control')
                for word in (f'--{name}', self.path(f'its-{name}'))]
         super().begins('--reopen', '--session', self.path('ring'), *own, *self.keeps, *options)
@@ -183,7 +187,10 @@ class ServiceEventsCase(RestartedKeeperCase, RecorderCase):
         self.write('trunk.toml', f'{self.right}x = 1\n' if self.chance.randrange(2) else self.right)
         self.dies_unkept()
         self.write('trunk.toml', self.right)
-        self.goes_on_behind()
+        said = re.search(r'behind octet (\d+)', self.goes_on())
+        assert said
+        # (what the program still answers while it ends may come behind what this service has read)
+        self.assertLess((len(self.heard) - self.first) * MULTIFRAME - int(said[1]), 25_600)
         self.settles()
 
     def service_dies_in_a_reload(self) -> None:
@@ -262,8 +269,8 @@ class ServiceEventsCase(RestartedKeeperCase, RecorderCase):
 
 
 class ServiceSequenceTests(ServiceEventsCase):
-    """Any sequence of these events, with multiframes under way and commands in between. What is heard is what an uncut
-    replay gives, all of it is kept, once, and no line changes its state behind the seizures."""
+    """Any sequence of half of these events, with multiframes under way and commands in between. What is heard is what
+    an uncut replay gives, all of it is kept, once, and no line changes its state behind the seizures."""
 
     def ends(self) -> None:
         """All that was given is kept, and each call has a line."""
@@ -289,23 +296,26 @@ class ServiceSequenceTests(ServiceEventsCase):
         within = self.within(decisions_DEATHS=1 << 30, **self.limits)      # (no program waits)
         with self.subTest(done=done), mock.patch.dict(os.environ, within):
             self.begins()
-            for event in (*self.happens(), *self.chance.choices(self.happens(), k=20)):
+            events = self.happens()[self.part::2]
+            for event in (*events, *self.chance.choices(events, k=MORE)):
                 done.append(event.__name__)
                 event()
                 self.step(self.chance.randrange(1, 30))
             for words in 'begin anew', 'the service goes on', 'the calls go on':
                 self.assertNotIn(words, self.told())
-            self.assertIn(f'the program ended by signal {NAMELESS}: program', self.told())
+            self.assertIn(f'the program ended by signal {NAMELESS if not self.part else 15}', self.told())
             self.as_uncut()
             self.leaves_nothing()
             self.assertEqual(self.events('state')[self.changes:], [])
 
 
 class ServiceSequenceRingTests(ServiceSequenceTests):
-    """The same with a ring, in files of a second of the trunk and of each program, which replay from their states."""
+    """The other half, with a ring, in files of a second of the trunk and of each program, which replay from their
+    states."""
 
     keeps = '--keep', '1h'
     limits = {'recordings_FILES': 3600}
+    part = 1
 
     def happens(self) -> list[Callable[[], None]]:
         """Without an end in order, behind which places are counted again."""
@@ -374,39 +384,6 @@ class ServiceNameTests(RestartedKeeperCase):
 
 
 class ServiceVersionTests(KeeperCase):
-    """A version that does not do: the one before comes back, with all calls."""
-
-    def renewed(self, *cases: str, **limits_: Any) -> None:
-        """Starts with a program, and puts another one in its place."""
-        self.other_program()
-        self.starts(**self.within(**limits_))
-        self.calls()
-        self.other_program(*cases)
-
-    def test_program_that_hangs(self) -> None:
-        """When it is to begin, or to check the configuration."""
-        self.renewed(lifecycle_RELOADED=HANGS, version_CHECK=HANGS)
-        for case, words in (('check', f'does not check the configuration within {HANGS:g} s'),
-                            ('trunk', f'does not begin within {HANGS:g} s')):
-            self.other_program(f'{case}) exec sleep 600')
-            self.keeper.send_signal(signal.SIGHUP)
-            self.awaits(f'reload: refused.*{words}')
-        self.goes_on()
-        self.survives()
-
-    def test_two_deaths_of_a_new_program(self) -> None:
-        """The first one is a death as others; the second one brings the version before back."""
-        self.renewed('never) exit 1')
-        self.keeper.send_signal(signal.SIGHUP)
-        self.goes_on()
-        self.step(20)
-        for _ in range(2):
-            self.dies()
-            self.step(20)
-        self.assertIn('reload: refused, the version before comes back: the program ended by signal 9', self.told())
-        self.as_uncut()
-        self.ends()
-
     def test_names_are_looked_up_once(self) -> None:
         """No program has a name to look up, however the file spells it."""
         text, spelled = self.peers.config(prefill=0), self.chance.choice((
@@ -421,25 +398,19 @@ class ServiceVersionTests(KeeperCase):
         self.ends()
 
 
-class CallsOfNowTests(support.FolderCase, unittest.IsolatedAsyncioTestCase):
-    """Which calls there are, when a new version is to follow."""
-
-    def version(self, program: str, text: str) -> ProgramVersion:
-        files = os.open(program, os.O_RDONLY), in_memory(text.encode())
-        for file in files:
-            self.addCleanup(os.close, file)
-        return ProgramVersion(program, *files, 'any')
-
-    async def test_program_that_may_no_longer_start(self) -> None:
-        """The new one says it, of the configuration of now; if it refuses that, the one of now; else all may be one."""
-        right, wrong, program = 'law = "A"\n', 'law = "B"\n', support.program()
-        still = self.write('still', '#!/bin/sh\nexit 0\n')       # (it may not be started)
-        for now, new, calls in (((still, right), (program, right), frozenset()),
-                                ((program, right), (program, wrong), frozenset()),
-                                ((program, right), (still, right), frozenset()),
-                                ((still, right), (still, right), frozenset(CIRCUITS))):
-            with self.subTest(now=now, new=new):
-                self.assertEqual(await calls_of(self.version(*now), self.version(*new), None), calls)
+class KeptWaitTests(support.FolderCase, unittest.IsolatedAsyncioTestCase):
+    async def test_seizure_wait(self) -> None:
+        """The log is read again with the wait of the program that has written it: a seizure of 300 ms is one still."""
+        config, exchange, saved = support.config_text({2: {'role': 'outgoing'}}), support.Exchange(), self.path('state')
+        support.run('replay', '--config', self.write('trunk.toml', config), '--save', saved)
+        first, then = (b''.join(trunk_record(exchange.multiframe()) for _ in range(count)) for count in (20, 150))
+        log = LogPair(0, 0, support.octets_of(saved), first + command_record(2, Command.SEIZE) + then)
+        for wait, calls in (200, frozenset[int]()), (2000, frozenset((2,))):
+            files = os.open(support.program(), os.O_RDONLY), in_memory(config.encode())
+            version = ProgramVersion(support.program(), *files, 'any', wait=wait)
+            for file in files:
+                self.addCleanup(os.close, file)
+            self.assertEqual((await version.check(log))[1], calls)
 
 
 class SpellingTests(support.FolderCase):
@@ -470,20 +441,3 @@ class SpellingTests(support.FolderCase):
                     meant = tomllib.loads(octets.decode().replace('"west"', '"10.0.0.1"'))
                     self.assertEqual({'circuit': [], **tomllib.loads(again)}, meant)
         self.assertGreaterEqual(taken, 3)
-
-    def test_texts(self) -> None:
-        for text in ('', 'west', '"', '\\', 'a\nb\tc\x7f\0', 'é\u2028\U0001f600', "'''", '"' * 3):
-            with self.subTest(text):
-                self.assertEqual(tomllib.loads(config_text({'host': text})), {'host': text})
-        with self.assertRaises(ValueError):
-            config_text({'host': 1.5})
-
-
-class NoPeerTests(unittest.TestCase):
-    def test_addresses(self) -> None:
-        for host, is_one in (('10.0.0.1', True), ('127.0.0.1', True), ('2001:db8::1', True), ('west', True),
-                             ('10.0.0.255', True), ('0.0.0.0', False), ('::', False), ('255.255.255.255', False),
-                             ('224.0.0.1', False), ('239.255.0.1', False), ('ff02::1', False)):
-            with self.subTest(host):
-                words = no_peers({'circuit': [{'number': 1}, {'number': 7, 'peer_host': host}]})
-                self.assertEqual(words.startswith(f'circuit 7: peer_host {host} is'), not is_one)

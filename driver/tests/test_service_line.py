@@ -18,7 +18,7 @@ from .test_filters import late
 from .test_satop import ENDS, SCRIPT
 from .test_service_killed import RestartedKeeperCase
 from .world import words_of
-from e1gw.lines import Event
+from e1gw.events import Event, TrunkLost
 from e1gw.service import satop_trunk, trunk
 from e1gw.service.satop_trunk import BROKEN, ONES, SatopTrunk
 from e1gw.service.trunk import LineOptions, waiting
@@ -148,7 +148,7 @@ class LineProcessTests(support.FolderCase, unittest.IsolatedAsyncioTestCase):
             words = support.until(lambda: words_of(self.process(trunk)))
             self.assertEqual(words[-2:], ['--sequence', str(trunk.zero + place // 256 & 0xffff)])
         await self.goes_round(trunk)
-        self.assertEqual([event['event'] for event in self.told],
+        self.assertEqual([event.name for event in self.told],
                          ['trunk', 'trunk lost', 'trunk', 'trunk lost', 'trunk'])
 
     async def test_multiframes_are_looked_for_again(self) -> None:
@@ -175,7 +175,7 @@ class LineProcessTests(support.FolderCase, unittest.IsolatedAsyncioTestCase):
         await self.until(lambda: trunk.has_ended(0))
         self.assertEqual((os.read(trunk.both[0], 10), trunk.failure()), (b'', why))
         trunk = await self.opened(ENDS, reopens=True)
-        await self.until(lambda: self.told.count({'event': 'trunk lost', 'why': why}) > 1)
+        await self.until(lambda: self.told.count(TrunkLost(why)) > 1)
         self.assertFalse(trunk.has_ended(0))
 
     async def test_an_address_that_comes_later(self) -> None:
@@ -188,7 +188,7 @@ class LineProcessTests(support.FolderCase, unittest.IsolatedAsyncioTestCase):
             await self.until(lambda: len(self.told) == 2)
             self.write('address', '')
             await self.goes_round(line)
-        self.assertEqual([event['event'] for event in self.told], ['trunk', 'trunk lost', 'trunk'])
+        self.assertEqual([event.name for event in self.told], ['trunk', 'trunk lost', 'trunk'])
 
     async def test_ones_up_to_the_first_packet(self) -> None:
         """They were counted before the process had its socket, by a guess of the time that this takes."""

@@ -15,20 +15,28 @@ from unittest import mock
 
 from . import support
 from .manager import Manager
+from .support import config_text
 from e1gw.calls import CallRecord, CallsNote
 from e1gw.crc4 import Crc4Note
+from e1gw.events import AlarmChanged, AlignmentLost
+from e1gw.lines import Alignment
 from e1gw.service import events, trunk
 from e1gw.service.commands import unix_listener
 from e1gw.service.decisions import TRIED
 from e1gw.service.journal import MINUTE, MOST, LineLimit
 from e1gw.service.handover import NOTE, Handover, Left, Notifier, given_files, note_of, takes_up
+from e1gw.service.lifecycle import TrunkCarrier
 from e1gw.service.log_folder import LogPair
+from e1gw.service.memory import in_memory
 from e1gw.service.note import ServiceNote
+from e1gw.service.ports import TakenPorts
 from e1gw.service.process import start_of
+from e1gw.service.reader import ReadingNote
 from e1gw.service.recordings import RecordingNote
 from e1gw.service.reload import outcome
 from e1gw.service.trunk import SatopNote
 from e1gw.service.version import ProgramVersion, VersionHistory
+from e1gw.testing.ports import free_ports
 
 
 class VersionHistoryTests(unittest.TestCase):
@@ -94,8 +102,8 @@ class LineLimitTests(unittest.TestCase):
     def test_kinds_of_events(self) -> None:
         """An alarm is one line, and not another one for the alignment that is lost."""
         with self.assertLogs(events.logger) as told:
-            for name in 'alarm', 'lost':
-                events.tell_journal({'event': name, 'what': 'frame', 'on': True})
+            for event in AlarmChanged(Alignment.FRAME, True, 0), AlignmentLost(Alignment.FRAME, 0):
+                events.tell_journal(event)
         self.assertEqual([getattr(record, 'kind') for record in told.records], ['alarm'])
 
 
@@ -111,8 +119,8 @@ class HandoverTests(support.FolderCase):
     def note(self, **other: Any) -> ServiceNote:
         return replace(ServiceNote(
             opens=('x', None), pid=os.getpid(), started=start_of(os.getpid()), senders='any', program='0.1.0',
-            is_active=True, was_up=True, begun=3, place=7, octets=5, trunk=trunk.TrunkFiles(trunk.LineOptions()).note(),
-            recording=None, calls=None), **other)
+            is_active=True, was_up=True, begun=3, read=ReadingNote(7, 5, 0, ((5, 1.5),)), taken=(3,),
+            trunk=trunk.TrunkFiles(trunk.LineOptions()).note(), recording=None, calls=None), **other)
 
     def test_descriptors(self) -> None:
         """Those of the trunk of now, and no others; one that another one follows by its name is let go before."""
@@ -169,6 +177,20 @@ class HandoverTests(support.FolderCase):
         self.assertEqual(given, {'one': self.files[1]})
         self.assertEqual(signal.pthread_sigmask(signal.SIG_BLOCK, ()), set())       # (no child may inherit one)
 
+    def test_what_a_program_begins_with(self) -> None:
+        """It is noted before that begins: its service may be killed behind that. So are the ports that it lacks."""
+        noted, reader, (free,) = list[ServiceNote](), mock.Mock(octets=77), free_ports(1)
+        reader.noted.return_value, reader.recording_note.return_value = ReadingNote(), None
+        carrier = mock.Mock(status=None, program=None, reader=reader, pair=None, taken=TakenPorts(), trunk=mock.Mock(),
+                            _handover=SimpleNamespace(put=lambda note, files: noted.append(note)))
+        config = in_memory(config_text({3: {'local_port': free, 'peer_port': free}}).encode())
+        version = ProgramVersion('e1gw', self.files[0], config, 'any')
+        self.addCleanup(os.close, config)
+        carrier.taken.take_up(version, (3,))
+        TrunkCarrier.note(carrier)
+        self.assertEqual((noted[0].begun, noted[0].taken), (77, (3,)))
+        self.assertEqual([carrier.taken.are_free(version, now) for now in (1.0, 1.5, 2.5)], [True, False, False])
+
     def test_silence_of_what_was_left(self) -> None:
         """A trunk whose service died with its program is silent since that wrote its log last, and not since the next
         service has begun."""
@@ -185,8 +207,10 @@ class HandoverTests(support.FolderCase):
         counts = Crc4Note({'errored': 3}, None, {})
         line = replace(self.note().trunk, names=('near', 'far'), crc4=counts, satop=SatopNote(('a', 'b'), 7, '', 8, 9))
         ring = RecordingNote('/kept', 3600, '', (('west-1', 0), ('west-2', 99)), 'west-2', 99, 1000, 500, 7)
-        calls = CallsNote(7, (CallRecord(3, None, 1), CallRecord(4, 1.5, 0, 2.5, number=7)), {3: {'sent': 5}})
-        for note in (self.note(opens=opens), self.note(trunk=line, recording=ring, place=1 << 60, calls=calls)):
+        calls = CallsNote(7, 8.5, {3: ('idle', 9)}, (CallRecord(3, None, 1), CallRecord(4, 1.5, 0, 2.5, number=7)),
+                          {3: {'sent': 5}}, ('a line',))
+        for note in (self.note(opens=opens),
+                     self.note(trunk=line, recording=ring, read=ReadingNote(1 << 60), calls=calls)):
             handover.put(note, {})
             self.assertEqual(note_of(self.folder, opens), note)
         self.assertIsNone(note_of(self.folder, ('y', None)))

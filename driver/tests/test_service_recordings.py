@@ -5,6 +5,7 @@ import glob
 import json
 import os
 import tempfile
+import time
 import types
 import unittest
 from unittest import mock
@@ -36,7 +37,7 @@ class ServiceFlowTests(support.FolderCase, unittest.IsolatedAsyncioTestCase):
         super().setUp()
         self.now, self.log = 5000.0, WrittenLog(self.path('log'))
         self.addCleanup(self.log.close)
-        clock = mock.patch.object(reader, 'time', types.SimpleNamespace(monotonic=lambda: self.now))
+        clock = mock.patch.object(reader, 'time', types.SimpleNamespace(time=time.time, monotonic=lambda: self.now))
         clock.start()
         self.addCleanup(clock.stop)
         self.reader = reader.LogReader(self.path('log'), 0.1, None, lambda: None, bytes)
@@ -70,7 +71,7 @@ class ServiceFlowTests(support.FolderCase, unittest.IsolatedAsyncioTestCase):
                 self.go(2)
                 shown = await found.pages.fresh()
         (((event,), _),) = tells.call_args_list
-        self.assertEqual((event['event'], round(event['seconds'], 2)), ('gap', 0.25))
+        self.assertEqual((event.name, round(event.seconds, 2)), ('gap', 0.25))
         clock = shown.status['clock']
         self.assertEqual((clock['gaps'], clock['gap_seconds'], clock['stalls']), (1, 0.25, 0))
         self.assertRegex(shown.table, r'stalls 0, slips 1 \(0\.[23] s\)')
@@ -80,7 +81,7 @@ class ServiceFlowTests(support.FolderCase, unittest.IsolatedAsyncioTestCase):
         with tempfile.TemporaryDirectory() as folder:
             wants = recordings.RecordingWants(os.path.join(folder, 'ring'), 60, 'west', '/etc/west.toml', 200)
             self.reader = reader.LogReader(self.path('log'), 0.1, wants, lambda: None, bytes)
-            self.reader.take_up((-1, 0), None)
+            self.reader.take_up(reader.ReadingNote(), None)
             self.reader.follows(True)
             self.go(2)
             place = self.log.octets

@@ -17,7 +17,7 @@ from e1gw import session_clock
 from e1gw.clock import TICK, ClockFinding
 from e1gw.service import reader, recordings
 from e1gw.session import MULTIFRAME, OCTETS_A_SECOND
-from e1gw.session_clock import Break, FileNote, SessionClock
+from e1gw.session_clock import FileNote, SessionClock
 from e1gw.session_files import kept
 
 RECORD = MULTIFRAME / OCTETS_A_SECOND       # seconds
@@ -143,40 +143,50 @@ class SessionClockTests(support.FolderCase, unittest.IsolatedAsyncioTestCase):
         its = KeptSession(self.path(name), self.config)
         clock = types.SimpleNamespace(monotonic=lambda: its.now, time=lambda: its.now + DAY)
         with mock.patch.object(reader, 'time', clock), mock.patch.object(recordings, 'time', clock):
-            its.reader.take_up((-1, 0), None)
+            its.reader.take_up(reader.ReadingNote(), None)
             for step in steps:
                 await its.do(step)
             await its.end()
         return its
 
     async def test_sessions(self) -> None:
-        """Twenty sessions with gaps: each octet has the time at which it came, and each outage is told once."""
+        """Sessions with gaps: each octet has the time at which it came, and each outage is told once."""
         chance = support.chance_of(self)
-        for name, steps in [*SESSIONS.items(), *((f'made {n}', made(chance)) for n in range(9))]:
+        for name, steps in [*SESSIONS.items(), *((f'made {n}', made(chance)) for n in range(5))]:
             with self.subTest(name, steps=steps):
                 its = await self.session(name, steps)
                 session = kept(its.wants.session)
                 clock = SessionClock(session.begin, tuple(session.breaks))
                 for place, second in its.times:
                     self.assertAlmostEqual(clock.second(place - 1), second, delta=0.05)
-                self.told_once(its, [each for each in session.breaks if each.is_outage], clock)
+                self.told_once(its)
                 if not any(step.service for step in steps):     # (a service does not see what was before it)
                     missing = sum(step.away for step in steps if step.away > 0.1)
                     self.assertAlmostEqual(sum(its.journal), missing, delta=0.05)
 
-    def told_once(self, its: KeptSession, outages: list[Break], clock: SessionClock) -> None:
-        """The .json, the picture and the journal tell the outages that there were."""
-        true = [(first, last, last - first) for first, last in its.outages]
-        told = [(clock.second(each.place) - each.lost, clock.second(each.place), each.lost) for each in outages]
+    def told_once(self, its: KeptSession) -> list[tuple[float, float, float]]:
+        """The .json tell the outages that there were: from when to when, and for how long."""
+        session = kept(its.wants.session)
+        clock = SessionClock(session.begin, tuple(session.breaks))
+        told = [(clock.second(each.place) - each.lost, clock.second(each.place), each.lost)
+                for each in session.breaks if each.is_outage]
+        self.assertEqual(len(told), len(its.outages))
+        for (first, last), each in zip(its.outages, told):
+            # (a gap is found up to a tenth of a second behind it)
+            for is_true, is_told, delta in zip((first, last, last - first), each, (0.3, 0.3, 0.05)):
+                self.assertAlmostEqual(is_true, is_told, delta=delta)
+        return told
+
+    async def test_picture(self) -> None:
+        """It has the same outages."""
+        its = await self.session('twice', SESSIONS['twice'])
         page, _ = page_of(its.wants.session)
-        drawn = [(second_of(first), second_of(last), float(seconds))
-                 for first, last, seconds in OUTAGES.findall(page.partition('from ')[2].partition('<span')[0])]
-        self.assertEqual([len(told), len(drawn)], [len(true)] * 2)
-        for first, each, its_drawn in zip(true, told, drawn):
-            for at, (is_true, is_told, is_drawn) in enumerate(zip(first, each, its_drawn)):
-                # (a gap is found up to a tenth of a second behind it)
-                self.assertAlmostEqual(is_true, is_told, delta=0.3 if at < 2 else 0.05)
-                self.assertAlmostEqual(is_told % 86400 if at < 2 else is_told, is_drawn, delta=0.011)
+        drawn = OUTAGES.findall(page.partition('from ')[2].partition('<span')[0])
+        self.assertEqual(len(drawn), len(told := self.told_once(its)))
+        for (first, last, seconds), each in zip(drawn, told):
+            for is_drawn, is_told in zip((second_of(first), second_of(last)), each):
+                self.assertAlmostEqual(is_drawn, is_told % 86400, delta=0.011)
+            self.assertAlmostEqual(float(seconds), each[2], delta=0.011)
 
 
 def second_of(text: str) -> float:

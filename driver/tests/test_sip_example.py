@@ -20,6 +20,7 @@ from e1gw.testing.datagrams import PACKET, packets, speech
 from e1gw.testing.ports import free_ports
 
 FRONT_END = os.path.join(support.TOP, 'examples', 'sip', 'front_end')
+WAYS = ['<sip:192.0.2.1;lr>', '<sip:192.0.2.2:5070;lr>, <sip:192.0.2.3;lr>']       # of proxies, the last one first
 OFFER = ('v=0\r\no=- 1 1 IN IP4 127.0.0.1\r\ns=-\r\nc=IN IP4 127.0.0.1\r\nt=0 0\r\n'
          'm=audio {port} RTP/AVP {payload} 101\r\n')
 
@@ -73,10 +74,11 @@ class SipFrontEndTests(FrontEndCase):
     def sends(self, method: str, call: str, payload: int = 8) -> None:
         body = OFFER.format(port=self.speech.getsockname()[1], payload=payload) if method == 'INVITE' else ''
         number = 1 if method in ('INVITE', 'CANCEL') else 2
+        ways = ''.join(f'Record-Route: {way}\r\n' for way in WAYS if method == 'INVITE')
         self.agent.send((f'{method} sip:1@127.0.0.1 SIP/2.0\r\n'
                          f'Via: SIP/2.0/UDP 127.0.0.1;branch=z9hG4bK{call}{method}\r\n'
                          f'From: <sip:a@127.0.0.1>;tag=a\r\nTo: <sip:1@127.0.0.1>\r\nCall-ID: {call}\r\n'
-                         f'CSeq: {number} {method}\r\nContact: <sip:a@127.0.0.1>\r\n'
+                         f'CSeq: {number} {method}\r\nContact: <sip:a@127.0.0.1>\r\n{ways}'
                          f'Content-Length: {len(body)}\r\n\r\n{body}').encode())
 
     def hears(self, *firsts: str) -> str:
@@ -93,6 +95,7 @@ class SipFrontEndTests(FrontEndCase):
         answer = self.hears('SIP/2.0 100 Trying', 'SIP/2.0 183 Session Progress', 'SIP/2.0 200 OK')
         self.assertIn('\r\nCSeq: 1 INVITE\r\n', answer)
         self.assertRegex(answer, r'\r\nTo: <sip:1@127.0.0.1>;tag=\w+\r\n')
+        self.assertEqual(re.findall(r'(?m)^Record-Route: (.*)\r$', answer), WAYS)
         return '127.0.0.1', int(re.findall(r'm=audio (\d+) RTP/AVP 8\r\n', answer)[0])
 
     def test_speech_in_both_directions(self) -> None:
@@ -107,11 +110,19 @@ class SipFrontEndTests(FrontEndCase):
         self.sends('OPTIONS', 'first')          # (no BYE comes before its answer)
         self.assertIn('\r\nCSeq: 2 OPTIONS\r\n', self.hears('SIP/2.0 200 OK'))
 
+    def test_a_circuit_that_the_operator_has_blocked(self) -> None:
+        """It gets no call: the next one does."""
+        self.assertEqual(self.world.ask('drain 1'), 'drain 1: done')
+        self.is_up('first')
+        self.assertEqual([self.world.state(n) for n in (1, 2)], ['idle', 'answered'])
+
     def test_the_exchange_clears(self) -> None:
         self.is_up('first')
         self.world.answers = False
         self.world.exchange.pairs[1] = ACKNOWLEDGED         # clear-back, in an answered call (Q.421)
-        self.assertIn('Call-ID: first\r\n', self.hears('BYE sip:a@127.0.0.1 SIP/2.0'))
+        bye = self.hears('BYE sip:a@127.0.0.1 SIP/2.0')
+        self.assertIn('Call-ID: first\r\n', bye)
+        self.assertEqual(re.findall(r'(?m)^Route: (.*)\r$', bye), WAYS)
 
     @mock.patch.object(world, 'ANSWERS_AFTER', math.inf)
     def test_calls_that_are_not_answered(self) -> None:

@@ -82,7 +82,6 @@ class TellTests(support.FolderCase):
         self.addCleanup(self.replay.close)
         self.assertEqual(len(self.replay.trunk(bytes(32))), 32)
 
-
     def client(self) -> TellClient:
         """A client that is let in with the next record of the trunk."""
         client = TellClient(self.tell)
@@ -133,41 +132,6 @@ class TellTests(support.FolderCase):
         self.assertEqual(client.lines(), ['end'])
         self.assertTrue(client.has_gone())
 
-    def test_one_that_never_reads(self) -> None:
-        never, one = self.client(), self.client()
-        never.socket.setsockopt(socket.SOL_SOCKET, socket.SO_RCVBUF, 4096)
-        self.multiframes(60)
-        one.lines()
-        for _ in range(4000):
-            self.replay.passes(datagram_record(2, packet(17)))
-            self.assertEqual(one.lines()[-1:], [f'datagram 2 {NOT_OPEN} 17 2720 3735928559'])
-        self.assertNotIn('end', never.lines())
-        self.assertTrue(never.has_gone())
-        again = self.client()
-        self.multiframes(LOOK)
-        self.assertEqual(again.lines()[-1], 'now')
-        self.assertEqual(self.replay.end(), 0)
-        plain = support.run('replay', '--config', self.config, given=b''.join(self.replay.given))
-        self.assertEqual(b''.join(self.replay.answered), plain)
-
-    def test_more_clients_than_there_are_places(self) -> None:
-        """Those who leave before they are let in cost none."""
-        for _ in range(8):
-            self.client().socket.close()
-        self.replay.trunk(bytes(32))
-        clients = [self.client() for _ in range(9)]
-        clients[0].socket.sendall(b'what is this\n' * 1000)
-        self.multiframes(LOOK)
-        for client in clients[:8]:
-            self.assertIn('now', client.lines())
-        self.assertTrue(clients[8].has_gone())
-        clients[7].socket.close()
-        self.replay.passes(datagram_record(2, packet(17)))
-        self.multiframes(LOOK)
-        after = self.client()
-        self.multiframes(LOOK)
-        self.assertEqual(after.lines()[0], 'e1gw tell 1 A')
-
 
 class TrunkTellTests(support.FolderCase):
     """A trunk in service with a client, which is told behind the answer."""
@@ -178,33 +142,6 @@ class TrunkTellTests(support.FolderCase):
         while last not in lines:
             lines += [client.line()]
         return lines
-
-    def test_a_seizure(self) -> None:
-        """The whole state, a change, and the end."""
-        tell, control, exchange = self.path('tell'), self.path('control'), support.Exchange()
-        words = [support.program(), 'trunk', '--config', self.write('trunk.toml', CONFIG), '--tell', tell,
-                 '--control', control]
-        with TrunkProcess(words, control) as trunk:
-            trunk.passes(bytes(32))
-            client = TellClient(tell)
-            self.addCleanup(client.socket.close)
-            trunk.passes(bytes(32))
-            first, _place, *state = self.told(client, 'now')
-            self.assertEqual([first, *state], ['e1gw tell 1 A', 'alarms 1 1 0 0', *(
-                row(c, 'fault', '10 --') for c in range(1, 31)), *map(counts, range(1, 31)), seizures(), 'now'])
-            for _ in range(60):
-                exchange.hear(trunk.passes(exchange.multiframe()))
-            self.told(client, 'alarms 0 0 0 0')
-            operator = trunk.client()
-            self.addCleanup(operator.close)
-            operator.sendall(command_record(1, Command.SEIZE))
-            while not select.select([operator], [], [], 0)[0]:
-                exchange.hear(trunk.passes(exchange.multiframe()))
-            self.told(client, 'command 1 1 0')
-            self.assertEqual(client.line(), row(1, 'seized', '00 10'))
-            self.assertEqual(trunk.ends()[0], 0)
-        self.assertEqual(self.told(client, 'end')[-1], 'end')
-        self.assertTrue(client.has_gone())
 
     def test_datagrams_of_a_port(self) -> None:
         """They are counted, and no line tells one. Each comes 128 samples behind the one before."""

@@ -10,16 +10,19 @@ from typing import Any
 from unittest import mock
 
 from e1gw import ctl_all, metrics
-from e1gw.events import words_of
+from e1gw.events import (AlarmChanged, Burst, CallsCleared, CardAlarm, CardAlarmChanged, CircuitsDrained, Connected,
+                         Crc4Change, Crc4Changed, Disconnected, DrainNews, Event, Fed, Flows, LineChanged, NotFed,
+                         RateChanged, RemoteAlarmChanged, RoleGiven, SatopChanged, Slip, SlotsChange, SlotsChanged,
+                         Stalled, TrunkLost, TrunkOpened, WatchEnded)
 from e1gw.faults import Parser, checked, named, number, options_words, words_of_fault, words_of_refusal
-from e1gw.lines import Event, Role
+from e1gw.lines import Alignment, Role, State
 from e1gw.session import CommandRefusal
 
 ROW: dict[str, Any] = {
     'circuit': 7, 'role': 'incoming', 'state': 'answered', 'sent': '01', 'recognised': '00', 'for': 12.34,
     'seizures': 5, 'answers': 4, 'unacknowledged': 3, 'faults': 2, 'open': 67.89, 'codec': 'g726-32',
     'jitter_buffer_ms': 40.0, 'datagrams': {'sent': 101, 'admitted': 102, 'Late': 6, 'Full': 8}, 'lost': 9,
-    'jitter_ms': 1.2344,
+    'jitter_ms': 1.2344, 'drain': None,
     'socket': {'waiting': 13, 'dropped': 14}}
 IDLE: dict[str, Any] = ROW | {'circuit': 8, 'state': 'idle', 'datagrams': {'sent': 0, 'admitted': 0}, 'socket': None}
 # (86,400 s and some: 1970-01-02 00:01:40 UTC)
@@ -70,6 +73,7 @@ e1gw_crc4_alignment_losses_total 35
 e1gw_crc4_given_up_total 36
 e1gw_circuit_state{circuit="7",role="incoming",state="answered"} 1
 e1gw_circuit_state{circuit="8",role="incoming",state="idle"} 1
+e1gw_circuit_drain{circuit="7"} 0
 e1gw_circuit_state_seconds{circuit="7"} 12.34
 e1gw_circuit_seizures_total{circuit="7"} 5
 e1gw_circuit_answers_total{circuit="7"} 4
@@ -197,43 +201,40 @@ class TrunkTextTests(unittest.TestCase):
                  'west         1.2      1970-01-02 00:00      0        0        0  no trunk; ended: json, session; '
                  'not fed'))
         for more, line in rows:
-            self.assertEqual(ctl_all.line_of('west', STATUS | more), line)
+            self.assertEqual(str(ctl_all.TrunkLine.of('west', STATUS | more)), line)
 
 
 class EventTextTests(unittest.TestCase):
     def test_each(self) -> None:
         rows: list[tuple[Event, str]] = [
-            ({'event': 'state', 'circuit': 3, 'state': 'seized', 'was': 'idle'}, '3: seized, was idle'),
-            ({'event': 'alarm', 'what': 'frame', 'on': True}, 'alarm: loss of frame alignment (LFA)'),
-            ({'event': 'alarm', 'what': 'multiframe', 'on': False}, 'alarm over: loss of multiframe alignment'),
-            ({'event': 'remote alarm', 'what': 'frame', 'on': True}, 'alarm of the other end: RAI (bit A)'),
-            ({'event': 'cleared', 'why': 'it is dark', 'circuits': [1, 2]}, 'calls cleared, it is dark: circuits 1, 2'),
-            ({'event': 'stalled', 'seconds': 1.0}, 'no octets of the trunk for 1.0 s'),
-            ({'event': 'flows', 'seconds': 2.5}, 'octets again after 2.5 s'),
-            ({'event': 'gap', 'seconds': 0.5}, 'slip: 0.5 s of the trunk were lost'),
-            ({'event': 'ahead', 'seconds': 0.5}, 'burst: 0.5 s of the trunk came too early'),
-            ({'event': 'rate', 'ppm': 250.0}, "rate: +250.0 ppm relative to this machine's clock"),
-            ({'event': 'ended', 'what': 'json', 'why': 'no room'}, 'json ended, the calls go on: no room'),
-            ({'event': 'role', 'role': 'active'}, 'this machine is to be active'),
-            ({'event': 'fed', 'by': 'b', 'program': 'p'}, 'fed by b, program p there'),
-            ({'event': 'not fed', 'by': 'b', 'why': 'w'}, 'not fed by b: w'),
-            ({'event': 'card', 'what': 'NOT OPEN', 'on': True},
-             'card: NOT OPEN alarm: the span is not started: dahdi_cfg'),
-            ({'event': 'card', 'what': 'RED', 'on': False}, 'card: RED alarm over'),
-            ({'event': 'slots', 'what': 'moved', 'by': 3}, 'slots moved by 3: slot 16 found again, speech goes on'),
-            ({'event': 'trunk', 'trunk': '/dev/e1'}, 'trunk open: /dev/e1'), ({'event': 'trunk'}, 'trunk open: '),
-            ({'event': 'trunk lost', 'why': 'w'}, 'trunk lost: w'),
-            ({'event': 'connected', 'to': 'program'}, 'connected to the program'),
-            ({'event': 'disconnected', 'from': 'program', 'why': 'w'}, 'no connection to the program: w'),
-            ({'event': 'crc4', 'what': 'given up', 'on': True, 'count': 2},
+            (LineChanged(3, Role.OUTGOING, State.IDLE, State.SEIZED, 0), '3: seized, was idle'),
+            (LineChanged(3, Role.OUTGOING, State.IDLE, State.SEIZED, 0, call='a'), '3: seized, was idle, call a'),
+            (AlarmChanged(Alignment.FRAME, True, 0), 'alarm: loss of frame alignment (LFA)'),
+            (AlarmChanged(Alignment.MULTIFRAME, False, 0), 'alarm over: loss of multiframe alignment'),
+            (RemoteAlarmChanged(Alignment.FRAME, True, 0), 'alarm of the other end: RAI (bit A)'),
+            (CallsCleared('it is dark', (1, 2)), 'calls cleared, it is dark: circuits 1, 2'),
+            (CircuitsDrained(DrainNews.SEIZED, (1, 2)),
+             'seized before they were blocked, and blocked once these calls have ended: circuits 1-2'),
+            (Stalled(1.0), 'no octets of the trunk for 1.0 s'), (Flows(2.5), 'octets again after 2.5 s'),
+            (Slip(0.5), 'slip: 0.5 s of the trunk were lost'),
+            (Burst(0.5), 'burst: 0.5 s of the trunk came too early'),
+            (RateChanged(250.0), "rate: +250.0 ppm relative to this machine's clock"),
+            (WatchEnded('json', 'no room'), 'json ended, the calls go on: no room'),
+            (RoleGiven('active'), 'this machine is to be active'), (Fed('b', 'p'), 'fed by b, program p there'),
+            (NotFed('b', 'w'), 'not fed by b: w'),
+            (CardAlarmChanged(CardAlarm.NOT_OPEN, True), 'card: NOT OPEN alarm: the span is not started: dahdi_cfg'),
+            (CardAlarmChanged(CardAlarm.RED, False), 'card: RED alarm over'),
+            (SlotsChanged(SlotsChange.MOVED, 3), 'slots moved by 3: slot 16 found again, speech goes on'),
+            (TrunkOpened('/dev/e1', {'waiting': 0}), 'trunk open: /dev/e1'), (TrunkLost('w'), 'trunk lost: w'),
+            (Connected('program'), 'connected to the program'),
+            (Disconnected('program', 'w'), 'no connection to the program: w'),
+            (Crc4Changed(Crc4Change.GIVEN_UP, True, 2),
              'false frame alignment: 915 of 1000 submultiframes errored, 2 times'),
-            ({'event': 'crc4', 'what': 'lost and found', 'on': True, 'count': 1},
-             'CRC multiframe alignment lost and found again'),
-            ({'event': 'crc4', 'what': 'errored', 'on': False, 'count': 0, 'of': 500},
-             'CRC-4 errors over: 0 of 500 submultiframes'),
-            ({'event': 'satop', 'what': 'no packets', 'on': True}, 'satop: no packets')]
+            (Crc4Changed(Crc4Change.LOST_AND_FOUND, True, 1), 'CRC multiframe alignment lost and found again'),
+            (Crc4Changed(Crc4Change.ERRORED, False, 0, 500), 'CRC-4 errors over: 0 of 500 submultiframes'),
+            (SatopChanged('no packets', True), 'satop: no packets')]
         for event, words in rows:
-            self.assertEqual(words_of(event), words)
+            self.assertEqual(event.words(), words)
 
 
 class FaultTextTests(unittest.TestCase):

@@ -14,7 +14,6 @@ from unittest import mock
 from e1gw.lines import Role, State
 from e1gw.session import CIRCUITS
 from e1gw.testing.ports import free_port
-from e1gw.tie.blocked import BlockedCircuits
 from e1gw.tie.circuit import CircuitEnd
 from e1gw.tie.coding import Coding
 from e1gw.tie.main import ANYBODY, parser
@@ -253,10 +252,8 @@ class TieCallTests(TieCase):
     async def test_operator_blocks(self) -> None:
         """A block of the operator stays, also if the tie is started again; that of a tie does not."""
         await self.both()
-        blocked = self.sites[0][0].blocked
+        self.west.drained.add(7)
         self.west.obey(['block', '7'])
-        await self.until(lambda: 7 in blocked.circuits)
-        await blocked.close()                    # (a thread writes it, which goes by no clock of this loop)
         await self.kill(self.tasks[:2], self.sites[0][1])
         self.west.obey(['block', '9'])          # with no tie there: nobody's
         self.run_tie(*self.tie('west'))
@@ -264,14 +261,17 @@ class TieCallTests(TieCase):
         self.assertIs(self.west.states[7], State.BLOCKED)
 
     async def test_operator_is_second(self) -> None:
-        """A circuit that a tie has blocked already stays blocked where the operator wants that, too."""
+        """A circuit that a tie has blocked already stays blocked where the operator wants that, too. An outgoing end
+        that he has blocked is blocked at the caller's end, and as before once he takes that back."""
         await self.both()
-        await self.sends(self.east, 5, HELD, State.BLOCKED)
-        await self.until(lambda: 5 not in self.sites[0][0]._busy)       # its own block has been answered
-        self.assertIn('not idle', self.west.obey(['block', '5']))
-        self.east.send(5, IDLE)
         await self.sends(self.east, 7, HELD, State.BLOCKED)
-        self.assertIs(self.west.states[5], State.BLOCKED)
+        self.west.drained.add(7)
+        self.east.send(7, IDLE)
+        self.east.drained.add(5)
+        await self.until(lambda: self.west.states[5] is State.BLOCKED)
+        self.east.drained.clear()
+        await self.until(lambda: self.west.states[5] is State.IDLE)
+        self.assertEqual((self.west.states[7], 'seize 5' in self.east.asked), (State.BLOCKED, False))
 
     async def test_connection_broken(self) -> None:
         """A call lives through a short break, and what happened meanwhile is made good; a long one ends it."""
@@ -392,19 +392,7 @@ class TieCallTests(TieCase):
         self.east.roles[1] = Role.INCOMING
         await self.both()
         await self.until(self.at(1, State.BLOCKED, State.BLOCKED))
-        self.assertEqual(self.told('west', 'warning')[-1]['circuits'], [1])
-
-    async def test_blocks_that_cannot_be_kept(self) -> None:
-        """A file that holds no list, and one that cannot be written, end nothing."""
-        for path in (self.folder.name, os.path.join(self.folder.name, 'none', 'kept')):
-            blocked = BlockedCircuits(path)
-            blocked.put((1,))
-            await blocked.close()
-            self.assertIn(1, blocked.circuits)
-        with open(os.path.join(self.folder.name, 'west.kept'), 'w', encoding='ascii') as file:
-            file.write('no list')
-        await self.both()
-        await self.sends(self.west, 3, SEIZED, State.ACKED)
+        self.assertEqual(self.told('west', 'warning')[-1]['circuits'], (1,))
 
 
 class TieConnectionTests(TieCase):
@@ -499,6 +487,7 @@ class TieStatusTests(TieCase):
         await self.both()
         await self.sends(self.west, 3, SEIZED, State.ACKED)
         await self.not_acknowledged()
+        self.west.drained.add(7)
         self.west.obey(['block', '7'])
         tie = self.sites[0][0]
         await self.until(lambda: tie.circuits[7].kept and tie.done['clear-back', 'done'] > 0)

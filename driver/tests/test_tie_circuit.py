@@ -229,9 +229,9 @@ def disagreement(world: TieCircuitWorld, strictly: bool = True) -> str | None:
         return None
     if near.state in (ACKED, ANSWERED):
         return 'a call is up at the incoming end alone'
-    if near.state is IDLE and far.state is not IDLE:
+    if near.state is IDLE and far.end().state is not IDLE:
         return 'a circuit that is out of use can be seized'
-    if near.state is BLOCKED and far.state is IDLE and not near.kept:
+    if near.state is BLOCKED and far.end().state is IDLE and not near.kept:
         return 'a circuit is left blocked'
     return None
 

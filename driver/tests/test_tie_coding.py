@@ -5,8 +5,10 @@ import asyncio
 import unittest
 from typing import Any, Coroutine
 
+from e1gw.events import Report
 from e1gw.lines import State
 from e1gw.tie.coding import CircuitCoding, CodecChanges, Coding
+from e1gw.tie.events import CodecGiven, Warned
 
 G726, PCMA, OWN = Coding('g726-16', 96), Coding('pcma', 8), Coding('pcma', 100)
 TALKS, SILENT = (State.ANSWERED, State.CLEAREDBACK), (State.IDLE, State.ACKED, State.RELEASING, State.BLOCKED)
@@ -36,7 +38,7 @@ class CodecChangesTests(unittest.TestCase):
     is_up = True
 
     def setUp(self) -> None:
-        self.asked, self.events = list[str](), list[tuple[str, Any]]()
+        self.asked, self.events = list[str](), list[Report]()
         self.looked, self.answers = list[int](), ['done'] * 9
 
     def begin(self, task: Coroutine[Any, Any, None]) -> None:
@@ -47,9 +49,8 @@ class CodecChangesTests(unittest.TestCase):
         self.asked.append(command)
         return self.answers.pop(0) or None
 
-    def tell(self, event: str, **fields: Any) -> None:
-        self.events.append((event, fields.get('about') or (fields['circuit'], fields['codec'], fields['payload'],
-                                                           fields['answer'])))
+    def tell(self, report: Report) -> None:
+        self.events.append(report)
 
     def changes(self, asked: str | None = 'pcma', law: str = 'A', far: str | None = 'pcma',
                 **codings: Coding) -> CodecChanges:
@@ -74,7 +75,7 @@ class CodecChangesTests(unittest.TestCase):
             self.setUp()
             made = self.changes(**more)
             made.heard(more.get('far', 'pcma'))
-            self.assertEqual((made.own, self.events), (own, [('warning', wrong + about)] if about else []), more)
+            self.assertEqual((made.own, self.events), (own, [Warned(wrong + about)] if about else []), more)
 
     def test_changes(self) -> None:
         """Each is told, and the circuit is looked at again; a refused one is asked again once another was needed."""
@@ -92,8 +93,8 @@ class CodecChangesTests(unittest.TestCase):
         made.give(1, State.IDLE)
         made.give(1, State.ANSWERED)
         self.assertEqual(self.asked[2:], ['codec 1 pcma 8', 'codec 1 g726-16 96'])
-        self.assertEqual(self.events, [('codec', (1, 'pcma', 8, 'done')), ('codec', (1, 'g726-16', 96, 'not now')),
-                                       ('codec', (1, 'pcma', 8, 'done')), ('codec', (1, 'g726-16', 96, 'done'))])
+        self.assertEqual(self.events, [CodecGiven(1, 'pcma', 8, 'done'), CodecGiven(1, 'g726-16', 96, 'not now'),
+                                       CodecGiven(1, 'pcma', 8, 'done'), CodecGiven(1, 'g726-16', 96, 'done')])
         self.assertEqual(self.looked, [1] * 4)
         made.stands({'circuit': 1, 'codec': 'pcma', 'payload': 8})
         made.give(1, State.IDLE)

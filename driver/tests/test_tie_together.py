@@ -11,7 +11,6 @@ from .properties import PropertyCase
 from .test_tie_circuit import TieCircuitWorld, disagreement
 from .ties import ANSWER, G726, HELD, IDLE, SEIZED, StandInDriver
 from e1gw.lines import Role, State
-from e1gw.tie.blocked import BlockedCircuits
 from e1gw.tie.coding import SIGNALLING
 from e1gw.tie.messages import encode_message, message_of
 from e1gw.tie.pairs import Pairs
@@ -46,18 +45,16 @@ class JoinedTrunk(StandInDriver):
         super().__init__('', {n: Role.OUTGOING if n % 2 == side else Role.INCOMING for n in JOINED})
         self.acknowledges, self.until, self.told_pairs = True, until, pairs
         self.other: JoinedTrunk | None = None           # while the sites are connected
-        self.kept, self.events = BlockedCircuits(None), list[dict[str, Any]]()
-        self.on_way = deque[tuple[Tie, bytes]]()
+        self.events, self.on_way = list[dict[str, Any]](), deque[tuple[Tie, bytes]]()
         self.follows: asyncio.Task[None] | None = None
         self.starts()
 
     def starts(self) -> None:
-        """A tie is started, which knows no more than what was blocked."""
+        """A tie is started, which knows nothing."""
         self.down() if self.follows else None
         self.apart()
         options = TieOptions('', self.told_pairs, HOLD, False, self.until)
-        self.tie = Tie(options, f'{next(RUNS)}', self.kept, lambda event, **more: self.events.append(
-            {'event': event, **more}))
+        self.tie = Tie(options, f'{next(RUNS)}', lambda report: self.events.append(report.plain()))
         setattr(self.tie, 'site', self)
         setattr(self.tie.trunk, 'ask', self.asks)
         self.tie._hold()
@@ -79,6 +76,11 @@ class JoinedTrunk(StandInDriver):
         self.down()
         self.life, self.seizures = f'{self.life}a', dict.fromkeys(JOINED, 0)
         self.up()
+
+    def operator(self, n: int, blocks: bool) -> None:
+        """The operator blocks a circuit, or takes that back."""
+        self.drained = self.drained | {n} if blocks else self.drained - {n}
+        self.obey(['block' if blocks else 'unblock', str(n)])
 
     async def asks(self, line: str) -> str:
         await asyncio.sleep(0.001)
@@ -141,7 +143,7 @@ class TogetherPropertyTests(PropertyCase):
             if what == 'send':
                 trunk.send(n, how)
             elif what == 'operator':
-                trunk.obey([how, str(n)])
+                trunk.operator(n, how)
             elif what == 'alarm':
                 trunk.alarm = how
                 trunk.tell(event='alarm', what='frame', on=how)
@@ -165,7 +167,7 @@ class TogetherPropertyTests(PropertyCase):
     async def call(self, trunks: list[JoinedTrunk]) -> None:
         """Calls on all circuits, from their seizure to their end, once nothing keeps them up."""
         for trunk, n in itertools.product(trunks, JOINED):
-            trunk.obey(['unblock', str(n)])
+            trunk.operator(n, False)
             trunk.send(n, IDLE)
         await self.rests(trunks, 3.0)
         for role, pair, state in ((Role.INCOMING, SEIZED, State.ACKED), (Role.OUTGOING, ANSWER, State.ANSWERED),
@@ -197,7 +199,7 @@ class TogetherPropertyTests(PropertyCase):
             step('send', st.sampled_from((IDLE, SEIZED, ANSWER, HELD))),
             step('send', st.sampled_from((SEIZED, ANSWER))),
             step('wait', st.sampled_from((0.01, 0.3, 1.0, 4.0))), step('alarm', st.booleans()),
-            step('operator', st.sampled_from(('block', 'unblock'))),
+            step('operator', st.booleans()),
             *(step(what, st.none()) for what in ('joins', 'apart', 'up', 'down', 'anew', 'starts')))
 
         def check(until: str | None, pairs: Pairs | None, chosen: list[tuple[str, int, int, Any]]) -> None:

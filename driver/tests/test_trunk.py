@@ -3,11 +3,8 @@ from __future__ import annotations
 
 import json
 import os
-import signal
 import socket
 import subprocess
-import tempfile
-import time
 import unittest
 import unittest.mock
 from functools import partial
@@ -15,13 +12,11 @@ from typing import TypeVar
 
 from . import support
 from .manager import Manager
-from .support import SECONDS
 from .world import World, config_of, trunk_command
 from e1gw.exchange import IDLE, SEIZED
 from e1gw.service.options import wants_of
 from e1gw.service.program import MOST_PATH
 from e1gw.service.service import parser
-from e1gw.testing.ports import free_ports
 from e1gw.testing.service import ask
 
 FOUR = range(1, 5)
@@ -141,7 +136,7 @@ class TrunkCommandTests(unittest.TestCase):
         self.assertRegex(table[1], r' s of the trunk at ..:..:.. UTC, aligned; the other end: no alarm')
         world.quit()
         told = [json.loads(line) for line in events]
-        self.assertTrue(all(event.pop('time') > 1e9 for event in told))
+        self.assertTrue(all(event.pop('time') > 1e9 and event.pop('place') >= 0 for event in told))
         states = [(event['was'], event['state']) for event in told if event.get('circuit') == 1
                   and event['event'] == 'state']
         self.assertEqual(states, [('fault', 'idle'), ('idle', 'seized'), ('seized', 'acked'), ('acked', 'answered')])
@@ -177,25 +172,6 @@ class BesideCallsTests(unittest.TestCase):
             with self.subTest(words), World(config_of(FOUR), front=front, stderr=None) as world:
                 self.goes_on(world)
                 self.assertEqual(world.quit()[0], 0)
-
-    def test_the_end_at_any_moment(self) -> None:
-        """Whatever has begun when the end is asked for, it ends, and nothing is left."""
-        for number in range(8):
-            with self.subTest(number), tempfile.TemporaryDirectory() as folder:
-                config = os.path.join(folder, 'trunk.toml')
-                with open(config, 'w', encoding='ascii') as file:
-                    file.write('law = "A"\n')
-                words = trunk_command('--config', config, '--in', '/dev/zero', '--out', '/dev/null', '--control',
-                                      os.path.join(folder, 'ctl'))
-                with subprocess.Popen(words, stdin=subprocess.DEVNULL, stderr=subprocess.PIPE,
-                                      env={**os.environ, 'RUNTIME_DIRECTORY': folder}) as process:
-                    support.until(lambda: catches(process.pid, signal.SIGTERM))     # (else it ends Python itself)
-                    time.sleep(0.12 * number)
-                    process.send_signal((signal.SIGTERM, signal.SIGINT)[number % 2])
-                    assert process.stderr
-                    said = process.stderr.read().decode()       # up to the end of all that it has started
-                    self.assertEqual((process.wait(SECONDS), 'Traceback' in said), (0, False), said)
-                self.assertFalse(os.path.exists(os.path.join(folder, 'ctl')))
 
     def test_the_trunk_ends(self) -> None:
         with World(config_of(FOUR)) as world:
@@ -308,18 +284,3 @@ class RefusedOptionsTests(support.FolderCase):
         with unittest.mock.patch.dict(os.environ, {'E1GW_OPTIONS': none}):
             status, said = self.run_driver('--config', self.good)
         self.assertEqual((status, f'{none}, which has its options, is missing' in said), (2, True))
-
-    def test_whose_datagrams_are_received(self) -> None:
-        words = ('--in', '/dev/null', '--out', '/dev/null')
-        circuit = '[[circuit]]\nnumber = %d\nlocal_port = %d\npeer_port = 9\npeer_host = "%s"\n'
-        ports = free_ports(2)
-        rows: list[tuple[str, tuple[str, ...], str]] = [
-            ('127.0.0.1', (), '--senders host'), ('localhost', (), '--senders any'),
-            ('127.0.0.1', ('--senders', 'any'), '--senders any'),
-            ('127.0.0.1', ('--senders', 'peer'), '--senders peer')]
-        for host, option, said in rows:
-            text = circuit % (1, ports[0], '127.0.0.1') + circuit % (2, ports[1], host)
-            config = self.write('peers.toml', f'law = "A"\n{text}')
-            with self.subTest(host=host, option=option):
-                status, told = self.run_driver('--config', config, *words, *option)
-                self.assertEqual((status, told.count(f'({said})')), (0, 1), told)

@@ -18,9 +18,8 @@ from typing import Iterator, Sequence
 
 from . import support
 from .support import SECONDS
-from e1gw.exchange import ACKNOWLEDGED, IDLE, SEIZED
-from e1gw.session import (MULTIFRAME, Codec, Command, CommandRefusal, Kind, codec_record, command_record, records_in,
-                          trunk_record)
+from e1gw.exchange import ACKNOWLEDGED, SEIZED
+from e1gw.session import MULTIFRAME, Command, CommandRefusal, Kind, command_record, records_in, trunk_record
 from e1gw.testing.ports import free_port
 
 CONFIG = support.config_text({circuit: {'role': 'incoming'} for circuit in range(1, 31)})
@@ -100,38 +99,7 @@ class TrunkProcess:
 
 
 class ServedTrunkTests(ServedTrunkCase):
-    """A trunk without clients, and a seizure of each circuit."""
-
-    def seizures(self) -> tuple[bytes, bytes]:
-        """What an exchange sends that seizes all circuits once it hears the gateway, and what comes back."""
-        sent = came = b''
-        exchange = support.Exchange()
-        with TrunkProcess(self.serves(), '') as trunk:
-            for turn in range(60):
-                if turn == 20:
-                    self.assertEqual(set(exchange.signals.values()), {IDLE})
-                    exchange.pairs = dict.fromkeys(range(1, 31), SEIZED)
-                frames = exchange.multiframe()
-                back = trunk.passes(frames)
-                exchange.hear(back)
-                sent, came = sent + frames, came + back
-            self.assertEqual(trunk.ends(), (0, ''))
-        self.assertEqual(exchange.signals, dict.fromkeys(range(1, 31), ACKNOWLEDGED))
-        self.assertFalse(exchange.remote_alarms)
-        return sent, came
-
-    def test_any_pieces_and_their_recording(self) -> None:
-        sent, came = self.seizures()
-        for waits in (True, False):
-            words = self.serves('--record', self.recording, '--record-over')
-            with self.subTest(waits=waits), TrunkProcess(words, '', waits=waits) as trunk:
-                self.assertEqual(b''.join(map(trunk.passes, pieces_of(sent))), came)
-                self.assertEqual(trunk.ends(), (0, ''))
-                recorded = support.octets_of(self.recording)
-                self.assertEqual(octets_in(recorded), sent)
-                self.assertLessEqual(max(len(record.body) for record in records_in(recorded)), 2048)
-                again = support.run('replay', '--config', self.config, given=recorded)
-                self.assertEqual(octets_in(again), came)
+    """A trunk without clients."""
 
     def test_output_that_takes_none_for_a_time(self) -> None:
         out, into = os.pipe()
@@ -198,30 +166,6 @@ class TrunkClientTests(ServedTrunkCase):
     def refused(self, circuits: Sequence[int]) -> list[tuple[int, bytes]]:
         """Answers that these circuits are not idle: there is no exchange."""
         return [(circuit, bytes([Kind.COMMAND, CommandRefusal.NOT_IDLE])) for circuit in circuits]
-
-    def test_each_client_gets_its_own_answers(self) -> None:
-        """Whatever others send or leave, also if they never read; and to a command in pieces."""
-        trunk = self.trunk()
-        with trunk.client() as good, trunk.client() as deaf:
-            with self.assertRaises(OSError):
-                for _ in range(100_000):
-                    deaf.sendall(blocks([9]))
-            for rubbish in (b'help\n', trunk_record(b'ab'), command_record(31, Command.BLOCK), b'E\0\0\0',
-                            *[blocks([9])[:3]] * 10):
-                with self.subTest(rubbish=rubbish), trunk.client() as other, trunk.client() as bad:
-                    other.sendall(blocks([11, 12]))
-                    bad.sendall(rubbish)
-                    if rubbish != blocks([9])[:3]:
-                        self.assertEqual(self.closed(bad), b'')
-                    self.blocked(good, 3)
-                    self.assertEqual(answers_of(other, 2), self.refused([11, 12]))
-                self.assertEqual(len(trunk.passes(bytes(512))), 512)
-            for octet in codec_record(1, Codec.G711, 8):
-                good.sendall(bytes([octet]))
-                self.assertEqual(len(trunk.passes(bytes(32))), 32)
-            self.assertEqual(answers_of(good, 1), [(1, bytes([Kind.CODEC, 0]))])
-            self.assertEqual(trunk.ends()[0], 0)
-            self.assertEqual(good.recv(1), b'')
 
     def closed(self, client: socket.socket) -> bytes:
         """What comes to a client before its connection ends."""

@@ -22,7 +22,7 @@ from . import support
 from .machines import ADDRESSES, TRUNK, Machine, PairCase
 from .support import SECONDS
 from .test_program_killed import CIRCUITS
-from e1gw.ctl_all import line_of
+from e1gw.ctl_all import TrunkLine
 from e1gw.metrics import exposition
 from e1gw.service import standby
 from e1gw.service.feed import BACK, CARRIES, MARK, MOST_PIECE, PIECE, TAKES, TICK
@@ -141,7 +141,7 @@ class PairTests(PairCase):
         self.assertEqual((b.ask('quit'), b.process.wait(SECONDS)), ('quit: done', 0))
         while a.ask('role') != 'active, not fed':
             self.step(4)
-        support.until(lambda: line_of('a', json.loads(a.ask('status json'))).endswith('; not fed'))
+        support.until(lambda: TrunkLine.of('a', json.loads(a.ask('status json'))).state.endswith('; not fed'))
         self.up_again()
 
     def test_a_move_to_nobody(self) -> None:
@@ -165,14 +165,23 @@ class PairTests(PairCase):
         self.step(68)
         self.assertEqual(self.device.exchange.signals, self.up())
 
+    def drained(self, machine: Machine) -> list[str | None]:
+        """What it says of circuits 7 and 8."""
+        return [row['drain'] for row in json.loads(machine.ask('status json'))['circuits'][6:8]]
+
     def test_a_standby_is_replaced(self) -> None:
-        """Another service in its place stands by, is fed, and can take over."""
+        """Another service in its place stands by, is fed, can take over, and has what the operator has blocked."""
         a, b = self.calls_with_standby()
+        self.assertRegex(a.ask('drain 7-8'), 'blocked once their calls have ended: circuits 7-8\ndrain 7-8: done')
+        self.assertEqual(b.ask('drain 9'), 'drain 9: the other machine is to carry the trunk')
+        support.until(lambda: self.drained(b) == ['drains', 'drains'])
         b.process.send_signal(signal.SIGUSR2)
         b.awaits('is to be standby')
+        self.assertEqual(a.ask('undrain 8'), 'undrain 8: done')
         self.fed(b)
         a.power_off()
         self.promoted(b)
+        self.assertEqual(self.drained(b), ['drains', None])
         self.device.exchange.aligned = False
         self.step(68)
         self.assertEqual(self.device.exchange.signals, self.up())
@@ -219,9 +228,9 @@ class PairTests(PairCase):
                     (b'', 'it carries no trunk'),
                     (good[:begun] + PIECE.pack(math.nan, 0), 'a piece of the feed is too long'),
                     (good.replace(b'"law": "A"', b'"law": "mu"'), 'its law is mu, and here it is A'),
-                    (good.replace(b'"e1gw_feed": 6', b'"e1gw_feed": 5'), 'a feed of version 5, and this is 6'),
+                    (good.replace(b'"e1gw_feed": 7', b'"e1gw_feed": 6'), 'a feed of version 6, and this is 7'),
                     (b'SSH-2.0-OpenSSH_9.2p1\r\n', 'what comes there is no feed'),
-                    (good.replace(b'"program": ', b'"program": 0.5e'), ''), (b'{"e1gw_feed": 6, "law": "A"}\n', ''),
+                    (good.replace(b'"program": ', b'"program": 0.5e'), ''), (b'{"e1gw_feed": 7, "law": "A"}\n', ''),
                     (b'[' * 60_000 + b'\n', ''), (b'x' * 200_000, ''),
                     (good[:begun] + PIECE.pack(1.0, MOST_PIECE + 1), 'a piece of the feed is too long'),
                     *((good[:length], '') for length in (

@@ -20,12 +20,11 @@ from .test_trunk import FOUR, aligned, call
 from .world import World, config_of
 from e1gw.crc4 import Crc4
 from e1gw.lines import Line
-from e1gw.metrics import exposition, family
+from e1gw.metrics import exposition
 from e1gw.service import pages as service_pages
 from e1gw.udp_tables import sockets_of
 from e1gw.testing.ports import free_port
 from e1gw.tie import status as tie_status
-from e1gw.tie.blocked import BlockedCircuits
 from e1gw.tie.tie import Tie, TieOptions
 
 TABLE = 'text/plain; charset=utf-8'
@@ -46,12 +45,6 @@ def samples(text: str) -> dict[str, float]:
     return found
 
 
-class PageTextTests(unittest.TestCase):
-    def test_labels_are_escaped(self) -> None:
-        text = family('a', 'b', [({'c': 'd"e\\f\ng'}, 1)], 'h="i"')
-        self.assertEqual(text, '# HELP a b\n# TYPE a gauge\na{h="i",c="d\\"e\\\\f\\ng"} 1\n')
-
-
 class SocketTableTests(unittest.TestCase):
     def test_a_socket_that_nobody_reads(self) -> None:
         """Octets wait there, and what has no room is dropped."""
@@ -64,7 +57,7 @@ class SocketTableTests(unittest.TestCase):
         self.assertGreater(min(found[7].values()), 0)
 
 
-class DrawnPageTests(unittest.IsolatedAsyncioTestCase):
+class SlowPageTests(unittest.IsolatedAsyncioTestCase):
     """A picture that takes longer than somebody waits for it."""
 
     async def test_a_slow_picture(self) -> None:
@@ -77,9 +70,9 @@ class DrawnPageTests(unittest.IsolatedAsyncioTestCase):
             return 0, '', b'<html></html>\n'
         with (mock.patch.multiple(service_pages, WAITED=0.01, put_behind=mock.Mock(), ran=ran),
               mock.patch('e1gw.service.process.Child.start', lambda _, words, *files: mock.Mock(words=words))):
-            page = service_pages.DrawnPage(['--last', '60s', 'ring'])
+            page = service_pages.SlowPage(lambda: service_pages.picture_of(['--last', '60s', 'ring']))
             for _ in range(3):
-                self.assertIn(b'is being drawn', await page.fresh())
+                self.assertIn(b'is being made', await page.fresh())
             drawn.set()
             while (found := await page.fresh()) == service_pages.SOON:
                 await asyncio.sleep(0)
@@ -107,7 +100,7 @@ class WebTests(unittest.TestCase):
 
         def drawn() -> str | None:
             with contextlib.suppress(OSError, http.client.HTTPException, AssertionError):   # (it is not drawn yet)
-                page = self.get('/', 'text/html; charset=utf-8')
+                page = self.get('/picture', 'text/html; charset=utf-8')
                 return page if '1 answered' in page else None
             return None
         page = support.until(drawn, 1.0)                # what is kept may be late
@@ -150,7 +143,7 @@ class WebTests(unittest.TestCase):
         pair = {'role': 'active', 'fed': False, 'feed_age': None}
         more = exposition(self.world.status() | {'crc4': Crc4().status()} | pair)
         more += tie_status.exposition(tie_status.status_of(
-            Tie(TieOptions('', None, 0.0, False), '', BlockedCircuits(None), print)))
+            Tie(TieOptions('', None, 0.0, False), '', print)))
         declared = set(re.findall(r'^# TYPE (\w+)', self.get('/metrics') + more, re.M)) | {
             'e1gw_trunk_rate_ppm'}
         self.assertLessEqual(named, declared)

@@ -3,7 +3,6 @@ from __future__ import annotations
 
 import os
 import re
-import stat
 
 from . import support
 from .test_trunk import FOUR, aligned, call
@@ -55,12 +54,3 @@ class WriterOpeningTests(support.FolderCase):
             for what, why in ended.items():
                 lines = re.findall(f'{what} ended, the calls go on: .*{why}', said)
                 self.assertEqual((status, len(lines)), (0, 1), said)
-
-    def test_modes(self) -> None:
-        support.program()
-        front = ('sh', '-c', 'umask 0; exec "$@"', 'sh')
-        with World(config_of(FOUR), '--calls', '@/calls', '--json', '@/told', front=front) as world:
-            aligned(world)
-            world.quit()
-            self.assertEqual([stat.S_IMODE(os.stat(world.path(name)).st_mode) for name in ('calls', 'told')],
-                             [0o640, 0o640])

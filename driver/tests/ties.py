@@ -18,7 +18,6 @@ from e1gw.session import CIRCUITS, Command
 from e1gw.testing.ports import free_port
 from e1gw.tie import site as site_module
 from e1gw.tie.coding import Coding
-from e1gw.tie.blocked import BlockedCircuits
 from e1gw.tie.site import Site
 from e1gw.tie.tie import Tie, TieOptions
 from tests.test_tie_circuit import COLUMN, DONE, INCOMING, OUTGOING
@@ -64,6 +63,7 @@ class StandInDriver:
         self.seizures = dict.fromkeys(roles, 0)
         self.codecs = dict.fromkeys(roles, G726)
         self.configured = dict.fromkeys(roles, G726)
+        self.drained = set[int]()       # which the operator has blocked
         self.refuses = False            # changes of codec
         self.silent = False             # it answers nothing
         self.knows = True               # its program has told it the states
@@ -112,7 +112,8 @@ class StandInDriver:
         n, command = int(words[1]), next(each for each in Command if each.word == words[0])
         of, to = DONE[command]
         mine = (self.roles[n] is Role.OUTGOING) == (command in (Command.SEIZE, Command.CLEAR))
-        answer = 'done' if mine and self.states[n] in of else 'not idle'
+        is_taken = n in self.drained and command in (Command.SEIZE, Command.UNBLOCK)
+        answer = 'done' if mine and self.states[n] in of and not is_taken else 'not idle'
         if answer == 'done':
             self.move(n, to)
         self.tell(event='command', circuit=n, command=words[0], answer=answer)
@@ -124,7 +125,7 @@ class StandInDriver:
                  'alarm': {**none, 'frame': self.alarm}, 'remote_alarm': none}
         return trunk | {'circuits': [
             {'circuit': n, 'role': str(self.roles[n]), 'state': str(self.states[n]) if self.knows else UNKNOWN,
-             'seizures': self.seizures[n],
+             'seizures': self.seizures[n], 'drain': 'drained' if n in self.drained else None,
              'for': asyncio.get_running_loop().time() - self.since[n],
              'codec': self.codecs[n].codec, 'payload': self.codecs[n].payload,
              'configured_codec': self.configured[n].codec, 'configured_payload': self.configured[n].payload}
@@ -199,9 +200,8 @@ class TieCase(unittest.IsolatedAsyncioTestCase):
         driver = self.west if name == 'west' else self.east
         told = self.events[name]
         options = TieOptions(driver.path, more.get('pairs'), HOLD, waits, more.get('until'))
-        blocked = BlockedCircuits(os.path.join(self.folder.name, f'{name}.kept'))
-        made = Tie(options, f'run {next(RUNS)} of {name}', blocked,
-                   lambda event, **fields: told.append({'event': event, **fields}))
+        made = Tie(options, f'run {next(RUNS)} of {name}',
+                   lambda report: told.append(report.plain()))
         if not self.port:
             self.port = free_port()
         site = made.site = Site(('127.0.0.1', self.port), name == 'west', more.get('context'), more.get('peer'), made)

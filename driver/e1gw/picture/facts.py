@@ -328,7 +328,7 @@ class Facts:
     def __init__(self, rows: dict[int, Row] | None = None, last: int | None = None, width: int = MULTIFRAME) -> None:
         self.rows = rows or {n: Row(n) for n in range(1, 31)}
         self.last = last
-        self.width = width
+        self.width, self.most = width, MOST             # of a column, and columns
         self.column = 0
         self.place = 0
         self.start = 0                      # of what is to be shown
@@ -367,7 +367,7 @@ class Facts:
                 row.cell = Cell()
         if self.last and self.place > self.start + self.last:
             self.forget(self.place - self.last)
-        while (self.place - self.start) // self.width >= MOST:
+        while (self.place - self.start) // self.width >= self.most:
             self._double()
         self.column = column = place // self.width
         for row in self.rows.values():

@@ -8,10 +8,11 @@ import re
 import string
 import time
 from collections.abc import Iterable, Mapping, Sequence
+from urllib.parse import quote
 
 from ..lines import OPEN
 from . import charts
-from .facts import SECOND, Cell, Facts, Row
+from .facts import SECOND, Cell, Facts, Row, joined
 from .findings import Anomaly, findings
 from .sound import HeardSamples
 from .svg import Scale, duration
@@ -19,6 +20,7 @@ from .svg import Scale, duration
 MOST = 1_900_000            # octets of a page
 LISTED = 400                # rows of a table
 FEW = 6                     # anomalies that are printed with their causes
+PARTS, EACH = 24, 5         # of a call, at most, and seconds of each, at most if there are fewer
 MINOR = ('silent came', 'silent slot', 'blocked', 'command', 'unacknowledged', 'fault', 'none', 'port')
 ARROW = ' \N{RIGHTWARDS ARROW} '
 with open(os.path.join(os.path.dirname(__file__), 'page.html'), encoding='utf-8') as template:
@@ -99,8 +101,8 @@ class PicturePage:
     """The drawings of facts."""
 
     def __init__(self, facts: Facts, title: str, circuits: list[int] | None = None,
-                 notes: Iterable[str] = ()) -> None:
-        self.facts, self.title, self.notes = facts, title, list(notes)
+                 notes: Iterable[str] = (), sound: str = '') -> None:
+        self.facts, self.title, self.notes, self.sound = facts, title, list(notes), quote(sound)
         self.scale = Scale(facts.start, max(facts.place, facts.start + 256), facts.begin, facts.breaks)
         rows = [facts.rows[n] for n in circuits or sorted(facts.rows)]
         self.whole = {row.number: row.count() for row in rows}
@@ -129,7 +131,7 @@ class PicturePage:
             f'{sum(whole.discarded() for whole in wholes)} discarded{facts.told}'))
 
     def _playouts(self, rows: list[Row]) -> str:
-        drawn = (f'<div class="wide" id="c{row.number}">'
+        drawn = (f'<div class="wide end" id="c{row.number}">'
                  f'{charts.PlayoutChart(row, self.facts, self.scale, self.seen[row.number]).drawn()}</div>'
                  for row in rows)
         return f'<div class="two">{"".join(drawn)}</div>'
@@ -150,6 +152,35 @@ class PicturePage:
             even = (f'<details{" open" * (not self.troubled)}><summary>Circuits whose datagrams came in time and '
                     f'evenly: {names}</summary>{self._playouts(self.even)}</details>')
         return out + self._playouts(self.troubled) + even
+
+    # ---- a call with its sound ----
+
+    def player(self) -> str:
+        """The sound of the whole call."""
+        return (f'<h2>The speech</h2><audio controls preload="metadata" src="{self.sound}"></audio><p class="note">'
+                'Left: what the trunk said; right: what it was sent of the network.</p>') * bool(self.sound)
+
+    def parts(self) -> str:
+        """The call in parts of some seconds, each drawn for itself, with its sound."""
+        facts, whole = self.facts, self.facts.place - self.facts.start
+        count = min(PARTS, -(-whole // (EACH * SECOND)))
+        inner = ((facts.start + n * whole // count) // facts.width * facts.width for n in range(1, count))
+        edges = [facts.start, *inner, facts.place]      # (between columns, so that each is in one part)
+        parts = map(self._part, edges, edges[1:])
+        return f'<h2>Part by part</h2>{"".join(parts)}' if self.sound and self.scale.coarse < 4 else ''
+
+    def _part(self, first: int, last: int) -> str:
+        facts, scale = self.facts, Scale(first, last, self.facts.begin, self.facts.breaks)
+        scale.coarse = self.scale.coarse
+        seen = {row.number: charts.pixels(row, facts, scale) for row in self.rows}
+        cell = joined(each for pixels in seen.values() for each in pixels.values())
+        words = f'{scale.words(first)}, {duration(last - first)}: {cell.sent} sent, {cell.admitted} received'
+        words += f'; discarded: {charts.refusals(cell)}' * bool(cell.refused)
+        played = ''.join(charts.PlayoutChart(row, facts, scale, seen[row.number]).drawn() for row in self.rows)
+        begin, end = ((place - facts.start) / SECOND for place in (first, last))
+        return (f'<details><summary>{escape(words)}</summary><audio controls preload="none" '
+                f'src="{self.sound}#t={begin:g},{end:g}"></audio><div class="wide end">'
+                f'{charts.circuits(facts, self.rows, scale, seen)}{played}</div></details>')
 
     # ---- the tables ----
 
@@ -196,13 +227,14 @@ class PicturePage:
             notes=''.join(f'<p><b>{escape(note)}</b></p>' for note in self.notes),
             trunk=charts.trunk(facts, self.scale), wire=' wire' * any(row.wire for row in self.rows),
             circuits=charts.circuits(facts, self.rows, self.scale, self.seen), playouts=self.playouts(),
-            tables=self.tables())
+            tables=self.tables(), sound=self.player(), parts=self.parts())
 
 
 def draw(facts: Facts, title: str, circuits: list[int] | None = None, refresh: int | None = None,
-         notes: Iterable[str] = ()) -> str:
-    """The page of facts, below 2 MB: detail is dropped if it would be longer."""
-    page = PicturePage(facts, title, circuits, notes)
+         notes: Iterable[str] = (), sound: str = '') -> str:
+    """The page of facts, below 2 MB: detail is dropped if it would be longer. `sound` is that of a call, a file beside
+    it."""
+    page = PicturePage(facts, title, circuits, notes, sound)
     text = page.drawn(refresh)
     for coarse in (2, 4, 8, 16, 32):
         if len(text.encode()) <= MOST:

@@ -9,7 +9,7 @@ from ..session_clock import Break, SessionClock
 from .facts import SECOND
 
 LEFT, WIDE, RIGHT = 126, 1000, 14
-TICK = 6.2                  # pixels of a character of a time above a drawing, at most
+TICK = 7.2                  # pixels of a character of a time above a drawing, at most
 STEPS = (0.01, 0.02, 0.05, 0.1, 0.2, 0.5, 1, 2, 5, 10, 20, 30, 60, 120, 300, 600, 1200, 1800, 3600, 7200, 14400, 43200,
          86400)
 
@@ -62,7 +62,8 @@ class Scale:
 
     def ticks(self) -> list[tuple[float, str]]:
         """The places of round times, and their texts; none where octets are missing."""
-        step = next((step for step in STEPS if self.octets * WIDE / SECOND / step <= 10), STEPS[-1])
+        most = min(10, WIDE / 70)
+        step = next((step for step in STEPS if self.octets * WIDE / SECOND / step <= most), STEPS[-1])
         out = []
         edges = [self.start, *(each.place for each in self.clock.breaks if self.start < each.place <= self.end),
                  self.end + 1]
@@ -97,11 +98,11 @@ def duration(octets: float) -> str:
 
 
 class Sheet:
-    """One drawing, from top to bottom."""
+    """One drawing, from top to bottom. Words before LEFT are drawn by themselves: they stay where the rest is moved."""
 
     def __init__(self, height: float, label: str) -> None:
         self.height, self.label = height, label
-        self.out: list[str] = []
+        self.out, self.names = list[str](), list[str]()
 
     def box(self, x: float, y: float, wide: float, high: float, kind: str, title: str = '') -> None:
         """A rectangle of a class, wide enough to be seen."""
@@ -118,19 +119,21 @@ class Sheet:
 
     def words(self, x: float, y: float, words: str, kind: str = '', anchor: str = '') -> None:
         side = f' text-anchor="{anchor}"' if anchor else ''
-        self.out.append(f'<text x="{x:.1f}" y="{y:g}" class="{kind}"{side}>{html.escape(words)}</text>')
+        out = self.names if x < LEFT else self.out
+        out.append(f'<text x="{x:.1f}" y="{y:g}" class="{kind}"{side}>{html.escape(words)}</text>')
 
     def grid(self, scale: Scale, top: float, bottom: float) -> None:
         """Lines at round times, with their texts above."""
         for x, words in scale.ticks():
-            right = LEFT + WIDE + RIGHT
-            place = (right - 1, 'end') if x + TICK * len(words) / 2 > right else (x, 'middle')
+            right, half = LEFT + WIDE + RIGHT, TICK * len(words) / 2
+            place = (right - 1, 'end') if x + half > right else (x, 'middle') if x - half > LEFT else (x, 'start')
             self.words(place[0], top - 3, words, 'tick', place[1])
         self.path((f'M{x:.1f} {top:g}V{bottom:g}' for x, _ in scale.ticks()), 'grid')
 
     def drawn(self) -> str:
-        return (f'<svg viewBox="0 0 {LEFT + WIDE + RIGHT} {self.height:g}" role="img" '
-                f'aria-label="{html.escape(self.label)}">{"".join(self.out)}</svg>')
+        return (f'<div class="sheet"><svg class="names" viewBox="0 0 {LEFT} {self.height:g}" aria-hidden="true">'
+                f'{"".join(self.names)}</svg><svg viewBox="{LEFT} 0 {WIDE + RIGHT} {self.height:g}" role="img" '
+                f'aria-label="{html.escape(self.label)}">{"".join(self.out)}</svg></div>')
 
 
 def runs(columns: Iterable[int], gap: float) -> list[tuple[int, int]]:

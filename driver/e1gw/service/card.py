@@ -6,10 +6,10 @@ import asyncio
 import logging
 import select
 from contextlib import suppress
-from typing import Any, Callable
+from typing import Any
 
 from ..dahdi import Alarm, CardEvent, DahdiChannel, is_channel
-from ..lines import Event
+from ..events import CardAlarm, CardAlarmChanged, Tell
 from .journal import NOTICE
 
 LOOK = 1.0                  # seconds between two looks at counts, and at alarms that are no events
@@ -23,7 +23,7 @@ logger = logging.getLogger(__name__)
 class CardWatch:
     """Watches the card of a descriptor, which it leaves open. `tell` is called with each change of an alarm."""
 
-    def __init__(self, channel: DahdiChannel, tell: Callable[[Event], None]) -> None:
+    def __init__(self, channel: DahdiChannel, tell: Tell) -> None:
         """OSError if the card is gone."""
         self._channel, self._tell = channel, tell
         self.blocks, self._span = channel.blocks(), channel.span()
@@ -58,7 +58,7 @@ class CardWatch:
             return self.end()
         for each in Alarm:
             if each in self._span.alarms ^ self._told:
-                self._tell({'event': 'card', 'what': each.names()[0], 'on': each in self._span.alarms})
+                self._tell(CardAlarmChanged(CardAlarm(each.names()[0]), each in self._span.alarms))
         self._told = self._span.alarms
 
     def end(self) -> None:
@@ -89,7 +89,7 @@ class CardWatch:
                 **span.counts}
 
 
-def watch_of(file: int, tell: Callable[[Event], None]) -> CardWatch | None:
+def watch_of(file: int, tell: Tell) -> CardWatch | None:
     """The watch of a descriptor, if it is of a card that is known here."""
     with suppress(OSError):
         if is_channel(file):

@@ -3,6 +3,8 @@
 A line is answered by one or more lines and an empty one:
 
   seize N, clear N, answer N, clear-back N, block N, unblock N     `seize 3: done`, or the words of the refusal
+  drain N, drain N now       N, or all of N-M, takes no more calls: an operator's block, at the end of its call or now
+  undrain N                  takes that back
   codec N CODEC TYPE         pcma, pcmu, g726-16, g726-24, g726-32, g726-40 and an RTP payload type, from now on
   status, status json        the table, or all of it as one line of JSON
   status N                   the row of circuit N
@@ -32,7 +34,7 @@ from dataclasses import dataclass, field
 from typing import TYPE_CHECKING
 
 from ..metrics import circuit_table
-from ..session import Codec, Command, circuit_of, codec_record, command_record
+from ..session import Codec, Command, circuit_of, circuits_of, codec_record
 from .decisions import who_goes
 
 if TYPE_CHECKING:
@@ -118,12 +120,26 @@ class CommandServer:
                 return await self._trunk.trunk.reload(words[1:] == ['force'])
             case ['role' | 'promote' | 'demote' | 'move' as word]:
                 return await self._trunk.trunk.role(word)
+            case ['drain', _] | ['drain', _, 'now'] | ['undrain', _]:
+                return await self._obey_drain(*words)
             case ['quit']:
                 return self._trunk.trunk.ends()
             case [name, *rest] if name in COMMANDS or name == 'codec':
                 return await self._obey_circuit(name, rest)
-        return (f'{words[0][:40]}: no such command; there are {", ".join(COMMANDS)}, codec, status, events, on-loss, '
-                'role, promote, demote, move, reload, quit and help')
+        return (f'{words[0][:40]}: no such command; there are {", ".join(COMMANDS)}, drain, undrain, codec, status, '
+                'events, on-loss, role, promote, demote, move, reload, quit and help')
+
+    async def _obey_drain(self, name: str, word: str, *now: str) -> str:
+        """An operator takes circuits, or gives them back."""
+        trunk, front = self._trunk, f'{name} {word[:40]}: '
+        try:
+            circuits = circuits_of(word)
+        except ValueError:
+            return f'{front}circuits are 1 to 30'
+        if trunk.trunk.stands_by():
+            return f'{front}the other machine is to carry the trunk'
+        told = await (trunk.drains.take(circuits, bool(now)) if name == 'drain' else trunk.drains.give_back(circuits))
+        return '\n'.join(f'{front}{line}' for line in told)
 
     async def _obey_circuit(self, name: str, words: list[str]) -> str:
         trunk = self._trunk
@@ -138,11 +154,13 @@ class CommandServer:
                 return front + fault
             record = codec_record(circuit, CODECS[words[1]], int(words[2]))
         else:
-            if COMMANDS[name] is Command.SEIZE and (fault := trunk.status.outage()):
-                # The gateway would do it; no exchange could see it, and 200 ms later it would be released.
+            command = COMMANDS[name]
+            # (No exchange could see a seizure in an outage, and 200 ms later it would be released.)
+            outage = trunk.status.outage() if command is Command.SEIZE else None
+            if fault := trunk.drains.refusal(circuit, command) or outage:
                 trunk.count(circuit, name, fault)
                 return front + fault
-            record = command_record(circuit, COMMANDS[name])
+            return front + await trunk.give(circuit, command)
         return front + await trunk.command(record, circuit, ' '.join([name, *words[1:]]))
 
 

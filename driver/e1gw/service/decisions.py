@@ -40,7 +40,7 @@ class Act(Enum):
 
     START = 'another one starts'
     GO_BACK = 'one of the version before starts'
-    ANEW = 'one starts on a new log'
+    NEW_LOG = 'one starts on a new log'
     TAKE_LOG = 'the one that has the log ends, and another one starts'
     REOPEN = 'the trunk is opened again'
     STAND_BY = 'the other machine carries the trunk'
@@ -121,7 +121,7 @@ def after_end(end: ProgramEnd) -> NextStep:
 def _never_up(end: ProgramEnd) -> NextStep:
     """One that did not come to carry the trunk."""
     if end.fault is ProgramFault.LOG_LOST:
-        return NextStep(Act.ANEW, end.deaths, end.trial)
+        return NextStep(Act.NEW_LOG, end.deaths, end.trial)
     if end.fault is ProgramFault.LOG_IN_USE:
         return NextStep(Act.TAKE_LOG, end.deaths, end.trial)
     if end.trial:
@@ -131,7 +131,7 @@ def _never_up(end: ProgramEnd) -> NextStep:
     if end.is_first:
         return NextStep(Act.FINISH, end.deaths, status=1)
     step = _died(end)               # (of a log with which each one dies none is to be had)
-    return replace(step, act=Act.ANEW, pause=0.0) if end.is_killed and step.pause else step
+    return replace(step, act=Act.NEW_LOG, pause=0.0) if end.is_killed and step.pause else step
 
 
 def _died(end: ProgramEnd) -> NextStep:

@@ -9,12 +9,12 @@ import queue
 import sys
 import threading
 import time
+from collections import deque
 from contextlib import suppress
 from typing import Any, Callable, TextIO
 
 from ..calls import KEPT, MOST_OCTETS
-from ..events import NOTICED, WARNED, words_of
-from ..lines import Event, State
+from ..events import Event, Level, Report
 from ..writers import open_to_append
 from .journal import MOST_WAITING, NOTICE
 
@@ -53,6 +53,7 @@ class EventFile:
     def __init__(self, name: str, file: TextIO | str, ended: Callable[[str, str], None], head: str = '') -> None:
         self._name, self._file, self._ended, self._head, self._has_ended = name, file, ended, head, False
         self._lines = queue.Queue[str | None](MOST_WAITING)
+        self.waiting = deque[str]()             # lines that may not be written yet
         self._thread = threading.Thread(target=self._write, daemon=True)
         self._thread.start()
 
@@ -66,6 +67,7 @@ class EventFile:
             setattr(handler, 'handleError', self._failed)
             while not self._has_ended and (line := self._lines.get()) is not None:
                 handler.handle(logging.makeLogRecord({'msg': line}))
+                self.waiting.popleft()
             handler.close()
         except OSError:
             self._failed()
@@ -82,6 +84,7 @@ class EventFile:
     def put(self, line: str) -> None:
         if not self._has_ended:
             try:
+                self.waiting.append(line)
                 self._lines.put_nowait(line)
             except queue.Full:
                 self._end('it takes too little')
@@ -93,13 +96,13 @@ class EventFile:
         self._thread.join(FLUSH)
 
 
-def json_line(event: Event) -> str:
-    return json.dumps({'time': round(time.time(), 6), **event})
+def json_line(report: Report, **more: object) -> str:
+    """A report as a line, with more that it need not say itself."""
+    return json.dumps({'time': round(time.time(), 6), **more, **report.plain()})
 
 
 def tell_journal(event: Event) -> None:
     """What an operator is to read."""
-    name = event['event']
-    if name in WARNED or name in NOTICED or name == 'state' and event['state'] == State.FAULT:
-        level = NOTICE if name in NOTICED and not event.get('on') else logging.WARNING
-        logger.log(level, '%s', words_of(event), extra={'kind': name})
+    if (level := event.level()) is not Level.SILENT:
+        number = NOTICE if level is Level.NOTICE else logging.WARNING
+        logger.log(number, '%s', event.words(), extra={'kind': event.name})

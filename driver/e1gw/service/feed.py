@@ -15,16 +15,17 @@ from typing import Any, Callable
 
 from ..faults import words_of_fault
 from ..lines import law_of, read_config, tables_of
+from .drains import KeptDrains
 from .log_folder import STATE_ROOM, FolderReader, LogBegun, LogFiles, LogPiece
 from .program import TrunkProgram
 from .reader import LogReader
 
-FORMAT, VERSION = 'e1gw_feed', 6
+FORMAT, VERSION = 'e1gw_feed', 7
 PIECE = struct.Struct('>di')    # before a piece: when it was all that the log had, or 0, and how many octets follow
 # In place of the latter: nothing follows; it may have the trunk; it is to carry it; another state follows; it is to
-# carry it no more, since it was silent.
-END, YOURS, GO, STATE, BACK = -1, -2, -3, -4, -5
-LENGTH = struct.Struct('>I')    # octets of that state
+# carry it no more, since it was silent; the circuits that the operator has blocked follow, each a bit.
+END, YOURS, GO, STATE, BACK, DRAINS = -1, -2, -3, -4, -5, -6
+LENGTH = struct.Struct('>I')    # octets of that state, or those bits
 MARK = struct.Struct('>d')      # what a standby says: the time of the last piece, up to which it has all, or 0
 TAKES, CARRIES = -1.0, -2.0     # in place of that: it takes the trunk, again and again until it carries it
 NOTHING = b'no trunk\n'         # in place of a head, where there is none
@@ -87,8 +88,9 @@ class FeedServer:
     there is a context for that."""
 
     def __init__(self, peer: str, program: Callable[[], TrunkProgram | None], reader: Callable[[], LogReader],
-                 zero: Callable[[], int], context: ssl.SSLContext | None = None) -> None:
+                 zero: Callable[[], int], drains: KeptDrains, context: ssl.SSLContext | None = None) -> None:
         self._peer, self._program, self._reader, self._zero, self._context = peer, program, reader, zero, context
+        self._drains, self._said_drains = drains, -1        # .. as it was said last
         self._writer: asyncio.StreamWriter | None = None        # to the standby that is fed
         self._said = self._fresh = 0.0          # when it has said something, and up to when it has all
         self.hands_over = False                 # at the end of the program
@@ -169,11 +171,19 @@ class FeedServer:
         head = FeedHead(law, circuits, program.process.pid, pair.place, self._reader().octets_at(pair), self._zero(),
                         len(pair.state))
         writer.write(head.spell() + pair.state)
-        self._due = 0.0
+        self._due, self._said_drains = 0.0, -1
         return FolderReader(files, pair.place)
+
+    def _say_drains(self, writer: asyncio.StreamWriter) -> None:
+        """Which circuits the operator has blocked, if that is not said yet."""
+        bits = sum(1 << n for n in self._drains.now.circuits)
+        if bits != self._said_drains:
+            writer.write(PIECE.pack(0.0, DRAINS) + LENGTH.pack(bits))
+            self._said_drains = bits
 
     def _goes_on(self, log: FolderReader, writer: asyncio.StreamWriter, now: float) -> bool:
         """Sends what the log has now; whether that is anything. EOFError if a part of it was written over."""
+        self._say_drains(writer)
         news = log.look()
         for each in news:
             if isinstance(each, LogBegun):

@@ -197,6 +197,7 @@ async def carrier_of(wants: TrunkWants, places: ProgramPlaces, left: Left, hando
     if how is Takeover.ADOPT:
         carrier.program = TrunkProgram.adopted(version, places, left.pid)
         carrier.program.begun = note.begun if note else 0
+        carrier.taken.take_up(version, note.taken if note else ())
     return carrier
 
 
@@ -207,7 +208,7 @@ def takes_up(carrier: TrunkCarrier, left: Left) -> None:
     carrier.silent -= silence_of(carrier.places.log)
     if left.note:
         calls = left.note.calls
-        carrier.read, carrier.calls = (left.note.place, left.note.octets), lambda: calls
+        carrier.read, carrier.calls = left.note.read, lambda: calls
 
 
 def silence_of(log: str) -> float:
@@ -224,11 +225,11 @@ async def version_for(wants: TrunkWants, places: ProgramPlaces, left: Left, how:
 
     def before() -> ProgramVersion:
         return version_left(wants.program, config, note.senders if note else wants.senders or 'any',
-                            note.program if note else '', left.pid)
+                            note.program if note else '', wants.wait, left.pid)
     if how is Takeover.ADOPT and config:
         return before()
     try:
-        return await version_of_now(wants.program, wants.config, wants.senders)
+        return await version_of_now(wants.program, wants.config, wants.senders, wants.wait)
     except VersionRefused as fault:
         if not (config and left.log):
             raise

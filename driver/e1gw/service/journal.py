@@ -1,5 +1,5 @@
 """Lines for the operator, by the logging of Python: one thread writes them, so no slow disk or reader is waited for.
-The level of a module is set as anywhere: logging.getLogger('e1gw.service.lifecycle').setLevel(..)."""
+--debug has tracebacks, too."""
 from __future__ import annotations
 
 import logging
@@ -40,7 +40,7 @@ class LineLimit(logging.Filter):
 
 
 class LineFormatter(logging.Formatter):
-    """The level where the journal of systemd reads it (systemd.exec(5)), else the name of the program."""
+    """Before each line the level where the journal of systemd reads it (systemd.exec(5)), else the program's name."""
 
     def __init__(self, name: str) -> None:
         super().__init__()
@@ -50,7 +50,7 @@ class LineFormatter(logging.Formatter):
 
     def format(self, record: logging.LogRecord) -> str:
         front = f'<{LEVELS.get(record.levelno, 6)}>' if self._has_levels else f'{self._name}: '
-        return f'{front}{super().format(record)}'
+        return front + super().format(record).replace('\n', f'\n{front}')
 
 
 class ServiceJournal:

@@ -16,17 +16,20 @@ from math import inf
 from typing import TYPE_CHECKING, Callable
 
 from ..calls import CallsNote
+from ..events import TrunkLost
 from ..explain import config_words, gateway_words
 from ..faults import words_of_fault
+from ..lines import SEIZURE_WAIT
 from ..writers import put_file
 from .decisions import Act, Deaths, NextStep, ProgramEnd, ProgramFault, Wish, after_end
+from .drains import KeptDrains
 from .journal import NOTICE
 from .log_folder import LogPair, LogWriter
 from .note import ServiceNote
 from .ports import TakenPorts
 from .process import start_of
-from .program import ProgramPlaces, TrunkProgram, end_left
-from .reader import LogReader
+from .program import ProgramPlaces, TrunkProgram, config_in, end_left
+from .reader import LogReader, ReadingNote
 from .trunk import LineOptions, TrunkFiles, again, either
 from .version import ProgramVersion, VersionHistory
 
@@ -60,7 +63,9 @@ class TrunkWants:
     tell: str | None = None
     state: str | None = None
     words: list[str] = field(default_factory=list)
+    wait: int = SEIZURE_WAIT
     totals: bool = False
+    drains: str = ''            # the file of the circuits that the operator has blocked
 
 
 class TrunkCarrier:
@@ -75,16 +80,16 @@ class TrunkCarrier:
         self.calls: Callable[[], CallsNote | None] = lambda: None       # those that are to be noted
         self.wish, self.ending = Wish.NONE, ''  # why the program of now is to end; in words, why no other one follows
         self.is_loaded = False                  # the log has begun with a state that was stored
-        self.read = -1, 0                       # up to where the log was read before, and the octet of the trunk there
+        self.read = ReadingNote()               # what was noted of the reading of the log before
         self.why, self.lost = 'begins', ''      # in words, of the next program
         self._gone: LogPair | None = None       # what a log had that was taken away
         self.status: int | None = None
         self.was_up = self.has_carried = False  # a program was up; one was since this machine is to carry the trunk
-        self.ends, self.wake = asyncio.Event(), asyncio.Event()
+        self.ends, self.wake, self.taken = asyncio.Event(), asyncio.Event(), TakenPorts()
         self._handover, self.notifier = handover, notifier
         self._noted = -inf, trunk.note()        # when it was noted last what the next service has to know, and this
         self.silent, self._due = time.monotonic(), 0.0
-        self._deaths, self._totals, self._taken = Deaths(), Counter[str](), TakenPorts()
+        self._deaths, self._totals, self.drains = Deaths(), Counter[str](), KeptDrains(wants.drains)
         trunk.place = self.place
 
     # ---- from the beginning to the end ----
@@ -124,7 +129,7 @@ class TrunkCarrier:
         self.note()
         self.program = program = TrunkProgram.started(
             self.versions.now, self.places, self.trunk.both,
-            ['--senders', self.versions.now.senders, *self.wants.words], self._taken)
+            ['--senders', self.versions.now.senders, *self.wants.words], self.taken)
         program.begun = self.reader.octets
         if self.wish in (Wish.RELOAD, Wish.RENEW):      # (this is the one that was wanted)
             self.wish = Wish.NONE
@@ -144,8 +149,11 @@ class TrunkCarrier:
             if self._gone:
                 renew_log(self.places.log, self._gone)
                 self._gone = None
+        config = self.versions.now.config_octets()
+        if config_in(self.places) not in (b'', config):
+            self.reader.first = self.reader.octets
         with suppress(OSError):             # (a folder that is full: then it is the one before)
-            put_file(self.places.config, self.versions.now.config_octets(), 0o600)
+            put_file(self.places.config, config, 0o600)
 
     def _goes_on(self, program: TrunkProgram) -> None:
         """A program is up."""
@@ -181,7 +189,7 @@ class TrunkCarrier:
         now = time.monotonic()
         self.versions.look(now)
         self._pass_on(program)
-        if now >= self._due and program.lacks() or self._taken.are_free(program.version, now):
+        if now >= self._due and program.lacks() or self.taken.are_free(program.version, now):
             self._due = now + APART     # (another program has them, once a minute at most)
             self.wish = Wish.RENEW
         if now >= self._noted[0] + NOTED or self.trunk.note() != self._noted[1]:
@@ -200,7 +208,7 @@ class TrunkCarrier:
         self._totals += program.process.totals()
         end, failure = self._end_of(program, hangs), self.trunk.failure()
         if end.fault is ProgramFault.SOCKET and self.was_up and not end.trial and (self.has_carried or not self.pair):
-            self._taken.look(self.versions.now, end.now)
+            self.taken.look(self.versions.now, end.now)
         is_asked = end.wish is not Wish.NONE and end.is_well
         self.why, self.lost = str(end.wish.value) if is_asked else f'the program {words}', \
             '' if end.is_well or not end.was_up else LOST
@@ -233,7 +241,7 @@ class TrunkCarrier:
         if step.act is Act.REOPEN:
             self.why = failure
             logger.warning('%s, behind octet %d; it is opened again', failure, self.place())
-            self.trunk.tell({'event': 'trunk lost', 'why': failure})
+            self.trunk.tell(TrunkLost(failure))
             await self.trunk.finish()
             self.trunk.fault = failure
         elif step.act is Act.GO_BACK:
@@ -241,7 +249,7 @@ class TrunkCarrier:
         elif step.act is Act.TAKE_LOG:
             logger.warning('%s: that one ends', self.why)
             await end_left(self.places, GRACE)
-        elif step.act is Act.ANEW:
+        elif step.act is Act.NEW_LOG:
             logger.error('%s: the log is put aside, and a new one begins', self.why)
             put_aside(self.places.log)
             self.lost = ANEW
@@ -304,12 +312,11 @@ class TrunkCarrier:
         """Notes what the next service has to know and to have if this one ends; nothing of a trunk that has ended."""
         if self.status is not None:
             return
-        program, reader, self._noted = self.program, self.reader, (time.monotonic(), self.trunk.note())
-        version = self.version()
-        place, octets = reader.noted()
+        reader, version, self._noted = self.reader, self.version(), (time.monotonic(), self.trunk.note())
+        begun = self.program.begun if self.program else reader.octets
         self._handover.put(ServiceNote(
             self.wants.opens, os.getpid(), start_of(os.getpid()), version.senders, version.name,
-            self.pair is None or self.pair.is_active, self.was_up, program.begun if program else 0, place, octets,
+            self.pair is None or self.pair.is_active, self.was_up, begun, reader.noted(), (*self.taken.circuits,),
             self._noted[1], reader.recording_note(), self.calls()), self.trunk.files)
 
 

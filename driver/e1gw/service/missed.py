@@ -15,21 +15,42 @@ from .program import SOON, connected
 from .version import ProgramVersion
 
 PATIENCE = 10.0             # seconds in which the log is read again
-PIECE = 4096                # octets that are given at once: what is told of them has room at the other end
+PIECE = 4096                # octets that are written at once: the reports of them have room in the socket
 
 
 @dataclass(frozen=True)
 class MissedReports:
-    """Reports (e1gw-tell(5)) from an octet of the trunk on, up to another one."""
+    """Reports (e1gw-tell(5)) from an octet of the trunk on, up to another one. Of these the ones behind `since` were
+    missed; `is_new` if another machine or configuration begins there."""
 
+    since: int
+    is_new: bool
     first: int
     last: int
     text: bytes
 
-    def known_to(self, octet: int) -> bytes:
-        """The part of them up to this octet."""
-        ats = re.finditer(rb'^at (\d+)$', self.text, re.M)
-        return self.text[:next((at.start() for at in ats if self.first + int(at[1]) > octet), len(self.text))]
+    def reaches(self) -> bool:
+        """Whether they have all that was missed."""
+        return self.first <= self.since
+
+    def _ats(self) -> list[tuple[int, int]]:
+        """Each octet in them, and where in the text that is."""
+        return [(self.first + int(at[1]), at.start()) for at in re.finditer(rb'^at (\d+)$', self.text, re.M)]
+
+    def parts(self, last: int) -> tuple[bytes, bytes, bytes]:
+        """What a client is told that connects where something was missed: up to the alarms, then of the circuits, and
+        what changes up to this octet."""
+        ats = self._ats()           # (the first one is behind a record)
+        since = max(self.since, ats[0][0])
+        at, end = (next((start for octet, start in ats if octet > most), len(self.text)) for most in (since, last))
+        head, state = [b'', b'at %d' % (since - self.first), b''], dict[tuple[bytes, ...], bytes]()
+        for line in self.text[:at].splitlines(keepends=True):
+            words = line.split()
+            if words[0] in (b'e1gw', b'alarms'):
+                head[2 * (words[0] == b'alarms')] = line.rstrip()
+            elif words[0] in (b'line', b'counts'):
+                state[(*words[:2],)] = line
+        return b'\n'.join([*head, b'']), b''.join(state.values()), b'now\n' + self.text[at:max(at, end)]
 
 
 async def told_again(version: ProgramVersion, pairs: list[LogPair], folder: str) -> bytes:
@@ -66,7 +87,7 @@ async def connects(path: str) -> socket.socket:
 
 
 def passed(line: socket.socket, given: int, octets: bytes) -> bytes:
-    """Gives octets, and takes all that is told, to its end."""
+    """Writes octets to a replay, and reads all its reports."""
     told, waits = b'', memoryview(octets)
     os.set_blocking(given, False)
     null = os.open(os.devnull, os.O_RDONLY)
@@ -75,7 +96,7 @@ def passed(line: socket.socket, given: int, octets: bytes) -> bytes:
             reads, writes, _ = select.select([line], [given] if waits else [], [], PATIENCE)
             if not reads and not writes:
                 raise OSError(0, 'the log is not read again in time')
-            if reads:           # (first: what is told waits as long as there is room alone)
+            if reads:           # (first: the replay waits for nobody while the socket has room)
                 if not (piece := line.recv(1 << 20)):
                     return told
                 told += piece

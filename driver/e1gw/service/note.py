@@ -11,6 +11,7 @@ from typing import Any, Union, get_args, get_origin, get_type_hints
 
 from ..calls import CallsNote
 from .process import start_of
+from .reader import ReadingNote
 from .recordings import RecordingNote
 from .trunk import TrunkNote
 
@@ -28,9 +29,9 @@ class ServiceNote:
     program: str
     is_active: bool             # this machine is to carry the trunk
     was_up: bool                # a program has carried it
-    begun: int                  # the octet of the trunk with which that of now has begun
-    place: int                  # up to where the log is read, and the octet of the trunk there
-    octets: int
+    begun: int                  # the octet of the trunk with which that of now has begun, or the next one will
+    read: ReadingNote
+    taken: tuple[int, ...]      # circuits whose ports it does not have
     trunk: TrunkNote
     recording: RecordingNote | None
     calls: CallsNote | None

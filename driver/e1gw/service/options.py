@@ -3,6 +3,7 @@ from __future__ import annotations
 
 import argparse
 import os
+import shlex
 import zlib
 from dataclasses import replace
 from typing import Callable
@@ -12,7 +13,7 @@ from ..card_opening import open_device
 from ..clearing import on_loss_of
 from ..dahdi import FRAMES_A_MS, MOST_BUFFERS, MOST_FRAMES, Blocks
 from ..faults import checked, named, number
-from ..lines import SEIZURE_WAIT, wait_words
+from ..lines import SEIZURE_WAIT
 from ..programs import SENDERS, proved_program_of
 from ..recording_ring import seconds_of
 from ..trunks import Stream, host_and_port, open_tcp, open_unix
@@ -24,6 +25,7 @@ from .trunk import LineOptions
 from .watch import WatchWants
 
 WATCHED = 'control', 'http', 'json', 'calls'      # what an operator may have of a trunk
+KEPT = '/var/lib/e1gw'      # where e1gw-call looks by itself
 LONGEST_NAME = 'program'    # of a socket in the folder
 BLOCK, BUFFERS = 16, 16     # of a DAHDI card: frames of a block, and how many there are
 
@@ -40,6 +42,7 @@ def add_options(words: argparse.ArgumentParser) -> None:
     add_pair(words.add_argument_group('two machines'))
     words.add_argument('--folder', metavar='DIR', help='where its sockets are, in memory [default: '
                        f'RUNTIME_DIRECTORY, or {MEMORY}]')
+    words.add_argument('--debug', action='store_true', help='reports faults with their tracebacks, too')
     words.add_argument('--program-control', metavar='SOCKET', help='where the program takes records, e1gw(1)')
     words.add_argument('--tell', metavar='SOCKET', help='where clients get the state of the trunk, e1gw-tell(5)')
 
@@ -88,10 +91,10 @@ def add_reports(words: argparse._ArgumentGroup) -> None:
                        help='keep, clear SECONDS, or block SECONDS: what is done with the calls when the last '
                        'control client that asked for it is gone [default: keep]')
     words.add_argument('--http', type=checked(host_and_port), metavar='HOST:PORT',
-                       help='serves /metrics (Prometheus), /status (JSON), /table and / (the table, or the picture)')
+                       help='serves a page (/; /trunks), /table, /metrics (Prometheus), /status (JSON)')
     words.add_argument('--json', metavar='FILE', help='a line of JSON for each change; - is standard output')
     words.add_argument('--picture', type=number(10, 3600, float), metavar='SECONDS',
-                       help='/ is a picture of the last seconds, 10 to 3600, of what --keep has; wants both')
+                       help='/picture shows the last seconds, 10 to 3600, of what --keep has; wants both')
 
 
 def add_kept(words: argparse._ArgumentGroup) -> None:
@@ -138,11 +141,21 @@ def recording_of(asked: argparse.Namespace) -> RecordingWants | None:
                           asked.seizure_wait) if asked.session else None
 
 
+def kept_of(asked: argparse.Namespace) -> str | None:
+    """The words by which e1gw-call finds a call behind its id; None if calls are not kept."""
+    if not (asked.keep and asked.calls):
+        return None
+    folder, calls = os.path.abspath(asked.session), os.path.abspath(asked.calls)
+    is_usual = calls == os.path.join(folder, 'calls.csv')
+    return f' {shlex.quote(folder)}' * (not is_usual or os.path.dirname(folder) != KEPT) \
+        + f' --calls {shlex.quote(calls)}' * (not is_usual)
+
+
 def watched_of(asked: argparse.Namespace, program: str) -> WatchWants:
     """What an operator wants to have of it, drawn by this program."""
     picture = ['--last', f'{asked.picture}s', '--title', name_of(asked), '--refresh', '10', '--program', program,
                os.path.abspath(asked.session)] if asked.picture else []
-    return WatchWants(name=name_of(asked), picture=picture, **{
+    return WatchWants(name=name_of(asked), picture=picture, kept=kept_of(asked), **{
         each: getattr(asked, each) for each in (*WATCHED, 'control_mode', 'control_group', 'dark', 'on_loss')})
 
 
@@ -195,8 +208,9 @@ def wants_of(asked: argparse.Namespace) -> TrunkWants:
             raise ValueError(f'{path}: a path of a socket has {MOST_PATH} octets at most')
     program = proved_program_of(asked.program)
     state = None if asked.standby else asked.state      # (the other machine may have gone on from it)
+    drains = f'{asked.state}.drains' if asked.state else os.path.join(folder, 'drains')
     return TrunkWants(program, asked.config, asked.senders, replace(line, program=program), folder, opens_of(asked),
                       asked.program_control, asked.tell, state,
                       [*['--repeat', str(asked.repeat)] * (asked.repeat > 0), *['--align'] * asked.align,
-                       *['--crc4', '--live'] * asked.crc4, *['--slots', '1-31'] * asked.clear,
-                       *wait_words(asked.seizure_wait)], asked.totals)
+                       *['--crc4', '--live'] * asked.crc4, *['--slots', '1-31'] * asked.clear], asked.seizure_wait,
+                       asked.totals, drains)

@@ -10,6 +10,7 @@ import time
 from ipaddress import ip_address
 from typing import Any
 
+from ..events import RoleGiven
 from ..faults import words_of_fault
 from ..tls import add_tls, context_of, is_exposed
 from ..trunks import host_and_port
@@ -19,7 +20,7 @@ from .lifecycle import ANEW, GRACE, TICK, TrunkCarrier
 from .handover import CannotBegin
 from .note import ServiceNote
 from .standby import FedLog, TrunkStandby
-from .trunk import either
+from .trunk import Tasks, either
 
 PATIENCE = 30.0             # seconds for a promotion or its reverse
 NOT_TAKEN = 'the standby did not take the trunk, and this machine carries it again'
@@ -41,7 +42,8 @@ class TrunkPair:
     def __init__(self, carrier: TrunkCarrier, standby: TrunkStandby, feed: FeedServer, is_active: bool) -> None:
         self._carrier, self.standby, self.feed = carrier, standby, feed
         self.is_active, self._stands, self._has_taken_back = is_active, not is_active, False
-        standby.is_handed, standby.carries = self.goes, self._carries
+        standby.is_handed, standby.carries, standby.drains = self.goes, self._carries, self._drained
+        self._tasks = Tasks()
 
     async def stand_by(self) -> None:
         """Gives the trunk up, and is fed until this machine is promoted or the end is asked for."""
@@ -64,7 +66,7 @@ class TrunkPair:
             follows.cancel()
             await asyncio.wait([follows])
         if not carrier.ending:
-            carrier.trunk.tell({'event': 'role', 'role': 'active'})
+            carrier.trunk.tell(RoleGiven('active'))
             await self._take_over()
         standby.knows(None)
         if carrier.ending:
@@ -86,7 +88,7 @@ class TrunkPair:
         carrier.reader.rests = True
         carrier.ends.clear()
         carrier.notifier.tell('READY=1', 'STATUS=standby')
-        carrier.trunk.tell({'event': 'role', 'role': 'standby'})
+        carrier.trunk.tell(RoleGiven('standby'))
 
     async def _take_over(self) -> None:
         """The next program begins with the log that this standby has."""
@@ -144,6 +146,10 @@ class TrunkPair:
                 'feed_age': age and round(age, 3), **({} if not self._stands else {
                     'feed_fault': standby.why or None, 'differs': standby.fed.circuits if standby.fed else []})}
 
+    def _drained(self, circuits: list[int]) -> None:
+        """The operator has blocked these at the other machine."""
+        self._tasks.begin((kept := self._carrier.drains).put(kept.now.only(circuits)))
+
     def _carries(self) -> bool:
         its = self._carrier.program
         return bool(its and its.is_up and not its.process.over.is_set())
@@ -170,7 +176,7 @@ async def open_pair(asked: argparse.Namespace, carrier: TrunkCarrier, note: Serv
     (host, port), other = places
     files = asked.tls or ()
     feed = FeedServer(other[0], lambda: carrier.program, lambda: carrier.reader, lambda: carrier.trunk.zero,
-                      context_of(files, True))
+                      carrier.drains, context_of(files, True))
     try:
         await asyncio.start_server(feed.came, host, port)
     except OSError as fault:

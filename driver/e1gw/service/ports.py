@@ -34,6 +34,14 @@ class TakenPorts:
         self._version: ProgramVersion | None = None
         self._circuits, self._due = frozenset[int](), inf
 
+    @property
+    def circuits(self) -> frozenset[int]:
+        return self._circuits
+
+    def take_up(self, version: ProgramVersion, circuits: Collection[int]) -> None:
+        """A program of this version goes on without the ports of these circuits."""
+        self._version, self._circuits, self._due = version, frozenset(circuits), 0.0
+
     def look(self, version: ProgramVersion, now: float) -> None:
         """Looks which ones others have now, while there is no program, and tells of those that are not known."""
         before = self._circuits if version is self._version else frozenset()

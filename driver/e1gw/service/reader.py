@@ -7,7 +7,7 @@ import logging
 import os
 import time
 from contextlib import suppress
-from dataclasses import replace
+from dataclasses import dataclass, replace
 from typing import Callable, Sequence
 
 from ..clock import TICK, Clock, ClockFinding
@@ -21,8 +21,21 @@ from .trunk import again
 AGAIN = 60.0                # seconds between two looks whether a ring that has ended can be written again
 MOST_LOST = 0.008           # seconds of the trunk that a program had in hand
 MOST_WAIT = 0.25            # seconds for which a program waits for a recording
+MOST_FOUND = 4              # pairs of a log, of some more than 1 MiB each
 
 logger = logging.getLogger(__name__)
+
+
+@dataclass(frozen=True)
+class ReadingNote:
+    """What the next service has to know of the reading: up to which place of the log that is, and the octet of the
+    trunk there; the octet from which on the log is of this machine, and of one configuration; and the octets with which
+    the last programs began, each with the time of day."""
+
+    place: int = -1
+    octets: int = 0
+    first: int = 0
+    starts: tuple[tuple[int, float], ...] = ()
 
 
 class LogReader:
@@ -38,6 +51,7 @@ class LogReader:
         self.octets = 0                         # of the trunk, up to now
         self.rests = False                      # the other machine carries the trunk
         self.is_loaded = False                  # the log has begun with a state that was kept elsewhere
+        self.first, self.starts = 0, ReadingNote().starts       # (see there)
         self._folder, self._wants, self._note, self._config = folder, wants, note, config
         self._files: LogFiles | None = None
         self._reader: FolderReader | None = None
@@ -45,14 +59,14 @@ class LogReader:
         self._recording: TrunkRecording | None = None
         self._begun: int | None = None          # the octet of the trunk with which the file of now begins, if any
         self._lost, self._is_cut, self._retry = 0.0, False, asyncio.Event()
-        self._found = list[LogPair]()           # what the log had when this service began
+        self._found = list[LogPair]()           # what the log had when this service, and programs, began
 
     # ---- the log ----
 
-    def take_up(self, read: tuple[int, int], left: RecordingNote | None) -> None:
+    def take_up(self, read: ReadingNote, left: RecordingNote | None) -> None:
         """Begins, where the service before this one was, and with the recording that it has left if it made the same
         and the log has what that lacks."""
-        self._place, self.octets = read
+        self._place, self.octets, self.first, self.starts = read.place, read.octets, read.first, read.starts
         self._found = self._pairs()
         if not (wants := self._wants):
             return
@@ -100,8 +114,9 @@ class LogReader:
         return [*zip(ats, pairs)][first:]
 
     def _pairs(self) -> list[LogPair]:
-        """What the log has now."""
-        return [*filter(None, map(self._files.pair, (0, 1)))] if self.has_log() and self._files else []
+        """What the log has now, the older one first."""
+        found = filter(None, map(self._files.pair, (0, 1))) if self.has_log() and self._files else ()
+        return sorted(found, key=lambda pair: pair.turn)
 
     def octets_at(self, pair: LogPair, pairs: Sequence[LogPair] = ()) -> int:
         """The octet of the trunk at the state of a pair that was read behind the last look, by what was read behind it:
@@ -125,6 +140,7 @@ class LogReader:
         """Another log begins, or goes on where another machine was."""
         self._close()
         (self._place, self.octets), self.is_loaded, self._begun, self.rests = read, is_loaded, None, False
+        self.first, self._found = self.octets, []
 
     def follows(self, lost: bool) -> None:
         """Another program follows; the one before it may have lost what it had in hand. Another file of a ring begins
@@ -133,17 +149,18 @@ class LogReader:
         self._is_cut = True
 
     async def copied(self) -> None:
-        """Before a program starts, whose first state is written over the older pair: waits a moment until a recording
-        has what is behind that."""
+        """Before a program starts, whose first state is written over the older pair: keeps that for what is to be told
+        of it, and waits a moment until a recording has what is behind."""
         self.look()
+        self._found = [*self._found, *self._pairs()[:-1]][-MOST_FOUND:]
+        self.starts = (*self.starts, (self.octets, time.time()))[-MOST_FOUND:]
         if self._recording and self._reader:
             await self._recording.has(self._reader.base, MOST_WAIT)
 
     # ---- for the service that comes after this one ----
 
-    def noted(self) -> tuple[int, int]:
-        """Up to where the log is read, and the octet of the trunk there."""
-        return self._place, self.octets
+    def noted(self) -> ReadingNote:
+        return ReadingNote(self._place, self.octets, self.first, self.starts)
 
     def recording_note(self) -> RecordingNote | None:
         recording = self._recording

@@ -52,7 +52,7 @@ class ReloadRequests:
         """Has a program of the version of now follow; lines say which calls that ends. And all circuits in a call."""
         carrier, wants = self._carrier, self._carrier.wants
         log, now = self._log(), carrier.versions.now
-        version = await version_of_now(wants.program, wants.config, wants.senders)
+        version = await version_of_now(wants.program, wants.config, wants.senders, wants.wait)
         try:
             (new, _), calls = await version.check(log), await calls_of(now, version, log)
             effects = ReloadEffects(calls, new, now.ports(), version.ports())

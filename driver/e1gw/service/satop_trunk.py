@@ -12,6 +12,7 @@ import time
 from dataclasses import replace
 from typing import Any, Callable, Iterator, Mapping
 
+from ..events import SatopChanged, TrunkLost
 from ..satop import CONDITIONS, SatopCondition, can_send, counts_of
 from ..session import MULTIFRAME
 from ..udp_tables import has_socket
@@ -120,7 +121,7 @@ class SatopTrunk(TrunkFiles):
                 self._why = self._why or (f'{BROKEN}: {words}' if status else ENDED)
                 return shut(self.files['far'])      # (the program is given what has come, and ends behind that)
             self.fault = f'{BROKEN}: {words}'
-            self.tell({'event': 'trunk lost', 'why': self.fault})
+            self.tell(TrunkLost(self.fault))
             await self._begin_again()
             self._tell_open()
 
@@ -166,7 +167,7 @@ class SatopTrunk(TrunkFiles):
             self._counts = counts
             for _, condition, words in self._conditions:
                 if condition.changes(counts):
-                    self.tell({'event': 'satop', 'what': words, 'on': condition.on})
+                    self.tell(SatopChanged(words, condition.on))
 
     def status(self) -> dict[str, Any]:
         return {'trunk': self.name, **self._counts, **{name: int(each.on) for name, each, _ in self._conditions}}

@@ -23,7 +23,7 @@ from ..explain import config_words
 from ..faults import Parser, options_words, words_of_fault
 from ..writers import hold_descriptors
 from .commands import CannotListen
-from .journal import ServiceJournal
+from .journal import TOP, ServiceJournal
 from .lifecycle import GRACE, TrunkCarrier, TrunkWants, store
 from .note import ServiceNote
 from .options import add_options, recording_of, wants_of, watched_of
@@ -62,7 +62,7 @@ async def opened_watch(asked: argparse.Namespace, carrier: TrunkCarrier, request
     """Watches the trunk, with what was noted of its calls. One that cannot listen ends no trunk that `goes_on`."""
     watch = TrunkWatch(watched_of(asked, carrier.wants.program), OperatedTrunk(carrier, requests))
     if note and note.calls:
-        watch.status.take_up(note.calls)
+        watch.take_up(note.calls)
     carrier.calls, watch.status.changed = watch.status.calls_note, carrier.note
     carrier.trunk.tell = watch.tell
     carrier.reader.found, carrier.reader.told = watch.flowed, lambda: watch.status.lines.place
@@ -147,6 +147,8 @@ async def serve(asked: argparse.Namespace, wants: TrunkWants) -> int:
 def status_of(words: list[str], loop: asyncio.AbstractEventLoop) -> int:
     """Serves by a command line; what is wrong is said in one line."""
     asked = parser().parse_args(words)
+    if asked.debug:
+        logging.getLogger(TOP).setLevel(logging.DEBUG)
     try:
         wants = wants_of(asked)
     except ValueError as fault:

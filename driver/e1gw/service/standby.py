@@ -14,12 +14,12 @@ import time
 from contextlib import closing, suppress
 from typing import Callable, Sequence
 
+from ..events import Fed, NotFed, Tell
 from ..faults import words_of_fault
-from ..lines import Event
 from ..session import CIRCUITS, MULTIFRAME, OCTETS_A_SECOND, trunk_record, whole_records
 from ..tls import context_of
-from .feed import (BACK, CARRIES, END, FRESH, GO, LENGTH, MARK, MOST_HEAD, MOST_PIECE, NOTHING, PATIENCE, PIECE, STATE,
-                   TAKES, YOURS, FeedHead, FeedRefused, configured, head_of)
+from .feed import (BACK, CARRIES, DRAINS, END, FRESH, GO, LENGTH, MARK, MOST_HEAD, MOST_PIECE, NOTHING, PATIENCE,
+                   PIECE, STATE, TAKES, YOURS, FeedHead, FeedRefused, configured, head_of)
 from .log_folder import RECORDS_ROOM, STATE_ROOM, LogFiles, LogPair, LogWriter, NoRoom
 from .version import ProgramVersion
 
@@ -146,11 +146,12 @@ class TrunkStandby:
     reports who feeds it."""
 
     def __init__(self, place: tuple[str, int], source: str, tls: Sequence[str], version: Callable[[], ProgramVersion],
-                 folder: str, tell: Callable[[Event], None]) -> None:
+                 folder: str, tell: Tell) -> None:
         self._place, self._source, self._tls, self._version, self._folder = place, source, tls, version, folder
         self._tell, self._by = tell, f'{place[0]}:{place[1]}'
         self.is_handed: Callable[[bool], None] = lambda takes: None     # this machine is to carry the trunk, or no more
         self.carries: Callable[[], bool] = lambda: False        # whether it does
+        self.drains: Callable[[list[int]], None] = lambda circuits: None    # the operator has blocked these there
         self._taking: asyncio.Task[None] | None = None          # what says so to the other machine
         for left in glob.glob(os.path.join(glob.escape(folder), f'{FED}*')):      # (of a service before this one)
             shutil.rmtree(left, ignore_errors=True)
@@ -175,7 +176,7 @@ class TrunkStandby:
                 before, self.why = self.why, 'the feed has ended' if isinstance(fault, EOFError) else \
                     words_of_fault(fault) or f'nothing comes for {PATIENCE:g} s'
                 if self.why != before:
-                    self._tell({'event': 'not fed', 'by': self._by, 'why': self.why})
+                    self._tell(NotFed(self._by, self.why))
             await asyncio.sleep(self._wait)
             self._wait = min(MOST_AGAIN, 2 * self._wait)
 
@@ -230,6 +231,10 @@ class TrunkStandby:
                 if length == STATE:
                     fed.begin(await self._state(reader))
                     continue
+                if length == DRAINS:
+                    bits, = LENGTH.unpack(await reader.readexactly(LENGTH.size))
+                    self.drains([n for n in CIRCUITS if bits >> n & 1])
+                    continue
                 fed.take(await reader.readexactly(max(0, length)))
             if at:
                 fed.is_all(at)
@@ -277,7 +282,7 @@ class TrunkStandby:
         if fed.circuits:
             logger.warning('the other machine has another configuration: the calls of circuits %s will not go on here',
                            ', '.join(map(str, fed.circuits)))
-        self._tell({'event': 'fed', 'by': self._by, 'program': fed.pid})
+        self._tell(Fed(self._by, fed.pid))
 
     def knows(self, fed: FedLog | None) -> None:
         """This is what it knows from now on."""

@@ -10,17 +10,19 @@ import socket
 import time
 from contextlib import suppress
 from dataclasses import replace
-from typing import Any, Callable
+from typing import Any, Callable, Sequence
 
 from ..calls import CallLog, CallsNote
 from ..counts import DatagramCounts
+from ..events import Connected, Disconnected, Flows, LineChanged, Placed, Stalled, Tell
 from ..faults import words_of_fault
-from ..lines import Event, read_config, tables_of
+from ..lines import read_config, tables_of
 from ..call_names import CallNames, note_of
 from ..session import CIRCUITS, OCTETS_A_SECOND, whole_records
 from ..reports import BadTelling, TrunkState
 from . import decisions
 from .decisions import Flow, FlowChange
+from .drains import KeptDrains
 from .lifecycle import TrunkCarrier
 from .program import ProgramPlaces
 from .missed import MissedReports, told_again
@@ -44,6 +46,15 @@ class OperatedTrunk:
     def places(self) -> ProgramPlaces:
         """Where its program is found."""
         return self._carrier.places
+
+    def drains(self) -> KeptDrains:
+        """The circuits that the operator has blocked."""
+        return self._carrier.drains
+
+    def stands_by(self) -> bool:
+        """Whether the other machine is to carry it."""
+        pair = self._carrier.pair
+        return pair is not None and not pair.is_active
 
     def config_path(self) -> str:
         """Of the configuration of the program of now."""
@@ -81,9 +92,14 @@ class OperatedTrunk:
         program = self._carrier.program
         return program.begun if program else 0
 
+    def starts(self) -> Sequence[tuple[int, float]]:
+        """The octets with which programs began, and the time of day."""
+        return self._carrier.reader.starts
+
     async def missed(self, since: int) -> MissedReports | None:
-        """What happened behind an octet of the trunk, as far as the log reaches."""
+        """What happened behind an octet of the trunk, as far as the log of this machine and version reaches."""
         carrier = self._carrier
+        since, is_new = max(since, carrier.reader.first), since <= carrier.reader.first
         pairs = carrier.reader.pairs_since(since)
         if not pairs:
             return None
@@ -92,8 +108,11 @@ class OperatedTrunk:
         except OSError as fault:
             logger.warning('what the calls did meanwhile is not known: %s', words_of_fault(fault))
             return None
+        if not text:                # (no record has come)
+            return None
         first = pairs[0][0]
-        return MissedReports(first, first + sum(whole_records(pair.records)[1] for _, pair in pairs), text)
+        last = first + sum(whole_records(pair.records)[1] for _, pair in pairs)
+        return MissedReports(since, is_new, first, last, text)
 
     def ends(self) -> str:
         asyncio.get_running_loop().call_later(0.01, self._carrier.end, 'quit')
@@ -132,7 +151,7 @@ async def place_told(line: socket.socket) -> int:
 class TrunkStatus:
     """A trunk as its program tells it. `tell` is called with each change, and `put` given the line of each call."""
 
-    def __init__(self, trunk: OperatedTrunk, name: str, tell: Callable[[Event], None], counts: DatagramCounts,
+    def __init__(self, trunk: OperatedTrunk, name: str, tell: Tell, counts: DatagramCounts,
                  put: Callable[[str], None]) -> None:
         self._trunk, self.tell = trunk, tell
         tables = read_config(trunk.config_path())
@@ -151,69 +170,85 @@ class TrunkStatus:
         self._flow = Flow(0, time.monotonic())
         self.changed: Callable[[], None] = lambda: None         # called when calls have changed
         self._has_changed = False
-        self._known: int | None = 0             # up to this octet of the trunk all is known, for who reads the log
-        self._is_next = False                   # another service has known it
-        self._is_caught_up = False              # .. and then what the log says up to the program's first report
-        self._behind = 0.0                      # seconds by which what is told now is late
+        self._is_known = False                  # how the lines stand at the place up to which changes were told
+        self._at = time.time()                  # when that place was told
+        self._is_caught_up = False              # all behind it was read in the log, up to the program's first report
+        self._again = self.lines                # what tells now, and up to which octet, at which time, if it is the log
+        self._until = 0, self._at
+        self.waiting: Callable[[], list[str]] = list    # lines of calls that may not be written yet
         self.lines.lost()
 
     def take_up(self, note: CallsNote) -> None:
         """Goes on with the calls of the service before this one."""
+        self.calls.life = self.naming.known(self.lines.lines)
         self.calls.take_up(note)
-        self.calls.life, self._known = self.naming.known(self.lines.lines), note.place
-        self.lines.place, self._is_next = note.place, True
+        self.lines.place, self._at, self._is_known = note.place, note.at, True
 
     async def _catch_up(self, last: int) -> None:
-        """What happened up to this octet of the trunk while no service was there, or this one did not hear the first
-        program yet, is read in the log, as far as that reaches."""
-        since, self._known = self._known, None
-        missed = await self._trunk.missed(since) if since is not None else None
-        self._is_caught_up = missed is not None and missed.last >= last
-        if since is None or not missed:
+        """What happened up to this octet of the trunk, which comes now, and nobody told, since no service or no program
+        was there, is read in the log, as far as that reaches."""
+        place, self._is_caught_up, self._until = self.lines.place, False, (last, time.time())
+        missed = await self._trunk.missed(place)
+        if not missed or missed.since > missed.last or not (self._is_known or missed.reaches()):
             return
-        if not self._is_next:
-            since = missed.first
-        elif missed.first > since:
+        if not missed.reaches():
             logger.warning('%.1f s of the trunk are not known: their calls may have no line',
-                           (missed.first - since) / OCTETS_A_SECOND)
-
-        def tells(event: Event) -> None:
-            self._behind = (last - event['place']) / OCTETS_A_SECOND
-            if event['place'] > since:
-                self._tells(event)
-        again = TrunkState(read_config(self._trunk.config_path()), tells, DatagramCounts(),
-                           lambda: time.monotonic() - self._behind)
-        again.lines = self.lines.lines
-        again.begin(missed.first)
-        self.calls.counted_by(again.counts)
-        with suppress(BadTelling):
-            again.take(missed.known_to(since))
-            self.naming.known(self.lines.lines)
-            again.take(missed.known_to(last)[len(missed.known_to(since)):])
-        self.lines.place = max(self.lines.place, last)
-        self.calls.look()
+                           (missed.first - missed.since) / OCTETS_A_SECOND)
+        self._again = self.lines.told_again(missed.first, lambda: time.monotonic() - self._behind())
+        self.calls.counted_by(self._again.counts)
+        try:
+            self._take_again(missed)
+            self._is_caught_up = missed.reaches() and missed.last >= last
+        except BadTelling as fault:
+            logger.warning('what the calls did meanwhile is not known: %s', fault)
+        finally:
+            self._again = self.lines
+        (self.lines.place, self._at), self._is_known, self.lines.known = self._until, True, True
         self.calls.counted_by(self.lines.counts)
-        self._behind = 0.0
         self.naming.look(self.lines.lines)
         self._note_calls()
 
+    def _take_again(self, missed: MissedReports) -> None:
+        """Takes what was missed. What differs where it begins was not told yet, or is of another configuration."""
+        again, (alarms, state, changes) = self._again, missed.parts(self._until[0])
+        again.take(alarms)
+        again.known, again.live = self._is_known, self._is_known and missed.reaches() and not missed.is_new
+        again.take(state)
+        again.counts.go_on(self.lines.counts)
+        if not self._is_known:
+            self.calls.life = self.naming.known(self.lines.lines)
+        self.calls.counts_on()
+        again.take(changes)
+
+    def _behind(self) -> float:
+        """By how many seconds that is late which is told now. Octets behind the begin of the program of now came as
+        they come up to now, those before that as they came behind what was told last, or the begin of another one."""
+        place = self._again.place
+        if self._again is self.lines:
+            return 0.0
+        known = [(self.lines.place, self._at), *self._trunk.starts()]
+        octet, at = self._until if place > self._trunk.begun() else max(
+            (each for each in known if each[0] < place), default=known[0])
+        return max(0.0, time.time() - at - (place - octet) / OCTETS_A_SECOND)
+
     def _day(self) -> float:
         """When that was which is told now."""
-        return time.time() - self._behind
+        return time.time() - self._behind()
 
-    def _tells(self, event: Event) -> None:
+    def _tells(self, event: Placed) -> None:
         """The program has told a change of the lines or the alarms."""
         self.tell(event)
-        self._has_changed |= event['event'] == 'state'
-        if event['event'] == 'state' and self.lines.live:
-            self.naming.look(self.lines.lines)
+        if isinstance(event, LineChanged):
+            self._has_changed = True
+            if self.lines.live:
+                self.naming.look(self.lines.lines)
 
     def _note_calls(self) -> None:
-        """Writes the lines of calls that have ended, and has the next service know of changes."""
-        self.calls.look()
-        if self._has_changed:
+        """Has the next service know of changes, and of the lines of calls that have ended, which are written then."""
+        if self._has_changed or self.calls.lines:
             self._has_changed = False
             self.changed()
+        self.calls.give()
 
     # ---- connections ----
 
@@ -226,8 +261,7 @@ class TrunkStatus:
         if has is not self._stands:
             self._stands, self._since = has, time.time()
             why = self._trunk.facts().get('fault') or why
-            self.tell({'event': 'connected', 'to': 'program'} if has else
-                      {'event': 'disconnected', 'from': 'program', 'why': why})
+            self.tell(Connected('program') if has else Disconnected('program', why))
 
     def has_program(self) -> bool:
         """Whether this service is connected with the program."""
@@ -248,29 +282,34 @@ class TrunkStatus:
             line = socket.socket(socket.AF_UNIX)
             try:
                 line.setblocking(False)
-                self._session = self._trunk.session()
+                session = self._trunk.session()
                 line.connect(self._trunk.places().tell)
-                await self._catch_up(self._trunk.begun() + await place_told(line))
-                self._came(line)
-                while self._takes(line, 1 << 16):
+                await self.came(line, session, self._trunk.begun() + await place_told(line))
+                while self.takes(line, 1 << 16):
                     await self._rest()
                     await readable(line)
             except OSError as fault:
                 self._why = words_of_fault(fault)
             finally:
                 line.close()
-                self._line = None
-            self.lines.lost()
-            self.calls.left()
-            self.stands('reports', False, f'{self._trunk.places().tell}: {self._why}')
+            self.left()
             await asyncio.sleep(AGAIN)
 
-    def _takes(self, line: socket.socket, most: int) -> bool:
+    def left(self) -> None:
+        """The connection has ended."""
+        self._line = None
+        self.lines.lost()
+        self.calls.left()
+        self.stands('reports', False, f'{self._trunk.places().tell}: {self._why}')
+
+    def takes(self, line: socket.socket, most: int) -> bool:
         """Takes what was told; whether more may follow. (Octets that are read are taken at once, so others that come
         behind them are not taken before.)"""
         try:
-            octets = line.recv(most)
+            octets, before = line.recv(most), self.lines.place
             self.lines.take(octets)
+            if self.lines.place != before:
+                self._at = time.time()
             self._note_calls()
             return bool(octets)
         except BlockingIOError:
@@ -285,7 +324,7 @@ class TrunkStatus:
         """Takes what has been told up to now."""
         with suppress(OSError):
             if self._line:
-                self._takes(self._line, 1 << 20)
+                self.takes(self._line, 1 << 20)
 
     async def _rest(self) -> None:
         """So that many small writes are one read."""
@@ -294,18 +333,22 @@ class TrunkStatus:
                 await self._read.wait()
         self._read.clear()
 
-    def _came(self, line: socket.socket) -> None:
+    async def came(self, line: socket.socket, session: str, place: int) -> None:
+        """There is a connection, at which a program, whose session has this name, tells the state at an octet."""
+        self._session = session
         with suppress(OSError, ValueError, KeyError, TypeError):
             before, self._tables = self._tables, tables_of(read_config(self._trunk.config_path()))
             self.calls.changed = frozenset(n for n in CIRCUITS if before.get(n) != self._tables.get(n))
+        await self._catch_up(place)
         self._flow, self._line = replace(self._flow, moved=time.monotonic()), line
         self.lines.begin(self._trunk.begun())
 
-    def calls_note(self) -> CallsNote:
+    def calls_note(self) -> CallsNote | None:
         """What another service has to know of the calls."""
-        return self.calls.note(self.lines.place)
+        return self.calls.note(self.lines.place, self._at, self.waiting()) if self._is_known else None
 
     def _told_all(self) -> None:
+        self._is_known = self._has_changed = True
         self.naming.begin(self._session, self.lines.seizures, self.lines.lines, self._is_caught_up)
         self.stands('reports', True)
         self.calls.begun(self.naming.life)
@@ -317,12 +360,16 @@ class TrunkStatus:
         while True:
             await asyncio.sleep(AGAIN)
             now, before = time.monotonic(), self._flow
-            self._flow, change = before.seen(self._trunk.place(), now, self._line is not None)
+            self._flow, change = before.seen(self.place(), now, self._line is not None)
             if change is FlowChange.FLOWS:
-                self.tell({'event': 'flows', 'seconds': round(now - (before.stood or now), 3)})
+                self.tell(Flows(round(now - (before.stood or now), 3)))
             elif change is FlowChange.STALLED:
                 self.stands('reports', True)
-                self.tell({'event': 'stalled', 'seconds': decisions.QUIET})
+                self.tell(Stalled(decisions.QUIET))
+
+    def place(self) -> int:
+        """Octets of the trunk up to now. (Its log may have ended, and it goes on.)"""
+        return max(self._trunk.place(), self.lines.place)
 
     def outage(self) -> str | None:
         """Why no seizure can reach the other end, or None."""
@@ -332,6 +379,6 @@ class TrunkStatus:
     def values(self) -> dict[str, Any]:
         """All that is known, as plain values."""
         return self.lines.status() | {
-            'octets': max(self._trunk.place(), self.lines.place), 'life': self.naming.life or None,
+            'octets': self.place(), 'life': self.naming.life or None,
             'trunk_up': self.has_program(), 'program': self.has_program(), 'program_since': round(self._since, 3),
             'clock': {'stalled': self._flow.stood is not None, 'stalls': self._flow.stalls}}

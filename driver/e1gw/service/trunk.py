@@ -14,11 +14,11 @@ import traceback
 from contextlib import suppress
 from dataclasses import dataclass
 from math import inf
-from typing import Any, Awaitable, Callable, Coroutine
+from typing import Any, Awaitable, Callable, Coroutine, Sequence
 
 from ..crc4 import Crc4, Crc4Note, counts_in
+from ..events import Event, Tell, TrunkOpened
 from ..faults import words_of_fault
-from ..lines import Event
 from ..slots import Slots, SlotsNote
 from ..trunks import Stream
 from .card import CardWatch, watch_of
@@ -91,7 +91,7 @@ class TrunkFiles:
 
     def __init__(self, line: LineOptions) -> None:
         self.line, self.name, self.files = line, '', dict[str, int]()
-        self.tell: Callable[[Event], None] = tell_journal
+        self.tell: Tell = tell_journal
         self.place: Callable[[], int] = lambda: 0       # the octet of the trunk behind all that was taken
         self.zero = int.from_bytes(os.urandom(2))       # (SAToP) the number of the packet with the first octet of all
         self.ones: Callable[[], int] = lambda: 0        # octets of ones that are given to the next program
@@ -132,7 +132,7 @@ class TrunkFiles:
 
     def _tell_open(self) -> None:
         self.since, self.fault = time.time(), ''
-        self.tell({'event': 'trunk', **self.status()})
+        self.tell(TrunkOpened(self.name, self.status()))
 
     async def open_until(self, ending: asyncio.Event) -> None:
         """Opens it, or leaves that if the end is asked for: the other end of a FIFO may never come."""
@@ -168,7 +168,9 @@ class TrunkFiles:
     def takes(self, line: str) -> bool:
         """Takes a line that the program has said, if it is of CRC-4 or of slot 16."""
         counts = counts_in(line) if self.crc4 else {}
-        events = self.crc4.take(counts) if self.crc4 and counts else self.slots.take(line) if self.slots else []
+        events: Sequence[Event] = self.slots.take(line) if self.slots and not counts else ()
+        if self.crc4 and counts:
+            events = self.crc4.take(counts)
         for event in events:
             self.tell(event)
         return bool(counts or events)
@@ -293,7 +295,7 @@ class Tasks(set[asyncio.Task[Any]]):
 
 
 async def again(work: Callable[[], Awaitable[None]], what: str) -> None:
-    """Does a work, and begins it again each time that it fails, which is reported with the place."""
+    """Does a work, and begins it again each time that it fails, reported with the place, to --debug with all of it."""
     while True:
         try:
             return await work()
@@ -301,4 +303,5 @@ async def again(work: Callable[[], Awaitable[None]], what: str) -> None:
             at = traceback.extract_tb(fault.__traceback__)[-1]
             logger.error('%s goes on: %s: %s (%s:%s in %s)', what, type(fault).__name__, fault,
                          os.path.basename(at.filename), at.lineno, at.name, extra={'kind': 'fault'})
+            logger.debug('%s', what, exc_info=True)
             await asyncio.sleep(AGAIN)

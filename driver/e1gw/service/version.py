@@ -13,7 +13,7 @@ from contextlib import suppress
 from dataclasses import dataclass, replace
 from typing import Any, Iterable, Sequence
 
-from ..lines import IN_CALL, config_text, no_peers, read_config, tables_of
+from ..lines import IN_CALL, SEIZURE_WAIT, config_text, no_peers, read_config, tables_of, wait_words
 from ..programs import version_of
 from .decisions import Trial
 from .log_folder import LogPair
@@ -41,13 +41,14 @@ class NotYet(VersionRefused):
 @dataclass(frozen=True)
 class ProgramVersion:
     """A version. `file` is a descriptor of the program, `config` one of the configuration in memory, in which names
-    are addresses; `name` is what the program says."""
+    are addresses; `name` is what the program says, and `wait` the milliseconds after which it releases a seizure."""
 
     program: str
     file: int
     config: int
     senders: str
     name: str = ''
+    wait: int = SEIZURE_WAIT
 
     def config_path(self) -> str:
         return f'/dev/fd/{self.config}'
@@ -66,8 +67,8 @@ class ProgramVersion:
         with suppress(OSError):         # (by its path, as long as it is the same file)
             if os.path.samestat(os.stat(self.program), os.fstat(self.file)):
                 executable = self.program
-        return Child.start(executable, [self.program, words[0], '--config', self.config_path(), *words[1:]], reads,
-                           writes, [self.file, self.config, *passed], said)
+        words = [self.program, words[0], '--config', self.config_path(), *wait_words(self.wait), *words[1:]]
+        return Child.start(executable, words, reads, writes, [self.file, self.config, *passed], said)
 
     async def run(self, words: Sequence[str], begun: LogPair | None) -> tuple[int | None, str, bytes]:
         """Runs a process of it to its end, over the records behind a state if there is one."""
@@ -98,7 +99,7 @@ class ProgramVersion:
         os.close(self.config)
 
 
-async def version_of_now(program: str, config: str, senders: str | None) -> ProgramVersion:
+async def version_of_now(program: str, config: str, senders: str | None, wait: int) -> ProgramVersion:
     """The program and the configuration of now, tried. VersionRefused says why they will not do."""
     octets = await asyncio.to_thread(_read, config)
     file = os.open(program, os.O_RDONLY)
@@ -106,7 +107,7 @@ async def version_of_now(program: str, config: str, senders: str | None) -> Prog
     try:
         held.append(in_memory(octets))
         name = await asyncio.to_thread(version_of, program)
-        version = ProgramVersion(program, held[0], held[1], senders or 'any', name)
+        version = ProgramVersion(program, held[0], held[1], senders or 'any', name, wait)
         await version.check()           # (before any Python reads it)
         tables = tomllib.loads(octets.decode())
         addresses = await look_up(tables)
@@ -172,7 +173,7 @@ def with_addresses(tables: dict[str, Any], addresses: dict[str, str]) -> dict[st
     return tables | {'circuit': circuits}
 
 
-def version_left(program: str, config: bytes, senders: str, name: str, pid: int) -> ProgramVersion:
+def version_left(program: str, config: bytes, senders: str, name: str, wait: int, pid: int) -> ProgramVersion:
     """The version of a program that a service before this one has started: its file, whatever is at its path now, and
     its configuration. OSError if there is none."""
     held = list[int]()
@@ -184,7 +185,7 @@ def version_left(program: str, config: bytes, senders: str, name: str, pid: int)
         else:
             raise FileNotFoundError(program)
         held.append(in_memory(config))
-        return ProgramVersion(program, held[0], held[1], senders, name)
+        return ProgramVersion(program, held[0], held[1], senders, name, wait)
     except OSError:
         for each in held:
             os.close(each)

@@ -8,21 +8,25 @@ import os
 import socket
 import sys
 import time
-from collections import Counter
-from dataclasses import dataclass, field
+from collections import Counter, deque
+from dataclasses import dataclass, field, replace
 from typing import Any
 
-from ..calls import FIELDS
+from ..calls import FIELDS, CallsNote, has_line
 from ..clearing import DisconnectWatch, OutageWatch, on_loss_of
 from ..clock import ClockFinding
 from ..counts import DatagramCounts
+from ..events import (LAST, Burst, CallsCleared, CommandGiven, Event, LineChanged, RateChanged, ReadEvents, Slip,
+                      WatchEnded)
 from ..faults import named, words_of_refusal
-from ..lines import OPEN, Event, Role, State
+from ..lines import Role, State
 from ..resyncs import Resyncs
 from ..session import Codec, Command, codec_record, command_record
 from .commands import MOST_LINE, CannotListen, CommandServer, unix_listener
 from .connection import NoAnswer, ProgramConnection
+from .drains import DrainWatch
 from .events import EventFile, json_line, tell_journal
+from .page import PageNotes
 from .pages import TrunkPages, WebServer
 from .status import OperatedTrunk, TrunkStatus
 from .trunk import Tasks, again
@@ -34,7 +38,7 @@ BESIDE = 'json', 'calls'    # what may end without the calls
 @dataclass(kw_only=True)
 class WatchWants:
     """What an operator wants to have of a trunk: options of e1gw-trunk(1). `picture` are the words of the command that
-    draws the last seconds."""
+    draws the last seconds, `kept` those by which e1gw-call finds a call behind its id, if calls are kept."""
 
     name: str
     control: str | None = None
@@ -46,6 +50,7 @@ class WatchWants:
     dark: float | None = None
     on_loss: list[str] = field(default_factory=lambda: ['keep'])
     picture: list[str] = field(default_factory=list)
+    kept: str | None = None
 
 
 class TrunkWatch:
@@ -61,9 +66,13 @@ class TrunkWatch:
         self._program = ProgramConnection(lambda: trunk.places().control, self.status.stands, self.status.hurry,
                                           lambda: trunk.facts().get('fault', ''))
         self._lines.commanded = self._program.told
-        self.pages = TrunkPages(self._values, self.status.take_now, list(self._lines.lines.values()))
+        self._events, self._ended_calls = ReadEvents(), deque[str](maxlen=LAST)
+        self.pages = TrunkPages(self._values, self.status.take_now, list(self._lines.lines.values()),
+                                PageNotes(self._events.last, self._ended_calls, wants.kept))
         self._server = CommandServer(self)
-        self.status.is_followed = lambda: bool(self._server.followers())
+        self.drains = DrainWatch(trunk.drains(), self._lines, self.give, self.tell)
+        self.status.is_followed = lambda: bool(self._server.followers() or self.drains.kept.now.left())
+        self.status.waiting = lambda: [*self._calls.waiting] if self._calls else []
         self.disconnects = DisconnectWatch(on_loss_of(wants.on_loss), self.clear_all)
         self._outages = OutageWatch(wants.dark, self.clear_all)
         self._done, self._resyncs, self._began = Counter[tuple[str, str]](), 0, time.time()
@@ -77,7 +86,8 @@ class TrunkWatch:
 
     async def command(self, record: bytes, circuit: int, words: str) -> str:
         try:
-            refusal = (await self._program.ask(record, self.status.teller)).refusal
+            with self.drains.under_way(circuit):
+                refusal = (await self._program.ask(record, self.status.teller)).refusal
             text = refusal.words if refusal else 'done'
             more = words_of_refusal(refusal, circuit, self._lines.lines[circuit].role) if refusal else text
         except NoAnswer as fault:
@@ -85,27 +95,26 @@ class TrunkWatch:
         self.count(circuit, words, text)
         return more
 
+    async def give(self, circuit: int, command: Command) -> str:
+        return await self.command(command_record(circuit, command), circuit, command.word)
+
     def count(self, circuit: int, words: str, text: str) -> None:
         self._done[words.split()[0], text] += 1
-        self.tell({'event': 'command', 'circuit': circuit, 'command': words, 'answer': text})
+        self.tell(CommandGiven(circuit, words, text))
 
     def clear_all(self, why: str, blocks: bool = False) -> None:
         """Ends all calls that this end can end: clear at the outgoing end, clear-back at the incoming one. `blocks`
         blocks idle circuits at the incoming end, too."""
         cleared = []
         for n, line in self._lines.lines.items():
-            command = None
-            if line.role is Role.OUTGOING and (line.state in OPEN or line.state is State.SEIZED):
-                command = Command.CLEAR
-            elif line.role is Role.INCOMING and line.state is State.ANSWERED:
-                command = Command.CLEAR_BACK
-            elif blocks and line.role is Role.INCOMING and line.state is State.IDLE:
+            command = line.ending()
+            if blocks and line.role is Role.INCOMING and line.state is State.IDLE:
                 command = Command.BLOCK
             if command:
-                self._tasks.begin(self.command(command_record(n, command), n, command.word))
+                self._tasks.begin(self.give(n, command))
                 cleared += [n] * (command is not Command.BLOCK)
         if cleared:
-            self.tell({'event': 'cleared', 'why': why, 'circuits': cleared})
+            self.tell(CallsCleared(why, tuple(cleared)))
 
     def restart(self, circuits: list[int]) -> None:
         """Gives open circuits the codec that they have, which restarts their playout."""
@@ -119,19 +128,30 @@ class TrunkWatch:
         with contextlib.suppress(NoAnswer):     # (the next program may have another configuration)
             await self._program.ask(record, lambda: None, waits=False)
 
+    def take_up(self, note: CallsNote) -> None:
+        """Goes on with the calls of the service before this one, some of whose lines it may not have written."""
+        self.status.take_up(note)
+        for line in note.lines:
+            if self._calls and self.wants.calls and not has_line(self.wants.calls, line):
+                self._calls.put(line)
+
     def _put_call(self, line: str) -> None:
-        if self._calls and self.trunk.facts().get('pair', {}).get('role') != 'standby':
-            self._calls.put(line)
+        if self.trunk.facts().get('pair', {}).get('role') != 'standby':
+            self._ended_calls.appendleft(line)
+            if self._calls:
+                self._calls.put(line)
 
     # ---- reports ----
 
     def tell(self, event: Event) -> None:
         """Tells a change to the journal and to all who follow."""
-        if event['event'] == 'state' and (call := self.status.calls.took(event)):
-            event['call'] = call
+        if isinstance(event, LineChanged):
+            event = replace(event, call=self.status.calls.took(event) or None)
+            self._loop.call_soon(self.drains.look)
         tell_journal(event)
+        self._events.take(event, time.time())
         self.pages.changed()
-        text = json_line(event)
+        text = json_line(event, place=self.trunk.place())
         for peer in self._server.followers():
             peer.tell(text)
         if self._json:
@@ -140,9 +160,9 @@ class TrunkWatch:
     def flowed(self, finding: ClockFinding) -> None:
         """What was found of the flow: octets that were lost or came too early, or another rate."""
         if finding.what == 'rate':
-            return self.tell({'event': 'rate', 'ppm': round(finding.value, 1)})
+            return self.tell(RateChanged(round(finding.value, 1)))
         seconds = round(finding.value, 3)
-        self.tell({'event': finding.what, 'seconds': seconds})
+        self.tell(Slip(seconds) if finding.what == 'gap' else Burst(seconds))
         self._restarts.want(self._lines.open_circuits(), f'{finding.what} of {seconds} s')
 
     def _note(self, what: str, why: str) -> None:
@@ -153,7 +173,7 @@ class TrunkWatch:
         """Something other than the calls has ended; they go on."""
         if self.ended.get(what) is None:
             self.ended[what] = why
-            self.tell({'event': 'ended', 'what': what, 'why': why})
+            self.tell(WatchEnded(what, why))
 
     def _values(self) -> dict[str, Any]:
         """All that is known, as plain values."""
@@ -164,14 +184,15 @@ class TrunkWatch:
             'uptime': 0.0 if fault else round(now - facts.get('since', self._began), 3),
             'calls': [line._asdict() for line in self.status.calls.going()],
             'calls_file': self.wants.calls and os.path.abspath(self.wants.calls),
+            'events_file': self.wants.json and os.path.abspath(self.wants.json) if self.wants.json != '-' else None,
             'stale': self._counts.stale(), 'ended': self.ended | {'session': facts.get('session')},
-            'renewed': self._resyncs,
+            'renewed': self._resyncs, 'alarms': self._events.alarms(), 'http': self.wants.http,
             'commands': [{'command': name, 'answer': answer, 'count': n}
                          for (name, answer), n in sorted(self._done.items())]}
         status['clock'] = self.trunk.flow() | status['clock']
         status |= facts.get('carried', {}) | facts.get('pair', {})
         for row in status['circuits']:
-            row.update(self._counts.status(row['circuit']))
+            row.update(self._counts.status(row['circuit']) | {'drain': self.drains.kept.now.word(row['circuit'])})
         return status
 
     # ---- the whole ----
@@ -187,7 +208,8 @@ class TrunkWatch:
                 line = socket.create_server(wants.http, family=family)
             except OSError as fault:
                 raise named(fault, f'--http {wants.http[0]}:{wants.http[1]}') from None
-            await asyncio.start_server(WebServer(self.pages.fresh, wants.picture).came, sock=line, limit=8192)
+            server = WebServer(self.pages.fresh, wants.http[0], wants.picture)
+            await asyncio.start_server(server.came, sock=line, limit=8192)
 
     async def _listen(self, path: str) -> None:
         listener = unix_listener(path, self.wants.control_mode, self.wants.control_group)
@@ -212,8 +234,8 @@ class TrunkWatch:
                     await self._listen(self.wants.control)
             self._restarts.look(now, self._lines.place, self._lines.open_circuits(), not self._counts.stale())
             self.disconnects.look(now)
+            self.drains.look()
             self._outages.look(now, self.status.outage())
-            self.status.calls.look()
             await asyncio.sleep(TICK)
 
     def _close(self) -> None:

@@ -40,19 +40,21 @@ class CircuitEnd:
 class TieCircuit(CircuitEnd):
     """One end of a circuit, and what is known of the other."""
 
-    kept: bool = False          # blocked by the operator, who alone lifts it
+    kept: bool = False          # the operator has blocked it, and alone lifts that
     stuck: bool = False         # a release that the exchange does not follow
     far: CircuitEnd | None = None      # None: not yet received, or not joined with this end
 
     def end(self) -> CircuitEnd:
-        """The state to send to the other end. A release that is stuck is a fault to it."""
-        return CircuitEnd(self.role, State.FAULT if self.stuck else self.state, self.call, self.over, self.passed)
+        """The state to send to the other end. A release that is stuck is a fault to it, and an outgoing circuit that
+        the operator has blocked is blocked."""
+        is_blocked = self.kept and self.role is Role.OUTGOING and self.state is State.IDLE
+        state = State.FAULT if self.stuck else State.BLOCKED if is_blocked else self.state
+        return CircuitEnd(self.role, state, self.call, self.over, self.passed)
 
     def moved(self, state: State, call: str | None = None) -> TieCircuit:
         """Takes a new state of the line here, with the name of the call that begins in it, if any."""
         begun = call is not None
-        return replace(self, state=state, call=call if begun else self.call, over=self.over and not begun, stuck=False,
-                       kept=self.kept and state is State.BLOCKED)
+        return replace(self, state=state, call=call if begun else self.call, over=self.over and not begun, stuck=False)
 
     def heard(self, far: CircuitEnd) -> TieCircuit:
         """Takes the state of the other end."""
@@ -88,15 +90,14 @@ class TieCircuit(CircuitEnd):
             return self._outgoing(link)
         return None if waits and self.state is State.ACKED and self.ends(link) else self._incoming(link)
 
-    def reasons(self, command: Command, link: LinkState) -> dict[str, str]:
-        """What the log says of a command besides its answer: why an outgoing end clears its call."""
+    def reason(self, command: Command, link: LinkState) -> str | None:
+        """Why an outgoing end clears its call."""
         if command is not Command.CLEAR:
-            return {}
+            return None
         if link is LinkState.GIVEN_UP or self.far is None:
-            return {'why': 'the other site is gone, or a trunk is out of service'}
-        if self.far.over:
-            return {'why': 'the other end has given the call up'}
-        return {'why': f'the other end has no such call: it is {self.far.state}'}
+            return 'the other site is gone, or a trunk is out of service'
+        return 'the other end has given the call up' if self.far.over else (
+            f'the other end has no such call: it is {self.far.state}')
 
     def _outgoing(self, link: LinkState) -> Command | None:
         called = self.state in IN_CALL
@@ -109,7 +110,7 @@ class TieCircuit(CircuitEnd):
         if called:
             return None if stands and far.call == self.call else Command.CLEAR
         begins = stands and far.state is State.ACKED and far.call != self.call
-        return Command.SEIZE if begins and self.state is State.IDLE else None
+        return Command.SEIZE if begins and self.state is State.IDLE and not self.kept else None
 
     def _incoming(self, link: LinkState) -> Command | None:
         far = self.far if link is LinkState.GOOD else None
@@ -132,12 +133,11 @@ class TieCircuit(CircuitEnd):
         return Command.CLEAR_BACK if far is State.CLEAREDBACK and self.state is State.ANSWERED else None
 
 
-def begun(known: TieCircuit | None, fresh: TieCircuit, is_kept: bool) -> TieCircuit:
-    """A circuit as the trunk has it, with what is known of the same call; `is_kept`: the operator has blocked it."""
+def begun(known: TieCircuit | None, fresh: TieCircuit) -> TieCircuit:
+    """A circuit as the trunk has it, with what is known of the same call."""
     if known is not None and known.role is fresh.role and known.call == fresh.call:
-        fresh = replace(known, state=fresh.state, stuck=False)
-    blocked = fresh.state is State.BLOCKED and fresh.role is Role.INCOMING
-    return replace(fresh, kept=blocked and (fresh.kept or is_kept))
+        return replace(known, state=fresh.state, stuck=False, kept=fresh.kept)
+    return fresh
 
 
 def call_name(life: str, seizures: int) -> str:

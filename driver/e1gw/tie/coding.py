@@ -9,7 +9,8 @@ from dataclasses import dataclass
 from typing import Any, Callable, Iterable, NamedTuple
 
 from ..lines import State
-from .trunk import Tell, TrunkLink
+from .events import CodecGiven, Tell, Warned
+from .trunk import TrunkLink
 
 
 class Coding(NamedTuple):
@@ -71,7 +72,7 @@ class CodecChanges:
             self.own = self._asked
 
     def _warn(self, why: str) -> None:
-        self._tell('warning', about=f'calls use their configured codec from the start: {why}')
+        self._tell(Warned(f'calls use their configured codec from the start: {why}'))
 
     def heard(self, far: str | None) -> None:
         """Takes the other site's codec, and warns if it is not this one's."""
@@ -100,7 +101,7 @@ class CodecChanges:
         circuit.is_changing = False
         if answer is None:
             return
-        self._tell('codec', circuit=n, codec=coding.codec, payload=coding.payload, answer=answer)
+        self._tell(CodecGiven(n, coding.codec, coding.payload, answer))
         circuit.present, circuit.refused = (coding, None) if answer == 'done' else (circuit.present, coding)
         self._look(n)
 

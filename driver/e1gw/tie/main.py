@@ -8,8 +8,8 @@ import secrets
 import signal
 import sys
 from contextlib import suppress
-from typing import Any
 
+from ..events import Report
 from ..faults import Parser, checked, number, words_of_fault
 from ..service.commands import CannotListen
 from ..service.events import EventFile, json_line
@@ -17,8 +17,8 @@ from ..service.handover import Notifier
 from ..tls import add_tls, context_of, is_exposed
 from ..trunks import host_and_port
 from ..writers import hold_descriptors
-from .blocked import BlockedCircuits
 from .coding import SIGNALLING
+from .events import Ended, Started, Warned
 from .pairs import Pairs, pairs_of
 from .site import Site
 from .status import serve_status
@@ -55,7 +55,6 @@ def parser() -> argparse.ArgumentParser:
     made.add_argument('--status', metavar='SOCKET', help='a Unix socket that answers status, status json and metrics')
     made.add_argument('--http', type=place, metavar='HOST:PORT', help='serves /metrics (Prometheus), /status (JSON) '
                       'and / (a table)')
-    made.add_argument('--state', metavar='FILE', help='a file that keeps the circuits blocked by the operator')
     return made
 
 
@@ -86,7 +85,7 @@ async def work(tie: Tie, site: Site, path: str | None, http: tuple[str, int] | N
     try:
         await serve_status(tie, path, http)
     except (OSError, CannotListen) as fault:
-        tie.tell('warning', about=f'nobody can ask for its status: {words_of_fault(fault)}')
+        tie.tell(Warned(f'nobody can ask for its status: {words_of_fault(fault)}'))
     loop, ends, status = asyncio.get_running_loop(), asyncio.Event(), 0
     for each in (signal.SIGINT, signal.SIGTERM, signal.SIGHUP):
         loop.add_signal_handler(each, ends.set)
@@ -99,7 +98,7 @@ async def work(tie: Tie, site: Site, path: str | None, http: tuple[str, int] | N
     for why in filter(None, (task.exception() for task in done)):
         print(f'e1gw-tie: {why}', file=sys.stderr)
         status = 1
-    tie.tell('end', status=status)
+    tie.tell(Ended(status))
     site.close()
     return status
 
@@ -119,20 +118,20 @@ def main() -> None:
                       'and clear circuits: give --tls, or --insecure within a tunnel')
     lines = EventFile('standard output', sys.stdout, lambda *_: None)
 
-    def tell(event: str, **fields: Any) -> None:
-        lines.put(json_line({'event': event, **fields}))
+    def tell(report: Report) -> None:
+        lines.put(json_line(report))
     try:
         pairs = read_map(options.map) if options.map else None
         wanted = TieOptions(options.control, pairs, options.hold, options.congestion == 'wait', options.until_answer)
-        tie = Tie(wanted, secrets.token_hex(8), BlockedCircuits(options.state), tell)
+        tie = Tie(wanted, secrets.token_hex(8), tell)
         site = tie.site = site_of(options, tie)
     except (OSError, ValueError) as fault:
         return refuse(words_of_fault(fault))
     host, port = site.place
-    tell('start', control=options.control, hold=options.hold, place=f'{host}:{port}',
-         connection='TLS' if options.tls else 'neither secret nor authenticated: for 127.0.0.1 or a tunnel')
+    tell(Started(options.control, options.hold, f'{host}:{port}', 'TLS' if options.tls else
+                 'neither secret nor authenticated: for 127.0.0.1 or a tunnel'))
     if options.listen and options.tls and not options.peer:
-        tell('warning', about=ANYBODY)
+        tell(Warned(ANYBODY))
     # (not asyncio.run: that would wait for threads which wait for a disk)
     status = asyncio.new_event_loop().run_until_complete(work(tie, site, options.status, options.http))
     lines.close()

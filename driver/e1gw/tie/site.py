@@ -9,6 +9,7 @@ from collections import Counter
 from typing import TYPE_CHECKING, Any, Mapping, TypeVar
 
 from ..faults import words_of_fault
+from .events import NoConnection
 from .messages import MOST, BadMessage, Greeting, Message, encode_message, message_of
 
 if TYPE_CHECKING:
@@ -89,7 +90,7 @@ class Site:
     def turned_away(self, why: str) -> None:
         """Tells why nobody is connected."""
         if self._reasons.is_told(why, asyncio.get_running_loop().time()):
-            self._tell('no connection', why=why)
+            self._tell(NoConnection(why))
 
     async def run(self) -> None:
         """Keeps the connection up for ever. OSError if it cannot listen at this place."""

@@ -7,15 +7,16 @@ from collections import Counter
 from dataclasses import dataclass, replace
 from typing import Any
 
-from ..lines import IN_CALL, Event, Role, State
+from ..lines import IN_CALL, Role, State
 from ..session import Command
-from .blocked import BlockedCircuits
 from .circuit import NO_CALL, CircuitEnd, LinkState, TieCircuit, begun, call_name
 from .coding import CodecChanges
+from .events import (CallOver, CommandAnswered, Dark, Light, LinkChanged, ReleaseStuck, SiteCame, SiteGone, Tell,
+                     TrunkFollowed, Warned)
 from .messages import Greeting, Message, SiteState
 from .pairs import Pairs, agreed
 from .site import Site
-from .trunk import Tell, TrunkLink
+from .trunk import Told, TrunkLink
 
 STUCK = 2.0                 # seconds of a release that the exchange ignores
 ANSWER_LASTS = 0.1          # seconds of an answer at least, so that the exchange recognises it
@@ -42,8 +43,8 @@ def is_out_of_service(status: dict[str, Any]) -> bool:
 class Tie:
     """Joins the circuits of the trunk here with those of the other site."""
 
-    def __init__(self, options: TieOptions, run: str, blocked: BlockedCircuits, tell: Tell) -> None:
-        self.options, self.blocked, self.tell = options, blocked, tell
+    def __init__(self, options: TieOptions, run: str, tell: Tell) -> None:
+        self.options, self.tell = options, tell
         self.own_greeting, self.start = Greeting(run, options.pairs), time.monotonic()
         self.site: Site | None = None
         self.circuits: dict[int, TieCircuit] = {}
@@ -77,9 +78,9 @@ class Tie:
             self._seizures[n] = row['seizures']
             known = self.circuits.get(n)
             call = call_name(self._life, self._seizures[n]) if role is Role.INCOMING else known.call if known else None
-            self.circuits[n] = begun(known, TieCircuit(role, state, call), n in self.blocked.circuits)
+            self.circuits[n] = begun(known, TieCircuit(role, state, call, kept=row.get('drain') is not None))
         states = Counter(str(circuit.state) for circuit in self.circuits.values())
-        self.tell('trunk', states=dict(sorted(states.items())))
+        self.tell(TrunkFollowed(dict(sorted(states.items()))))
         self.codecs.begin(status)
         self._join()
         self.stands(status)
@@ -91,6 +92,7 @@ class Tie:
         for row in status['circuits']:
             n = row['circuit']
             self.codecs.stands(row)
+            self._put(n, replace(self.circuits[n], kept=row.get('drain') is not None))
             if n not in self._busy:
                 circuit, state, self._seizures[n] = self.circuits[n], State(row['state']), row['seizures']
                 call = call_name(self._life, self._seizures[n]) if circuit.role is Role.INCOMING else circuit.call
@@ -98,19 +100,16 @@ class Tie:
                     circuit = circuit.moved(state, None if call == circuit.call else call)
                 if state is State.RELEASING and row['for'] >= STUCK and not circuit.stuck:
                     circuit = replace(circuit, stuck=True)
-                    self.tell('stuck', circuit=n)
+                    self.tell(ReleaseStuck(n))
                 self._put(n, circuit)
 
-    def told(self, event: Event) -> None:
+    def told(self, event: Told) -> None:
         """Takes an event of the trunk."""
         match event:
             case {'event': 'state', 'circuit': n, 'was': was, 'state': state}:
                 self._state(n, State(was), State(state))
             case {'event': 'alarm' | 'remote alarm', 'on': True} | {'event': 'trunk lost' | 'stalled'}:
                 self._set_out_of_service(True)
-            case {'event': 'command', 'circuit': n, 'command': Command.BLOCK.word}:
-                if self._busy.get(n) is not Command.BLOCK:
-                    self._keep(n)       # also if it was refused, because this program came first
 
     def _state(self, n: int, was: State, state: State) -> None:
         circuit, call = self.circuits[n], None
@@ -119,21 +118,11 @@ class Tie:
             call = call_name(self._life, self._seizures[n])
         if self._busy.get(n) is Command.SEIZE and state is State.SEIZED and circuit.far:
             circuit = circuit.tried(circuit.far.call or NO_CALL)
-        circuit = circuit.moved(state, call)
-        if state is State.BLOCKED and circuit.role is Role.INCOMING:
-            circuit = replace(circuit, kept=self._busy.get(n) is not Command.BLOCK)
-        self._put(n, circuit)
-
-    def _keep(self, n: int) -> None:
-        """Keeps that the operator has blocked a circuit."""
-        if self.circuits[n].state is State.BLOCKED:
-            self._put(n, replace(self.circuits[n], kept=True))
+        self._put(n, circuit.moved(state, call))
 
     def _put(self, n: int, circuit: TieCircuit) -> None:
         """Takes a circuit's new values: sends them to the other site and acts on them."""
         before, self.circuits[n] = self.circuits[n], circuit
-        if before.kept is not circuit.kept:
-            self.blocked.put(n for n, each in self.circuits.items() if each.kept)
         if before.end() != circuit.end():
             self._send(n)
         self._look(n)
@@ -158,19 +147,19 @@ class Tie:
         marked_over = self.circuits[n].marked_over(link)
         if marked_over is not self.circuits[n]:
             self.given_up += 1
-            self.tell('over', circuit=n, call=marked_over.call, link=link.value)
+            self.tell(CallOver(n, marked_over.call, link.value))
             self.circuits[n] = marked_over
             self._send(n)
         command = marked_over.wants(link, self.options.waits)
         if command is not None:
             self._busy[n] = command
-            self.trunk.begin(self._do(n, command, marked_over.reasons(command, link)))
+            self.trunk.begin(self._do(n, command, marked_over.reason(command, link)))
 
     def _look_at_all(self) -> None:
         for n in list(self.circuits):
             self._look(n)
 
-    async def _do(self, n: int, command: Command, why: dict[str, str]) -> None:
+    async def _do(self, n: int, command: Command, why: str | None) -> None:
         loop = asyncio.get_running_loop()
         far, began = self.circuits[n].far, loop.time()
         answer = await self.trunk.answer(f'{command.word} {n}')
@@ -178,12 +167,9 @@ class Tie:
             del self._busy[n]
             return
         self.done[command.word, answer] += 1
-        self.tell('command', circuit=n, command=command.word, answer=answer,
-                  ms=round((loop.time() - began) * 1000, 2), **why)
+        self.tell(CommandAnswered(n, command.word, answer, round((loop.time() - began) * 1000, 2), why))
         if command is Command.SEIZE:
             self._put(n, self.circuits[n].tried(far.call or NO_CALL if far else NO_CALL))
-        elif command is Command.BLOCK and answer != 'done':
-            self._keep(n)
         if answer != 'done' or command is Command.ANSWER:
             await asyncio.sleep(ANSWER_LASTS if answer == 'done' else AGAIN)
         del self._busy[n]
@@ -192,7 +178,6 @@ class Tie:
     async def leave(self) -> None:
         """Restores the configured codec of circuits without a call, before the end."""
         await self.codecs.leave(n for n, circuit in self.circuits.items() if circuit.state not in IN_CALL)
-        await self.blocked.close()
 
     # ---- the link ----
 
@@ -200,7 +185,7 @@ class Tie:
         """Notes whether the trunk here can carry calls."""
         if on != self.out_of_service:
             self.out_of_service = on
-            self.tell('dark' if on else 'light')
+            self.tell(Dark() if on else Light())
             if self.site:
                 self.site.send(SiteState(on, {}))
             self._look_at_link()
@@ -222,8 +207,7 @@ class Tie:
 
     def _set_link(self, state: LinkState) -> None:
         self.link = state
-        self.tell('link', state=state.value, site=self.far is not None, dark=self.out_of_service,
-                  far_dark=self.far_out_of_service)
+        self.tell(LinkChanged(state.value, self.far is not None, self.out_of_service, self.far_out_of_service))
         self._look_at_all()
 
     # ---- the other site ----
@@ -231,7 +215,7 @@ class Tie:
     def came(self, greeting: Greeting) -> None:
         self.there = agreed(self.options.pairs, greeting.pairs)
         left = sorted(set(agreed(self.options.pairs, None)) - set(self.there)) if greeting.pairs else []
-        self.tell('site', circuits=len(self.there), left=left)
+        self.tell(SiteCame(len(self.there), tuple(left)))
         self._send_all()
 
     def heard(self, message: Message) -> None:
@@ -254,7 +238,7 @@ class Tie:
             self._look_at_all()
 
     def gone(self, why: str) -> None:
-        self.tell('site gone', why=why)
+        self.tell(SiteGone(why))
         self.far = None
         self._look_at_link()
 
@@ -269,7 +253,7 @@ class Tie:
             if end.role is before.role:
                 alike.append(here)
         if alike:
-            self.tell('warning', about='both ends have the same role', circuits=alike)
+            self.tell(Warned('both ends have the same role', tuple(alike)))
 
     def _send(self, n: int) -> None:
         if self.site and n in self.there:

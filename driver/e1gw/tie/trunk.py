@@ -4,11 +4,12 @@ from __future__ import annotations
 import asyncio
 import json
 from collections import deque
-from typing import TYPE_CHECKING, Any, Callable
+from typing import TYPE_CHECKING, Any
 
 from ..faults import words_of_fault
-from ..lines import UNKNOWN, Event
+from ..lines import UNKNOWN
 from ..service.trunk import Tasks
+from .events import TrunkGone, Warned
 
 if TYPE_CHECKING:
     from .tie import Tie
@@ -18,7 +19,7 @@ SOON = 0.1                  # seconds until a connection is retried
 MOST = 1 << 20              # octets of a line
 PATIENCE = 2.0              # seconds for an answer
 ALIVE = 2.0                 # seconds without a look after which this program counts as gone
-Tell = Callable[..., None]
+Told = dict[str, Any]        # an event of the trunk
 
 
 class TrunkLink:
@@ -50,7 +51,7 @@ class TrunkLink:
                     self._writer.close()
                 self.is_up, self._writer = False, None
             if why != before:
-                self._tell('trunk gone', why=why)
+                self._tell(TrunkGone(why))
             before = why
             self._tie.lost()
             await asyncio.sleep(SOON)
@@ -62,7 +63,7 @@ class TrunkLink:
         if not answer.endswith('done'):         # (an e1gw-trunk that does not know the last words)
             answer = await self.ask(f'on-loss block {self._hold:g}')
         if not answer.endswith('done'):
-            self._tell('warning', about='the trunk clears no calls if this program dies', answer=answer)
+            self._tell(Warned('the trunk clears no calls if this program dies', answer=answer))
         while True:
             status = json.loads(await self.ask('status json'))
             if self.is_up:
@@ -124,7 +125,7 @@ def is_known(status: dict[str, Any]) -> bool:
     return all(row['state'] != UNKNOWN for row in status['circuits'])
 
 
-def event_of(line: str) -> Event | None:
+def event_of(line: str) -> Told | None:
     """The event of a line, or None if it belongs to an answer."""
     try:
         fields = json.loads(line) if line.startswith('{') else None

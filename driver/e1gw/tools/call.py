@@ -9,7 +9,7 @@ folder of --session with --keep, in which the file calls.csv is, or --calls name
   ID.wav     the speech: on the left what the trunk said, on the right what it was sent of the network
   ID.pcap    the packets both ways, as e1gw-pcap writes them
   ID.csv     the line signals, the line's states and the commands, with their times
-  ID.html    the picture of the call (e1gw-picture)
+  ID.html    the picture of the call (e1gw-picture), as a whole and part by part, with its sound, which is ID.wav
 
 all from a second before the seizure to a second behind the end. A line says what is not kept any more.
 
@@ -45,6 +45,7 @@ NAME = os.path.basename(sys.argv[0])    # in the package e1gw-call
 UNITS = '/var/lib/e1gw'
 BEFORE = 3                  # seconds before the seizure from which on the session is read
 AROUND = SECOND             # octets before and behind the call that are shown
+COLUMNS = 48_000            # of its picture: 10 ms or less of a call of six minutes
 SILENCE = {'A': b'\xD5', 'mu': b'\xFF'}
 SIGNAL_FIELDS = 'time', 'TxAB', 'RxAB', 'state', 'command', 'answer'
 
@@ -221,7 +222,8 @@ class CallCut:
             with open(paths[2], 'w', encoding='utf-8') as text:
                 text.writelines(f'{line}\n' for line in self._signals())
             with open(paths[3], 'w', encoding='utf-8') as text:
-                text.write(draw(facts, f'{self.call.trunk}: call {self.call.name}', [circuit], notes=notes))
+                text.write(draw(facts, f'{self.call.trunk}: call {self.call.name}', [circuit], notes=notes,
+                                sound=os.path.basename(paths[0])))
         finally:
             os.umask(before)
         return paths
@@ -253,6 +255,7 @@ def cut_of(call: EndedCall, session: RecordedSession, config: str, program: str 
     clock, notes = session.clock, list[str]()
     begun, octets = begin_at(session, max(0, clock.place(call.begin - BEFORE)), call.circuit, config, program)
     facts = facts_of(begun)
+    facts.most = COLUMNS
     its = SessionClock(facts.begin, tuple(facts.breaks))
     begin, end = its.place(call.begin), its.place(call.end) + AROUND
     reading = CallReading(facts, begun, call.circuit)

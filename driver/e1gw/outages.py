@@ -1,0 +1,88 @@
+"""Outages of a trunk by its events (--json of e1gw-trunk(1)): when, at which octets, and which calls were up."""
+from __future__ import annotations
+
+import json
+from dataclasses import dataclass, field
+from math import inf
+from typing import Any, Iterable, Iterator, Mapping
+
+from .calls import moment
+from .lines import IN_CALL, circuit_words
+from .session_clock import OUTAGE
+
+NO_OCTETS, SLIP = 'no octets', 'slip'
+# The kinds by the events that tell of them, and what these are about. (A card finds signal and frames itself.)
+KINDS = {('alarm', 'frame'): 'LFA', ('alarm', 'multiframe'): 'slot 16', ('remote alarm', 'frame'): 'RAI',
+         ('remote alarm', 'multiframe'): 'slot 16 there', ('card', 'RED'): 'LOS or LFA', ('card', 'BLUE'): 'AIS',
+         ('card', 'YELLOW'): 'RAI'}
+STOPS = {'stalled': True, 'trunk lost': True, 'flows': False, 'trunk': False}       # octets do not come, or again
+NAMES = tuple(f'"event": "{name}"' for name in {'state', 'gap', *STOPS, *(name for name, _ in KINDS)})
+SOON = 5.0                  # seconds behind NO_OCTETS within which it is measured how many are missing
+FIELDS = 'trunk', 'kind', 'from', 'to', 'seconds', 'first_octet', 'last_octet', 'circuits', 'calls'
+
+
+@dataclass
+class TrunkOutage:
+    """One outage: seconds since 1970 and octets of the trunk, and by circuit the calls that were up. It goes on where
+    its end is none."""
+
+    kind: str
+    begin: float
+    first: int
+    end: float = inf
+    last: int | None = None
+    calls: dict[int, set[str]] = field(default_factory=dict)
+
+    def fields(self, trunk: str) -> tuple[str, ...]:
+        """What is told of it, by FIELDS."""
+        told = ('', '', '') if self.last is None else (
+            moment(self.end), f'{self.end - self.begin:.3f}', str(self.last))
+        return (trunk, self.kind, moment(self.begin), *told[:2], str(self.first), told[2], circuit_words(self.calls),
+                ' '.join(sorted(call for its in self.calls.values() for call in its)))
+
+
+def outages_of(events: Iterable[Mapping[str, Any]]) -> list[TrunkOutage]:
+    """Those that events tell of. What is told again is no other one, and what is measured of one without octets, the
+    seconds that are missing before a place, replaces what was told."""
+    found, going, calls = list[TrunkOutage](), dict[str, TrunkOutage](), dict[int, str]()
+    for event in events:
+        name, time, place = event['event'], event['time'], event.get('place', 0)
+        kind = NO_OCTETS if name in STOPS else KINDS.get((name, str(event.get('what'))))
+        if name == 'state':
+            calls.pop(event['circuit'], None)
+            calls |= {event['circuit']: event.get('call', '')} if event['state'] in IN_CALL else {}
+        elif name == 'gap':
+            is_slip, begin = event['seconds'] < OUTAGE, time - event['seconds']
+            its = next((each for each in reversed(found) if not is_slip and each.kind == NO_OCTETS
+                        and each.last is not None and time - each.end < SOON), None)
+            if not its:
+                found.append(its := TrunkOutage(SLIP if is_slip else NO_OCTETS, begin, place))
+            its.begin, its.end, its.last = begin, time, place
+            its.calls |= {n: its.calls.get(n, set()) | {call} for n, call in calls.items()}
+        elif kind and STOPS.get(name, event.get('on')):
+            if kind not in going:
+                found.append(going.setdefault(kind, TrunkOutage(kind, time - event.get('seconds', 0.0), place)))
+        elif kind and kind in going:
+            its = going.pop(kind)
+            its.end, its.last = time, place
+        for its in going.values():
+            its.calls |= {n: its.calls.get(n, set()) | {call} for n, call in calls.items()}
+    return found
+
+
+def events_in(lines: Iterable[str], until: float) -> Iterator[dict[str, Any]]:
+    """The events of lines of JSON, up to a time, that tell of outages and calls; other lines are passed over."""
+    for line in lines:
+        try:
+            event = json.loads(line) if any(name in line for name in NAMES) else {}
+        except ValueError:
+            continue
+        if event.get('time', 0.0) > until:
+            return
+        if 'time' in event:
+            yield event
+
+
+def outages_in(lines: Iterable[str], since: float, until: float) -> list[TrunkOutage]:
+    """Those that were between two times."""
+    return [each for each in outages_of(events_in(lines, until)) if each.end >= since]

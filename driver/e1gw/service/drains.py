@@ -1,0 +1,195 @@
+"""Circuits that an operator takes out of service (e1gw-ctl NAME block, drain): each is blocked once its call has ended,
+and takes no other one. An incoming one then sends the blocking signal (ITU-T Q.421); an outgoing one is not seized from
+this end. What is done follows from the numbers of these circuits and from how the lines stand, and from nothing else:
+who takes over, here or at another machine, goes on from the numbers alone."""
+from __future__ import annotations
+
+import asyncio
+import json
+import logging
+from collections import Counter
+from contextlib import contextmanager, suppress
+from dataclasses import dataclass, field
+from enum import Enum
+from typing import Any, Callable, Collection, Container, Coroutine, Iterable, Iterator, Mapping
+
+from ..events import CallsCleared, CircuitsDrained, DrainNews, Tell
+from ..faults import words_of_fault
+from ..lines import IN_CALL, Line, Role, State, circuit_words
+from ..reports import TrunkState
+from ..session import CIRCUITS, Command, CommandRefusal
+from ..writers import put_file
+from .trunk import Tasks
+
+PATIENCE = 2.0              # seconds for a disk, and for what the program answers
+DONE, NOT_BLOCKED = 'done', CommandRefusal.NOT_BLOCKED.words
+BY_OPERATOR = 'blocked by the operator (e1gw-ctl NAME unblock)'
+
+logger = logging.getLogger(__name__)
+
+
+class Drain(Enum):
+    """How far it is with a circuit."""
+
+    TAKEN = 'nobody has looked at its line'
+    IN_CALL = 'its call goes on'
+    IDLE = 'it is to be blocked at once'
+    DRAINED = 'it takes no call'
+
+
+News = dict[DrainNews, list[int]]
+
+
+def drain_of(line: Line) -> Drain:
+    """How far it is with a circuit whose line stands so. (A line in fault is no call, and sends what a blocked one
+    sends; one that is being released begins none.)"""
+    if line.state in IN_CALL:
+        return Drain.IN_CALL
+    return Drain.IDLE if line.role is Role.INCOMING and line.state is State.IDLE else Drain.DRAINED
+
+
+@dataclass(frozen=True)
+class Drains:
+    """The circuits that the operator has taken, and how far each is."""
+
+    circuits: Mapping[int, Drain] = field(default_factory=dict)
+
+    def taken(self, circuits: Iterable[int]) -> Drains:
+        """He takes these, too."""
+        return Drains({**dict.fromkeys(circuits, Drain.TAKEN), **self.circuits})
+
+    def given_back(self, circuits: Container[int]) -> Drains:
+        return Drains({n: its for n, its in self.circuits.items() if n not in circuits})
+
+    def only(self, circuits: Collection[int]) -> Drains:
+        """He has taken these and no others: another machine says so."""
+        return self.given_back({*CIRCUITS} - {*circuits}).taken(circuits)
+
+    def looked(self, lines: Mapping[int, Line], busy: Container[int]) -> tuple[Drains, list[int], News]:
+        """Which circuits are given a block, as the lines stand, and news. A `busy` one has a command under way."""
+        found = {n: before if n in busy else drain_of(lines[n]) for n, before in self.circuits.items()}
+        news: News = {what: [] for what in DrainNews}
+        for n, before in self.circuits.items():
+            if before is not found[n] is not Drain.IDLE:
+                in_call = DrainNews.SEIZED if before is Drain.IDLE else DrainNews.DRAINS
+                news[in_call if found[n] is Drain.IN_CALL else DrainNews.DRAINED].append(n)
+        return Drains(found), [n for n, now in found.items() if now is Drain.IDLE and n not in busy], news
+
+    def left(self, circuits: Iterable[int] = CIRCUITS) -> list[int]:
+        """Those of these circuits that are not drained yet."""
+        return [n for n in circuits if self.circuits.get(n, Drain.DRAINED) is not Drain.DRAINED]
+
+    def word(self, circuit: int) -> str | None:
+        """What a status says of a circuit; None of one in service."""
+        news = DrainNews.DRAINS if self.left([circuit]) else DrainNews.DRAINED
+        return str(news) if circuit in self.circuits else None
+
+
+class KeptDrains:
+    """The same in a file, which is replaced whole. One that cannot be read or written is reported, and ends nothing."""
+
+    def __init__(self, path: str) -> None:
+        self.now, self._path = Drains(), path
+        self._writing: asyncio.Task[str] | None = None
+        try:
+            with suppress(FileNotFoundError), open(path, encoding='ascii') as file:
+                self.now = Drains().only({*CIRCUITS} & {*json.loads(file.read(4096))})
+        except (OSError, ValueError, TypeError) as fault:
+            logger.error('which circuits the operator has blocked is not known: %s', words_of_fault(fault, path))
+
+    async def put(self, now: Drains) -> str:
+        """This is so from now on. Why it is not kept; nothing if it is."""
+        self.now = now
+        if not self._writing or self._writing.done():
+            self._writing = asyncio.create_task(self._write())
+        await asyncio.wait([self._writing], timeout=PATIENCE)
+        return self._writing.result() if self._writing.done() else f'{self._path}: the disk takes it too slowly'
+
+    async def _write(self) -> str:
+        written: list[int] | None = None
+        while written != (circuits := sorted(self.now.circuits)):
+            written = circuits
+            try:
+                await asyncio.to_thread(put_file, self._path, f'{written}\n'.encode(), 0o640, is_synced=True)
+            except OSError as fault:
+                return words_of_fault(fault, self._path)
+        return ''
+
+
+class DrainWatch:
+    """Sees to these circuits. `give` gives a command and returns its answer; `tell` reports."""
+
+    def __init__(self, kept: KeptDrains, lines: TrunkState, give: Callable[[int, Command], Coroutine[Any, Any, str]],
+                 tell: Tell) -> None:
+        self.kept, self._state, self._give, self._tell = kept, lines, give, tell
+        self._busy, self._blocks = Counter[int](), Tasks()
+
+    @contextmanager
+    def under_way(self, circuit: int) -> Iterator[None]:
+        """A command is under way to a circuit."""
+        self._busy[circuit] += 1
+        try:
+            yield
+        finally:
+            self._busy[circuit] -= 1
+
+    def look(self) -> None:
+        """To be called at each change and now and then: blocks what is to be blocked, and tells what has changed."""
+        if self.kept.now.circuits and self._state.live:
+            self.kept.now, blocks, news = self.kept.now.looked(self._state.lines, +self._busy)
+            for n in blocks:
+                self._busy[n] += 1
+                self._blocks.begin(self._block(n))
+            self._report(news)
+
+    async def _block(self, n: int) -> None:
+        """Blocks a circuit, which is busy since that was decided."""
+        answer = ''
+        try:
+            answer = await self._give(n, Command.BLOCK)
+        finally:
+            self._busy[n] -= 1
+        if answer == DONE:
+            self.look()
+
+    def _report(self, news: News) -> None:
+        for what, circuits in news.items():
+            if circuits:
+                self._tell(CircuitsDrained(what, tuple(circuits)))
+
+    def refusal(self, circuit: int, command: Command) -> str | None:
+        """Why a client's command is refused, if it would have the circuit take calls."""
+        is_taken = circuit in self.kept.now.circuits
+        return BY_OPERATOR if is_taken and command in (Command.SEIZE, Command.UNBLOCK) else None
+
+    async def take(self, circuits: Collection[int], is_now: bool) -> list[str]:
+        """The operator takes circuits, and has their calls cleared if he wants that `now`. What he is told."""
+        told = await self._kept(self.kept.now.taken(circuits))
+        ends = {n: command for n in circuits if is_now and (command := self._state.lines[n].ending())}
+        if ends:
+            self._tell(CallsCleared('the operator blocks them', tuple(ends)))
+            await asyncio.gather(*(self._give(n, command) for n, command in ends.items()))
+        self.look()
+        if self._blocks:
+            await asyncio.wait(self._blocks, timeout=PATIENCE)
+        self.look()
+        left = circuit_words(self.kept.now.left(circuits))
+        return [*told, *[f'blocked once their calls have ended: circuits {left}'] * bool(left), DONE]
+
+    async def give_back(self, circuits: Collection[int]) -> list[str]:
+        """The operator gives circuits back. What he is told."""
+        its, lines = self.kept.now.circuits.keys() & circuits, self._state.lines
+        self.kept.now = self.kept.now.given_back(circuits)      # (so nobody blocks them meanwhile)
+        blocked = [n for n in circuits if lines[n].role is Role.INCOMING and (
+            lines[n].state is State.BLOCKED or n in its and (self._busy[n] or not self._state.live))]
+        answers = dict(zip(blocked, await asyncio.gather(*(self._give(n, Command.UNBLOCK) for n in blocked))))
+        faults = {n: answer for n, answer in answers.items() if answer not in (DONE, NOT_BLOCKED)}
+        told = await self._kept(self.kept.now.taken(its & faults.keys())) if its else []
+        self._report({DrainNews.OVER: sorted(its - faults.keys())})
+        if faults:
+            return [*told, f'circuits {circuit_words(faults)}: {next(iter(faults.values()))}']
+        return [*told, DONE if its or blocked else NOT_BLOCKED]
+
+    async def _kept(self, now: Drains) -> list[str]:
+        fault = await self.kept.put(now)
+        return [f'not kept: {fault}'] * bool(fault)

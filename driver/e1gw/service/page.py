@@ -1,0 +1,152 @@
+"""The page of a trunk: the rows of its tables, made of the status, as HTML, and as what changes of them."""
+from __future__ import annotations
+
+import base64
+import csv
+import hashlib
+import json
+import os
+import string
+import time
+from dataclasses import dataclass
+from html import escape
+from typing import Any, Iterable, Mapping, Sequence
+
+from ..calls import CallLine
+from ..ctl_all import TrunkHere, TrunkLine
+from ..events import ReadEvent
+from ..metrics import NOT_OPEN, head_of
+from ..session import CIRCUITS
+from ..session_clock import moment
+
+Rows = Sequence[Sequence[str]]
+Parts = dict[str, Rows]             # the rows of each body of a table, by its id
+
+with open(os.path.join(os.path.dirname(__file__), 'page.html'), encoding='utf-8') as template:
+    WHOLE = template.read()
+STYLE, SCRIPT = (WHOLE.partition(f'<{tag}>')[2].partition(f'</{tag}>')[0] for tag in ('style', 'script'))
+PAGE = string.Template(WHOLE)
+STILL = string.Template(WHOLE.replace(f'<script>{SCRIPT}</script>', ''))
+LATER = '<noscript><meta http-equiv="refresh" content="10"></noscript>'
+SOON = '<meta http-equiv="refresh" content="5">'
+# Each table: its class, what it has, the heads of its columns, and the ids of its bodies.
+TABLES: tuple[tuple[str, str, tuple[str, ...], Sequence[str]], ...] = (
+    ('state', '', (), ['state']),
+    ('alarms', '', ('alarm', 'since, UTC'), ['alarms']),
+    ('circuits', 'Circuits', ('n', 'state', 'role', 'call for', 'codec', 'lost', 'jitter'),
+     [f'c{n}' for n in CIRCUITS]),
+    ('last calls', 'The last calls', ('ended, UTC', 'n', 'direction', 'for', 'by', 'codec', 'lost', 'late',
+                                      'its speech, packets and picture'), ['calls']),
+    ('last', 'The last events', ('at, UTC', 'event'), ['events']))
+# What the page may do (Content Security Policy): it has this style and this script, and nothing else.
+POLICY = "default-src 'none'; connect-src 'self'; base-uri 'none'; form-action 'none'; frame-ancestors 'none'"
+POLICY += ''.join(f"; {what}-src 'sha256-{base64.b64encode(hashlib.sha256(text.encode()).digest()).decode()}'"
+                  for what, text in (('style', STYLE), ('script', SCRIPT)))
+
+
+@dataclass(frozen=True)
+class PageNotes:
+    """What a page shows beside the status: events, and lines of calls that have ended, the newest first; and by which
+    words e1gw-call finds a call behind its id, if calls are kept."""
+
+    events: Iterable[ReadEvent]
+    ended: Iterable[str]
+    kept: str | None
+
+
+def clock(seconds: float) -> str:
+    """A day and its time in UTC."""
+    return time.strftime('%m-%d %H:%M:%S', time.gmtime(seconds))
+
+
+def length(seconds: float) -> str:
+    """A duration: 1:05, or 1:00:05."""
+    hours, rest = divmod(max(0, int(seconds)), 3600)
+    return f'{hours}:{rest // 60:02}:{rest % 60:02}' if hours else f'{rest // 60}:{rest % 60:02}'
+
+
+def circuit_row(status: Mapping[str, Any], row: Mapping[str, Any], calls: Mapping[str, Mapping[str, str]]) -> list[str]:
+    """A circuit: number, state, role, and of its call, if it is in one, how long it lasts, codec, loss and jitter."""
+    call = calls.get(str(row['circuit']))
+    cells = [str(row['circuit']), NOT_OPEN if status.get('fault') else row['state'], row['role']]
+    if not call:
+        return [*cells, '', '', '', '']
+    begin = call['seized'] or call['answered']
+    age = status['time'] - moment(begin) if begin else row['for']
+    return [*cells, length(age), row['codec'], call['lost'], f'{row["jitter_ms"]:.1f}']
+
+
+def ended_row(line: str, kept: str | None) -> list[str]:
+    """A call that has ended, by its line."""
+    call = CallLine(*next(csv.reader([line])))
+    begin, end = call.seized or call.answered, moment(call.ended)
+    lasted = length(end - moment(begin)) if begin else ''
+    return [clock(end), call.circuit, call.direction, lasted, call.by, call.codec, call.lost, call.late,
+            call.call if kept is None else f'e1gw-call {call.call}{kept}']
+
+
+def parts_of(status: Mapping[str, Any], notes: PageNotes) -> Parts:
+    """The rows of all tables."""
+    calls = {call['circuit']: call for call in status['calls']}
+    alarms = [(each['words'], clock(each['time'])) for each in status['alarms']]
+    return {'state': [[line] for line in head_of(status)], 'alarms': alarms or [('no alarm', '')],
+            **{f'c{row["circuit"]}': [circuit_row(status, row, calls)] for row in status['circuits']},
+            'calls': [ended_row(line, notes.kept) for line in notes.ended],
+            'events': [(clock(each.time), each.words) for each in notes.events]}
+
+
+def message_of(parts: Parts) -> bytes:
+    """What a reader of events gets of some parts."""
+    return f'data: {json.dumps(parts)}\n\n'.encode()
+
+
+# ---- HTML ----
+
+def body_of(name: str, rows: Rows) -> str:
+    """A body of a table; its state, by which it is coloured, is the second cell of its first row."""
+    state = rows[0][1] if rows and rows[0][1:] else ''
+    cells = ''.join(f'<tr>{"".join(f"<td>{escape(cell)}</td>" for cell in row)}</tr>' for row in rows)
+    return f'<tbody id="{name}" data-s="{escape(state)}">{cells}</tbody>'
+
+
+def table_of(kind: str, caption: str, heads: Iterable[str], bodies: Iterable[str]) -> str:
+    """A table of a class."""
+    head = ''.join(f'<th>{escape(each)}</th>' for each in heads)
+    return (f'<div class="wide"><table class="{kind}">' + f'<caption>{escape(caption)}</caption>' * bool(caption)
+            + f'<thead><tr>{head}</tr></thead>' * bool(head) + f'{"".join(bodies)}</table></div>')
+
+
+def page_of(name: str, parts: Parts, more: Iterable[str]) -> bytes:
+    """The page of a trunk, with links to `more` paths that there are."""
+    tables = (table_of(kind, caption, heads, [body_of(each, parts[each]) for each in ids if each in parts])
+              for kind, caption, heads, ids in TABLES)
+    links = ''.join(f'<a href="{path}">{path[1:]}</a>' for path in (*more, '/table', '/status', '/metrics'))
+    return PAGE.substitute(title=escape(name), refresh=LATER, links=links, tables='\n'.join(tables)).encode()
+
+
+# ---- all trunks of a machine ----
+
+HOST = '\0'             # in place of the host by which a reader has come
+
+
+def trunk_row(trunk: TrunkHere, here: str) -> str:
+    """A trunk with its circuits, a square each, and where its page is, as a reader sees it who has come to `here`;
+    nothing of one that serves no page."""
+    status = trunk.status or {'http': ('', 0), 'circuits': []}
+    if not status.get('http'):
+        return trunk_row(TrunkHere(True, TrunkLine(trunk.line.name, state='serves no page (--http)')), here)
+    name, *cells = [escape(each) for each in trunk.line]
+    host, port = status['http']
+    host = HOST if host in (here, '0.0.0.0', '::') else f'[{host}]' if ':' in host else host
+    name = f'<a href="//{escape(host)}:{port}/">{name}</a>' if port else name
+    lines = ''.join(f'<i data-s="{escape(row["state"])}" title="{row["circuit"]} {escape(row["state"])}"></i>'
+                    for row in status['circuits'])
+    return f'<tr><td>{name}</td><td>{lines}</td>{"".join(f"<td>{cell}</td>" for cell in reversed(cells))}</tr>'
+
+
+def trunks_page(trunks: Iterable[TrunkHere], here: str) -> bytes:
+    """The page of all trunks of this machine; those with the host `here`, or any, are where its reader has come to."""
+    heads = 'trunk', 'circuits 1 to 30', 'state', 'late', 'lost', 'calls', 'up since, UTC', 'e1gw'
+    rows = ''.join(trunk_row(each, here) for each in trunks)
+    return STILL.substitute(title='Trunks of this machine', refresh=SOON, links='', tables=table_of(
+        'trunks', '', heads, [f'<tbody>{rows}</tbody>'])).encode()

@@ -1,0 +1,564 @@
+"""The lines of calls against the octets of the trunk, whatever dies in whatever order: a trunk in service in one
+process, by its own time. What its programs tell is cut from what one replay tells of all records; the service, its
+notes and the log are those of e1gw-trunk, which is killed between any two of its writes."""
+from __future__ import annotations
+
+import asyncio
+import contextlib
+import csv
+import os
+import pickle
+import random
+import tempfile
+from dataclasses import dataclass, field
+from datetime import datetime
+from types import SimpleNamespace
+from typing import Any, Coroutine
+from unittest import mock
+
+from . import support
+from .properties import PropertyCase
+from .test_program_killed import CIRCUITS
+from e1gw import call_names
+from e1gw.calls import FIELDS
+from e1gw.counts import DatagramCounts
+from e1gw.exchange import ACKNOWLEDGED, ANSWERED, IDLE, SEIZED
+from e1gw.events import Event, LineChanged
+from e1gw.lines import Role, read_config
+from e1gw.service import log_folder, reader as readers, status as statuses
+from e1gw.service.log_folder import LogPair, LogWriter
+from e1gw.service.missed import told_again
+from e1gw.service.reader import ReadingNote
+from e1gw.service.status import OperatedTrunk, TrunkStatus
+from e1gw.service.version import ProgramVersion
+from e1gw.session import MULTIFRAME, Command, Kind, Packet, command_record, datagram_record, records_in, trunk_record
+from e1gw.writers import put_file
+
+BEGIN, STEP = 1_000_000_000.0, 0.002        # the time of day at octet 0; seconds of a multiframe
+LONG, LOOK = 600, 20        # multiframes of the session, and from one look of the service to the next
+ALIGNED, RECOGNISED = 20, 25        # multiframes in which alignment is found, and a signal recognised
+CALLED = range(11, 21)      # circuits with calls
+FAR = 1 << 60
+QUIET = 60                  # multiframes at the end without a change
+EXAMPLES = 120              # sequences: with another --seed of scripts/drivers others
+
+
+class Died(Exception):
+    """The service was killed."""
+
+
+@dataclass
+class BitCall:
+    """A call by the signals of its circuit: the multiframes with which it began, was answered and ended."""
+
+    circuit: int
+    number: int
+    seized: int
+    answered: int | None = None
+    ended: int | None = None
+    by: str = 'stop'
+    sent: int = 0
+    received: int = 0
+
+
+@dataclass
+class ToldMultiframe:
+    """What a trunk is told to be at a multiframe: the alarms, the rows of its circuits, and how often each was seized
+    since octet 0; and the lines of what has changed."""
+
+    alarms: bytes
+    rows: dict[bytes, bytes]
+    seizures: tuple[int, ...]
+    changes: bytes = b''
+
+
+class CalledSession:
+    """A session with calls, all that is told of it, and the calls that its octets have."""
+
+    def __init__(self, folder: str) -> None:
+        self.config, dice = os.path.join(folder, 'trunk.toml'), random.Random(7)
+        self.roles = {n: Role.INCOMING if n % 2 else Role.OUTGOING for n in CIRCUITS}
+        with open(self.config, 'w', encoding='ascii') as file:
+            file.write(support.config_text({n: {'role': str(role), 'prefill': 160} for n, role in self.roles.items()}))
+        self.exchange, self.given = support.Exchange(), list[bytes]()      # the records of each multiframe
+        plans = {n: sorted(self._planned(n, dice)) for n in CALLED}
+        for m in range(LONG):
+            records = b''
+            for n, plan in plans.items():
+                while plan and plan[0][0] == m:
+                    _, what = plan.pop(0)
+                    if isinstance(what, Command):
+                        records += command_record(n, what)
+                    else:
+                        self.exchange.pairs[n] = what
+                if m % 10 == n % 10:
+                    records += datagram_record(n, Packet(8, m // 10, 16 * m, n, bytes(160)).encode())
+            self.given.append(trunk_record(self.exchange.multiframe()) + records)
+        self.tables = read_config(self.config)
+        self._look(folder)
+
+    def _planned(self, n: int, dice: random.Random) -> list[tuple[int, Command | int]]:
+        """What the exchange signals and the operator asks for on a circuit, and when."""
+        found, m, is_in = list[tuple[int, Command | int]](), 30 + dice.randrange(60), n % 2
+
+        def comes(what: Command | int, least: int = 12, most: int = 90) -> None:
+            nonlocal m
+            found.append((m, what))
+            m += dice.randrange(least, most)
+        while m < LONG:
+            kind = dice.randrange(4)
+            comes(SEIZED if is_in else Command.SEIZE, 25, 60)
+            if is_in:
+                if kind:
+                    comes(Command.ANSWER)
+                if kind == 2:
+                    comes(Command.CLEAR_BACK, 20)
+                comes(IDLE, 40, 120)
+            elif kind == 3:
+                m += 140
+            else:
+                comes(ACKNOWLEDGED, 25)
+                if kind:
+                    comes(ANSWERED, 25)
+                if kind == 2:
+                    comes(ACKNOWLEDGED, 25)
+                comes(Command.CLEAR, 15, 30)
+                comes(IDLE, 60, 140)
+        return [each for each in found if each[0] < LONG - QUIET]
+
+    def _look(self, folder: str) -> None:
+        """What the program says of it."""
+        records, saved = b''.join(self.given), os.path.join(folder, 'saved')
+        support.run('replay', '--config', self.config, '--save', saved)
+        out, pair = support.run('replay', '--config', self.config, given=records), LogPair(
+            0, 0, support.octets_of(saved), records)
+        with open(support.program(), 'rb') as program, open(self.config, 'rb') as config:
+            version = ProgramVersion(support.program(), program.fileno(), config.fileno(), 'any')
+            text = asyncio.run(told_again(version, [pair], folder)).decode()
+        self.told = self._parted(text.splitlines())
+        self.calls = self._called([*records_in(records)], [*records_in(out)])
+
+    def _parted(self, lines: list[str]) -> list[ToldMultiframe]:
+        """What is told of each multiframe, from the state at octet 0 on."""
+        now, found, at = ToldMultiframe(b'', {}, (0,) * 30), list[ToldMultiframe](), 0
+        changes: dict[int, list[str]] = {}
+        for line in lines:
+            word, _, rest = line.partition(' ')
+            at = -(-int(rest) // MULTIFRAME) if word == 'at' else at
+            if word in ('alarms', 'line', 'command'):
+                changes.setdefault(at, []).append(line)
+        was = dict.fromkeys(CIRCUITS, 'idle')
+        for m in range(LONG + 1):
+            seizures = list(now.seizures)
+            its, rows, alarms = changes.get(m, []), dict(now.rows), now.alarms
+            for words in map(str.split, its):
+                if words[0] == 'alarms':
+                    alarms = ' '.join(words).encode()
+                elif words[0] == 'line':
+                    n = int(words[1])
+                    rows[words[1].encode()] = ' '.join(words).encode()
+                    seizures[n - 1] += was[n] == 'idle' and words[3] in ('seized', 'acked')
+                    was[n] = words[3]
+            now = ToldMultiframe(alarms, rows, tuple(seizures), ''.join(f'{line}\n' for line in its).encode())
+            found.append(now)
+        return found
+
+    def _called(self, given: list[Any], out: list[Any]) -> list[BitCall]:
+        """The calls by what the exchange and the gateway signal, and by packets, of which there are none between."""
+        found, going, counts = list[BitCall](), dict[int, BitCall](), dict.fromkeys(CIRCUITS, 0)
+        ins = [record.body for record in given if record.kind is Kind.TRUNK]
+        last, m, acked = dict[int, BitCall](), 0, set[int]()
+        asked = [record for record in given if record.kind is not Kind.TRUNK]
+        was = dict.fromkeys(CIRCUITS, IDLE)
+        for record in out:
+            if record.kind is Kind.DATAGRAM:
+                last[record.circuit].sent += 1
+            elif record.kind is Kind.ANSWER:
+                of = asked.pop(0)
+                if of.kind is Kind.DATAGRAM and not record.body[1]:
+                    last[of.circuit].received += 1
+            else:
+                for n in CIRCUITS:
+                    pair, far = (pair_of(body, n) for body in (record.body, ins[m]))
+                    acked |= {n} if far == ACKNOWLEDGED else set()
+                    if m < ALIGNED:
+                        pair = IDLE
+                    if was[n] == IDLE and pair != IDLE:
+                        counts[n] += 1
+                        going[n] = last[n] = BitCall(n, counts[n], m)
+                        found.append(going[n])
+                        acked.discard(n)
+                    elif call := going.get(n):
+                        self._goes(call, was[n], pair, far, m, n in acked)
+                        if pair == IDLE:
+                            del going[n]
+                    was[n] = pair
+                m += 1
+        return found
+
+    def _goes(self, call: BitCall, was: int, pair: int, far: int, m: int, is_acked: bool) -> None:
+        """A call at a multiframe of the gateway and one of the exchange."""
+        is_in = self.roles[call.circuit] is Role.INCOMING
+        if call.answered is None and (pair if is_in else far) == ANSWERED:
+            call.answered = m
+        if pair == IDLE:
+            is_back = call.answered is not None and (was if is_in else far) == ACKNOWLEDGED
+            call.ended = m
+            call.by = 'gateway' if is_in is is_back else 'exchange'
+            if not (is_in or is_acked):
+                call.by = 'not acknowledged'
+
+
+def pair_of(body: bytes, n: int) -> int:
+    """The pair of a circuit in a multiframe."""
+    octet = body[32 * ((n - 1) % 15 + 1) + 16]
+    return (octet >> 4 if n < 16 else octet & 15) >> 2
+
+
+def now(work: Coroutine[Any, Any, Any]) -> None:
+    """Does what waits for nothing."""
+    with contextlib.suppress(StopIteration):
+        work.send(None)
+        raise AssertionError('it waits')
+
+
+@dataclass
+class Program:
+    """A program that carries the trunk from an octet on, and what it told that was not heard yet. `begun` is what the
+    service takes for that octet."""
+
+    start: int
+    pid: int
+    unheard: bytes = b''
+    lives: bool = True
+    is_up: bool = True
+
+    def __post_init__(self) -> None:
+        self.begun = self.start
+
+    @property
+    def process(self) -> SimpleNamespace:
+        return SimpleNamespace(pid=self.pid, started=1)
+
+    def recv(self, most: int, flags: int = 0) -> bytes:
+        if not self.unheard and self.lives:
+            raise BlockingIOError
+        found, self.unheard = self.unheard[:most], self.unheard[most:]
+        return found
+
+
+@dataclass
+class Disk:
+    """What stays when a service is killed."""
+
+    note: bytes = b''
+    file: list[str] = field(default_factory=list)
+
+
+class BilledTrunk:
+    """A trunk with its programs and services, one after another."""
+
+    def __init__(self, session: CalledSession, folder: str) -> None:
+        self.session, self.folder, self.disk = session, folder, Disk()
+        self.m, self.now, self.when = 0, BEGIN, list[float]()      # (of multiframes: how many; when)
+        self.log, self.places = LogWriter(self.path('log')), [0]
+        self.unlogged = b''             # of it, which nobody looks at yet
+        self.pids, self.program = iter(range(1, 1000)), Program(0, 0, lives=False)
+        self.status: TrunkStatus | None = None
+        self.waiting, self.left = list[str](), FAR  # lines that are not written; writes before the service is killed
+        self.connected: Program | None = None
+        self.end = LONG - 4 * LOOK                  # up to where something may die
+        self.unheard = 0        # programs that were started since one was heard: the log has what two of them did
+        self.serves()
+
+    def path(self, name: str) -> str:
+        return os.path.join(self.folder, name)
+
+    # ---- the service ----
+
+    def logs(self) -> None:
+        self.log.append(self.unlogged)
+        self.unlogged = b''
+
+    def serves(self) -> None:
+        """A service begins."""
+        self.logs()
+        reader = readers.LogReader(self.path('log'), 0.1, None, lambda: None, lambda: b'')
+        self.carrier = SimpleNamespace(
+            reader=reader, program=self.program, pair=None, version=lambda: SimpleNamespace(
+                name='', config_path=lambda: self.session.config),
+            places=SimpleNamespace(tell=self.path('tell'), folder=self.folder, control=''),
+            trunk=SimpleNamespace(facts=dict, outage=lambda: None))
+        read, begun, note = pickle.loads(self.disk.note) if self.disk.note else (ReadingNote(), 0, None)
+        reader.take_up(read, None)
+        self.status = status = TrunkStatus(OperatedTrunk(self.carrier, None), 'west', self.tells,  # type: ignore
+                                           DatagramCounts(), self.waiting.append)
+        status.waiting, status.changed = lambda: [*self.waiting], self.note
+        if note:
+            status.take_up(note)
+            self.waiting += [line for line in note.lines if line not in self.disk.file]
+        reader.told = lambda: status.lines.place
+        self.connected = None
+        if self.program.lives:
+            self.program.begun = begun
+
+    def writes(self) -> None:
+        """Before each write."""
+        self.left -= 1
+        if self.left <= 0 and self.unheard < 2:
+            raise Died
+
+    def tells(self, event: Event) -> None:
+        if isinstance(event, LineChanged) and self.status:
+            self.status.calls.took(event)
+
+    def note(self) -> None:
+        self.writes()
+        assert self.status
+        reader = self.carrier.reader
+        begun = self.program.begun if self.program.lives else reader.octets
+        self.disk.note = pickle.dumps((reader.noted(), begun, self.status.calls_note()))
+
+    def dies(self, written: int = 0) -> None:
+        """The service is killed, once it has heard one of two programs; so many of the lines that wait are written."""
+        while self.status and self.unheard > 1:
+            self.end = max(self.end, self.m + 1)
+            self.goes_on(1)
+        self.disk.file += self.waiting[:written]
+        self.waiting.clear()
+        self.carrier.reader.take_out()      # (which closes its files)
+        self.status, self.left = None, FAR
+
+    def looks(self) -> None:
+        """The service does what it has to do now."""
+        self.logs()
+        try:
+            self.carrier.reader.look()
+            if not self.program.lives and self.connected is not self.program:
+                self.starts()
+            if self.m * MULTIFRAME == self.program.start:       # (clients come in behind a record)
+                return
+            if self.connected is not self.program:
+                self.program.unheard = self.state_at(self.m, self.program.start)
+                told = self.m * MULTIFRAME - self.program.start
+                now(self.status.came(self.program, f'{self.program.pid}', self.program.begun + told))    # type: ignore
+                self.connected, self.unheard = self.program, 0
+            self.hears()
+            while self.waiting:
+                self.writes()
+                self.disk.file.append(self.waiting.pop(0))
+        except Died:
+            self.dies(self.m % 3)
+
+    def hears(self) -> None:
+        """It takes what the program has told."""
+        program, status = self.program, self.status
+        assert status
+        while program.unheard or not program.lives:
+            if not status.takes(program, 1 << 16):        # type: ignore[arg-type]
+                status.left()
+                self.connected = None
+                return
+
+    # ---- programs ----
+
+    def starts(self) -> None:
+        """Another program goes on from the log."""
+        now(self.carrier.reader.copied())
+        self.note()
+        self.unheard += 1
+        self.program = self.carrier.program = Program(self.carrier.reader.octets, next(self.pids))
+        assert self.program.begun == self.m * MULTIFRAME
+        self.log.begin(self.places[self.m], b'%d' % self.program.begun)
+        self.note()
+
+    def state_at(self, m: int, begun: int) -> bytes:
+        """What a program tells that has begun with this octet, at a multiframe."""
+        its, before = self.session.told[m], self.session.told[begun // MULTIFRAME].seizures
+        counts = ' '.join(str(new - old) for new, old in zip(its.seizures, before))
+        return b'\n'.join([b'e1gw tell 1 A', b'at %d' % (m * MULTIFRAME - begun), its.alarms, *its.rows.values(),
+                           f'seizures {counts}'.encode(), b'now', b''])
+
+    def changes(self, first: int, last: int, begun: int) -> bytes:
+        """What is told of multiframes."""
+        return b''.join(b'at %d\n%s' % (m * MULTIFRAME - begun, told) for m in range(first + 1, last + 1)
+                        if (told := self.session.told[m].changes))
+
+    async def told_again(self, version: object, pairs: list[LogPair], folder: str) -> bytes:
+        """What a replay of the log would tell."""
+        begun = int(pairs[0].state)
+        first, last = begun // MULTIFRAME, self.places.index(pairs[-1].end)
+        state, changes = self.state_at(first + 1, begun), self.changes(first + 1, last, begun)
+        return state + changes + b'end\n' if last > first else b''
+
+    # ---- what happens ----
+
+    def goes_on(self, count: int, told: bool = True) -> None:
+        """Multiframes, if a program is there."""
+        if self.status and not self.program.lives:
+            self.looks()
+        for _ in range(count):
+            if not self.program.lives or self.m >= self.end:
+                return
+            records = self.session.given[self.m]
+            self.unlogged += records
+            self.places.append(self.places[-1] + len(records))
+            self.m += 1
+            self.now += STEP
+            self.when.append(self.now)
+            if told and self.connected is self.program:
+                self.program.unheard += self.changes(self.m - 1, self.m, self.program.start)
+            if self.status and self.m % LOOK == 0:
+                self.looks()
+
+    def program_dies(self, untold: int, silent: int) -> None:
+        """The last multiframes are logged, and nobody is told. The next one comes behind so many steps of the time."""
+        self.goes_on(untold, told=False)
+        self.program.lives = False
+        if self.status and self.connected is self.program:
+            self.looks()
+        self.now += silent * STEP
+        self.goes_on(1)
+
+    def reloads(self, silent: int) -> None:
+        """Its program ends in order."""
+        if self.status:
+            self.looks()
+            self.program_dies(0, silent)
+
+    def service_dies(self, written: int, away: int) -> None:
+        self.dies(written)
+        self.goes_on(away)
+        self.serves()
+
+    def killed_at(self, write: int, away: int) -> None:
+        """The service is killed before its next write of this number."""
+        self.left = write
+        while self.status and self.program.lives and self.m < self.end:
+            self.goes_on(1)
+        self.service_dies(0, away)
+
+    def replaced(self, written: int) -> None:
+        """Another service in place of this one."""
+        if self.status:
+            self.note()
+            self.dies(written)
+        self.serves()
+
+    def both_die(self, untold: int, silent: int) -> None:
+        self.dies()
+        self.program_dies(untold, silent)
+        self.serves()
+
+    def ends(self) -> list[dict[str, str]]:
+        """All lines, once the trunk has ended at a moment without a change."""
+        self.left, self.end = FAR, LONG - 1
+        if not self.status:
+            self.serves()
+        near = {m + d for call in self.session.calls for m in (call.seized, call.answered, call.ended) if m
+                for d in range(-4, RECOGNISED + 4)}
+        for _ in range(3):
+            self.goes_on(LOOK)
+        while self.m in near and self.m < self.end:
+            self.goes_on(1)
+        self.looks()
+        assert self.status
+        self.status.calls.finish()
+        self.disk.file += self.waiting
+        self.carrier.reader.take_out()
+        self.log.close()
+        return [*map(lambda row: dict(zip(FIELDS, row)), csv.reader(self.disk.file))]
+
+
+class BillTests(PropertyCase):
+    @classmethod
+    def setUpClass(cls) -> None:
+        super().setUpClass()
+        support.program()
+        cls.session = CalledSession(cls.enterClassContext(tempfile.TemporaryDirectory()))
+
+    session: CalledSession
+
+    def within(self, trunk: BilledTrunk) -> contextlib.ExitStack:
+        """The service of a trunk goes by its time."""
+        held, clock = contextlib.ExitStack(), SimpleNamespace(time=lambda: trunk.now, monotonic=lambda: trunk.now)
+
+        def puts(path: str, octets: bytes) -> None:
+            trunk.writes()
+            put_file(path, octets)
+        for module, name, its in ((statuses, 'time', clock), (readers, 'time', clock), (call_names, 'put_file', puts),
+                                  (statuses, 'told_again', trunk.told_again),
+                                  (statuses, 'read_config', lambda path: self.session.tables)):
+            held.enter_context(mock.patch.object(module, name, its))
+        return held
+
+    def trunk(self, folder: str) -> BilledTrunk:
+        with mock.patch.multiple(log_folder, RECORDS_ROOM=2 << 20, STATE_ROOM=4096):
+            return BilledTrunk(self.session, folder)
+
+    def test_a_log_that_has_ended(self) -> None:
+        """The trunk goes on, and is not told to stand."""
+        with support.in_memory() as folder, self.within(trunk := self.trunk(folder)):
+            trunk.goes_on(2 * LOOK)
+            setattr(trunk, 'logs', lambda: None)
+            trunk.goes_on(10 * LOOK)
+            assert trunk.status
+            self.assertEqual(trunk.carrier.reader.octets, 2 * LOOK * MULTIFRAME)
+            self.assertGreater(trunk.status.place(), 10 * LOOK * MULTIFRAME)
+
+    def wanted(self, trunk: BilledTrunk) -> dict[str, dict[str, Any]]:
+        """The line of each call up to now, by its id without the life."""
+        found = {}
+        for call in self.session.calls:
+            if call.seized >= trunk.m:
+                continue
+            is_over = call.ended is not None and call.ended < trunk.m
+            is_answered = call.answered is not None and call.answered < trunk.m
+            times = {'seized': call.seized, 'answered': call.answered if is_answered else None,
+                     'ended': call.ended if is_over else None}
+            slow = RECOGNISED * (self.session.roles[call.circuit] is Role.OUTGOING)
+            found[f'{call.circuit}-{call.number}'] = {
+                'times': {key: m is not None and (trunk.when[m - 3], trunk.when[min(
+                    m + 3 + slow * (key == 'answered'), trunk.m - 1)] + LOOK * STEP) for key, m in times.items()},
+                'by': call.by if is_over else 'stop', 'packets': (call.sent, call.received) if is_over else None}
+        return found
+
+    def test_each_call_has_one_line(self) -> None:
+        st = self.st
+        few, many, silent = st.integers(0, 3), st.integers(0, 120), st.integers(0, 600)
+        event = st.one_of(
+            st.tuples(st.just('program_dies'), st.tuples(many, silent)),
+            st.tuples(st.just('reloads'), st.tuples(silent)),
+            st.tuples(st.just('service_dies'), st.tuples(few, many)), st.tuples(st.just('replaced'), st.tuples(few)),
+            st.tuples(st.just('killed_at'), st.tuples(st.integers(1, 12), many)),
+            st.tuples(st.just('both_die'), st.tuples(many, silent)), st.tuples(st.just('goes_on'), st.tuples(many)))
+
+        def check(events: list[tuple[str, Any]]) -> None:
+            with support.in_memory() as folder, self.within(trunk := self.trunk(folder)):
+                trunk.goes_on(LOOK)
+                for what, words in events:
+                    if trunk.m < trunk.end:
+                        getattr(trunk, what)(*words)
+                self.are(trunk, trunk.ends())
+        self.holds(check, st.lists(event, min_size=1, max_size=8), examples=EXAMPLES)
+
+    def are(self, trunk: BilledTrunk, rows: list[dict[str, str]]) -> None:
+        wanted = self.wanted(trunk)
+        its = [row['call'].partition('-')[2] for row in rows]
+        more = [name for name in its if name not in wanted or its.count(name) > 1]
+        assert sorted(its) == sorted(wanted), f'missing: {sorted({*wanted} - {*its})}, too many: {more}'
+        for name, row in zip(its, rows):
+            want = wanted[name]
+            assert row['by'] == want['by'], (row, want)
+            for key, within in want['times'].items():
+                if key != 'ended' or row['by'] != 'stop':
+                    told = seconds_of(row[key])
+                    assert (told is None) == (not within), (key, row, want)
+                    assert not within or within[0] - 0.001 <= (told or 0) <= within[1], (key, told, row, want)
+            if want['packets']:
+                assert (row['sent'], row['received']) == tuple(map(str, want['packets'])), (row, want)
+
+
+def seconds_of(text: str) -> float | None:
+    """The seconds of a time of day."""
+    return datetime.fromisoformat(text).timestamp() if text else None

@@ -1,0 +1,158 @@
+"""The page of a trunk: who gets it, that texts stay texts, what is told of it, and to whom no more."""
+from __future__ import annotations
+
+import asyncio
+import contextlib
+import json
+import socket
+import unittest
+from typing import Any
+from unittest import mock
+
+from .shown import ShownTables
+from e1gw.ctl_all import TrunkHere, TrunkLine
+from e1gw.events import (AlarmChanged, CardAlarm, CardAlarmChanged, Connected, Crc4Change, Crc4Changed, Disconnected,
+                         Event, Fed, Flows, LineChanged, NotFed, ReadEvents, RemoteAlarmChanged, Slip, SlotsChange,
+                         SlotsChanged, Stalled, TrunkLost, TrunkOpened)
+from e1gw.lines import Alignment, Role, State
+from e1gw.service import pages
+from e1gw.service.options import kept_of
+from e1gw.service.page import message_of, page_of, trunks_page
+from e1gw.service.pages import EventReaders, PageRequest
+
+EVIL = '"><script>alert(1)</script><img src=x onerror=alert(1)>\'&</td></table>'
+BODIES = 'state', 'alarms', 'c1', 'c30', 'calls', 'events'
+
+
+class PageRequestTests(unittest.TestCase):
+    def test_who_gets_the_page(self) -> None:
+        """Browsers name text/html (their words of 2026); others keep the text: RFC 9110, 12.5.1."""
+        rows = (('text/html,application/xhtml+xml,application/xml;q=0.9,*/*;q=0.8', True), ('*/*', False),
+                ('application/openmetrics-text;version=1.0.0;q=0.5,*/*;q=0.1', False), ('application/json', False),
+                ('text/plain, TEXT/HTML ;q=0.5', True), ('text/html;q=0, */*', False), ('text/html; q=0.000', False),
+                ('text/htmlx', False), ('', False))
+        for accepted, is_of_browser in rows:
+            head = f'GET /?a HTTP/1.1\r\nX-Accept: text/html\r\naccept:{accepted}\r\nHost: a:1\r\n\r\n'.encode()
+            self.assertEqual(PageRequest.of(head), PageRequest(b'GET', '/', 'a', is_of_browser), accepted)
+
+    def test_hosts(self) -> None:
+        for host, found in (('a-1.example:9101', 'a-1.example'), ('[::1]:9', '[::1]'), ('192.0.2.1', '192.0.2.1'),
+                            ('a"><b>:1', 'localhost'), ('a b', 'localhost'), ('', 'localhost')):
+            self.assertEqual(PageRequest.of(f'GET / HTTP/1.1\r\nHost: {host}\r\n\r\n'.encode()).host, found)
+
+
+class TextTests(unittest.TestCase):
+    def test_texts_stay_texts(self) -> None:
+        """Whatever a name, a fault or an event says."""
+        text = page_of(EVIL, {each: [[EVIL, EVIL], [EVIL]] for each in BODIES}, ['/trunks']).decode()
+        shown = ShownTables(text)
+        self.assertEqual(shown.rows, {each: [[EVIL, EVIL], [EVIL]] for each in BODIES})
+        self.assertEqual((shown.tags['script'], shown.tags['img'], shown.attributes['onerror']), (1, 0, 0))
+        self.assertEqual(message_of({'c1': [['\n\r\n']]}).count(b'\n'), 2)
+
+    def test_trunks(self) -> None:
+        """A link leads to the host by which the reader has come, where the other trunk listens there too."""
+        row = {'circuit': 1, 'state': EVIL}
+        for host, link in (('127.0.0.1', '//\0:9102/'), ('0.0.0.0', '//\0:9102/'), ('192.0.2.7', '//192.0.2.7:9102/'),
+                           ('2001:db8::1', '//[2001:db8::1]:9102/'), ('"><b>', '//&quot;&gt;&lt;b&gt;:9102/')):
+            status: dict[str, Any] = {'http': [host, 9102], 'circuits': [row]}
+            text = trunks_page([TrunkHere(True, TrunkLine(EVIL, state=EVIL), status)], '127.0.0.1').decode()
+            shown = ShownTables(text)
+            self.assertIn(f'<a href="{link}">', text)
+            self.assertEqual([shown.tags[each] for each in ('script', 'img', 'b', 'i')], [0, 0, 0, 1])
+        for more in None, {'http': None, 'circuits': [row]}:        # (of one without pages nothing is told)
+            text = trunks_page([TrunkHere(True, TrunkLine('a', state='secret'), more)], '').decode()
+            self.assertEqual(('href' in text, 'secret' in text), (False, more is None))
+
+
+def line_changed(state: State) -> LineChanged:
+    return LineChanged(1, Role.OUTGOING, State.IDLE, state, 0)
+
+
+class StandingTests(unittest.TestCase):
+    def test_alarms_and_since_when(self) -> None:
+        """By the events of e1gw-trunk(1): what begins an alarm, and what ends it."""
+        frame, multiframe = Alignment.FRAME, Alignment.MULTIFRAME
+        found, seized = Crc4Changed(Crc4Change.FOUND, False), line_changed(State.SEIZED)
+        rows: tuple[tuple[Event, Event | None], ...] = (
+            (AlarmChanged(frame, True, 0), AlarmChanged(frame, False, 0)),
+            (RemoteAlarmChanged(multiframe, True, 0), RemoteAlarmChanged(multiframe, False, 0)),
+            (CardAlarmChanged(CardAlarm.RED, True), CardAlarmChanged(CardAlarm.RED, False)),
+            (Stalled(2.0), Flows(3.0)), (TrunkLost('x'), TrunkOpened('y', {})),
+            (Disconnected('program', 'x'), Connected('program')), (NotFed('x', 'y'), Fed('x', 1)),
+            (SlotsChanged(SlotsChange.LOST), SlotsChanged(SlotsChange.MOVED, 3)),
+            (Crc4Changed(Crc4Change.NONE, True), found), (Crc4Changed(Crc4Change.LOST, True), found),
+            (Slip(0.1), None), (Crc4Changed(Crc4Change.GIVEN_UP, True), None), (line_changed(State.FAULT), None))
+        for begin, end in rows:
+            events = ReadEvents()
+            events.take(AlarmChanged(multiframe, True, 0), 1.0)
+            events.take(begin, 2.0)
+            events.take(begin, 3.0)
+            self.assertEqual([each['time'] for each in events.alarms()], [1.0, 2.0][:2 if end else 1], begin)
+            events.take(end or seized, 4.0)
+            self.assertEqual([each['time'] for each in events.alarms()], [1.0], begin)
+            self.assertEqual(len(events.last), 4 if end else 3)
+
+
+class KeptCallTests(unittest.TestCase):
+    def test_where_a_call_is_found(self) -> None:
+        """By the rules of e1gw-call: its own folder and file, or those that are named."""
+        for session, calls, kept in (('/var/lib/e1gw/a', '/var/lib/e1gw/a/calls.csv', ''), ('/b c', '/b c/calls.csv',
+                                     " '/b c'"), ('/var/lib/e1gw/a', '/d', ' /var/lib/e1gw/a --calls /d'),
+                                     (None, '/d', None), ('/b', None, None)):
+            asked = mock.Mock(keep=session and 1, session=session, calls=calls)
+            self.assertEqual(kept_of(asked), kept)
+
+
+class EventReaderTests(unittest.IsolatedAsyncioTestCase):
+    """Who reads events. The page changes at each look, and one has no time in between."""
+
+    async def asyncSetUp(self) -> None:
+        self.looks, self.closed = 0, list[str]()
+        self.enterContext(mock.patch.multiple(pages, TOLD=0.0, MOST_READERS=2))
+        self.readers = EventReaders(self.fresh)
+        self.server = await asyncio.start_server(self.came, '127.0.0.1', 0)
+        self.addCleanup(self.server.close)
+
+    async def fresh(self) -> Any:
+        self.looks += 1
+        return mock.Mock(parts={'c1': [['1', 'x' * 3000 + str(self.looks)]], 'c2': [['2', 'y']]})
+
+    async def came(self, reader: asyncio.StreamReader, writer: asyncio.StreamWriter) -> None:
+        name = (await reader.readline()).decode().strip()
+        with contextlib.suppress(asyncio.CancelledError):       # (at the end of the test)
+            await self.readers.read(reader, writer)
+            self.closed.append(name)
+
+    async def connect(self, name: str) -> asyncio.StreamReader:
+        line = socket.create_connection(self.server.sockets[0].getsockname())
+        line.setsockopt(socket.SOL_SOCKET, socket.SO_RCVBUF, 4096)
+        reader, writer = await asyncio.open_connection(sock=line, limit=4096)
+        self.addCleanup(writer.close)
+        writer.write(f'{name}\n'.encode())
+        self.assertEqual(await reader.readline(), b'HTTP/1.0 200 OK\r\n')
+        await reader.readuntil(b'\r\n\r\n')
+        return reader
+
+    async def told(self, reader: asyncio.StreamReader) -> dict[str, Any]:
+        text = (await reader.readuntil(b'\n\n')).removeprefix(b'data: ')
+        found: dict[str, Any] = json.loads(text)
+        return found
+
+    async def test_who_does_not_read(self) -> None:
+        """Is closed, with little held for him; the other one gets each change once, and nothing else."""
+        await self.connect('slow')
+        quick = await self.connect('quick')
+        self.assertEqual([*await self.told(quick)], ['c1', 'c2'])
+        while not self.closed and 3000 * self.looks < 20 * pages.MOST_HELD:
+            self.assertEqual([*await self.told(quick)], ['c1'])
+        self.assertEqual(self.closed, ['slow'])
+        self.assertEqual([*await self.told(quick)], ['c1'])
+
+    async def test_one_too_many(self) -> None:
+        """The oldest goes, and whoever comes is told."""
+        for name in ('first', 'second', 'third'):
+            reader = await self.connect(name)
+        while not self.closed and self.looks < 12:      # (who is slow stays for longer)
+            await self.told(reader)
+        self.assertEqual(self.closed, ['first'])

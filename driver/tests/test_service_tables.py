@@ -1,0 +1,267 @@
+"""One process a trunk: what its options ask for, how processes end, and what is kept of the trunk."""
+from __future__ import annotations
+
+import asyncio
+import os
+import socket
+import unittest
+from contextlib import closing
+from dataclasses import replace
+from typing import Any
+from unittest import mock
+
+from . import support
+from e1gw.service import recordings
+from e1gw.service.decisions import ProgramFault
+from e1gw.service.feed import FeedHead, configured
+from e1gw.service.memory import in_memory, octets_in
+from e1gw.service.options import folder_of, opens_of, recording_of, wants_of, watched_of
+from e1gw.service.ports import AGAIN, TakenPorts
+from e1gw.service.process import UNKNOWN, Child, ran, signal_words
+from e1gw.service.program import ProgramPlaces, TrunkProgram
+from e1gw.service.recordings import RecordingNote, RecordingWants, TrunkRecording
+from e1gw.service.service import parser
+from e1gw.service.standby import TrunkStandby
+from e1gw.service.version import ProgramVersion, is_address, with_addresses
+from e1gw.service.watch import WatchWants
+from e1gw.testing.ports import free_port
+
+HERE = os.path.abspath('.')
+PLAIN: dict[str, Any] = {'control': None, 'tell': None, 'state': None, 'words': [], 'wait': 200, 'totals': False,
+                         'senders': None}
+LINE: dict[str, Any] = {'crc4': False, 'clear': False, 'reopens': False}
+# Options, what is wanted of the program besides PLAIN, and of the trunk besides LINE.
+OPTIONS: list[tuple[str, dict[str, Any], dict[str, Any]]] = [
+    ('--unix u', {}, {}), ('--tcp a:1 --reopen', {}, {'reopens': True}),
+    ('--unix u --repeat 3 --align --crc4 --seizure-wait 300', {
+        'words': ['--repeat', '3', '--align', '--crc4', '--live'], 'wait': 300}, {'crc4': True}),
+    ('--in a --out b --clear', {'words': ['--slots', '1-31']}, {'clear': True}),
+    ('--unix u --totals --state s --senders any --program-control p --tell t', {
+        'totals': True, 'state': 's', 'senders': 'any', 'control': 'p', 'tell': 't'}, {}),
+    ('--unix u --state s --feed 127.0.0.1:1 --standby 127.0.0.2:1', {}, {})]
+
+
+class OptionTests(unittest.TestCase):
+    def asked(self, words: str) -> Any:
+        return parser().parse_args(['--config', 'west.toml', '--program', '/bin/true', *words.split()])
+
+    def test_what_is_wanted(self) -> None:
+        for words, more, line in OPTIONS:
+            with self.subTest(words):
+                its = wants_of(self.asked(words))
+                self.assertEqual({name: getattr(its, name) for name in PLAIN}, PLAIN | more)
+                self.assertEqual({name: getattr(its.line, name) for name in LINE}, LINE | line)
+                self.assertEqual((its.config, its.program, its.line.program), ('west.toml', '/bin/true', '/bin/true'))
+                self.assertEqual((its.line.satop, bool(its.line.opens)), (None, True))
+        its = wants_of(self.asked('--satop 127.0.0.1:5000,127.0.0.1:5001 --crc4'))
+        assert its.line.satop
+        self.assertEqual((its.line.opens, its.line.satop()[:2]), (None, ['127.0.0.1:5000', '127.0.0.1:5001']))
+
+    def test_what_cannot_be_together(self) -> None:
+        for words in ('--in a', '--out a', '--unix u --in a --out b', '--unix u --clear --align',
+                      '--clear --crc4 --unix u', '--satop 127.0.0.1:5000,127.0.0.1:5001 --clear',
+                      '--satop 127.0.0.1:5000,127.0.0.1:5001 --align', '--unix u --picture 60 --http 127.0.0.1:1',
+                      '--unix u --picture 60 --session s --keep 1h', '--unix u --name a/b', '--unix u --name a\x01b',
+                      f'--unix u --name {os.fsdecode(bytes([255]))}'):
+            with self.subTest(words), self.assertRaises(ValueError):
+                wants_of(self.asked(words))
+
+    def test_the_folder(self) -> None:
+        """The same for each start of a trunk, and for no other one."""
+        trunks = ('--unix u', '--unix v', '--in u --out v', '--in v --out u', '--tcp a:1', '--unix u --align',
+                  '--unix u --crc4', '--unix u --clear', '--unix u --program-control p', '--satop a:1,b:2')
+        with mock.patch.dict(os.environ, {'RUNTIME_DIRECTORY': '/run/one:/run/two'}):
+            folders = [folder_of(self.asked(words)) for words in trunks]
+            self.assertEqual(folder_of(self.asked(f'--unix {HERE}/u --json j')), folders[0])
+            self.assertEqual(folder_of(self.asked('--unix u --folder /f'))[:3], '/f/')
+        self.assertEqual(len({*folders}), len(trunks))
+        self.assertTrue(folders[0].startswith(f'/run/one/west-{os.getuid()}-'))
+        self.assertEqual(opens_of(self.asked('--unix u --crc4')), (None, None, f'{HERE}/u', None, None, None, 'crc4'))
+
+    def test_what_is_kept_and_seen(self) -> None:
+        words = '--unix u --session s --keep 1h --name east --seizure-wait 300'
+        self.assertIsNone(recording_of(self.asked('--unix u')))
+        self.assertEqual(recording_of(self.asked(words)),
+                         RecordingWants(f'{HERE}/s', 3600, 'east', f'{HERE}/west.toml', 300))
+        self.assertEqual(watched_of(self.asked('--unix u'), 'p'), WatchWants(name='west'))
+        more = ' --http 127.0.0.1:80 --picture 60 --control c --control-mode 600 --control-group g --json - ' \
+            '--calls l --dark 3 --on-loss clear 5'
+        self.assertEqual(watched_of(self.asked(words + more), 'p'), WatchWants(
+            name='east', control='c', control_mode=0o600, control_group='g', http=('127.0.0.1', 80), json='-',
+            calls='l', dark=3.0, on_loss=['clear', '5'],
+            picture=['--last', '60.0s', '--title', 'east', '--refresh', '10', '--program', 'p', f'{HERE}/s'],
+            kept=f' {HERE}/s --calls {HERE}/l'))
+
+    def test_how_long_a_file_is(self) -> None:
+        """A twelfth of what is kept."""
+        ring, file = (RecordingWants('s', keep, 'west', 'c', 200) for keep in (60, None))
+        self.assertEqual([its.is_long(octets) for its in (ring, file) for octets in (1_279_999, 1_280_000)],
+                         [False, True, False, False])
+
+
+class ChildEndTests(unittest.IsolatedAsyncioTestCase):
+    """How processes end, and what they say of it."""
+
+    async def ended(self, script: str) -> Child:
+        child = Child.start('/bin/sh', ['sh', '-c', f'exec >&2; {script}'], 0, 1)
+        self.addCleanup(child.close)
+        await child.over.wait()
+        return child
+
+    async def test_words(self) -> None:
+        for script, status, words, last in (
+                ('exit 0', 0, 'ended with status 0', 'ended with status 0'),
+                ('echo a; echo b; exit 0', 0, 'ended with status 0', 'ended with status 0'),
+                ('echo a; echo circuit 3 begins as new; echo octets 7; echo live 8; echo b; exit 3', 3,
+                 'ended with status 3', 'says: a; b'), ('exit 3', 3, 'ended with status 3', 'ended with status 3'),
+                ('echo a; kill -9 $$', -9, 'ended by signal 9 (SIGKILL)', 'ended by signal 9 (SIGKILL)'),
+                ('kill -35 $$', -35, 'ended by signal 35', 'ended by signal 35'),
+                (f'exit {UNKNOWN}', UNKNOWN, 'ended', 'ended')):
+            with self.subTest(script):
+                child = await self.ended(script)
+                self.assertEqual((child.status, child.words(), child.last_words()), (status, words, last))
+        self.assertEqual((signal_words(15), signal_words(35)), ('15 (SIGTERM)', '35'))
+
+    async def test_what_it_says(self) -> None:
+        """Counts of its end are no lines; what comes again and again is told once, and not kept. Of a line without an
+        end it is waited for the rest."""
+        child = await self.ended('echo a; echo octets 7; echo records 2; echo errored 3; echo satop x; printf rest')
+        self.assertEqual(child.news(), ['a', 'satop x', 'rest'])
+        self.assertEqual((child.news(), child.lines, child.totals()), ([], ['a', 'rest'], {'octets': 7, 'records': 2}))
+
+    async def test_ran(self) -> None:
+        async def of(script: str, given: bytes = b'', seconds: float = 900.0) -> tuple[int | None, str, bytes]:
+            return await ran(lambda reads, writes: Child.start('/bin/sh', ['sh', '-c', script], reads, writes), given,
+                             seconds)
+        self.assertEqual(await of('cat; echo a >&2; exit 3', b'octets'), (3, 'a\n', b'octets'))
+        self.assertEqual(await of('exec sleep 900', seconds=0.05), (None, '', b''))
+
+    async def test_end_within(self) -> None:
+        """Who does not end in time is killed; who is over stays so."""
+        child = Child.start('/bin/sh', ['sh', '-c', 'exec sleep 900'], 0, 1)
+        self.addCleanup(child.close)
+        self.assertFalse(await child.ends_within(0.01))
+        await child.end_within(0.01)
+        self.assertEqual(child.status, -9)
+        await child.end_within(0.0)
+        child.signal(9)
+
+
+class ProgramFaultTests(support.FolderCase, unittest.IsolatedAsyncioTestCase):
+    LINES = (('fault 5 Read at 3', ProgramFault.TRUNK), ('fault 6 Write at 3', ProgramFault.TRUNK),
+             ('fault 2 BadKind at 3', ProgramFault.NONE), ('config 2 Odd at 3', ProgramFault.CONFIG),
+             ('socket 3', ProgramFault.SOCKET), ('no socket 3', ProgramFault.NONE), ('', ProgramFault.NONE),
+             ('e1gw: the log x is in use by 7', ProgramFault.LOG_IN_USE), ('state 4 Sum at 0', ProgramFault.LOG_LOST),
+             ('e1gw: the log x has no state', ProgramFault.LOG_LOST), ('state x', ProgramFault.NONE),
+             ('e1gw: the log x wants 8 octets', ProgramFault.NO_ROOM), ('blog wants', ProgramFault.NONE))
+
+    async def test_lines(self) -> None:
+        """The first line of which something is known; and whether it has ended in order."""
+        places = ProgramPlaces(self.folder)
+        for line, fault in self.LINES:
+            for status in 0, 1:
+                script = f'echo nothing; echo "{line}"; echo octets 7; exit {status}'
+                child = Child.start('/bin/sh', ['sh', '-c', f'exec >&2; {script}'], 0, 1)
+                await child.over.wait()
+                for is_adopted in False, True:
+                    program = TrunkProgram(ProgramVersion('e1gw', 0, 0, 'any'), places, child, -1, is_adopted)
+                    self.assertEqual((program.fault(), program.ended_well()), (fault, is_adopted or not status), line)
+                program.close()
+
+    async def test_what_it_lacks(self) -> None:
+        places = ProgramPlaces(self.folder)
+        program = TrunkProgram(ProgramVersion('e1gw', 0, 0, 'any'), places, Child(os.getpid()), -1, True)
+        names = ('program', 'tell', 'log/lock')
+        for name in names:
+            self.assertTrue(program.lacks())
+            self.write(name, '')
+        self.assertFalse(program.lacks())
+        for name in names:
+            os.unlink(self.path(name))
+            self.assertTrue(program.lacks())
+            self.write(name, '')
+
+
+class PortsLeftOutTests(support.FolderCase):
+    def test_until_it_is_free(self) -> None:
+        """It is named once, left out of the configuration, and looked at again each second."""
+        with socket.socket(socket.AF_INET, socket.SOCK_DGRAM) as other:
+            other.bind(('127.0.0.1', 0))
+            port, free = other.getsockname()[1], free_port(kind=socket.SOCK_DGRAM)
+            config = in_memory(support.config_text({
+                3: {'local_port': port, 'peer_port': 9}, 4: {'local_port': free, 'peer_port': 9}}).encode())
+            version, taken = ProgramVersion('e1gw', 0, config, 'any'), TakenPorts()
+            with self.assertLogs('e1gw.service.ports') as told:
+                taken.look(version, 100.0)
+                taken.look(version, 100.5)
+            self.assertEqual(len(told.records), 1)
+            self.assertIn(f'circuit 3 has no port: port {port} is in use', told.records[0].getMessage())
+            with taken.left_out(version) as without:
+                text = octets_in(without.config).decode()
+                self.assertEqual((str(port) in text, str(free) in text, text.count('number')), (False, True, 2))
+            with taken.left_out(replace(version, senders='host')) as without:
+                self.assertEqual(without.config, config)
+            self.assertFalse(taken.are_free(version, 100.5 + AGAIN))
+        self.assertFalse(taken.are_free(version, 100.5 + 1.9 * AGAIN))
+        self.assertTrue(taken.are_free(version, 100.5 + 2 * AGAIN))
+        self.assertFalse(taken.are_free(version, 200.0))
+        os.close(config)
+
+
+class VersionTests(support.FolderCase):
+    def version(self, text: str) -> ProgramVersion:
+        self.addCleanup(os.close, config := in_memory(text.encode()))
+        return ProgramVersion('e1gw', 0, config, 'any')
+
+    def test_names(self) -> None:
+        hosts = ('10.0.0.1', '::1', 'west', '10.0.0')
+        self.assertEqual([is_address(host) for host in hosts], [True, True, False, False])
+        tables: dict[str, Any] = {'law': 'A', 'circuit': [{'number': 1, 'peer_host': 'west'}, {'number': 2},
+                                                          {'number': 3, 'peer_host': '10.0.0.3'}]}
+        self.assertEqual(with_addresses(tables, {'west': '10.0.0.1'}), {'law': 'A', 'circuit': [
+            {'number': 1, 'peer_host': '10.0.0.1'}, {'number': 2}, {'number': 3, 'peer_host': '10.0.0.3'}]})
+        self.assertEqual(with_addresses({'law': 'A'}, {}), {'law': 'A', 'circuit': []})
+
+    def test_ports(self) -> None:
+        ports: dict[int, dict[str, object]] = {3: {'local_port': 1, 'peer_port': 2}, 4: {},
+                                               9: {'local_port': 3, 'peer_port': 4}}
+        self.assertEqual(self.version(support.config_text(ports)).ports(), {3, 9})
+
+    def test_a_standby_after_a_reload(self) -> None:
+        """What differs at the other machine is found by the configuration of then."""
+        versions = [self.version(support.config_text({3: {'ptime': each}})) for each in (20, 30)]
+        now = versions[:1]
+        standby = TrunkStandby(('127.0.0.1', 1), '127.0.0.2', (), lambda: now[0], self.folder, print)
+        head = FeedHead(*configured(versions[1].config_path()), 1, 0, 0, 0, 0)
+        self.assertEqual(standby._differs(head), [3])
+        now[0] = versions[1]
+        self.assertEqual(standby._differs(head), [])
+
+
+class RecordingTests(support.FolderCase, unittest.IsolatedAsyncioTestCase):
+    async def test_what_was_not_noted_is_cut(self) -> None:
+        """The next service goes on behind what the one before it has noted."""
+        path = self.write('kept', 'noted more')
+        left = RecordingNote(path, None, '', (), path, 0, 5, 5, 5)
+        its = TrunkRecording(RecordingWants(path, None, 'west', 'c', 200), lambda: None, left)
+        its.put(b' octets', 12, 9)
+        await its.has(12, 900.0)
+        await asyncio.to_thread(its.close)
+        self.assertEqual((support.text_of(path), its.is_over()), ('noted octets', True))
+        self.assertEqual(its.note(0), replace(left, place=12, octets=9, size=12))
+
+    async def test_one_that_is_too_slow(self) -> None:
+        """It ends, is told once, and takes no more."""
+        os.mkfifo(path := self.path('kept'))
+        with closing(os.fdopen(os.open(path, os.O_RDWR), 'rb', buffering=0)), \
+                mock.patch.object(recordings, 'MOST_BEHIND', 99), self.assertLogs('e1gw.service') as told:
+            its = TrunkRecording(RecordingWants(path, None, 'west', 'c', 200), lambda: None, None)
+            with mock.patch.object(its, '_write'):
+                its.put(bytes(99), 99, 99)
+                self.assertEqual(its.why, '')
+                for _ in range(2):
+                    its.put(b'x', 100, 100)
+                await its.has(200, 900.0)
+                await asyncio.to_thread(its.close)
+        self.assertEqual([each.getMessage() for each in told.records],
+                         [f'session ended, the calls go on: it takes too little: {path}'])

@@ -1,0 +1,154 @@
+"""What an operator has of a trunk, by what the test plays for it: no program, no process and no clock."""
+from __future__ import annotations
+
+import asyncio
+import logging
+import os
+import unittest
+from types import SimpleNamespace
+from typing import Any
+from unittest import mock
+
+from . import support
+from e1gw.clock import ClockFinding
+from e1gw.events import CallsCleared, Event, FlowChanged, Flows, Stalled, WatchEnded
+from e1gw.lines import Role, State
+from e1gw.service import decisions, status, trunk, watch
+from e1gw.service.journal import NOTICE, LineFormatter
+from e1gw.service.pages import MOST_VISITORS, WebServer
+from e1gw.session import Command, command_record
+
+
+class TrunkWatchCase(support.FolderCase, unittest.IsolatedAsyncioTestCase):
+    """A trunk without a program; `facts` are what is known of it. `given` has the records for the program, `told` the
+    events."""
+
+    def watched(self, **facts: Any) -> watch.TrunkWatch:
+        config = self.write('trunk.toml', 'law = "A"\n')
+        its = mock.Mock(flow=dict, **{
+            'places.return_value.tell': config, 'config_path.return_value': config, 'place.return_value': 0,
+            'outage.return_value': None, 'facts.return_value': facts})
+        found = watch.TrunkWatch(watch.WatchWants(name='west', calls=self.path('calls')), its)
+        self.addCleanup(found._close)
+        self.given, self.told = list[bytes](), list[Event]()
+        setattr(found._program, 'ask', self.ask)
+        setattr(found.status, 'tell', self.told.append)
+        return found
+
+    async def ask(self, record: bytes, *_: object, **__: object) -> SimpleNamespace:
+        self.given.append(record)
+        return SimpleNamespace(refusal=None)
+
+
+class WatchEdgeTests(TrunkWatchCase):
+    now = 100.0
+
+    async def test_a_slip_restarts_open_calls(self) -> None:
+        """Not of another rate, and not of those that are not open; what is counted shows how many."""
+        rows: list[tuple[str, list[bytes]]] = [('gap', [b'K\x03']), ('ahead', [b'K\x03']), ('rate', [])]
+        for what, given in rows:
+            found = self.watched()
+            for n, state in ((3, State.ANSWERED), (4, State.SEIZED)):
+                found._lines.lines[n].begin(state, 0.0)
+            found.flowed(ClockFinding(what, 0.25))
+            found._restarts.look(100.0, 0, found._lines.open_circuits(), True)
+            await asyncio.sleep(0)
+            self.assertEqual([record[:2] for record in self.given], given)
+            self.assertEqual(found._values()['renewed'], len(given))
+
+    async def test_a_standby_writes_no_calls(self) -> None:
+        for role, lines in ('standby', 0), ('active', 1):
+            found = self.watched(pair={'role': role})
+            assert found._calls
+            with mock.patch.object(found._calls, 'put') as put:
+                found._put_call('a line')
+            self.assertEqual(put.call_count, lines)
+
+    async def test_who_is_cleared(self) -> None:
+        """What this end can end; and idle incoming circuits are blocked if that is wanted."""
+        out, come = Role.OUTGOING, Role.INCOMING
+        commands = {(out, State.SEIZED): Command.CLEAR, (out, State.ACKED): Command.CLEAR,
+                    (out, State.ANSWERED): Command.CLEAR, (out, State.CLEAREDBACK): Command.CLEAR,
+                    (come, State.ANSWERED): Command.CLEAR_BACK}
+        for blocks in False, True:
+            found = self.watched()
+            kinds = [(role, state) for role in (out, come) for state in State if str(state) != 'unknown']
+            wanted = commands | ({(come, State.IDLE): Command.BLOCK} if blocks else {})
+            for n, line in found._lines.lines.items():
+                line.role, state = kinds[n - 1] if n <= len(kinds) else (out, State.FAULT)
+                line.begin(state, 0.0)
+            with mock.patch.object(found, 'tell') as tell:
+                found.clear_all('it is dark', blocks)
+            await asyncio.sleep(0.01)
+            self.assertEqual(self.given, [command_record(n, wanted[kind]) for n, kind in enumerate(kinds, 1)
+                                          if kind in wanted])
+            tell.assert_any_call(CallsCleared('it is dark', tuple(
+                n for n, kind in enumerate(kinds, 1) if kind in commands)))
+
+    async def test_what_has_ended_is_told_once(self) -> None:
+        found = self.watched()
+        with mock.patch.object(found, 'tell') as tell:
+            for _ in range(2):
+                found.end_beside('json', 'no room')
+        tell.assert_called_once_with(WatchEnded('json', 'no room'))
+        self.assertEqual(found._values()['ended'], {'json': 'no room', 'calls': None, 'session': None})
+
+    async def test_stalls(self) -> None:
+        """They are counted; octets that are counted anew, by another machine, are no stall."""
+        its = self.watched().status
+        its._line = mock.Mock()
+        places = iter((1000, 1000, 1000, 1000, 1, 2))
+
+        async def sleep(_: float) -> None:
+            self.now += 0.6
+        clock = SimpleNamespace(monotonic=lambda: self.now, time=lambda: 0.0)
+        with (mock.patch.object(decisions, 'QUIET', 1.0), mock.patch.object(status, 'time', clock),
+              mock.patch('e1gw.service.status.asyncio.sleep', sleep), mock.patch.object(
+                  its._trunk, 'place', lambda: next(places)), self.assertRaises((StopIteration, RuntimeError))):
+            await its.look_at_flow()
+        with mock.patch.object(its._trunk, 'place', lambda: 2):
+            self.assertEqual(its.values()['clock'], {'stalled': False, 'stalls': 1})
+        self.assertEqual([each for each in self.told if isinstance(each, FlowChanged)], [Stalled(1.0), Flows(2.4)])
+
+
+class PauseTests(unittest.TestCase):
+    now = 1.0
+
+    def test_it_grows(self) -> None:
+        """Of what ends soon; what has gone for longer is begun again at once."""
+        clock = SimpleNamespace(monotonic=lambda: self.now)
+        with mock.patch.object(trunk, 'MOST_PAUSE', 2.0), mock.patch.object(trunk, 'time', clock):
+            pause = trunk.Pause()
+            self.assertEqual(pause.ends(), 0.0)
+            pause.begins()
+            self.assertEqual([pause.ends() for _ in range(5)], [0.25, 0.5, 1.0, 2.0, 2.0])
+            self.now += trunk.QUICK
+            self.assertEqual(pause.ends(), 0.0)
+
+
+class JournalLevelTests(unittest.TestCase):
+    def test_levels_of_syslog(self) -> None:
+        """Each line has its level; elsewhere the name of the program."""
+        about = os.fstat(2)
+        levels = {logging.ERROR: 3, logging.WARNING: 4, NOTICE: 5, logging.INFO: 6, logging.DEBUG: 7}
+        for stream, fronts in ((f'{about.st_dev}:{about.st_ino}', [f'<{n}>' for n in levels.values()]),
+                               ('7:7', ['e1gw-trunk: '] * 5)):
+            with mock.patch.dict(os.environ, {'JOURNAL_STREAM': stream}):
+                form = LineFormatter('e1gw-trunk')
+            said = [form.format(logging.LogRecord('', level, '', 0, 'x\ny', None, None)) for level in levels]
+            self.assertEqual(said, [f'{front}x\n{front}y' for front in fronts])
+
+
+class VisitorTests(unittest.IsolatedAsyncioTestCase):
+    async def test_the_oldest_goes(self) -> None:
+        server, lines = WebServer(mock.AsyncMock()), list[asyncio.StreamReader]()
+        tasks = []
+        for _ in range(MOST_VISITORS + 2):
+            lines.append(asyncio.StreamReader())
+            tasks.append(asyncio.create_task(server.came(lines[-1], mock.Mock())))
+            await asyncio.sleep(0)
+            await asyncio.sleep(0)
+        self.assertEqual([n for n, task in enumerate(tasks) if task.done()], [0, 1])
+        for task in tasks:
+            task.cancel()
+        await asyncio.wait(tasks)
