@@ -73,7 +73,8 @@ class AgentTests(unittest.TestCase):
         self.assertEqual([self.does('monitor', *again), self.does('demote', *again)], [ACTIVE, 0])
 
     def test_a_unit_that_is_not_there(self) -> None:
+        """One failure is counted, by the monitor: three of them ban a machine."""
         for states in (('inactive',), ('failed',), ('activating', 'failed'), ('activating',)):
             with self.subTest(states):
-                self.assertEqual([self.does(each, *states) for each in ('monitor', 'demote')], [NOT_RUNNING] * 2)
+                self.assertEqual([self.does(each, *states) for each in ('monitor', 'demote')], [NOT_RUNNING, 0])
         self.assertEqual(self.does('monitor', 'active'), ACTIVE)

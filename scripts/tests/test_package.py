@@ -112,7 +112,7 @@ class Units(unittest.TestCase):
 
     def test_purge_says_what_is_left(self) -> None:
         """Recordings with their size, and each other thing that stays; nothing where nothing does."""
-        left = {'/var/lib/e1gw': '/var/lib/e1gw', '/var/lib/e1gw-tie': 'ties', '/etc/e1gw': 'keys',
+        left = {'/var/lib/e1gw': '/var/lib/e1gw', '/etc/e1gw': 'keys',
                 '/etc/systemd/system/multi-user.target.wants/e1gw-trunk@west.service': 'west.service'}
         with tempfile.TemporaryDirectory() as folder:
             self.assertNotIn('recordings', purged(folder))

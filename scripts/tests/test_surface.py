@@ -53,31 +53,40 @@ CODECS = ('pcma',)
 ''',
     'driver/e1gw/say.py': "def main():\n    print('say [--loud] [WORD]')\n",
     'driver/e1gw/lamp.py': '''import argparse
-LOST = 'the light is lost'
 def main():
     words = argparse.ArgumentParser()
     words.add_argument('--shade', choices=('paper', 'glass'))
     words.add_argument('where')
     words.parse_args()
     raise AssertionError
-class Lamp:
-    def _event(self, event, **fields):
-        self.tell({'event': event, 'time': 1, **fields})
-    def turn(self, on):
-        self._event('lit' if on else 'dim', circuit=1)
-        self.fail('no current' if on else f'broken at {on}')
-    def fail(self, why):
-        logger.error('lamp %s: %s', self, why)
 ''',
-    'driver/e1gw/words.py': '''from .lamp import LOST
-HOW = {'bright': 'very {much}', 'dull': 'hardly, {n} W'}
-WORDS = {'shines': lambda e: f'it shines{_by(e)}: ' + HOW[e['how']].format(n=e.get('watt'))}
-def _by(event):
-    return f' by {event["who"]}'
-def end():
-    print(LOST, file=sys.stderr)
+    'driver/e1gw/events.py': '''from dataclasses import dataclass
+from enum import StrEnum
+class How(StrEnum):
+    BRIGHT = 'bright'
+    DULL = 'hardly lit'
+@dataclass(frozen=True)
+class Report:
+    pass
+class Event(Report):
+    pass
+@dataclass(frozen=True)
+class Shines(Event):
+    name = 'shines'
+    what: How
+    from_: str
+    watt: int | None = None
+@dataclass(frozen=True)
+class Lit(Event):
+    name = 'lit up'
 ''',
-    'driver/e1gw/tie/site.py': "def go(self):\n    self._tell('gone', why='no light')\n",
+    'driver/e1gw/tie/events.py': '''from dataclasses import dataclass
+from ..events import Report
+@dataclass(frozen=True)
+class Gone(Report):
+    name = 'gone'
+    why: str
+''',
     'driver/e1gw/tie/status.py': '''def status_of(_):
     return {'joints': 1}
 def exposition(status):
@@ -85,9 +94,8 @@ def exposition(status):
 ''',
     'driver/e1gw/tie/tie.py': 'from unittest.mock import MagicMock\nTie = TieOptions = MagicMock()\n',
     'driver/e1gw/tie/circuit.py': 'from unittest.mock import MagicMock\nTieCircuit = MagicMock()\n',
-    'driver/e1gw/tie/blocked.py': 'def BlockedCircuits(_):\n    pass\n',
+    'driver/e1gw/service/drains.py': 'def KeptDrains(_):\n    pass\n',
     'driver/e1gw/lines.py': 'from unittest.mock import MagicMock\nRole = State = MagicMock()\n',
-    'driver/e1gw/testing/made.py': "def go(self):\n    self._tell('never', why='x')\n",
     'driver/e1gw/service/watch.py': '''from unittest.mock import MagicMock
 WatchWants = MagicMock
 class TrunkWatch:
@@ -109,10 +117,9 @@ WANTED = {
     'alert': 'LampDark', 'column': 'by|lit',
     'command': 'e1gw-lamp|scripts/build|scripts/install|scripts/package|tools/lamp',
     'control': 'codec N pcma TYPE|dim N|help|light N',
-    'event': 'dim|dim circuit|dim time|e1gw-tie gone|e1gw-tie gone why|lit|lit circuit|lit time|shines|shines how|'
-             'shines how=bright|shines how=dull|shines much|shines watt|shines who',
+    'event': 'e1gw-tie gone|e1gw-tie gone why|lit up|shines|shines from|shines watt|shines what|shines what=bright|'
+             'shines what=hardly lit',
     'file': 'dist/man/lamp.1|dist/system/example.options|dist/system/lamp@.service',
-    'journal': 'broken at {}|by {}|hardly, {} W|it shines{}:|lamp {}: {}|no current|the light is lost|very {}',
     'key': 'lamp[].watt|law', 'metric': 'lamps|lamps colour=blue|lamps colour=red|lamps trunk',
     'option': 'e1gw shine|e1gw shine --colour|e1gw shine --colour blue|e1gw shine --colour red|e1gw shine PLACE|'
               'e1gw-lamp --help|e1gw-lamp --shade|e1gw-lamp --shade glass|e1gw-lamp --shade paper|e1gw-lamp -h|'
@@ -143,28 +150,28 @@ class Surface(FolderCase):
     def test_the_whole_list(self) -> None:
         self.maxDiff = None
         self.assertEqual(self.ran(), (0, LIST))
-        self.assertEqual(self.ran('--check'), (0, '80 passed, 0 failed\n'))
+        self.assertEqual(self.ran('--check'), (0, '66 passed, 0 failed\n'))
 
     def test_what_is_gone_fails_until_the_changelog_says_so(self) -> None:
         self.write('scripts/surface.txt', LIST + 'option lamp --old\n')
         status, said = self.ran('--check')
-        self.assertEqual((status, said.splitlines()[-1]), (1, '80 passed, 1 failed'))
+        self.assertEqual((status, said.splitlines()[-1]), (1, '66 passed, 1 failed'))
         self.assertIn('gone: option lamp --old (', said)
         self.ran('--write')
         self.assertEqual(self.ran('--check')[0], 1)
         self.write('CHANGELOG.md', '* Gone: `lamp ..`.\n')
-        self.assertEqual(self.ran('--check'), (0, '81 passed, 0 failed\n'))
+        self.assertEqual(self.ran('--check'), (0, '67 passed, 0 failed\n'))
         self.write('CHANGELOG.md', '* New: x.\n* Gone: `lamp --older`, and\n  `lamp\n  --old`.\n')
-        self.assertEqual(self.ran('--check'), (0, '81 passed, 0 failed\n'))
+        self.assertEqual(self.ran('--check'), (0, '67 passed, 0 failed\n'))
         self.ran('--write')
-        self.assertEqual(self.ran('--check'), (0, '80 passed, 0 failed\n'))
+        self.assertEqual(self.ran('--check'), (0, '66 passed, 0 failed\n'))
 
     def test_what_is_new_fails_until_it_is_written(self) -> None:
         self.write('driver/e1gw/calls.py', "FIELDS = ('lit', 'by', 'watt')\n")
-        said = 'surface: new: column watt (scripts/surface --write)\n80 passed, 1 failed\n'
+        said = 'surface: new: column watt (scripts/surface --write)\n66 passed, 1 failed\n'
         self.assertEqual(self.ran('--check'), (1, said))
         self.ran('--write')
-        self.assertEqual(self.ran('--check'), (0, '81 passed, 0 failed\n'))
+        self.assertEqual(self.ran('--check'), (0, '67 passed, 0 failed\n'))
 
     def test_the_list_of_this_tree(self) -> None:
         self.assertRegex(self.ran('--check', scripts=SCRIPTS)[1], r'^\d+ passed, 0 failed\n$')
