@@ -1,11 +1,8 @@
 """Proves and builds the libraries of crates.txt, as many at a time as processors and memory allow.
 
-usage: scripts/libraries [NAME..]     these crates and those below them; by default those below gateway_main
-       scripts/libraries --keep ..    also keeps what rt needs to check a changed file in seconds, for who works on
-                                      crates: half as long again
-       scripts/libraries --lanes N    as many at a time at most
-       scripts/libraries --put-back   only restores what a killed run has left
-       scripts/libraries --say-lanes  only prints how many may be built at a time here
+usage: scripts/libraries [--lanes N] [NAME..]    these crates and those below them; by default those below gateway_main
+       scripts/libraries --put-back              only restores what a killed run has left
+       scripts/libraries --say-lanes             only prints how many may be built at a time here
 
 Two runs of rt that use a common library wait for each other, because each run locks the folders that it reads. So each
 library is built by `rt lib` in a tree of its own, below the folder of git (below out/ without one): copies of the
@@ -31,14 +28,13 @@ from typing import Optional, TextIO
 TOP = os.path.dirname(os.path.dirname(os.path.realpath(__file__)))
 PROGRAM = 'gateway_main'
 PARTS = ('src', 'specs', 'proofs')
-KEPT = 'incremental'        # where rt keeps its work of a crate, in the crate's out/
 NOT_PROVED = 70
 # The memory of one check, as measured, and what there must be for more than two.
 NEED = 2_000_000_000
 FEW_BELOW = 8_000_000_000
 MOST_JOBS = 4
 # Crates of large types, whose checks take longer than those of others with as many lines: the lines that they count as.
-AS_LINES = {'run_trunk': 2600, 'gw_files': 2600}
+AS_LINES = {'run_trunk': 2600}
 GROUPS = '/sys/fs/cgroup'
 
 
@@ -63,7 +59,6 @@ class State:
     above: dict[str, int] = field(default_factory=dict)
     # The fewest jobs for the next crate of the longest chain, whatever lanes are free.
     ahead: int = 0
-    keeps: bool = False
     is_ended: bool = False
     begun: float = field(default_factory=time.monotonic)
     running: dict[str, Run] = field(default_factory=dict)
@@ -232,11 +227,9 @@ def side_tree(name: str, uses: dict[str, list[str]]) -> str:
 def start(name: str, jobs: int, uses: dict[str, list[str]], state: State) -> None:
     """Starts the building of a library."""
     state.say(f'proving {name}')
-    if state.keeps and not os.path.isdir(f'{out_of(name)}/{KEPT}'):
-        shutil.rmtree(f'{out_of(name)}/rlib', ignore_errors=True)
     folder = side_tree(name, uses)
     log = open(log_of(name), 'w', encoding='utf-8')
-    words = [sys.executable, '-B', f'{TOP}/scripts/kit.py', *['--keep'] * state.keeps, 'lib', '--jobs', str(jobs)]
+    words = [sys.executable, '-B', f'{TOP}/scripts/kit.py', 'lib', '--jobs', str(jobs)]
     process = subprocess.Popen(words, cwd=folder, stdin=subprocess.DEVNULL, stdout=log, stderr=subprocess.STDOUT)
     state.running[name] = Run(process, jobs, log)
 
@@ -316,7 +309,6 @@ def wanted_of(names: list[str], uses: dict[str, list[str]]) -> list[str]:
 def words_of(given: list[str], uses: dict[str, list[str]]) -> argparse.Namespace:
     parser = argparse.ArgumentParser(prog='scripts/libraries', description=__doc__, add_help=True,
                                      formatter_class=argparse.RawDescriptionHelpFormatter, usage=argparse.SUPPRESS)
-    parser.add_argument('--keep', action='store_true', help="keeps rt's work")
     parser.add_argument('--lanes', type=int, metavar='N', help='how many at a time, at most')
     parser.add_argument('--put-back', action='store_true', help='builds nothing')
     parser.add_argument('--say-lanes', action='store_true', help='builds nothing')
@@ -354,7 +346,7 @@ def main(given: list[str]) -> int:
     chain = chains(wanted, uses)
     above = {name: lines - lines_of(name) for name, lines in chain.items()}
     ahead = 0 if words.lanes or lanes < 3 else 2
-    state = State(list(chain), lanes, len({*wanted, *(words.names or [PROGRAM])}), chain, above, ahead, words.keep)
+    state = State(list(chain), lanes, len({*wanted, *(words.names or [PROGRAM])}), chain, above, ahead)
     end_by_signals(state)
     os.makedirs(f'{TOP}/out', exist_ok=True)
     try:

@@ -24,7 +24,6 @@ lib)
   case " $BOTH " in *" $name "*)
     for each in $BOTH; do until grep -q "begin $each" "$NOTES"; do sleep 0.01; done; done ;;
   esac
-  [ ! -e out/rlib/made ] || echo "over $name" >> "$NOTES"
   mkdir -p out/rlib
   echo "$name" > out/rlib/made
   echo "end $name" >> "$NOTES"
@@ -98,14 +97,6 @@ class Libraries(Tree):
     def test_named_alone(self) -> None:
         self.assertEqual(self.run_to_end(['libraries', 'apart'])[0], 0)
         self.assertEqual(self.built(), ['low', 'apart'])
-
-    def test_keep(self) -> None:
-        """What was built without rt's work being kept is built from nothing, and nothing else is."""
-        self.assertEqual(self.run_to_end(['libraries'])[0], 0)
-        os.makedirs(f'{self.top}/tree/crates/low/out/incremental')
-        self.assertEqual(self.run_to_end(['libraries', '--keep'])[0], 0)
-        self.assertEqual([it for it in self.noted() if it.startswith('over')], ['over low'])
-        self.assertEqual(self.built(), ['low', 'other', 'middle'])
 
     def test_refused(self) -> None:
         status, told = self.run_to_end(['libraries'], REFUSED='low')
