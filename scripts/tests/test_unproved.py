@@ -52,8 +52,8 @@ try)
   ;;
 esac
 '''
-UNPROVED = ("e1gw: not proved yet, checks at run time stand in the proof's place: scripts/build proves it, in some 25 "
-            "minutes on four cores\n")
+UNPROVED = ("e1gw: not proved yet, checks at run time stand in the proof's place: scripts/build proves it, in 20 to "
+            "30 minutes on four cores\n")
 
 
 class UnprovedCase(FolderCase):
@@ -132,7 +132,7 @@ class Front(UnprovedCase):
         for words in ('serve',), ('trunk', '--help='), ('satop',), ('serve', '--config', '--help'):
             status, out, told = self.ran('e1gw', *words)
             self.assertEqual((status, out, told.count('\n')), (70, '', 1))
-            self.assertRegex(told, 'only a proved program carries calls.*scripts/build proves it, in some 25 minutes')
+            self.assertRegex(told, 'only a proved program carries calls.*scripts/build proves it, in 20 to 30 minutes')
         self.assertEqual(self.ran('e1gw', 'serve', '--help'), (0, 'not proved: serve --help\n', UNPROVED))
 
     def test_a_source_that_changes(self) -> None:
