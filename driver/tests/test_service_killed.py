@@ -16,9 +16,8 @@ from .manager import Manager
 from .support import SECONDS
 from .test_program_killed import KeeperCase
 from .world import LAUNCHER
-from e1gw.service.handover import NOTE
 from e1gw.service.memory import in_memory
-from e1gw.service.note import ServiceNote, note_in
+from e1gw.service.note import NoteFiles, ServiceNote, note_in
 from e1gw.service.process import UNKNOWN, Child, start_of
 from e1gw.testing.service import ask
 
@@ -59,9 +58,8 @@ class RestartedKeeperCase(KeeperCase):
     def noted(self) -> ServiceNote | None:
         """What the service of now has noted, with a program that was up; None before that."""
         found = None
-        for path in glob.glob(os.path.join(glob.escape(self.memory), '*', NOTE)):
-            with contextlib.suppress(FileNotFoundError):
-                found = note_in(support.octets_of(path))
+        for folder in glob.glob(os.path.join(glob.escape(self.memory), '*')):
+            found = note_in(NoteFiles(folder).read()) or found
         return found if found and found.pid == self.keeper.pid and found.was_up else None
 
     def known(self, holds: Callable[[list[dict[str, Any]]], object]) -> dict[str, Any]:

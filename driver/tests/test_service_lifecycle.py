@@ -10,7 +10,6 @@ import glob
 import itertools
 import json
 import os
-import re
 import shutil
 import signal
 import subprocess
@@ -31,8 +30,7 @@ from e1gw.lines import config_text
 from e1gw.service.log_folder import LogPair
 from e1gw.service.memory import in_memory
 from e1gw.service.version import ProgramVersion, with_addresses
-from e1gw.session import (MULTIFRAME, Codec, Command, Kind, codec_record, command_record, records_in,
-                          trunk_record)
+from e1gw.session import Codec, Command, Kind, codec_record, command_record, records_in, trunk_record
 from e1gw.testing.service import ask
 
 HELD = 12                   # multiframes that a device holds which nobody reads
@@ -187,10 +185,7 @@ class ServiceEventsCase(RestartedKeeperCase, RecorderCase):
         self.write('trunk.toml', f'{self.right}x = 1\n' if self.chance.randrange(2) else self.right)
         self.dies_unkept()
         self.write('trunk.toml', self.right)
-        said = re.search(r'behind octet (\d+)', self.goes_on())
-        assert said
-        # (what the program still answers while it ends may come behind what this service has read)
-        self.assertLess((len(self.heard) - self.first) * MULTIFRAME - int(said[1]), 25_600)
+        self.goes_on_behind()
         self.settles()
 
     def service_dies_in_a_reload(self) -> None:
@@ -230,7 +225,7 @@ class ServiceEventsCase(RestartedKeeperCase, RecorderCase):
         support.until(lambda: os.path.isdir(folder))
 
     def folder_is_full(self) -> None:
-        """Room for the log is held."""
+        """Room for the log, and for what is noted, is held."""
         if self.is_small:
             full = os.path.join(self.memory, 'full')
             with open(full, 'wb', buffering=0) as file, contextlib.suppress(OSError):
@@ -238,6 +233,8 @@ class ServiceEventsCase(RestartedKeeperCase, RecorderCase):
                     file.write(bytes(4096))
             self.dies()
             self.reloaded()
+            self.dies_unkept()
+            self.goes_on_behind()
             os.unlink(full)
 
     def control_is_taken(self) -> None:

@@ -24,11 +24,11 @@ from e1gw.service import events, trunk
 from e1gw.service.commands import unix_listener
 from e1gw.service.decisions import TRIED
 from e1gw.service.journal import MINUTE, MOST, LineLimit
-from e1gw.service.handover import NOTE, Handover, Left, Notifier, given_files, note_of, takes_up
+from e1gw.service.handover import Handover, Left, Notifier, given_files, note_of, takes_up
 from e1gw.service.lifecycle import TrunkCarrier
 from e1gw.service.log_folder import LogPair
 from e1gw.service.memory import in_memory
-from e1gw.service.note import ServiceNote
+from e1gw.service.note import NoteFiles, ServiceNote
 from e1gw.service.ports import TakenPorts
 from e1gw.service.process import start_of
 from e1gw.service.reader import ReadingNote
@@ -219,7 +219,7 @@ class HandoverTests(support.FolderCase):
         text = note.text()
         for octets in (text[:40], text.replace(b'"version": 1', b'"version": 2'), text.replace(b'true', b'"yes"'),
                        text.replace(b'"place": ', b'"plaice": '), text.replace(b'99]', b'99, 1]'), b'[]', b'7'):
-            self.write(NOTE, octets)
+            NoteFiles(self.folder).put(octets)
             self.assertIsNone(note_of(self.folder, opens), octets)
 
 

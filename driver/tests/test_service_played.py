@@ -191,9 +191,9 @@ class PlayedTakeoverTests(ServiceCase):
                 await self.says('carries')
                 file = await self.until(lambda: self.manager.files.get('line-in'))
                 await self.dies()
-                (note,) = glob.glob(self.path('run/*/note'))
-                if not is_noted:
-                    os.unlink(note)
+                for note in glob.glob(self.path('run/*/note.*')):
+                    if not is_noted:
+                        os.unlink(note)
                 numbers = json.dumps({'line-in': os.dup(file)}) if is_given else ''
                 self.records.clear()
                 with mock.patch.dict(os.environ, {'E1GW_NUMBERS': numbers}):

@@ -76,6 +76,23 @@ class ServiceFlowTests(support.FolderCase, unittest.IsolatedAsyncioTestCase):
         self.assertEqual((clock['gaps'], clock['gap_seconds'], clock['stalls']), (1, 0.25, 0))
         self.assertRegex(shown.table, r'stalls 0, slips 1 \(0\.[23] s\)')
 
+    async def test_overtaken(self) -> None:
+        """Who missed a part counts on from where the program says that the trunk is, and no octet twice."""
+        self.log.multiframe()
+        self.reader.look()
+        for _ in range(3):
+            self.log.multiframe()
+            self.log.turns()
+        self.log.multiframe()
+        told = 5 * MULTIFRAME
+        self.reader.told = lambda: told
+        with self.assertLogs('e1gw.service.reader', 'WARNING'):
+            self.reader.look()
+        self.assertEqual(self.reader.octets, told)
+        self.log.multiframe()
+        self.reader.look()
+        self.assertEqual(self.reader.octets, told + MULTIFRAME)
+
     async def test_slips_are_noted(self) -> None:
         """Beside the file of a ring, at the place where octets were lost; and what a program had in hand."""
         with tempfile.TemporaryDirectory() as folder:

@@ -19,17 +19,14 @@ from math import inf
 from typing import Mapping, NoReturn
 
 from ..programs import SENDERS
-from ..writers import put_file
 from .decisions import Found, Takeover, takeover_of
 from .lifecycle import GRACE, TrunkCarrier, TrunkWants, load_stored
 from .log_folder import LogFiles, LogPair, holder_of
-from .memory import octets_in
-from .note import ServiceNote, is_of, note_in
+from .note import NoteFiles, ServiceNote, is_of, note_in
 from .program import ProgramPlaces, TrunkProgram, config_in, connected, end_left
 from .satop_trunk import trunk_of
 from .version import ProgramVersion, VersionRefused, version_left, version_of_now
 
-NOTE = 'note'               # the file of the note, in the folder of the service
 FIRST, APART = 3, 100       # the first descriptor that is given, and where they are put out of the way
 # Signals that a service catches. They wait while it becomes another one, which they would end.
 CAUGHT = signal.SIGHUP, signal.SIGUSR1, signal.SIGUSR2, signal.SIGTERM, signal.SIGINT
@@ -64,9 +61,8 @@ class Handover:
 
     def __init__(self, folder: str, notifier: Notifier, held: Mapping[str, int]) -> None:
         """`held` are the descriptors that were given to this one, which systemd has still."""
-        self._path, self._notifier = os.path.join(folder, NOTE), notifier
+        self._note, self._notifier = NoteFiles(folder), notifier
         self._held, self._files = {name: os.fstat(file).st_ino for name, file in held.items()}, dict[str, int]()
-        self._text = b''
 
     def put(self, note: ServiceNote, files: Mapping[str, int]) -> None:
         """This is what the next one has to know and to have. What was not taken is tried again at the next call."""
@@ -78,11 +74,8 @@ class Handover:
         for name in {*its} - {*self._held}:
             if self._notifier.tell('FDSTORE=1', f'FDNAME={name}', 'FDPOLL=0', file=files[name]):
                 self._held[name] = its[name]
-        text = note.text()
-        if text != self._text or not os.path.exists(self._path):
-            with suppress(OSError):         # (a folder that is full or gone: then it is the note before)
-                put_file(self._path, text, 0o600)
-                self._text = text
+        with suppress(OSError):             # (the folder is gone)
+            self._note.put(note.text())
 
     def forget(self) -> None:
         """Nothing is kept any more: the trunk has ended. What systemd has no room for waits, GRACE at most."""
@@ -123,14 +116,8 @@ def given_files() -> dict[str, int]:
 
 def note_of(folder: str, opens: tuple[str | None, ...]) -> ServiceNote | None:
     """What the service before this one has noted last of the same trunk; None if there was none, or it is there."""
-    with suppress(OSError):
-        file = os.open(os.path.join(folder, NOTE), os.O_RDONLY | os.O_CLOEXEC)
-        try:
-            note = note_in(octets_in(file))
-        finally:
-            os.close(file)
-        return note if note and is_of(note, opens, os.getpid()) else None
-    return None
+    note = note_in(NoteFiles(folder).read())
+    return note if note and is_of(note, opens, os.getpid()) else None
 
 
 # ---- how a service begins ----

@@ -38,6 +38,11 @@ class ReadingNote:
     starts: tuple[tuple[int, float], ...] = ()
 
 
+def octets_in(news: Sequence[LogNews]) -> int:
+    """The octets of the trunk in what was read."""
+    return sum(whole_records(each.octets)[1] for each in news if isinstance(each, LogPiece))
+
+
 class LogReader:
     """Reads the log of a trunk, in this folder. `note` has what the next service has to know noted, and `config` gives
     that of the program of now. `found` is called with what is found of the flow, and `told` says at which octet the
@@ -191,8 +196,9 @@ class LogReader:
             return
         assert self._reader
         before = self.octets
-        for news in self._reader.look():
-            self._take(news)
+        its = self._reader.look()
+        for number, news in enumerate(its, 1):
+            self._take(news, its[number:])
         now = time.monotonic()
         if self.octets > before:
             self.clock.took(self.octets - before, now)
@@ -201,7 +207,7 @@ class LogReader:
                 self._recording.slip(self.octets, round(finding.value, 3))
             self.found(finding)
 
-    def _take(self, news: LogNews) -> None:
+    def _take(self, news: LogNews, behind: Sequence[LogNews]) -> None:
         if isinstance(news, LogPiece):
             self.octets += whole_records(news.octets)[1]
             self._place = news.place + len(news.octets)
@@ -209,19 +215,19 @@ class LogReader:
                 self._recording.put(news.octets, self._place, self.octets)
             return
         if isinstance(news, LogBegun):
-            self._is_overtaken(news)
+            self._is_overtaken(news, octets_in(behind))
         self._place = news.state.place
         self._see_file(news.state, isinstance(news, LogBegun))
 
-    def _is_overtaken(self, news: LogBegun) -> None:
-        """The reading begins at a state, perhaps behind what was not seen. (A log that has begun with a state that was
-        kept is read from there on.)"""
+    def _is_overtaken(self, news: LogBegun, behind: int) -> None:
+        """The reading begins at a state, perhaps behind what was not seen; these octets of the trunk are behind that.
+        (A log that has begun with a state that was kept is read from there on.)"""
         if news.missed:
             logger.warning('%d octets of the log were not read in time: no event and no recording has them',
                            news.missed, extra={'kind': 'overtaken'})
-            self.octets = max(self.octets, self.told())
+            self.octets = max(self.octets, self.told() - behind)
         elif news.is_anew or self._place < 0 and not self.is_loaded:
-            self.octets = self.told() if news.state.place else 0
+            self.octets = max(0, self.told() - behind) if news.state.place else 0
 
     def _see_file(self, state: LogState, is_break: bool) -> None:
         """Another file of a recording begins at a state, if it is to."""
