@@ -26,7 +26,7 @@ from pathlib import Path
 from typing import BinaryIO
 
 from .ctl_all import PATIENCE, SOCKETS, answer_of, connected, overview, trunks_here
-from .ctl_calls import Wanted, calls_listed, outages_listed
+from .ctl_calls import OutageForm, Wanted, calls_listed, outages_listed
 from .ctl_drain import drain
 from .faults import checked, number, words_of_fault
 from .session import CIRCUITS
@@ -39,7 +39,7 @@ TAKEN = {'block': 'drain', 'unblock': 'undrain'}        # what an operator block
 
 # The commands that have these options.
 OPTIONS = {'last': ('calls',), 'circuit': ('calls',), 'since': ('calls', 'outages'), 'until': ('outages',),
-           'csv': ('outages',), 'now': ('block', 'drain'), 'within': ('drain',)}
+           'csv': ('outages',), 'page': ('outages',), 'now': ('block', 'drain'), 'within': ('drain',)}
 
 
 def path_of(word: str) -> str:
@@ -146,7 +146,8 @@ def started(asked: argparse.Namespace, parser: argparse.ArgumentParser, patience
         case ['calls']:
             return calls_listed(trunks, Wanted(asked.last, asked.circuit, asked.since), patience)
         case ['outages']:
-            return outages_listed(trunks, asked.since, asked.until, bool(asked.csv), patience)
+            form = OutageForm.PAGE if asked.page else OutageForm.CSV if asked.csv else OutageForm.TEXT
+            return outages_listed(trunks, asked.since, asked.until, form, patience)
         case ['drain']:
             return drain(trunks, asked.within, bool(asked.now), patience)
         case ['move', node] if not asked.all:
@@ -195,6 +196,7 @@ def main(patience: float = PATIENCE) -> None:
     parser.add_argument('--since', metavar='TIME', type=time, help='calls, outages: those that ended after TIME (UTC)')
     parser.add_argument('--until', metavar='TIME', type=time, help='outages: those that began before TIME')
     parser.add_argument('--csv', action='store_true', default=None, help='outages: as CSV')
+    parser.add_argument('--page', action='store_true', default=None, help='outages: as a page of HTML to print')
     for each in (parser.add_argument('path', metavar='PATH', nargs='?'),
                  parser.add_argument('command', metavar='COMMAND', nargs='*')):
         setattr(each, 'completer', next_words)

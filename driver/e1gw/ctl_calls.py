@@ -3,6 +3,7 @@ by the file of events."""
 from __future__ import annotations
 
 from dataclasses import dataclass
+from enum import Enum, auto
 from itertools import islice, takewhile
 from math import inf
 from typing import Any, Iterable, Iterator, Mapping
@@ -10,6 +11,7 @@ from typing import Any, Iterable, Iterator, Mapping
 from .calls import CallLine, csv_line, read_calls
 from .ctl_all import each_status
 from .outages import FIELDS, outages_in
+from .service.page import outages_page
 from .session_clock import moment
 
 LAST = 20                   # calls that have ended, if nothing else is asked for
@@ -18,6 +20,14 @@ HEAD = (f'{"trunk":12}  n {"role":8} {"seized (UTC)":23} {"answered":12} {"ended
         f'{"sent":>8} {"received":>8} {"lost":>6} {"late":>6}  call')
 
 OUTAGE = '{:12} {:13} {:24} {:24} {:>11} {:>15} {:>15}  {:14} {}'
+
+
+class OutageForm(Enum):
+    """As what outages are printed."""
+
+    TEXT = auto()
+    CSV = auto()
+    PAGE = auto()
 
 
 @dataclass(frozen=True)
@@ -62,15 +72,24 @@ def calls_listed(trunks: Iterable[tuple[str, str]], wanted: Wanted, patience: fl
     return each_status(trunks, patience, lists)
 
 
-def outages_listed(trunks: Iterable[tuple[str, str]], since: float | None, until: float | None, is_csv: bool,
+def outages_listed(trunks: Iterable[tuple[str, str]], since: float | None, until: float | None, form: OutageForm,
                    patience: float) -> int:
     """Prints the outages of trunks between two times; returns the status."""
+    rows = list[tuple[str, ...]]()
+
+    def puts(its: tuple[str, ...]) -> None:
+        if form is OutageForm.PAGE:
+            return rows.append(its)
+        print(csv_line(its) if form is OutageForm.CSV else OUTAGE.format(*its).rstrip(), flush=True)
+
     def lists(name: str, told: Mapping[str, Any]) -> None:
         if not told['events_file']:
             raise ValueError('it writes no --json FILE: its outages are not known')
         with open(told['events_file'], encoding='utf-8', errors='replace') as lines:
             for each in outages_in(lines, since or 0.0, inf if until is None else until):
-                its = each.fields(told.get('name', name))
-                print(csv_line(its) if is_csv else OUTAGE.format(*its).rstrip(), flush=True)
-    print(csv_line(FIELDS) if is_csv else OUTAGE.format(*FIELDS))
-    return each_status(trunks, patience, lists)
+                puts(each.fields(told.get('name', name)))
+    puts(FIELDS)
+    status = each_status(trunks, patience, lists)
+    if rows:
+        print(outages_page(rows))
+    return status

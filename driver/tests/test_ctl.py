@@ -234,7 +234,7 @@ class CtlAnswerTests(support.FolderCase):
             self.assertEqual(self.ctl('west', *words, '--within', '3')[0], 2)
 
     def test_outages(self) -> None:
-        """Of the file of a trunk; as text, and as CSV."""
+        """Of the file of a trunk; as text, as CSV, and as a page."""
         self.write('events', json.dumps({'time': 1.8e9, 'event': 'gap', 'seconds': 0.25, 'place': 7}) + '\n')
         self.trunks['west'].answers['status json'] = json.dumps({'events_file': self.path('events')}) + '\n\n'
         self.assertEqual(self.ctl('west', 'outages', '--csv', '--since', '2027-01-15')[1], [
@@ -242,6 +242,10 @@ class CtlAnswerTests(support.FolderCase):
         self.assertEqual(self.ctl('west', 'outages')[1][1].split(), [
             'west', 'slip', '2027-01-15T07:59:59.750Z', '2027-01-15T08:00:00.000Z', '0.250', '7', '7'])
         self.assertEqual(len(self.ctl('west', 'outages', '--until', '2027-01-15')[1]), 1)
+        page = '\n'.join(self.ctl('west', 'outages', '--page')[1])
+        self.assertEqual(re.findall('<td>([^<]*)</td>', page), [
+            'west', 'slip', '2027-01-15T07:59:59.750Z', '2027-01-15T08:00:00.000Z', '0.250', '7', '7', '', ''])
+        self.assertEqual(len(re.findall('<th>', page)), len(FIELDS_OF_OUTAGES))
         self.trunks['east'].answers['status json'] = '{"events_file": null}\n\n'
         self.assertEqual(self.ctl('--all', 'outages')[:2][0], 1)
 

@@ -124,6 +124,13 @@ def page_of(name: str, parts: Parts, more: Iterable[str]) -> bytes:
     return PAGE.substitute(title=escape(name), refresh=LATER, links=links, tables='\n'.join(tables)).encode()
 
 
+def outages_page(rows: Rows) -> str:
+    """A page to print of outages, whose first row has the heads of the columns."""
+    heads = [head.replace('_', ' ') for head in rows[0]]
+    return STILL.substitute(title='Outages', refresh='', links='', tables=table_of(
+        'last', '', heads, [body_of('outages', rows[1:])]))
+
+
 # ---- all trunks of a machine ----
 
 HOST = '\0'             # in place of the host by which a reader has come
