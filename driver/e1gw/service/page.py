@@ -128,7 +128,7 @@ def outages_page(rows: Rows) -> str:
     """A page to print of outages, whose first row has the heads of the columns."""
     heads = [head.replace('_', ' ') for head in rows[0]]
     return STILL.substitute(title='Outages', refresh='', links='', tables=table_of(
-        'last', '', heads, [body_of('outages', rows[1:])]))
+        'last outages', '', heads, [body_of('outages', rows[1:])]))
 
 
 # ---- all trunks of a machine ----
