@@ -35,6 +35,7 @@ from .session_clock import moment
 ASKING = ('status', 'events', 'help', 'metrics', 'role')
 SEVERAL = ('seize', 'clear', 'answer', 'clear-back', 'block', 'unblock', 'codec')
 TAKEN = {'block': 'drain', 'unblock': 'undrain'}        # what an operator blocks is kept (e1gw-trunk(1))
+GIVEN = {taken: given for given, taken in TAKEN.items()}
 
 
 # The commands that have these options.
@@ -82,8 +83,10 @@ def ask(stream: BinaryIO, line: socket.socket, command: str, front: str = '') ->
     with suppress(BrokenPipeError):     # (there is no answer then)
         line.sendall(command.encode() + b'\n')
     lines = answer_of(stream)
+    word = command.split()[0]
+    lines = [GIVEN.get(word, word) + each.removeprefix(word) if each.startswith(f'{word} ') else each for each in lines]
     print('\n'.join(f'{front}{each}' for each in lines), flush=True)
-    if command.split()[0] in ASKING and not lines[0].endswith(('help', 'to 30')):
+    if word in ASKING and not lines[0].endswith(('help', 'to 30')):
         return True
     return lines[-1].endswith(': done')
 

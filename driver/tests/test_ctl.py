@@ -233,6 +233,11 @@ class CtlAnswerTests(support.FolderCase):
         for words in ('status', 'drain 7'), ('unblock', '7'):
             self.assertEqual(self.ctl('west', *words, '--within', '3')[0], 2)
 
+    def test_words_that_were_given(self) -> None:
+        """What answers `unblock` names it, and no command that it is made into."""
+        self.trunks['west'].answers['undrain 3'] = 'undrain 3: done\n\n'
+        self.assertEqual(self.ctl('west', 'unblock', '3')[:2], (0, ['unblock 3: done']))
+
     def test_outages(self) -> None:
         """Of the file of a trunk; as text, as CSV, and as a page."""
         self.write('events', json.dumps({'time': 1.8e9, 'event': 'gap', 'seconds': 0.25, 'place': 7}) + '\n')
