@@ -9,6 +9,7 @@ import signal
 import subprocess
 import time
 import unittest
+from dataclasses import replace
 from typing import Any, Callable
 
 from . import support
@@ -19,7 +20,11 @@ from .world import LAUNCHER
 from e1gw.service.memory import in_memory
 from e1gw.service.note import NoteFiles, ServiceNote, note_in
 from e1gw.service.process import UNKNOWN, Child, start_of
+from e1gw.service.reader import ReadingNote
 from e1gw.testing.service import ask
+
+
+OVER = 4200                 # multiframes behind which a log is written over: two files of 1 MiB
 
 
 class RestartedKeeperCase(KeeperCase):
@@ -118,6 +123,26 @@ class KilledKeeperTests(RestartedKeeperCase):
         os.unlink(self.command[2])
         os.symlink(LAUNCHER, self.command[2])
         self.comes_back()
+        self.survives()
+
+
+    def test_a_log_that_reaches_back_no_further(self) -> None:
+        """The program has written over what no service has read. The next one has its place from the program."""
+        self.begins('--control', self.path('its-control'))
+        for has_read in True, False:
+            support.until(lambda: (note := self.noted()) and note.read.place > 0)
+            note = self.noted()
+            self.kill_keeper()
+            if not has_read and note:                       # (it was killed in its first second)
+                (folder,) = glob.glob(os.path.join(glob.escape(self.memory), '*'))
+                NoteFiles(folder).put(replace(note, read=ReadingNote()).text())
+            self.step(OVER)
+            self.comes_back()
+            while 'connected to the program' not in self.told()[self.told_from:]:
+                self.step()             # (a program tells at the next octets, and the service has its turn behind them)
+                ask(self.path('its-control'), b'status')
+            self.dies()
+        self.assertIn('octets of the log were not read in time', self.told())
         self.survives()
 
 

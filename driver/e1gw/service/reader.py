@@ -54,6 +54,7 @@ class LogReader:
         self.found: Callable[[ClockFinding], None] = lambda finding: None
         self.told: Callable[[], int] = lambda: 0
         self.octets = 0                         # of the trunk, up to now
+        self.has_missed = False                 # .. too few, since a part of the log was not read
         self.rests = False                      # the other machine carries the trunk
         self.is_loaded = False                  # the log has begun with a state that was kept elsewhere
         self.first, self.starts = 0, ReadingNote().starts       # (see there)
@@ -162,6 +163,10 @@ class LogReader:
         if self._recording and self._reader:
             await self._recording.has(self._reader.base, MOST_WAIT)
 
+    def count_on(self, missed: int) -> None:
+        """So many octets of the trunk were not counted."""
+        self.octets, self.has_missed = self.octets + missed, False
+
     # ---- for the service that comes after this one ----
 
     def noted(self) -> ReadingNote:
@@ -225,9 +230,9 @@ class LogReader:
         if news.missed:
             logger.warning('%d octets of the log were not read in time: no event and no recording has them',
                            news.missed, extra={'kind': 'overtaken'})
-            self.octets = max(self.octets, self.told() - behind)
+            self.octets, self.has_missed = max(self.octets, self.told() - behind), True
         elif news.is_anew or self._place < 0 and not self.is_loaded:
-            self.octets = max(0, self.told() - behind) if news.state.place else 0
+            self.octets, self.has_missed = max(0, self.told() - behind) * bool(news.state.place), news.state.place > 0
 
     def _see_file(self, state: LogState, is_break: bool) -> None:
         """Another file of a recording begins at a state, if it is to."""

@@ -24,12 +24,13 @@ from . import decisions
 from .decisions import Flow, FlowChange
 from .drains import KeptDrains
 from .lifecycle import TrunkCarrier
-from .program import ProgramPlaces
+from .program import ProgramPlaces, connected
 from .missed import MissedReports, told_again
 from .reload import ReloadRequests
 
 AGAIN = 0.1                 # seconds between two tries to connect, and two looks
 REST, SHORT_REST = 0.05, 0.01       # between two reads of reports; the latter if somebody follows events
+ANSWERS = 5                 # of a program where it is
 MOST_GREETING = 256         # octets behind which a program has told where it is
 FIRST = 2.0                 # seconds before it is reported that the program was never there
 BOTH = 'reports', 'control'         # the sockets of the program at which this service is a client
@@ -91,6 +92,18 @@ class OperatedTrunk:
         """The octet of the trunk with which the program of now has begun."""
         program = self._carrier.program
         return program.begun if program else 0
+
+    async def know_place(self) -> None:
+        """Where a part of the log was not read, its reader counts on from where the program says that it is. Octets may
+        come between that word and a look, so the most of some answers is so."""
+        reader, missed = self._carrier.reader, 0
+        for _ in range(ANSWERS if reader.has_missed else 0):
+            with connected(self.places().tell) as line:
+                place = self.begun() + await place_told(line)
+            for _ in range(2):                  # (one finds nothing while a head is written)
+                reader.look()
+            missed = max(missed, place - reader.octets)
+        reader.count_on(missed)
 
     def starts(self) -> Sequence[tuple[int, float]]:
         """The octets with which programs began, and the time of day."""
@@ -283,11 +296,13 @@ class TrunkStatus:
             try:
                 line.setblocking(False)
                 session = self._trunk.session()
+                await self._trunk.know_place()
                 line.connect(self._trunk.places().tell)
                 await self.came(line, session, self._trunk.begun() + await place_told(line))
                 while self.takes(line, 1 << 16):
                     await self._rest()
                     await readable(line)
+                    await self._trunk.know_place()
             except OSError as fault:
                 self._why = words_of_fault(fault)
             finally:
