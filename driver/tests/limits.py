@@ -20,7 +20,8 @@ TELLS = {'service.connection.PATIENCE': LONG}
 STARTED = {'clock.STEADY': 0.0, 'service.decisions.TRIED': LONG, 'recording_ring.MOST_OWN': 1000}
 LIMITS: dict[str, Any] = {
     'service.lifecycle.START': LONG, 'service.lifecycle.GRACE': LONG, 'service.lifecycle.RELOADED': LONG,
-    'service.version.CHECK': LONG, 'service.version.LOOK_UP': LONG, 'service.status.FIRST': LONG,
+    'service.version.CHECK': LONG, 'service.version.LOOK_UP': LONG, 'service.version.URGENT': LONG,
+    'service.status.FIRST': LONG,
     'service.decisions.QUIET': LONG, 'service.pages.DRAWN': LONG,
     'service.reload.PATIENCE': LONG, 'service.missed.PATIENCE': LONG,
     'service.feed.PATIENCE': LONG, 'service.standby.PATIENCE': LONG, 'service.pair.PATIENCE': LONG,

@@ -394,6 +394,16 @@ class ServiceVersionTests(KeeperCase):
         self.assertEqual(words[words.index('--senders') + 1], 'any')
         self.ends()
 
+    def test_a_program_that_may_not_be_executed_any_more(self) -> None:
+        """No reload takes it; the one that was tried goes on."""
+        self.other_program()
+        self.starts()
+        self.calls()
+        os.chmod(self.path('program'), 0o644)
+        self.keeper.send_signal(signal.SIGHUP)
+        self.awaits('reload: refused.*Permission denied')
+        self.survives()
+
 
 class KeptWaitTests(support.FolderCase, unittest.IsolatedAsyncioTestCase):
     async def test_seizure_wait(self) -> None:

@@ -12,8 +12,15 @@ from unittest import mock
 
 from . import support
 from .in_process import ServiceCase, plain
-from e1gw.service import lifecycle, version
+from .support import SECONDS
+from e1gw.service import lifecycle, service, version
+from e1gw.service.decisions import Takeover
+from e1gw.service.handover import Left, version_for
+from e1gw.service.log_folder import LogPair
+from e1gw.service.options import wants_of
+from e1gw.service.program import ProgramPlaces
 
+LOGGED = LogPair(1, 0, b'state', b'')
 HAND = ', what it had in hand is lost: 2048 octets (8 ms) at most'
 UP, WAITS = {'up': 1, 'ends': -9}, dict[str, Any]()
 BEGINS, QUIT = 'notice: begins: program A carries the trunk', 'ends: quit, behind octet 0'
@@ -175,6 +182,12 @@ class PlayedWatchTests(ServiceCase):
         await self.ends()
 
 
+async def never(*_: object, **__: object) -> list[tuple[Any, ...]]:
+    """A name server that is away."""
+    await asyncio.sleep(SECONDS)
+    return []
+
+
 class PlayedTakeoverTests(ServiceCase):
     """A service that was killed, and the next one."""
 
@@ -203,6 +216,19 @@ class PlayedTakeoverTests(ServiceCase):
                 self.assertIn(re.sub('[AB]', '.', line), [re.sub(r'\d+', '.', each) for each in self.said()])
                 self.assertEqual(len(self.starts()), 1 + line.count('B'))
                 await asyncio.to_thread(self.manager.forget)
+
+    async def test_names_while_calls_wait(self) -> None:
+        """A name server that is away is not waited for long: the next program has the addresses of the one before."""
+        places, before = ProgramPlaces(self.path('run')), b'# of the program before\n'
+        self.write('run/config', before.decode())
+        self.write('trunk.toml', 'law = "A"\n[[circuit]]\nnumber = 1\nlocal_port = 9\npeer_port = 9\n'
+                                 'peer_host = "peer.example"\n')
+        wants, left = wants_of(service.parser().parse_args(
+            ['--config', self.config, '--unix', 'card', '--program', self.path('e1gw')])), Left(None, {}, 0, LOGGED)
+        with mock.patch.object(asyncio.BaseEventLoop, 'getaddrinfo', never), mock.patch.object(version, 'URGENT', 0.1):
+            found = await version_for(wants, places, left, Takeover.START)
+        self.addCleanup(found.close)
+        self.assertEqual(found.config_octets(), before)
 
     async def test_what_systemd_is_told(self) -> None:
         self.begins()

@@ -216,7 +216,8 @@ async def version_for(wants: TrunkWants, places: ProgramPlaces, left: Left, how:
     if how is Takeover.ADOPT and config:
         return before()
     try:
-        return await version_of_now(wants.program, wants.config, wants.senders, wants.wait)
+        return await version_of_now(wants.program, wants.config, wants.senders, wants.wait,
+                                    is_urgent=bool(config and left.log))
     except VersionRefused as fault:
         if not (config and left.log):
             raise

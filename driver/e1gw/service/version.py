@@ -22,7 +22,7 @@ from .process import Child, ran
 
 MOST_OCTETS = 65_536        # of a configuration
 CHECK = 10.0                # seconds for the program to check it
-LOOK_UP = 10.0              # seconds for all names to be looked up
+LOOK_UP, URGENT = 10.0, 1.0     # seconds for all names to be looked up; .. while calls wait for their program
 NEW = re.compile(r'circuit (\d+) begins as new')
 
 
@@ -41,7 +41,8 @@ class NotYet(VersionRefused):
 @dataclass(frozen=True)
 class ProgramVersion:
     """A version. `file` is a descriptor of the program, `config` one of the configuration in memory, in which names
-    are addresses; `name` is what the program says, and `wait` the milliseconds after which it releases a seizure."""
+    are addresses; `name` is what the program says, and `wait` the milliseconds after which it releases a seizure. One
+    that was tried is executed, whatever becomes of the rights of its file."""
 
     program: str
     file: int
@@ -49,6 +50,7 @@ class ProgramVersion:
     senders: str
     name: str = ''
     wait: int = SEIZURE_WAIT
+    was_tried: bool = False
 
     def config_path(self) -> str:
         return f'/dev/fd/{self.config}'
@@ -68,7 +70,13 @@ class ProgramVersion:
             if os.path.samestat(os.stat(self.program), os.fstat(self.file)):
                 executable = self.program
         words = [self.program, words[0], '--config', self.config_path(), *wait_words(self.wait), *words[1:]]
-        return Child.start(executable, words, reads, writes, [self.file, self.config, *passed], said)
+        if os.access(executable, os.X_OK) or not self.was_tried:
+            return Child.start(executable, words, reads, writes, [self.file, self.config, *passed], said)
+        copy = in_memory(octets_in(self.file))
+        try:
+            return Child.start(f'/proc/self/fd/{copy}', words, reads, writes, [copy, self.config, *passed], said)
+        finally:
+            os.close(copy)
 
     async def run(self, words: Sequence[str], begun: LogPair | None) -> tuple[int | None, str, bytes]:
         """Runs a process of it to its end, over the records behind a state if there is one."""
@@ -99,7 +107,8 @@ class ProgramVersion:
         os.close(self.config)
 
 
-async def version_of_now(program: str, config: str, senders: str | None, wait: int) -> ProgramVersion:
+async def version_of_now(program: str, config: str, senders: str | None, wait: int, is_urgent: bool = False
+                         ) -> ProgramVersion:
     """The program and the configuration of now, tried. VersionRefused says why they will not do."""
     octets = await asyncio.to_thread(_read, config)
     file = os.open(program, os.O_RDONLY)
@@ -110,7 +119,7 @@ async def version_of_now(program: str, config: str, senders: str | None, wait: i
         version = ProgramVersion(program, held[0], held[1], senders or 'any', name, wait)
         await version.check()           # (before any Python reads it)
         tables = tomllib.loads(octets.decode())
-        addresses = await look_up(tables)
+        addresses = await look_up(tables, URGENT if is_urgent else LOOK_UP)
         tables = with_addresses(tables, addresses)
         if why := no_peers(tables):
             raise VersionRefused(why)
@@ -118,7 +127,7 @@ async def version_of_now(program: str, config: str, senders: str | None, wait: i
             os.ftruncate(version.config, 0)
             os.pwrite(version.config, config_text(tables).encode(), 0)
             await version.check()
-        return replace(version, senders=senders or ('any' if addresses else 'host'))
+        return replace(version, senders=senders or ('any' if addresses else 'host'), was_tried=True)
     except BaseException as fault:
         for each in held:
             os.close(each)
@@ -139,7 +148,7 @@ def _read(path: str) -> bytes:
     return octets
 
 
-async def look_up(tables: dict[str, Any]) -> dict[str, str]:
+async def look_up(tables: dict[str, Any], patience: float) -> dict[str, str]:
     """The addresses of the peers that have names."""
     hosts = {str(table['peer_host']) for _, table in tables_of(tables).values() if 'peer_host' in table}
     names = sorted(host for host in hosts if not is_address(host))
@@ -147,14 +156,14 @@ async def look_up(tables: dict[str, Any]) -> dict[str, str]:
     asked = [loop.getaddrinfo(name, None, type=socket.SOCK_DGRAM) for name in names]
     found: dict[str, str] = {}
     try:
-        async with asyncio.timeout(LOOK_UP):
+        async with asyncio.timeout(patience):
             for name, answer in zip(names, await asyncio.gather(*asked, return_exceptions=True)):
                 if isinstance(answer, BaseException):
                     raise NotYet(f'{name}: {getattr(answer, "strerror", None) or answer}')
                 first = min(answer, key=lambda each: each[0] is not socket.AF_INET)
                 found[name] = str(first[4][0])
     except TimeoutError:
-        raise NotYet(f'names are not looked up within {LOOK_UP:g} s: {", ".join(names)}') from None
+        raise NotYet(f'names are not looked up within {patience:g} s: {", ".join(names)}') from None
     return found
 
 
@@ -185,7 +194,7 @@ def version_left(program: str, config: bytes, senders: str, name: str, wait: int
         else:
             raise FileNotFoundError(program)
         held.append(in_memory(config))
-        return ProgramVersion(program, held[0], held[1], senders, name, wait)
+        return ProgramVersion(program, held[0], held[1], senders, name, wait, was_tried=True)
     except OSError:
         for each in held:
             os.close(each)
