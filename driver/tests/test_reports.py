@@ -228,7 +228,8 @@ class ReportReadingTests(support.FolderCase, unittest.IsolatedAsyncioTestCase):
         tell = self.path('tell')
         trunk = mock.Mock(**{
             'places.return_value.tell': tell, 'config_path.return_value': config, 'facts.return_value': {},
-            'session.return_value': '', 'begun.return_value': 0, 'missed': mock.AsyncMock(return_value=None)})
+            'session.return_value': '', 'begun.return_value': 0, 'missed': mock.AsyncMock(return_value=None),
+            'know_place': mock.AsyncMock()})
         with support.listening(tell) as listener, mock.patch.object(status, 'REST', 0.0):
             its = status.TrunkStatus(trunk, 'west', events.append, DatagramCounts(), lambda line: None)
             its.stands('control', True)
