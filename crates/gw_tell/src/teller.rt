@@ -21,7 +21,7 @@ use g704_cas::CircuitNo;
 use gw_records::RecordHead;
 use gw_session::Watch;
 use gw_switch::Gateway;
-use gw_trunk::{accept, open_door};
+use gw_trunk::{LocalDoors, accept, open_door};
 use mio::net::{UnixListener, UnixStream};
 use std::alloc::Global;
 use std::io;
@@ -131,7 +131,7 @@ impl Teller {
     ) -> io::Result<Teller>
         ensures { IfOk result (λ t. HasBegun t law gateway.now) }
     {
-        let door = open_door(rt, path)?;
+        let door = open_door(&mut LocalDoors::new(rt), path)?;
         Ok(Teller {
             door,
             places: open_places(rt.alloc())?,

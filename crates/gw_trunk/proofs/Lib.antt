@@ -7,3 +7,4 @@ pub mod KnownOctets
 pub mod Noting
 pub mod Answering
 pub mod Telling
+pub mod Opening

@@ -63,13 +63,13 @@ SystemReportedNone waiting nanoseconds = ⊤
 unfoldable pub SystemIsReady : {S : Type 0} → S → ℕ → Type 0
 SystemIsReady waiting nanoseconds = ⊤
 
+-- all calls that were made at doors
+unfoldable pub SystemWasCalled : {D C : Type 0} → D → List C → Type 0
+SystemWasCalled doors calls = ⊤
+
 -- whether what stands at a path is a socket
 unfoldable pub SystemShowsSocket : List ℕ → Bool → Type 0
 SystemShowsSocket path is_socket = ⊤
-
--- what stands at a path was removed, or the system refused that
-unfoldable pub SystemRemoves : List ℕ → Type 0
-SystemRemoves path = ⊤
 
 -- a connection to a path was made, or had this error
 unfoldable pub SystemConnects : List ℕ → Option ErrorKind → Type 0
@@ -90,7 +90,3 @@ SystemListens path door = ⊤
 -- what is written to one connection is read from the other
 unfoldable pub SystemPairs : {S : Type 0} → S → S → Type 0
 SystemPairs near far = ⊤
-
--- a path was given these permissions
-unfoldable pub SystemSetsMode : List ℕ → ℕ → Type 0
-SystemSetsMode path mode = ⊤

@@ -22,7 +22,7 @@ pub use device::{
     DeviceFault, DeviceRead, FromDevice, NoClients, ToDevice, TrunkInput, TrunkOutput,
 };
 pub use device_calls::{DeviceReader, DeviceWriter};
-pub use door::open_door;
+pub use door::{Doors, LocalDoors, open_door};
 pub use held::drop_first;
 pub use multiframe_dropper::{MultiframeDropper, give_held};
 pub use sink::TrunkRecordSink;

@@ -15,7 +15,7 @@ use crate::client::ClientPoll;
 use crate::clients::Clients;
 use crate::device::{DeviceFault, DeviceRead, ToDevice, TrunkInput};
 use crate::device_calls::{DeviceReader, is_for_later};
-use crate::door::open_door;
+use crate::door::{LocalDoors, open_door};
 use crate::logged_reader::LoggedReader;
 use gw_records::Log;
 use mio::net::{UnixListener, UnixStream};
@@ -116,7 +116,7 @@ pub fn open_clients<R: DeviceReader + Drop>(
         both.0.clients.answers.reader both.0.clients) }
     ensures err { IfErr result (λ e. SystemRefusesDoor path.now e ⊎ SystemRefusesStream e) }
 {
-    let door = open_door(rt, path)?;
+    let door = open_door(&mut LocalDoors::new(rt), path)?;
     let (near, far) = open_pair(rt)?;
     let incoming = WithClients::open(rt, reader, descriptor, door, near)?;
     let end = far.as_raw_fd();
