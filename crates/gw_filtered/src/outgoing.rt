@@ -151,6 +151,8 @@ impl<O: TrunkOutput, F: PieceFilter> TrunkOutput for FilteredOutput<O, F> {
 
     ghost has_waited = { λ d. O.has_waited d.outgoing };
 
+    ghost has_looked = { λ d. O.has_looked d.outgoing };
+
     ghost may_have_room = { λ d d'. O.may_have_room d.outgoing d'.outgoing };
 
     fn write(&mut self, octets: &[u8]) -> Result<Option<usize>, DeviceFault>

@@ -153,6 +153,9 @@ pub trait TrunkOutput {
     /// Holds of a device if it was waited for 20 ms, and no room was reported.
     ghost has_waited: { Self → Type 0 } = { λ _. ⊤ };
 
+    /// Holds of a device if it was asked for room without a wait, and none was reported.
+    ghost has_looked: { Self → Type 0 } = { λ _. ⊤ };
+
     /// Relates a device before and after a wait for a while that ended because it may have room.
     ghost may_have_room: { Self → Self → Type 0 } = { λ _ _. ⊤ };
 
@@ -181,6 +184,7 @@ pub trait TrunkOutput {
         ensures went { went self.new ≡ went self.old }
         ensures slow { slow_waits self.new ≡ slow_waits self.old + (if result then 0 else 1) }
         ensures waited { result ≡ false → is_slow self.old ≡ false → has_waited self.new }
+        ensures looked { result ≡ false → is_slow self.old ≡ true → has_looked self.new }
         ensures room { result ≡ true → may_have_room self.old self.new };
 }
 
@@ -341,8 +345,11 @@ impl<W: DeviceWriter> TrunkOutput for ToDevice<W> {
 
     ghost has_waited = { λ d. SystemReportedNone d.waiting 20_000_000 };
 
+    ghost has_looked = { λ d. SystemReportedNone d.waiting 0 };
+
     ghost may_have_room = { λ d d'. Rests d.waiting d'.waiting ⊎ ((d.waiting.is_refused ≡ false)
-        × (d'.waiting.is_refused ≡ true) × ((limit : ℕ) × SystemIsReady d'.waiting limit)) };
+        × (d'.waiting.is_refused ≡ true)
+        × SystemIsReady d'.waiting (if d.is_slow then 0 else 20_000_000)) };
 
     fn write(&mut self, octets: &[u8]) -> Result<Option<usize>, DeviceFault> {
         match self.writer.write_now(octets) {
