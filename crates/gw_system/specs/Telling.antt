@@ -1,22 +1,17 @@
 -- The clients of `--tell`: who is accepted, and what they are sent at the end.
-use Rattle.std.specs.Prelude.{◌≡◌, ⊤, ℕ, List, Option, Some, None, IsSomeAnd}
+use Rattle.std.specs.Prelude.{◌≡◌, ℕ, List, Option, Some, None, IsSomeAnd}
 use Rattle.gw_config.specs.declared.config.Config.{Config}
 use Rattle.gw_switch.specs.declared.gateway.Gateway.{Gateway}
 use Rattle.gw_tell.specs.declared.teller.Teller.{Teller}
 use Rattle.gw_tell.specs.Clients as clients
 use Rattle.gw_tell.specs.Lines.{end_line}
 use Rattle.gw_tell.specs.Telling as telling
-use Rattle.gw_trunk.specs.System.{SystemWrote}
+use Rattle.gw_trunk.specs.System.{SystemListens, SystemWrote}
 
--- Clients are accepted at this path. Std says nothing of that, so this holds of all; but it is unfolded only
--- where the socket is opened.
-unfoldable pub SystemAcceptsAt : {T : Type 0} → List ℕ → T → Type 0
-SystemAcceptsAt path t = ⊤
-
--- .. and there is none yet
+-- clients are accepted at this path, and there is none yet
 pub record TellsFrom (path : List ℕ) (config : Config) (gateway : Gateway) (t : Teller) : Type 0 where
   pub begun : telling.HasBegun t config.gateway.law gateway
-  pub accepts : SystemAcceptsAt path t
+  pub listens : SystemListens path t.door
 
 -- .. where a path is named; else there are no clients
 abbrev pub TellsAsked : Option (List ℕ) → Config → Gateway → Option Teller → Type 0

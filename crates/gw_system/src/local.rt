@@ -40,7 +40,7 @@ fn of_opening(fault: OpenFault) -> ProgramFault
 }
 
 // Opens the socket of `--tell` at a path. The error is the system's, or that memory was refused.
-#[tactic(auto, unfolding(crate::specs::Lacking::SystemRefusesTeller, crate::specs::Telling::SystemAcceptsAt))]
+#[tactic(auto, unfolding(crate::specs::Lacking::SystemRefusesTeller))]
 fn open_teller(
     rt: &impl Machine,
     path: &str,

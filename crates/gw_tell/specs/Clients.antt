@@ -1,12 +1,12 @@
 -- What clients get (modules `client` and `teller`).
-use Rattle.std.specs.Prelude.{◌≡◌, ◌≢◌, ◌⊎◌, ◌++◌, ◌+◌, ◌<◌, ⊤, ℕ, List, length, Result}
+use Rattle.std.specs.Prelude.{◌≡◌, ◌≢◌, ◌⊎◌, ◌++◌, ◌+◌, ◌<◌, ⊤, ℕ, List, [], length, Result}
 use Rattle.std.specs.Prelude.{Option, Some, None, slice_index_or}
 use Rattle.std.specs.declared.io.ErrorKind.{ErrorKind}
 use Rattle.gw_trunk.specs.System.{SystemRead, SystemWrote}
 use Rattle.gw_tell.specs.declared.client.Client.{Client}
 use Rattle.gw_tell.specs.declared.place.ClientSlot.{ClientSlot}
 use Rattle.gw_tell.specs.Backlog.{waiting}
-use Rattle.gw_tell.specs.Connections.{HasLeft, IsThere, WriteFails}
+use Rattle.gw_tell.specs.Connections.{HasLeft, IsThere, WaitsShort, WriteFails}
 use Rattle.gw_tell.specs.Reports.{sent_to, last_after}
 
 -- All that was sent to a client: what it took, and behind it what waits for it. So what it took is a prefix
@@ -23,6 +23,10 @@ abbrev pub DoesNotTake : {S : Type 0} {m : _} → (S → List ℕ → Result ℕ
     → List ℕ → Type 0
 DoesNotTake has_written client all = WriteFails has_written client.stream ⊎ IsFull client all
 
+-- something waits for a client only because its connection did not take all that was written last
+abbrev pub IsOffered : {S : Type 0} {m : _} → (S → List ℕ → Result ℕ ErrorKind → Type 0) → Client S m → Type 0
+IsOffered has_written client = WaitsShort has_written client.stream (waiting client.waits)
+
 -- two clients have the same connection
 abbrev pub IsSameClient : {S : Type 0} {m : _} → Client S m → Client S m → Type 0
 IsSameClient client client' = client'.start ≡ client.start
@@ -35,7 +39,7 @@ Gets has_written None (Some client') octets = ⊥
 Gets {S} {m} has_written (Some client) None octets =
     (last : Client S m) × IsSameClient client last × DoesNotTake has_written last (sent client ++ octets)
 Gets has_written (Some client) (Some client') octets = IsSameClient client client'
-    × (sent client' ≡ sent client ++ octets) × (client'.last ≡ client.last)
+    × (sent client' ≡ sent client ++ octets) × (client'.last ≡ client.last) × IsOffered has_written client'
 
 -- the same of its part of these lines, behind the line of a place
 abbrev pub IsTold : {S : Type 0} {m : _} → (S → List ℕ → Result ℕ ErrorKind → Type 0) → Option (Client S m)
@@ -46,7 +50,7 @@ IsTold {S} {m} has_written (Some client) None at lines = (last : Client S m) × 
     × DoesNotTake has_written last (sent client ++ sent_to client.last at lines)
 IsTold has_written (Some client) (Some client') at lines = IsSameClient client client'
     × (sent client' ≡ sent client ++ sent_to client.last at lines)
-    × (client'.last ≡ last_after client.last at lines)
+    × (client'.last ≡ last_after client.last at lines) × ((lines ≡ []) ⊎ IsOffered has_written client')
 
 -- the client at a place stays as it is, and is there, or is disconnected because it has left
 abbrev pub IsHeard : {S : Type 0} {m : _} → (S → Result ℕ ErrorKind → Type 0)
@@ -57,6 +61,7 @@ IsHeard {S} {m} has_read has_written (Some client) None =
     (last : Client S m) × IsSameClient client last × HasLeft has_read has_written last.stream
 IsHeard has_read has_written (Some client) (Some client') = IsSameClient client client'
     × (sent client' ≡ sent client) × (client'.last ≡ client.last) × IsThere (has_read client'.stream)
+    × IsOffered has_written client'
 
 -- A place that was free has the client of this connection, which was sent these octets at a place of the
 -- trunk. It has none if the client did not take them.
@@ -66,6 +71,7 @@ Seats {S} {m} has_written stream place octets None =
     (last : Client S m) × (last.start.value ≡ stream) × DoesNotTake has_written last octets
 Seats has_written stream place octets (Some client) =
     (client.start.value ≡ stream) × (sent client ≡ octets) × (client.last ≡ place)
+    × IsOffered has_written client
 
 -- a place without a client and without room for one
 abbrev pub no_place : {S : Type 0} {m : _} → ClientSlot S m

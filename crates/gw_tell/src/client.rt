@@ -1,8 +1,9 @@
 //! When a client of `--tell` gets lines, and when it is disconnected (`Client`).
 
-ghost use Rattle.std.specs.Prelude.{◌≡◌, ◌≤◌, ◌++◌, ℕ, List, [], Some, length, take, drop, IfOk, OnOk, OnErr};
+ghost use Rattle.std.specs.Prelude.{◌≡◌, ◌⊎◌, ◌≤◌, ◌++◌, ℕ, List, [], Some, length, take, drop};
+ghost use Rattle.std.specs.Prelude.{IfOk, OnOk, OnErr};
 ghost use Rattle.gw_tell.specs.Backlog.{waiting};
-ghost use Rattle.gw_tell.specs.Connections.{HasLeft, IsThere, WriteFails};
+ghost use Rattle.gw_tell.specs.Connections.{HasLeft, IsThere, WaitsShort, WriteFails};
 ghost use Rattle.gw_tell.specs.Lines.{at_line};
 
 use crate::backlog::Backlog;
@@ -40,6 +41,7 @@ fn write_now<S: ClientStream>(stream: &mut S, got: &mut Log, octets: &[u8]) -> R
     ensures none { OnErr result (got.new.octets ≡ got.old.octets) }
     ensures holds { (before : List ℕ) → S.contents stream.old ≡ Some (before ++ got.old.octets)
         → S.contents stream.new ≡ Some (before ++ got.new.octets) }
+    ensures left { IfOk result (λ n. WaitsShort S.has_written stream.new (drop n octets.now)) }
     ensures err { OnErr result (WriteFails S.has_written stream.new) }
 {
     match stream.write_now(octets) {
@@ -53,7 +55,7 @@ fn write_now<S: ClientStream>(stream: &mut S, got: &mut Log, octets: &[u8]) -> R
 }
 
 impl<S: ClientStream> Client<S> {
-    ghost use Rattle.gw_tell.specs.Clients.{sent, DoesNotTake};
+    ghost use Rattle.gw_tell.specs.Clients.{sent, DoesNotTake, IsOffered};
     ghost use Rattle.gw_tell.specs.Reports.{sent_to, last_after};
 
     /// A client that is to get the whole state at a place, and room for what waits for it.
@@ -84,6 +86,7 @@ impl<S: ClientStream> Client<S> {
         ensures sent { sent self.new ≡ sent self.old }
         ensures last { self.new.last ≡ self.old.last }
         ensures start { self.new.start ≡ self.old.start }
+        ensures offered { OnOk result (IsOffered S.has_written self.new) }
         ensures err { OnErr result (WriteFails S.has_written self.new.stream) }
     {
         if self.waits.octets().is_empty() {
@@ -100,6 +103,9 @@ impl<S: ClientStream> Client<S> {
         ensures sent { IfOk result (λ n. sent self.new ≡ sent self.old ++ take n octets.now) }
         ensures last { self.new.last ≡ self.old.last }
         ensures start { self.new.start ≡ self.old.start }
+        ensures waits { self.new.waits ≡ self.old.waits }
+        ensures left { IfOk result (λ n. IsOffered S.has_written self.old → WaitsShort S.has_written
+            self.new.stream (waiting self.old.waits ++ drop n octets.now)) }
         ensures err { OnErr result (WriteFails S.has_written self.new.stream) }
     {
         if !self.waits.octets().is_empty() || octets.is_empty() {
@@ -114,6 +120,7 @@ impl<S: ClientStream> Client<S> {
         ensures ok { OnOk result (sent self.new ≡ sent self.old ++ octets.now) }
         ensures last { self.new.last ≡ self.old.last }
         ensures start { self.new.start ≡ self.old.start }
+        ensures offered { OnOk result (IsOffered S.has_written self.new) }
         ensures err { OnErr result (DoesNotTake S.has_written self.new (sent self.old ++ octets.now)) }
     {
         self.flush()?;
@@ -133,6 +140,7 @@ impl<S: ClientStream> Client<S> {
             ≡ sent self.old ++ sent_to self.old.last place (drop front text.now)) }
         ensures last { self.new.last ≡ last_after self.old.last place (drop front text.now) }
         ensures start { self.new.start ≡ self.old.start }
+        ensures offered { OnOk result ((drop front text.now ≡ []) ⊎ IsOffered S.has_written self.new) }
         ensures err { OnErr result (DoesNotTake S.has_written self.new
             (sent self.old ++ sent_to self.old.last place (drop front text.now))) }
     {
@@ -151,6 +159,7 @@ impl<S: ClientStream> Client<S> {
         ensures sent { sent self.new ≡ sent self.old }
         ensures last { self.new.last ≡ self.old.last }
         ensures start { self.new.start ≡ self.old.start }
+        ensures offered { OnOk result (IsOffered S.has_written self.new) }
         ensures ok { OnOk result (IsThere (S.has_read self.new.stream)) }
         ensures err { OnErr result (HasLeft S.has_read S.has_written self.new.stream) }
     {

@@ -3,7 +3,7 @@
 ghost use Rattle.std.specs.Prelude.{◌≡◌, ◌<◌, ◌≤◌, ℕ, List, true, false, length, take, drop};
 ghost use Rattle.std.specs.Prelude.{IfSome, IfNone, IfOk, None};
 ghost use Rattle.gw_records.specs.Records.{named};
-ghost use Rattle.gw_trunk.specs.System.{SystemWrote};
+ghost use Rattle.gw_trunk.specs.System.{SystemListens, SystemWrote};
 ghost use Rattle.gw_tell.specs.Lines.{at_line, end_line};
 ghost use Rattle.gw_tell.specs.Clients.{AllAreHeard, AllAreTold, AllFree, AllHaveRoom, AllTaken, at};
 ghost use Rattle.gw_tell.specs.Clients.{Gets, IsOpen};
@@ -129,7 +129,8 @@ impl Teller {
         law: Law,
         gateway: &Gateway,
     ) -> io::Result<Teller>
-        ensures { IfOk result (λ t. HasBegun t law gateway.now) }
+        ensures begun { IfOk result (λ t. HasBegun t law gateway.now) }
+        ensures door { IfOk result (λ t. SystemListens path.now t.door) }
     {
         let door = open_door(&mut LocalDoors::new(rt), path)?;
         Ok(Teller {

@@ -30,6 +30,8 @@ pub trait ClientStream: Drop {
         ensures bound { IfOk result (λ n. n ≤ length room.new) }
         ensures octets { ReadConsumes (remaining self.old) (remaining self.new) result room.new }
         ensures contents { contents self.new ≡ contents self.old }
+        ensures written { (octets : List ℕ) (r : Result ℕ ErrorKind) → has_written self.old octets r
+            → has_written self.new octets r }
         ensures read { has_read self.new result };
 
     /// Writes octets from the front of `octets`, and returns how many.
@@ -50,7 +52,7 @@ impl ClientStream for UnixStream {
 
     ghost has_written = { SystemWrote };
 
-    #[tactic(auto, unfolding(crate::specs::System::SystemRead))]
+    #[tactic(auto, unfolding(crate::specs::System::SystemRead, crate::specs::System::SystemWrote))]
     fn read_now(&mut self, room: &mut [u8]) -> Result<usize, ErrorKind> {
         for _turn in 0..u64::MAX {
             match self.read(room) {
