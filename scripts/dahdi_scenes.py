@@ -14,11 +14,12 @@ from pathlib import Path
 from typing import Callable, Iterator
 
 import dahdi_inside as inside
+import dahdi_trace as trace
 from paths import TOP
 from dahdi_inside import BACK, DEVICES, Site, SceneFailed, asks, until
 from dahdi_far import FarEnd, openr2, simulated
 from dahdi_start import pasted
-from dahdi_talk import Comparison, Talk, figures
+from dahdi_talk import Talk, figures
 from e1gw.card_opening import NO_CARD, open_device
 from e1gw.dahdi import Alarm, Blocks
 from e1gw.events import CardAlarm, CardAlarmChanged
@@ -77,8 +78,22 @@ class Pair:
         is_told = UNKNOWN not in self.west.states()
         return bool(set(self.west.programs()) - set(before)) and is_told and all(s.is_heard() for s in self.sites)
 
-    def talk(self, seconds: float) -> list[Comparison]:
-        return Talk(PORTS, THIRTY, seconds).run()
+    def talk(self, seconds: float) -> Talk:
+        talk = Talk(PORTS, THIRTY, seconds)
+        trace.begin()
+        try:
+            talk.run()
+        finally:
+            trace.end()
+        return talk
+
+    def names(self) -> dict[int, str]:
+        """Those of all processes that have a part in the calls."""
+        its = {os.getpid(): 'talk'}
+        for site in self.sites:
+            its |= {n: f'{site.name} program' for n in site.programs()}
+            its[site.service.driver.pid] = f'{site.name} service'
+        return its
 
     def end(self) -> None:
         for site in self.sites:
@@ -109,11 +124,14 @@ def thirty_calls() -> str:
     pair = Shared.begun()
     pair.calls()
     before = [site.losses() for site in pair.sites]
-    compared = pair.talk(10)
+    talk = pair.talk(10)
     after = [site.losses() for site in pair.sites]
+    compared = talk.compared()
     told = ', '.join(figures(compared))
-    asks(all(one.found == 1 and not one.wrong and not one.missing for one in compared), told)
-    asks(before == after, f'slot 16 and multiframe alignment lost: {before} before, {after} behind; {told}')
+    if before != after or any(one.found != 1 or one.wrong or one.missing for one in compared):
+        print(*(f'  {words}' for words in trace.stood(talk.began, pair.names())), sep='\n')
+        raise SceneFailed(f'slot 16 and multiframe alignment lost: {before} before, {after} behind; sent late by '
+                          f'{talk.late:.3f} s at most; {told}')
     return told
 
 
@@ -370,12 +388,12 @@ def delays() -> str:
             pair.calls()
             before, began = [site.losses() for site in pair.sites], time.monotonic()
             busy = pair.west.busy()
-            compared = pair.talk(4)
+            talk = pair.talk(4)
             share = (pair.west.busy() - busy) / (time.monotonic() - began)
             lost = [b - a for one, other in zip(before, (site.losses() for site in pair.sites))
                     for a, b in zip(one, other)]
             blocks = pair.west.transport()
-            print(f'  {frames} frames x {blocks["buffers"]}: {", ".join(figures(compared))}; lost {lost}; '
+            print(f'  {frames} frames x {blocks["buffers"]}: {", ".join(figures(talk.compared()))}; lost {lost}; '
                   f'{100 * share:.1f} % of a core', flush=True)
         except SceneFailed as fault:
             print(f'  {frames} frames: {fault}', flush=True)

@@ -34,11 +34,12 @@ class Way:
 
 @dataclass
 class Comparison:
-    """What became of the octets of a way: how many came as they were sent, and wrong, how often their place was looked
-    for, packets that did not come, and the seconds that each took."""
+    """What became of the octets of a way: how many came as they were sent, and wrong, when these came, how often their
+    place was looked for, packets that did not come, and the seconds that each took."""
 
     right: int = 0
     wrong: int = 0
+    when: list[float] = field(default_factory=list)
     found: int = 0
     missing: int = 0
     delays: list[float] = field(default_factory=list)
@@ -64,6 +65,7 @@ def compare(way: Way, began: float) -> Comparison:
                 continue
             count, is_right = run_of(way.sent, place, octets, at)
             its.right, its.wrong = its.right + count * is_right, its.wrong + count * (not is_right)
+            its.when += [when - began] * (not is_right)
             bad = 0 if is_right else bad + count
             place, at = -1 if bad >= LOST else place + count, at + count
         if place > 0:
@@ -87,6 +89,7 @@ class Talk:
         """`ports` are the first local port and the first peer's port of each gateway."""
         self._circuits, self._seconds, self._count = circuits, seconds, int(seconds / PTIME)
         self.ways: list[Way] = []
+        self.began = self.late = 0.0            # when it began, and the most that a packet was sent late
         self._by_file: dict[int, tuple[socket.socket, Way]] = {}
         for circuit in circuits:
             ends = [self._bound(peer + 2 * circuit - 2) for _, peer in ports]
@@ -104,20 +107,24 @@ class Talk:
         found.bind(('127.0.0.1', port))
         return found
 
-    def run(self) -> list[Comparison]:
-        """Talks, and compares."""
-        poll, began = select.epoll(), time.monotonic()
+    def run(self) -> None:
+        """Talks."""
+        poll, self.began = select.epoll(), time.monotonic()
         for file in self._by_file:
             poll.register(file, select.EPOLLIN)
         for number in range(self._count):
-            self._hear(poll, began + number * PTIME)
+            self._hear(poll, due := self.began + number * PTIME)
+            self.late = max(self.late, time.monotonic() - due)
             for ssrc, way in enumerate(self.ways):
                 way.send(number, ssrc)
-        self._hear(poll, began + self._seconds)
+        self._hear(poll, self.began + self._seconds)
         poll.close()
         for line, _ in self._by_file.values():
             line.close()
-        return [compare(way, began) for way in self.ways]
+
+    def compared(self) -> list[Comparison]:
+        """What became of all that was said."""
+        return [compare(way, self.began) for way in self.ways]
 
     def _hear(self, poll: select.epoll, until: float) -> None:
         """Takes what comes until this moment."""
@@ -136,6 +143,8 @@ def figures(compared: list[Comparison]) -> Iterator[str]:
     yield f'{sum(one.wrong for one in compared)} of {sum(one.right + one.wrong for one in compared)} octets wrong'
     yield f'{whole} of {len(compared)} ways found once and never wrong'
     yield f'{sum(one.missing for one in compared)} packets missing'
+    if when := [each for one in compared for each in one.when]:
+        yield f'wrong from {min(when):.3f} to {max(when):.3f} s'
     if delays:
         mean = sum(delays) / len(delays)
         yield f'delay {1000 * delays[0]:.0f} to {1000 * delays[-1]:.0f} ms, mean {1000 * mean:.0f}'
