@@ -27,6 +27,9 @@ from e1gw.lines import UNKNOWN
 from e1gw.testing.openr2 import OpenR2
 from e1gw.testing.service import ask
 
+# Seconds between the starts of two trunks: half of those between two states that a program writes into its log, each in
+# 10 ms. The two would have a machine each; here both have one processor, and would write theirs at the same moment.
+APART = 2.0
 PORTS = (24002, 34002), (24102, 34102)      # of e1gw-config, local and its peer's, of both sites
 THIRTY = range(1, 31)
 DEFAULT = Blocks(16, 16)
@@ -52,8 +55,10 @@ class Pair:
 
     def __init__(self, *options: str) -> None:
         inside.configured()
-        self.sites = [Site('west', 0, *options), Site('east', 1, *options)]
-        self.west, self.east = self.sites
+        self.west = Site('west', 0, *options)
+        time.sleep(APART)
+        self.east = Site('east', 1, *options)
+        self.sites = [self.west, self.east]
         self.are_heard()
 
     def are_heard(self, seconds: float = inside.SOON) -> None:
