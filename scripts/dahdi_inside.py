@@ -10,6 +10,7 @@ import subprocess
 import sys
 import time
 from contextlib import contextmanager, suppress
+from functools import partial
 from pathlib import Path
 from typing import Any, Callable, Iterable, Iterator
 
@@ -123,6 +124,15 @@ def load() -> None:
 def unload() -> int:
     """Unloads the driver; 0 if that was done."""
     return max([ran('rmmod', name) for name in reversed(LOADED)])
+
+
+def take_out() -> None:
+    """Takes both spans away and unloads the driver, once nobody has a channel open."""
+    for span in 0, 1:
+        remove(span)
+    for span in 0, 1:
+        until(partial(is_destroyed, span), f'span {span} is destroyed')
+    until(lambda: unload() == 0, 'the driver is unloaded')
 
 
 def span_request(span: int) -> bytes:

@@ -20,7 +20,7 @@ from dahdi_inside import BACK, DEVICES, Site, SceneFailed, asks, until
 from dahdi_far import FarEnd, openr2, simulated
 from dahdi_start import pasted
 from dahdi_talk import Talk, figures
-from e1gw.card_opening import NO_CARD, open_device
+from e1gw.card_opening import open_device
 from e1gw.dahdi import Alarm, Blocks
 from e1gw.events import CardAlarm, CardAlarmChanged
 from e1gw.lines import UNKNOWN
@@ -261,14 +261,10 @@ def unloaded() -> str:
     pair = Shared.begun()
     pair.calls()
     asks(inside.ran('rmmod', 'dahdi_dynamic') != 0, 'the driver was unloaded while channels were open')
-    for span in 0, 1:
-        inside.remove(span)
-    for span in 0, 1:
-        until(partial(inside.is_destroyed, span), f'span {span} is destroyed')
-    until(lambda: inside.unload() == 0, 'the driver is unloaded')
+    inside.take_out()
     asks(not Path(DEVICES[0]).exists(), 'the channel is still there')
     time.sleep(1)
-    asks(pair.west.said(NO_CARD), 'the west says nothing of its driver')
+    inside.has_all(pair.west.service.said(), '/dev/dahdi/1: No such file')
     inside.load()
     took = max(until(site.transport_is_open, f'{site.name} has its card again', BACK) for site in pair.sites)
     pair.are_heard(BACK)
@@ -301,7 +297,7 @@ def refused() -> str:
             os.chmod('/dev/dahdi/chan/001/001', mode)
             said.append(inside.matches('as nobody', words, lambda: inside.as_user(
                 NOBODY, partial(open_device, DEVICES[0], DEVICES[0], DEFAULT, True))))
-        inside.has_all('\n'.join(said), '/dev/dahdi/')
+        inside.has_all('\n'.join(said), '/dev/dahdi/1: (?!Operation)')
     finally:
         os.chmod('/dev/dahdi/chan/001/001', 0o660)
         inside.unconfigure()
