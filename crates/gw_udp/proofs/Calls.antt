@@ -1,5 +1,5 @@
 -- The sockets of circuits from call to call.
-use Rattle.std.proofs.Common.{◌≡◌, ℕ, ◌-◌, ◌≤◌, ◌++◌, ◌∷◌, [], List, length, Bool, true, false}
+use Rattle.std.proofs.Common.{◌≡◌, ℕ, ◌-◌, ◌<◌, ◌≤◌, ◌++◌, ◌∷◌, [], List, length, Bool, true, false}
 use Rattle.std.proofs.Common.{Option, Some, None, Result, Ok, Err, refl, inl, inr, arith}
 use Rattle.std.proofs.lemmas.Bool.{ltb-true, ltb-false}
 use Rattle.std.proofs.lemmas.Bool.Decides.{eqb_tells}
@@ -25,19 +25,33 @@ called_more receives sends call (c ∷ calls) old between new some one =
     (some.0, some.1, called_more receives sends call calls some.0 between new some.2 one)
 
 -- a receive for a circuit was a call at its own socket
-pub receive_called : {S : Type 0} (receives : Received S) (sends : Sent S) (circuit : ℕ)
+asked_called : {S : Type 0} (receives : Received S) (sends : Sent S) (circuit : ℕ)
     (old new : List (Option (Endpoint S))) (r : Result (Option ℕ) PortFault) (room : List ℕ) → 1 ≤ circuit
     → EndpointReceives receives circuit old new r room → KeepsOthers circuit old new
     → HasCalledOne receives sends (receive_call circuit r room) old new
-receive_called receives sends circuit old new (Ok (Some n)) room some own others = record {
+asked_called receives sends circuit old new (Ok (Some n)) room some own others = record {
   some = some;
   own = λ d. record { len = n; room = room; front = refl; received = own d };
   others = others;
 }
-receive_called receives sends circuit old new (Ok None) room some own others =
-    record { some = some; own = λ d. (room, own d); others = others }
-receive_called receives sends circuit old new (Err fault) room some own others =
+asked_called receives sends circuit old new (Ok None) room some own others =
+    record { some = some; own = λ d. inl (room, own d); others = others }
+asked_called receives sends circuit old new (Err fault) room some own others =
     record { some = some; own = λ d. (fault, room, own d); others = others }
+
+-- .. or it was held back, and found none
+pub receive_called : {S : Type 0} (receives : Received S) (sends : Sent S) (circuit given : ℕ)
+    (old new : List (Option (Endpoint S))) (r : Result (Option ℕ) PortFault) (room : List ℕ) → 1 ≤ circuit
+    → (65536 ≤ given → (r ≡ Ok None) × (new ≡ old))
+    → (¬ 65536 ≤ given → EndpointReceives receives circuit old new r room) → KeepsOthers circuit old new
+    → HasCalledOne receives sends (receive_call circuit r room) old new
+receive_called {S} receives sends circuit given old new r room some held asked others = go (nat_lt given 65536) refl
+  where
+    go : (b : Bool) → nat_lt given 65536 ≡ b → HasCalledOne receives sends (receive_call circuit r room) old new
+    go true few = let below : given < 65536 = ltb-true given 65536 few in
+        asked_called receives sends circuit old new r room some (asked (λ enough. omega (arith, below, enough))) others
+    go false enough = let is : (r ≡ Ok None) × (new ≡ old) = held (ltb-false given 65536 enough) in
+        rw (is.0, is.1) (record { some = some; own = λ d. inr refl; others = λ i d other. refl })
 
 -- a send of a circuit was a call at its own socket
 pub send_called : {S : Type 0} (receives : Received S) (sends : Sent S) (circuit : ℕ)

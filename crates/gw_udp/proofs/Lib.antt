@@ -2,3 +2,4 @@ pub mod Calls
 pub mod Opening
 pub mod Receiving
 pub mod Noting
+pub mod Looks

@@ -1,5 +1,5 @@
 -- The effect of port calls at the sockets of circuits.
-use Rattle.std.specs.Prelude.{◌≡◌, ◌==◌, ◌-◌, ◌≤◌, ℕ, List, [], ◌∷◌, take, filter, slice_index_or}
+use Rattle.std.specs.Prelude.{◌≡◌, ◌⊎◌, ◌==◌, ◌-◌, ◌≤◌, ℕ, List, [], ◌∷◌, take, filter, slice_index_or}
 use Rattle.std.specs.Prelude.{Option, Some, None, Ok, Err, ⊤}
 use Rattle.gw_records.specs.declared.ports.PortFault.{PortFault}
 use Rattle.gw_records.specs.Ports.{PortCall}
@@ -23,12 +23,13 @@ pub record HasGiven {S : Type 0} (receives : Received S) (octets : List ℕ) (ol
   pub front : octets ≡ take len room
   pub received : ReceivesAt receives old new (Ok (Some len)) room
 
--- a call was made at this socket, or without a socket found nothing or was dropped
+-- A call was made at this socket, or without a socket found nothing or was dropped. What was held back found
+-- nothing either, and the socket is unchanged.
 abbrev pub HasMade : {S : Type 0} → Received S → Sent S → PortCall → Option (Endpoint S)
     → Option (Endpoint S) → Type 0
 HasMade receives sends (PortCall.Gave circuit octets) old new = HasGiven receives octets old new
 HasMade receives sends (PortCall.FoundNone circuit) old new =
-    (room : List ℕ) × ReceivesAt receives old new (Ok None) room
+    ((room : List ℕ) × ReceivesAt receives old new (Ok None) room) ⊎ (new ≡ old)
 HasMade receives sends (PortCall.ReceiveFailed circuit) old new =
     (fault : PortFault) × (room : List ℕ) × ReceivesAt receives old new (Err fault) room
 HasMade receives sends (PortCall.Took circuit octets) old new = SendsAt sends old new octets (Ok tt)

@@ -9,3 +9,4 @@ pub mod Outcome
 pub mod System
 pub mod Resting
 pub mod Ready
+pub mod Given

@@ -30,12 +30,17 @@ abbrev pub AsksSystem : Option Poller → List Bool → List Bool → Type 0
 AsksSystem poller came came' = MatchOption poller (came' ≡ came)
     (λ p. (events : List Event) × SystemHasReported p.poll events × AreNoted events came came')
 
+-- A receive was counted: in the 250th since the system was last asked, it was asked what came.
+abbrev pub IsCounted : Readiness → Readiness → Type 0
+IsCounted r r' = ((r.receives + 1 < 250) × (r'.receives ≡ r.receives + 1) × (r'.came ≡ r.came))
+    ⊎ ((r'.receives ≡ 0) × AsksSystem r'.poller r.came r'.came)
+
 -- Whether something came to the socket of a circuit since this was last asked, as noted, or as the system
--- says now: it is asked in the 250th receive since. It is noted no more, and what came to others is still.
+-- says now. It is noted no more, and what came to others is still.
 pub record IsAsked (r r' : Readiness) (circuit : ℕ) (is : Bool) : Type 0 where
   pub looked : Readiness
-  pub looks : ((r.receives + 1 < 250) × (r'.receives ≡ r.receives + 1) × (looked.came ≡ r.came))
-      ⊎ ((r'.receives ≡ 0) × AsksSystem looked.poller r.came looked.came)
+  pub looks : IsCounted r looked
+  pub counted : r'.receives ≡ looked.receives
   pub is_noted : is ≡ has_come looked.came (circuit - 1)
   pub others : (k : ℕ) → k < 30
       → has_come r'.came k ≡ (if k == circuit - 1 then false else has_come looked.came k)

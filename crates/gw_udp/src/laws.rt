@@ -1,6 +1,7 @@
-//! A law of ports over sockets: each circuit has its own socket, and calls at no other.
+//! Laws of ports over sockets: each circuit has its own socket, and little comes of it between two looks.
 
 ghost use Rattle.gw_udp.specs.Calls.{EachHasItsSocket};
+ghost use Rattle.gw_udp.specs.Given.{GivesFew};
 
 use crate::socket::Socket;
 use crate::udp::UdpPorts;
@@ -12,4 +13,9 @@ use crate::udp::UdpPorts;
 pub fn each_has_its_socket<S: Socket>(_ports: &UdpPorts<S>)
     ensures { ∥ EachHasItsSocket S.is_bound S.receives S.sends _ports.now.log.calls
         _ports.now.opened.value.items _ports.now.endpoints.items ∥₁ }
+{}
+
+/// Since the last look each circuit received fewer octets than 65,536 and those of its longest datagram.
+pub fn little_comes_between_looks<S: Socket>(_ports: &UdpPorts<S>)
+    ensures { ∥ GivesFew _ports.now.at_look.value.calls _ports.now.log.calls _ports.now.given.counts ∥₁ }
 {}

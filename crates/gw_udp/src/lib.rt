@@ -2,6 +2,7 @@
 #![tactic(auto)]
 
 mod asking;
+mod given;
 pub mod laws;
 mod names;
 mod outcome;

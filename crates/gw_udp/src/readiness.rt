@@ -2,7 +2,7 @@
 
 ghost use Rattle.std.specs.Prelude.{◌≡◌, ◌==◌, ◌||◌, ◌-◌, ◌<◌, ℕ, Bool, MatchOption, ⊤};
 ghost use Rattle.mio.specs.Events.{items};
-ghost use Rattle.gw_udp.specs.Ready.{AreNoted, AsksSystem, IsAsked, SystemHasReported, has_come};
+ghost use Rattle.gw_udp.specs.Ready.{AreNoted, AsksSystem, IsAsked, IsCounted, SystemHasReported, has_come};
 ghost use Rattle.gw_udp.specs.Socket.{KeepsBound};
 
 use crate::socket::Socket;
@@ -112,16 +112,25 @@ impl Readiness {
         ask_system(&mut self.poller, &mut self.came);
     }
 
-    /// Whether the system has said that something came to the socket of this circuit since this was last
-    /// asked.
+    /// Counts a receive. The 250th since the system was last asked asks it.
+    #[inline]
+    pub(crate) fn count(&mut self)
+        ensures { IsCounted self.old self.new }
+    {
+        if self.receives < RECEIVES - 1 {
+            self.receives += 1;
+        } else {
+            self.look();
+        }
+    }
+
+    /// Counts a receive, and returns whether the system has said that something came to the socket of this
+    /// circuit since this was last asked.
     #[inline]
     pub(crate) fn came(&mut self, circuit: CircuitNo) -> bool
         ensures { IsAsked self.old self.new circuit result }
     {
-        self.receives = self.receives.saturating_add(1);
-        if self.receives >= RECEIVES {
-            self.look();
-        }
+        self.count();
         let at = usize::from(circuit.get()) - 1;
         let came = self.came[at];
         self.came[at] = false;

@@ -8,13 +8,15 @@ ghost use Rattle.std.specs.IoError.{error_kind};
 ghost use Rattle.gw_records.specs.Ports.{Receives, Sends, CountsFault, KeepsSends, KeepsReceives};
 ghost use Rattle.gw_state.specs.Memory.{MemoryIsRefused};
 ghost use Rattle.gw_udp.specs.Names.{IsAddressOf, LacksAddress, SystemLooksUp};
-ghost use Rattle.gw_udp.specs.Ready.{IsAsked};
+ghost use Rattle.gw_udp.specs.Given.{GivesFew, HasGivenEnough, given_after};
+ghost use Rattle.gw_udp.specs.Ready.{IsAsked, IsCounted};
 ghost use Rattle.gw_udp.specs.Udp.{EachHears, Hears, IsEndpointOf, IsEndpoint, HasEndpoints, KeepsOthers};
 ghost use Rattle.gw_udp.specs.Opening.{Blames, LacksSocket, IsFaultOf, FailsToOpen};
 ghost use Rattle.gw_udp.specs.Socket.{KeepsBound};
 ghost use Rattle.gw_udp.specs.Udp.{ReceivesFrom, EndpointReceives, EndpointSends, TakesFrom};
 ghost use Rattle.gw_udp.specs.Calls.{HasCalled, AreBound, IsFresh};
 
+use crate::given::GivenOctets;
 use crate::names::NameLookup;
 use crate::readiness::Readiness;
 use crate::socket::Socket;
@@ -60,20 +62,23 @@ pub struct Endpoint<S> {
 
 /// A socket for each circuit that has ports.
 ///
-/// A circuit without ports receives none, and its datagrams are dropped. The sockets as opened and all calls
-/// are ghost data.
+/// A circuit without ports receives none, and its datagrams are dropped. The sockets as opened, all calls and
+/// those up to the last look are ghost data.
 #[derive(Drop)]
 pub struct UdpPorts<S: Socket> {
     pub(crate) endpoints: Vec<Option<Endpoint<S>>>,
     readiness: Readiness,
+    pub(crate) given: GivenOctets,
     receive_failed: u64,
     send_failed: u64,
     pub(crate) opened: AtStart<Vec<Option<Endpoint<S>>>>,
     pub(crate) log: Log,
+    pub(crate) at_look: AtStart<Log>,
     ghost thirty: { vec_len endpoints ≡ 30 },
     ghost memory: { vec_capacity endpoints ≡ 30 },
     ghost bound: { ∥ AreBound S.is_bound opened.value.items ∥₁ },
     ghost called: { ∥ HasCalled S.receives S.sends log.calls opened.value.items endpoints.items ∥₁ },
+    ghost few: { ∥ GivesFew at_look.value.calls log.calls given.counts ∥₁ },
 }
 
 // The fault of an error: out of memory, or a fault of this circuit.
@@ -241,7 +246,6 @@ fn rests_at<S: Socket>(
     ensures others { KeepsOthers circuit endpoints.old endpoints.new }
     ensures asks { IsTrue came → IsTrue result
         → (d : Option (Endpoint S)) → slice_index_or endpoints.old (circuit - 1) d ≡ None }
-    ensures some { 1 ≤ circuit }
 {
     match &mut endpoints[usize::from(circuit.get()) - 1] {
         Some(endpoint) => endpoint.socket.rests(came),
@@ -290,12 +294,41 @@ fn receive_at<S: Socket>(
     ensures asks { IsTrue came
         → EndpointReceives S.asks circuit endpoints.old endpoints.new result room.new }
     ensures others { KeepsOthers circuit endpoints.old endpoints.new }
-    ensures some { 1 ≤ circuit }
 {
     if rests_at(endpoints, circuit, came) {
         return Ok(None);
     }
     ask_at(endpoints, circuit, room)
+}
+
+// Receives at the socket of a circuit, unless it gave enough since the last look. (What came to it then stays
+// there, and noted, so it is received after the next one.)
+#[inline]
+fn receive_more<S: Socket>(
+    endpoints: &mut [Option<Endpoint<S>>],
+    readiness: &mut Readiness,
+    given: &GivenOctets,
+    circuit: CircuitNo,
+    room: &mut [u8],
+) -> Result<Option<usize>, PortFault>
+    requires { length endpoints.old ≡ 30 }
+    ensures bound { IfOk result (λ got. IfSome got (λ n. n ≤ length room.new)) }
+    ensures enough { HasGivenEnough given.now.counts circuit
+        → (result ≡ Ok None) × (endpoints.new ≡ endpoints.old) × IsCounted readiness.old readiness.new }
+    ensures own { ¬ HasGivenEnough given.now.counts circuit
+        → EndpointReceives S.receives circuit endpoints.old endpoints.new result room.new }
+    ensures asks { ¬ HasGivenEnough given.now.counts circuit
+        → (came : Bool) × IsAsked readiness.old readiness.new circuit came × (IsTrue came
+        → EndpointReceives S.asks circuit endpoints.old endpoints.new result room.new) }
+    ensures others { KeepsOthers circuit endpoints.old endpoints.new }
+    ensures in_range { (1 ≤ circuit) × (circuit ≤ 30) }
+{
+    if given.are_enough(circuit) {
+        readiness.count();
+        return Ok(None);
+    }
+    let came = readiness.came(circuit);
+    receive_at(endpoints, circuit, came, room)
 }
 
 // Sends by the socket of a circuit, to its peer.
@@ -373,28 +406,31 @@ impl<S: Socket> UdpPorts<S> {
             endpoints.push_reserved(endpoint);
         }
         let opened = AtStart::of(&endpoints);
+        let log = Log::new();
         Ok(UdpPorts {
             endpoints,
             readiness,
+            given: GivenOctets::new(),
             receive_failed: 0,
             send_failed: 0,
             opened,
-            log: Log::new(),
+            at_look: AtStart::of(&log),
+            log,
         })
     }
 }
 
 impl<S: Socket> Ports for UdpPorts<S> {
-    ghost use Rattle.std.specs.Prelude.{List, Bool};
-    ghost use Rattle.gw_udp.specs.Ready.{AsksSystem};
-    ghost use Rattle.gw_udp.specs.Telling.{told};
+    ghost use Rattle.gw_udp.specs.Telling.{HasLooked, told};
 
     ghost tells = { told };
 
-    ghost has_looked = { λ p. (came : List Bool) × AsksSystem p.readiness.poller came p.readiness.came };
+    ghost has_looked = { λ p. HasLooked p };
 
     fn look(&mut self) {
         self.readiness.look();
+        self.given.clear();
+        self.at_look = AtStart::of(&self.log);
     }
 
     #[inline]
@@ -403,15 +439,27 @@ impl<S: Socket> Ports for UdpPorts<S> {
         ensures receives { Receives (told self.old) (told self.new) circuit result room.new }
         ensures counts { CountsFault self.old.receive_failed self.new.receive_failed result }
         ensures sends_stay { KeepsSends (told self.old) (told self.new) }
-        ensures own { EndpointReceives S.receives circuit self.old.endpoints.items self.new.endpoints.items
-            result room.new }
-        ensures asks { (came : Bool) × IsAsked self.old.readiness self.new.readiness circuit came
+        ensures enough { HasGivenEnough self.old.given.counts circuit → (result ≡ Ok None)
+            × (self.new.endpoints.items ≡ self.old.endpoints.items)
+            × IsCounted self.old.readiness self.new.readiness }
+        ensures own { ¬ HasGivenEnough self.old.given.counts circuit → EndpointReceives S.receives circuit
+            self.old.endpoints.items self.new.endpoints.items result room.new }
+        ensures asks { ¬ HasGivenEnough self.old.given.counts circuit
+            → (came : Bool) × IsAsked self.old.readiness self.new.readiness circuit came
             × (IsTrue came → EndpointReceives S.asks circuit self.old.endpoints.items
             self.new.endpoints.items result room.new) }
+        ensures given { self.new.given.counts ≡ given_after self.old.given.counts circuit result }
+        ensures at_look { self.new.at_look ≡ self.old.at_look }
         ensures others { KeepsOthers circuit self.old.endpoints.items self.new.endpoints.items }
     {
-        let came = self.readiness.came(circuit);
-        let received = receive_at(self.endpoints.as_mut_slice(), circuit, came, room);
+        let received = receive_more(
+            self.endpoints.as_mut_slice(),
+            &mut self.readiness,
+            &self.given,
+            circuit,
+            room,
+        );
+        self.given.count(circuit, &received);
         self.log.received(circuit, &received, room);
         count_fault(&mut self.receive_failed, &received);
         received
@@ -423,6 +471,8 @@ impl<S: Socket> Ports for UdpPorts<S> {
         ensures receives_stay { KeepsReceives (told self.old) (told self.new) }
         ensures own { EndpointSends S.sends circuit self.old.endpoints.items self.new.endpoints.items
             datagram.now result }
+        ensures given { self.new.given ≡ self.old.given }
+        ensures at_look { self.new.at_look ≡ self.old.at_look }
         ensures others { KeepsOthers circuit self.old.endpoints.items self.new.endpoints.items }
     {
         let sent = send_from(self.endpoints.as_mut_slice(), circuit, datagram);

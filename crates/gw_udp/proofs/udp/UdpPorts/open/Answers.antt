@@ -1,7 +1,8 @@
-use Rattle.std.proofs.Common.{◌≡◌, ◌+◌, ◌-◌, arith, refl, rules}
+use Rattle.std.proofs.Common.{◌≡◌, ◌+◌, ◌-◌, [], arith, refl, rules}
 use Rattle.std.proofs.lemmas.List.{get_or_default}
 use Rattle.std.proofs.lemmas.Result.{err_from_is_err_and}
 use Rattle.gw_udp.proofs.Calls.{are_bound}
+use Rattle.gw_udp.proofs.Looks.{none_since}
 use Rattle.gw_udp.proofs.Opening.{fault_since, first_without, hears_more, one_more}
 use Rattle.std.specs.Prelude.{IsSomeAnd, Option, slice_index_or}
 use Rattle.gw_config.specs.declared.config.Port.{Port}
@@ -56,5 +57,6 @@ invariant_of-result g c = record {
   bound = ∣ rw c.of-opened.ensures (are_bound g.S.Socket.is_bound g.S.Socket.is_open SystemLooksUp
       c.args.host.now c.args.senders c.args.ports.now c.loop-number.endpoints.items (c.loop-number.number - 1)
       (search rules) c.loop-number.invariant.own) ∣₁;
-  called = ∣ rw (c.new.ensures, c.of-opened.ensures) refl ∣₁;
+  few = ∣ rw (c.of.ensures, c.new-log.ensures, c.new.ensures) (none_since []) ∣₁;
+  called = ∣ rw (c.new-log.ensures, c.of-opened.ensures) refl ∣₁;
 }

@@ -1,22 +1,29 @@
-use Rattle.std.proofs.Common.{length, drop, take_at, arith}
+use Rattle.std.proofs.Common.{length, drop, take_at, arith, rules}
 use Rattle.std.proofs.Math.Logic.{∥∥₁_map}
+use Rattle.gw_udp.specs.Given.{given_by}
 use Rattle.gw_udp.proofs.Calls.{called_more, receive_called}
+use Rattle.gw_udp.proofs.Looks.{receive_few}
 use Rattle.gw_udp.proofs.udp.UdpPortsPorts.receive.Goals as goal
 
 pub invariant_of-self : goal.invariant_of-self
 invariant_of-self g c =
     let was = c.args.self.now.endpoints in
-    let endpoints = c.receive_at-received.new.endpoints in
+    let endpoints = c.receive_more-received.new.endpoints in
     let same = c.as_mut_slice.ensures.value in
     let whole = take_at endpoints (drop (length endpoints) was.items) was.len
-    (omega (arith, c.receive_at-received.auto.endpoints, c.as_mut_slice.ensures.len)) in
+    (omega (arith, c.receive_more-received.auto.endpoints, c.as_mut_slice.ensures.len)) in
     record {
       thirty = c.args.self.now.thirty;
       memory = c.args.self.now.memory;
       bound = c.args.self.now.bound;
       called = ∥∥₁_map c.args.self.now.called (λ called. rw (c.received.ensures, whole)
           (called_more _ _ _ _ _ _ _ called
-          (receive_called _ _ c.args.circuit _ _ c.receive_at-received.result c.receive_at-received.new.room
-          c.receive_at-received.ensures.some (rw same at c.receive_at-received.ensures.own)
-          (rw same at c.receive_at-received.ensures.others))));
+          (receive_called _ _ c.args.circuit (given_by c.args.self.now.given.counts c.args.circuit) _ _
+          c.receive_more-received.result c.receive_more-received.new.room c.receive_more-received.ensures.in_range.0
+          (λ enough. let is = rw same at c.receive_more-received.ensures.enough enough in (is.0, is.1))
+          (rw same at c.receive_more-received.ensures.own) (rw same at c.receive_more-received.ensures.others))));
+      few = ∥∥₁_map c.args.self.now.few (λ few. rw (c.received.ensures, c.count.ensures)
+          (receive_few _ _ _ c.args.circuit _ _ (search rules) c.receive_more-received.ensures.in_range.0
+          c.receive_more-received.ensures.in_range.1 c.receive_more-received.ensures.bound
+          (λ enough. (c.receive_more-received.ensures.enough enough).0) few));
     }

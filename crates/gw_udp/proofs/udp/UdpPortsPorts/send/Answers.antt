@@ -1,6 +1,7 @@
 use Rattle.std.proofs.Common.{length, drop, take_at, arith}
 use Rattle.std.proofs.Math.Logic.{∥∥₁_map}
 use Rattle.gw_udp.proofs.Calls.{called_more, send_called}
+use Rattle.gw_udp.proofs.Looks.{nothing_more, send_gives_none}
 use Rattle.gw_udp.proofs.udp.UdpPortsPorts.send.Goals as goal
 
 pub invariant_of-self : goal.invariant_of-self
@@ -19,4 +20,6 @@ invariant_of-self g c =
           (send_called _ _ c.args.circuit _ _ c.args.datagram.now c.send_from-sent.result
           c.send_from-sent.ensures.some (rw same at c.send_from-sent.ensures.own)
           (rw same at c.send_from-sent.ensures.others))));
+      few = ∥∥₁_map c.args.self.now.few (λ few. rw (c.sent.ensures)
+          (nothing_more _ _ _ _ (send_gives_none c.args.circuit c.args.datagram.now c.send_from-sent.result) few));
     }
