@@ -4,6 +4,7 @@ from __future__ import annotations
 import asyncio
 import os
 import re
+import select
 import signal
 import socket
 import subprocess
@@ -14,7 +15,7 @@ from concurrent.futures import ThreadPoolExecutor
 
 from . import support
 from .support import SECONDS
-from .test_program_killed import KeeperCase
+from .test_program_killed import CIRCUITS, KeeperCase
 from .test_service_killed import RestartedKeeperCase
 from .world import LAUNCHER
 from e1gw.service import trunk
@@ -22,12 +23,16 @@ from e1gw.service.commands import MOST_CLIENTS
 from e1gw.service.events import EventFile
 from e1gw.service.pages import MOST_READERS, MOST_VISITORS
 from e1gw.service.handover import CannotBegin
+from e1gw.service.log_folder import RECORDS_ROOM, LogFiles
 from e1gw.service.service import make_own
 from e1gw.testing.service import ask
 from e1gw.tie.site import STRANGERS
 from e1gw.trunks import Stream
 
 OWN = 20                    # descriptors of a tie itself
+FLOODED = range(11, 31)     # circuits
+LONGEST = bytes(65_507)     # a datagram of IPv4
+READ = 4                    # multiframes: 2,048 octets
 
 
 class TakenPortTests(KeeperCase):
@@ -52,6 +57,50 @@ class TakenPortTests(KeeperCase):
         self.as_uncut(but=3)
         self.assertGreater(len(self.peers.packets[3]), count)
         self.ends()
+
+
+class FloodTests(KeeperCase):
+    def test_long_datagrams_at_many_ports(self) -> None:
+        """Those of one read of the trunk filled the log before its next state. It ended, untold, and whatever came
+        later was lost when the program was killed."""
+        self.write('trunk.toml', self.peers.config().replace(']]\n', ']]\nprefill = 160\n'))
+        self.speech_to = '127.0.0.1'
+        self.starts()
+        self.calls()
+        self.step(40)
+        before, count = self.logged(), 7
+        with socket.socket(socket.AF_INET, socket.SOCK_DGRAM) as other:
+            for _ in range(count):
+                self.flooded(other)
+        self.dies()
+        self.assertLessEqual({*CIRCUITS} - {*FLOODED}, self.peers_heard(count * READ))
+        self.assertGreater(self.logged() - before, RECORDS_ROOM)
+        self.step(20)
+        self.assertEqual(self.device.exchange.signals, self.up())
+        self.ends()
+
+    def flooded(self, other: socket.socket) -> None:
+        """One read of the trunk, before and while which their sockets are full."""
+        with support.stopped(self.keeper.pid, self.program):
+            waiting = self.send(READ)
+            self.fill(other)
+        while not select.select([self.device.line], [], [], 0)[0]:
+            self.fill(other)
+        self.take(waiting)
+
+    def fill(self, other: socket.socket) -> None:
+        """More than their sockets have room for."""
+        for port, circuit in self.peers.circuits.items():
+            for _ in range(4 if circuit in FLOODED else 0):
+                other.sendto(LONGEST, ('127.0.0.1', port))
+
+    def logged(self) -> int:
+        """How many octets of records the log took."""
+        files = LogFiles(self.log())
+        self.addCleanup(files.close)
+        pair = files.last()
+        assert pair
+        return pair.end
 
 
 class FolderTests(KeeperCase):
