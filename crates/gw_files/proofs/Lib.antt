@@ -1,4 +1,5 @@
 pub mod Made
+pub mod Lines
 mod Front
 mod Loading
 pub mod Results

@@ -1,5 +1,5 @@
 -- What starts did, whenever they were killed.
-use Rattle.std.proofs.Common.{◌≡◌, ◌++◌, ◌∷◌, ◌⊎◌, [], ℕ, List, refl, inl, inr, append-nil, append_assoc}
+use Rattle.std.proofs.Common.{◌++◌, ◌∷◌, [], ℕ, List, refl, inl, inr, append-nil, append_assoc}
 use Rattle.std.proofs.Common.{flat_map, map}
 use Rattle.std.specs.List.{AllByRecursion}
 use Rattle.gw_switch.specs.Events.{Event}

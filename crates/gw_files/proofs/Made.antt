@@ -1,12 +1,22 @@
 -- Calls that were made one behind the other.
-use Rattle.std.proofs.Common.{◌≡◌, ◌∷◌, ◌++◌, [], ℕ, List, Bool, true, false, inl, refl}
-use Rattle.gw_files.specs.FileCalls.{FileCall, IsOne, Makes, MakesSuch, all_done, behind}
+use Rattle.std.proofs.Common.{◌≡◌, ◌∷◌, ◌++◌, [], ℕ, List, Bool, true, false, inl, inr, refl, ap, sym}
+use Rattle.gw_files.specs.FileCalls.{Does, FileCall, IsOne, Makes, MakesSuch, Plan, UpTo, all_done, behind}
 use Rattle.gw_files.specs.StateCalls.{ReplacesBy, writing}
 
 -- what is behind the first of two lists, and behind that
 behind_both : (before xs ys : List FileCall) → behind before (xs ++ ys) ≡ behind (behind before xs) ys
 behind_both before [] ys = refl
 behind_both before (x ∷ xs) ys = behind_both (x ∷ before) xs ys
+
+-- plans that were done one behind the other
+done_both : (p q : Plan) → all_done (p ++ q) ≡ all_done p ++ all_done q
+done_both [] q = refl
+done_both (call ∷ p) q = ap (λ (xs : List FileCall). call true ∷ xs) (done_both p q)
+
+-- what ended early did so behind what was done too
+up_to_behind : (p q : Plan) (calls : List FileCall) → UpTo q calls → UpTo (p ++ q) (all_done p ++ calls)
+up_to_behind [] q calls more = more
+up_to_behind (call ∷ p) q calls more = inr (inr (all_done p ++ calls, refl, up_to_behind p q calls more))
 
 -- one call was done, whatever came of what it gave
 pub one_done : (call : Bool → FileCall) (ok : Bool) → IsOne call ok (call true ∷ [])
@@ -18,6 +28,22 @@ pub exactly : {F : Type 0} {has_made : F → List FileCall → Type 0} {a b : F}
     → Makes has_made a b calls → MakesSuch has_made a b (λ xs. xs ≡ calls)
 exactly calls made = record { calls = calls; are = refl; made = made }
 
+-- .. none
+pub none : {F : Type 0} {has_made : F → List FileCall → Type 0} {a : F} {P : List FileCall → Type 0} → P []
+    → MakesSuch has_made a a P
+none is = record { calls = []; are = is; made = λ before made. made }
+
+-- .. one, which is all of a plan
+pub one : {F : Type 0} {has_made : F → List FileCall → Type 0} {a b : F} (call : Bool → FileCall) (ok : Bool)
+    → Makes has_made a b (call ok ∷ []) → MakesSuch has_made a b (Does (call ∷ []) ok)
+one call true made = record { calls = call true ∷ []; are = refl; made = made }
+one call false made = record { calls = call false ∷ []; are = inr (inl refl); made = made }
+
+-- calls of one kind are of another
+pub so : {F : Type 0} {has_made : F → List FileCall → Type 0} {a b : F} {P Q : List FileCall → Type 0}
+    → ((xs : List FileCall) → P xs → Q xs) → MakesSuch has_made a b P → MakesSuch has_made a b Q
+so is first = record { calls = first.calls; are = is first.calls first.are; made = first.made }
+
 -- calls were made, and calls behind them
 pub both : {F : Type 0} {has_made : F → List FileCall → Type 0} {a b c : F} {P Q R : List FileCall → Type 0}
     → ((xs ys : List FileCall) → P xs → Q ys → R (xs ++ ys))
@@ -28,6 +54,18 @@ both is first then = record {
   made = λ before made.
       rw (behind_both before first.calls then.calls) (then.made _ (first.made before made));
 }
+
+-- what was done behind a plan was done of both
+done_then : (p q : Plan) (ok : Bool) (xs ys : List FileCall) → xs ≡ all_done p → Does q ok ys
+    → Does (p ++ q) ok (xs ++ ys)
+done_then p q true xs ys e f = rw (e, f) (sym (done_both p q))
+done_then p q false xs ys e more = rw e (up_to_behind p q ys more)
+
+-- a plan was done, and another one behind it up to a call
+pub does_both : {F : Type 0} {has_made : F → List FileCall → Type 0} {a b c : F} (p q : Plan) (ok : Bool)
+    → MakesSuch has_made a b (Does p true) → MakesSuch has_made b c (Does q ok)
+    → MakesSuch has_made a c (Does (p ++ q) ok)
+does_both p q ok first then = both (done_then p q ok) first then
 
 -- a file that was written is given another path, or is not
 pub renamed : (new path octets : List ℕ) (ok : Bool) (xs ys : List FileCall)

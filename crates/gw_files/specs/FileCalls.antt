@@ -2,15 +2,17 @@
 use Rattle.std.specs.Prelude.{◌≡◌, ◌⊎◌, ⊤, ℕ, Bool, true, false, List, [], ◌∷◌, Result, Ok, Err, map}
 
 -- A call on files, and whether the system did it. (A look has no such mark: it changes nothing. The mark of a
--- write says whether all octets were taken.)
+-- write says whether all octets were taken.) Or a line on standard error.
 pub data FileCall : Type 0 where
   Look : (path : List ℕ) → FileCall
   Read : (path : List ℕ) → (most : ℕ) → (done : Bool) → FileCall
+  ReadArea : (path : List ℕ) → (done : Bool) → FileCall
   Create : (path : List ℕ) → (done : Bool) → FileCall
   Write : (octets : List ℕ) → (done : Bool) → FileCall
   Sync : (done : Bool) → FileCall
   Rename : (from to : List ℕ) → (done : Bool) → FileCall
   Remove : (path : List ℕ) → (done : Bool) → FileCall
+  TellNew : (circuit : ℕ) → FileCall
 
 -- the system did a call that had this result
 abbrev pub is_done : {T E : Type 0} → Result T E → Bool

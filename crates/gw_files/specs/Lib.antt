@@ -1,3 +1,4 @@
+pub mod BeginCalls
 pub mod FileCalls
 pub mod Files
 pub mod Lives

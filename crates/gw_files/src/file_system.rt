@@ -4,20 +4,22 @@ ghost use Rattle.std.specs.Prelude.{◌≡◌, ◌++◌, ◌∷◌, [], ℕ, Lis
 ghost use Rattle.std.specs.Prelude.{option_map, take, None};
 
 use crate::files::{
-    create_file, file_len, open_file, remove_file, rename_file, sync_file, write_file,
+    create_file, file_len, open_file, read_area_of, read_file, remove_file, rename_file, sync_file,
+    tell_new, write_file,
 };
-use crate::setup::Text;
 use gw_machine::Machine;
 use std::alloc::Global;
 use std::fs::File;
 use std::io;
 
-/// The files of a machine. The relations belong to the type, so a generic caller has them only for calls that
-/// it made: it can make none that its list of calls has not.
+/// The files of a machine, and standard error. The relations belong to the type, so a generic caller has them
+/// only for calls that it made: it can make none that its list of calls has not.
 pub trait FileSystem {
     ghost use Rattle.std.specs.declared.fs.File.{File};
+    ghost use Rattle.log_files.specs.Area.{HasAreaOf};
     ghost use Rattle.gw_machine.specs.Files.{SystemCreates, SystemFailsToWrite, SystemRefusesFile};
     ghost use Rattle.gw_machine.specs.Files.{SystemRenames, SystemShowsFile, SystemSyncs, SystemTakes};
+    ghost use Rattle.gw_machine.specs.Renewals.{SystemTellsNew};
     ghost use Rattle.gw_machine.specs.Setup.{IsUnreadAt, PathGives};
     ghost use Rattle.gw_files.specs.FileCalls.{FileCall, Makes, is_done};
 
@@ -52,6 +54,15 @@ pub trait FileSystem {
         ensures calls { Makes has_made self.old self.new
             (FileCall.Read path.now most (is_done result) ∷ []) };
 
+    /// Reads the area of a log in the file at a path: its head, and what this says is behind it.
+    fn read_area(&mut self, path: &str) -> io::Result<Vec<u8>>
+        ensures area { IfOk result (λ octets. IfSome (holds self.old path.now)
+            (λ xs. HasAreaOf xs octets.items)) }
+        ensures gives { IfOk result (λ octets. PathGives path.now octets.items) }
+        ensures err { IfErr result (IsUnreadAt path.now) }
+        ensures calls { Makes has_made self.old self.new
+            (FileCall.ReadArea path.now (is_done result) ∷ []) };
+
     /// Creates the file at a path, or empties the one that is there, which keeps its permissions.
     fn create(&mut self, path: &str) -> io::Result<Self::File>
         ensures creates { IfOk result (λ file. SystemCreates path.now 416 (system file)) }
@@ -83,6 +94,11 @@ pub trait FileSystem {
     fn remove(&mut self, path: &str) -> io::Result<()>
         ensures calls { Makes has_made self.old self.new
             (FileCall.Remove path.now (is_done result) ∷ []) };
+
+    /// Reports that a circuit begins as new.
+    fn tell_new(&mut self, circuit: usize)
+        ensures told { SystemTellsNew circuit }
+        ensures calls { Makes has_made self.old self.new (FileCall.TellNew circuit ∷ []) };
 }
 
 /// The files of this machine.
@@ -120,7 +136,12 @@ impl<R: Machine> FileSystem for LocalFiles<'_, R> {
 
     fn read(&mut self, path: &str, most: u64, octets: &mut Vec<u8>) -> io::Result<()> {
         let file = open_file(self.rt, path)?;
-        file.read_up_to(most, octets)
+        read_file(file, most, octets)
+    }
+
+    fn read_area(&mut self, path: &str) -> io::Result<Vec<u8>> {
+        let file = open_file(self.rt, path)?;
+        read_area_of(self.rt.alloc(), file)
     }
 
     fn create(&mut self, path: &str) -> io::Result<File> {
@@ -141,5 +162,9 @@ impl<R: Machine> FileSystem for LocalFiles<'_, R> {
 
     fn remove(&mut self, path: &str) -> io::Result<()> {
         remove_file(self.rt, path)
+    }
+
+    fn tell_new(&mut self, circuit: usize) {
+        tell_new(self.rt, circuit);
     }
 }

@@ -1,14 +1,19 @@
-//! How a file is looked at, opened, created, written, synced, renamed and removed.
+//! How a file is looked at, opened, read, created, written, synced, renamed and removed.
 
-ghost use Rattle.std.specs.Prelude.{IfOk, IfErr, OnOk};
+ghost use Rattle.std.specs.Prelude.{◌≡◌, ◌++◌, ℕ, List, IfOk, IfErr, IfSome, OnOk, option_map, take};
 ghost use Rattle.std.specs.Io.KnownBytes.{Appends};
+ghost use Rattle.log_files.specs.Area.{HasAreaOf};
+ghost use Rattle.gw_machine.specs.Renewals.{SystemTellsNew};
+ghost use Rattle.gw_files.specs.Files.{SystemFailsToRead, SystemReads};
 ghost use Rattle.gw_files.specs.Files.{SystemOpens, SystemRefusesFile, SystemShowsFile};
 ghost use Rattle.gw_files.specs.Files.{SystemCreates, SystemTakes, SystemFailsToWrite, SystemSyncs};
 ghost use Rattle.gw_files.specs.Files.{SystemAppends, SystemCreatesNew, SystemRenames};
 
 use gw_machine::Machine;
+use log_files::read_area;
+use std::alloc::Global;
 use std::fs::{self, File, OpenOptions};
-use std::io::{self, Write};
+use std::io::{self, Read, Write};
 use std::os::unix::fs::OpenOptionsExt;
 
 // The permissions of a new file, less the umask: others may not read it, since it holds the speech of all
@@ -35,6 +40,31 @@ pub(crate) fn open_file(rt: &impl Machine, path: &str) -> io::Result<File>
     ensures err { IfErr result (SystemRefusesFile path.now) }
 {
     fs::open(rt, path)
+}
+
+/// Reads a file up to its end, at most so many octets, and appends them. The error is the system's.
+#[tactic(auto, unfolding(crate::specs::Files::SystemFailsToRead))]
+pub(crate) fn read_file<R: Read + Drop>(file: R, most: u64, octets: &mut Vec<u8>) -> io::Result<()>
+    ensures bytes { OnOk result (IfSome (option_map (take most) (R.remaining file))
+        (λ xs. octets.new.items ≡ octets.old.items ++ xs)) }
+    ensures gives { OnOk result ((given : List ℕ) × SystemReads file given
+        × (octets.new.items ≡ octets.old.items ++ given)) }
+    ensures err { IfErr result (SystemFailsToRead file) }
+{
+    file.take(most).read_to_end(octets)?;
+    Ok(())
+}
+
+/// Reads the octets of an area of a log: its head, and what this says is behind it. The error is the
+/// system's.
+#[tactic(auto, unfolding(crate::specs::Files::SystemReads, crate::specs::Files::SystemFailsToRead))]
+pub(crate) fn read_area_of<R: Read + Drop>(alloc: Global, file: R) -> io::Result<Vec<u8>>
+    ensures area { IfOk result (λ octets. IfSome (R.remaining file) (λ xs. HasAreaOf xs octets.items)) }
+    ensures gives { IfOk result (λ octets. SystemReads file octets.items) }
+    ensures err { IfErr result (SystemFailsToRead file) }
+{
+    let mut reader = file;
+    read_area(alloc, &mut reader)
 }
 
 /// Creates the file at a path, or empties the one that is there, which keeps its permissions. The error is
@@ -105,4 +135,12 @@ pub(crate) fn rename_file(rt: &impl Machine, from: &str, to: &str) -> io::Result
 /// Removes the file at a path. The error is the system's.
 pub(crate) fn remove_file(rt: &impl Machine, path: &str) -> io::Result<()> {
     fs::remove_file(rt, path)
+}
+
+/// Reports that a circuit begins as new.
+#[tactic(auto, unfolding(gw_machine::specs::Renewals::SystemTellsNew))]
+pub(crate) fn tell_new(rt: &impl Machine, circuit: usize)
+    ensures { SystemTellsNew circuit }
+{
+    let _ = eprintln!(rt; "circuit {} begins as new", circuit);
 }

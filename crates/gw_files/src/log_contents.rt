@@ -1,19 +1,19 @@
 //! What the files of a trunk's log have, and which of it is loaded (`LogContents`).
 
-ghost use Rattle.std.specs.Prelude.{◌≡◌, IfOk, IfErr, IfSome, codes, true, false};
+ghost use Rattle.std.specs.Prelude.{◌≡◌, ◌∷◌, [], IfOk, IfErr, IfSome, codes, true, false};
 ghost use Rattle.log_files.specs.Area.{IsBlank};
 ghost use Rattle.log_files.specs.Loading as loading;
 ghost use Rattle.gw_machine.specs.Log.{AreDamaged, FolderGives, LacksFiles, in_folder};
-ghost use Rattle.gw_machine.specs.Setup.{IsUnreadAt, PathGives};
+ghost use Rattle.gw_machine.specs.Setup.{PathGives};
 ghost use Rattle.gw_machine.specs.declared.program_fault.ProgramFault.TheVariants.{BadLog};
+ghost use Rattle.gw_files.specs.BeginCalls.{log_reads, pair_reads};
+ghost use Rattle.gw_files.specs.FileCalls.{Does, FileCall, MakesSuch, is_done};
 ghost use Rattle.gw_files.specs.LogContents.{IsFoundIn, contents_of};
 
-use crate::files::open_file;
+use crate::file_system::FileSystem;
 use crate::log_folder::in_folder;
-use crate::setup::Text;
-use gw_machine::{Machine, ProgramFault};
+use gw_machine::ProgramFault;
 use log_files::{Loaded, PairContents, is_blank, newest};
-use std::io;
 
 // What a pair of files has: of each its head, and what this says is behind.
 #[derive(Drop)]
@@ -29,33 +29,26 @@ pub(crate) struct LogContents {
     second: PairOctets,
 }
 
-// What the file at a path has.
-fn area_at(rt: &impl Machine, path: &str) -> io::Result<Vec<u8>>
-    ensures ok { IfOk result (λ octets. PathGives path.now octets.items) }
-    ensures err { IfErr result (IsUnreadAt path.now) }
-{
-    let file = open_file(rt, path)?;
-    file.read_area(rt.alloc())
-}
-
 // What the file of this name in a folder has.
-fn area_in(rt: &impl Machine, folder: &str, name: &str) -> Result<Vec<u8>, ProgramFault>
+fn area_in<F: FileSystem>(files: &mut F, folder: &str, name: &str) -> Result<Vec<u8>, ProgramFault>
     ensures ok { IfOk result (λ octets. PathGives (in_folder folder.now name.now) octets.items) }
     ensures err { IfErr result (LacksFiles folder.now) }
+    ensures calls { MakesSuch F.has_made files.old files.new
+        (Does (FileCall.ReadArea (in_folder folder.now name.now) ∷ []) (is_done result)) }
 {
-    let path = match in_folder(rt.alloc(), folder, name) {
+    let path = match in_folder(files.alloc(), folder, name) {
         Ok(path) => path,
         Err(_) => return Err(ProgramFault::OutOfMemory),
     };
-    match area_at(rt, path.as_str()) {
+    match files.read_area(path.as_str()) {
         Ok(octets) => Ok(octets),
         Err(error) => Err(ProgramFault::of(&error, ProgramFault::NoLog)),
     }
 }
 
 // What the files of these names in a folder have.
-fn pair_in(
-    rt: &impl Machine,
+fn pair_in<F: FileSystem>(
+    files: &mut F,
     folder: &str,
     state: &str,
     records: &str,
@@ -63,22 +56,29 @@ fn pair_in(
     ensures state { IfOk result (λ pair. PathGives (in_folder folder.now state.now) pair.state.items) }
     ensures records { IfOk result (λ pair. PathGives (in_folder folder.now records.now) pair.records.items) }
     ensures err { IfErr result (LacksFiles folder.now) }
+    ensures calls { MakesSuch F.has_made files.old files.new
+        (Does (pair_reads folder.now state.now records.now) (is_done result)) }
 {
     Ok(PairOctets {
-        state: area_in(rt, folder, state)?,
-        records: area_in(rt, folder, records)?,
+        state: area_in(files, folder, state)?,
+        records: area_in(files, folder, records)?,
     })
 }
 
 /// Reads the files of the log in a folder.
-pub(crate) fn log_contents(rt: &impl Machine, folder: &str) -> Result<LogContents, ProgramFault>
+pub(crate) fn log_contents<F: FileSystem>(
+    files: &mut F,
+    folder: &str,
+) -> Result<LogContents, ProgramFault>
     ensures ok { IfOk result (λ contents. FolderGives folder.now (contents_of contents.first)
         (contents_of contents.second)) }
     ensures err { IfErr result (LacksFiles folder.now) }
+    ensures calls { MakesSuch F.has_made files.old files.new
+        (Does (log_reads folder.now) (is_done result)) }
 {
     Ok(LogContents {
-        first: pair_in(rt, folder, "state.0", "records.0")?,
-        second: pair_in(rt, folder, "state.1", "records.1")?,
+        first: pair_in(files, folder, "state.0", "records.0")?,
+        second: pair_in(files, folder, "state.1", "records.1")?,
     })
 }
 

@@ -5,6 +5,7 @@ ghost use Rattle.gw_log.specs.Logs.{HasBegunLog, IsUnused};
 ghost use Rattle.gw_files.specs.LogTape.{HasBegunIn, IsOpenedOver, LacksLogFiles, LacksStores};
 ghost use Rattle.gw_files.specs.LogTape.{LacksTrunkLog, checkpoint_trouble};
 
+use crate::file_system::LocalFiles;
 use crate::log_contents::log_contents;
 use crate::log_folder::{RECORDS_ROOM, STATE_ROOM, in_folder, open_or_create};
 use crate::recording::open_room;
@@ -79,7 +80,7 @@ fn log_behind(
     ensures over { IfOk result (IsOpenedOver folder.now) }
     ensures err { IfErr result (LacksLogFiles folder.now) }
 {
-    let contents = log_contents(rt, folder)?;
+    let contents = log_contents(&mut LocalFiles::new(rt), folder)?;
     let loaded = contents.newest()?;
     let (first, second) = pairs_at(rt, folder)?;
     let Some(room) = open_room(rt.alloc()) else {

@@ -9,12 +9,15 @@ ghost use Rattle.gw_machine.specs.Log.{FailsToGive, FailsToRenew, FailsToResume,
 ghost use Rattle.gw_machine.specs.Log.{HaveSameCircuits, IsFromLog, IsNewLog, IsReplayed, IsResumed};
 ghost use Rattle.gw_machine.specs.Log.{LacksLogged, WasGivenAll};
 ghost use Rattle.gw_machine.specs.State.{WasLoaded};
+ghost use Rattle.gw_files.specs.BeginCalls.{FindsBy, GoesOnBy, RenewsBy};
+ghost use Rattle.gw_files.specs.FileCalls.{MakesSuch, is_done};
 ghost use Rattle.gw_files.specs.Resuming.{run_trouble};
 
+use crate::file_system::FileSystem;
 use crate::log_contents::log_contents;
 use crate::nowhere::Nowhere;
 use crate::state::{is_same, load_trouble, loaded_of, tell_renewed};
-use gw_machine::{Machine, ProgramFault};
+use gw_machine::ProgramFault;
 use gw_session::{RunFault, Source, SourceFault, run};
 use gw_state::{load_gateway, state_file};
 use gw_switch::{Gateway, GatewayConfig};
@@ -109,8 +112,8 @@ fn have_same_circuits(old: &GatewayConfig, config: &GatewayConfig) -> bool
 
 // The gateway with another configuration. Circuits whose configuration changed begin as new, and standard
 // error says which.
-fn renewed(
-    rt: &impl Machine,
+fn renewed<F: FileSystem>(
+    files: &mut F,
     old: &GatewayConfig,
     config: &GatewayConfig,
     gateway: &Gateway,
@@ -118,13 +121,15 @@ fn renewed(
     requires { ¬ HaveSameCircuits old.now config.now 30 }
     ensures ok { IfOk result (GoesOnWith old.now config.now gateway.now) }
     ensures err { IfErr result (FailsToRenew old.now config.now gateway.now) }
+    ensures calls { MakesSuch F.has_made files.old files.new
+        (RenewsBy old.now config.now (is_done result)) }
 {
-    let Ok(state) = state_file(rt.alloc(), old, gateway) else {
+    let Ok(state) = state_file(files.alloc(), old, gateway) else {
         return Err(ProgramFault::OutOfMemory);
     };
-    match load_gateway(rt.alloc(), config, state.as_slice()) {
+    match load_gateway(files.alloc(), config, state.as_slice()) {
         Ok(loaded) => {
-            tell_renewed(rt, old, config);
+            tell_renewed(files, old, config);
             Ok(loaded.gateway)
         }
         Err(fault) => Err(load_trouble(fault)),
@@ -148,38 +153,41 @@ fn config_of(
 }
 
 // The gateway of what was kept, with this configuration.
-fn resumed(
-    rt: &impl Machine,
+fn resumed<F: FileSystem>(
+    files: &mut F,
     config: &GatewayConfig,
     kept: &KeptContents<'_>,
 ) -> Result<Gateway, ProgramFault>
     requires { length kept.now.records.now < 2 ^ 32 }
     ensures ok { IfOk result (IsResumed (kept_of kept.now) config.now) }
     ensures err { IfErr result (FailsToResume (kept_of kept.now)) }
+    ensures calls { MakesSuch F.has_made files.old files.new
+        (GoesOnBy (kept_of kept.now) config.now (is_done result)) }
 {
-    let old = config_of(rt.alloc(), config, kept)?;
-    let gateway = replayed(rt.alloc(), &old, kept)?;
+    let old = config_of(files.alloc(), config, kept)?;
+    let gateway = replayed(files.alloc(), &old, kept)?;
     if have_same_circuits(&old, config) {
         return Ok(gateway);
     }
-    renewed(rt, &old, config, &gateway)
+    renewed(files, &old, config, &gateway)
 }
 
 /// The gateway of the log in a folder: that of the state that was kept last, with the configuration that it
 /// was kept with, behind the records that were kept behind it. Then circuits whose configuration changed
 /// begin as new. None if nothing was ever kept.
-pub(crate) fn resumed_gateway(
-    rt: &impl Machine,
+pub(crate) fn resumed_gateway<F: FileSystem>(
+    files: &mut F,
     config: &GatewayConfig,
     folder: &str,
 ) -> Result<Option<Gateway>, ProgramFault>
     ensures ok { IfOk result (λ found. MatchOption found (IsNewLog folder.now)
         (IsFromLog folder.now config.now)) }
     ensures err { IfErr result (LacksLogged folder.now) }
+    ensures calls { MakesSuch F.has_made files.old files.new (FindsBy folder.now config.now result) }
 {
-    let contents = log_contents(rt, folder)?;
+    let contents = log_contents(files, folder)?;
     match contents.newest()? {
-        Some(loaded) => match resumed(rt, config, &loaded.kept()) {
+        Some(loaded) => match resumed(files, config, &loaded.kept()) {
             Ok(gateway) => Ok(Some(gateway)),
             Err(fault) => Err(fault),
         },

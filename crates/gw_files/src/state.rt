@@ -12,15 +12,14 @@ ghost use Rattle.gw_machine.specs.State.{IsFromState, HasBegun, Waits, BeginsWai
 ghost use Rattle.gw_machine.specs.State.{load_trouble, IsCheckpoint, IsStateIn, Keeps};
 ghost use Rattle.gw_machine.specs.State.{IsWritten, IsUnwritten, unfinished};
 ghost use Rattle.gw_machine.specs.Renewals.{AreTold, SystemTellsNew};
-ghost use Rattle.gw_files.specs.FileCalls.{Does, FileCall, Makes, MakesSuch, is_done};
+ghost use Rattle.gw_files.specs.FileCalls.{Does, FileCall, IsOne, Makes, MakesSuch, is_done};
+ghost use Rattle.gw_files.specs.BeginCalls.{AreLines, BeginsBy, BeginsFromBy, IsLine, LoadsBy};
 ghost use Rattle.gw_files.specs.StateCalls.{KeepsBy, ReplacesBy, SavesBy, writing};
 
 use crate::file_system::FileSystem;
-use crate::files::open_file;
 use crate::resuming::resumed_gateway;
-use crate::setup::Text;
 use gw_circuit::CircuitConfig;
-use gw_machine::{Machine, ProgramFault};
+use gw_machine::ProgramFault;
 use gw_state::{LoadFault, Loaded, load_gateway, state_file};
 use gw_switch::{Gateway, GatewayConfig};
 use std::alloc::{AllocError, Global};
@@ -80,22 +79,24 @@ pub(crate) fn loaded_of(
     }
 }
 
-// Loads the gateway whose state is in a text, with this configuration. It has the history of the gateway that
-// was saved. Then circuits whose configuration changed begin as new.
-fn load_from<T: Text>(
-    alloc: Global,
+// Loads the gateway whose state is in the file at a path, with this configuration. It has the history of the
+// gateway that was saved. Then circuits whose configuration changed begin as new.
+fn load_from<F: FileSystem>(
+    files: &mut F,
     config: &GatewayConfig,
-    text: T,
+    path: &str,
 ) -> Result<Loaded, ProgramFault>
-    ensures ok { IfOk result (WasLoaded (T.gives text) (λ asked. asked ≡ None) config.now) }
-    ensures whole { IfOk result (λ loaded. IfSome (T.holds text) (λ octets.
+    ensures ok { IfOk result (WasLoaded (PathGives path.now) (λ asked. asked ≡ None) config.now) }
+    ensures whole { IfOk result (λ loaded. IfSome (F.holds files.old path.now) (λ octets.
         WasLoaded (λ given. given ≡ octets) (λ asked. asked ≡ None) config.now loaded)) }
-    ensures err { IfErr result (FailsToLoad (T.fails text) (T.gives text) config.now) }
+    ensures err { IfErr result (FailsToLoad (IsUnreadAt path.now) (PathGives path.now) config.now) }
+    ensures calls { MakesSuch F.has_made files.old files.new
+        (IsOne (FileCall.Read path.now 1048577) (is_done result)) }
 {
-    let mut octets = Vec::new(alloc);
+    let mut octets = Vec::new(files.alloc());
     // (one more than any state has)
-    match text.read_up_to(1_048_577, &mut octets) {
-        Ok(()) => loaded_of(alloc, config, octets.as_slice()),
+    match files.read(path, 1_048_577, &mut octets) {
+        Ok(()) => loaded_of(files.alloc(), config, octets.as_slice()),
         Err(error) => Err(ProgramFault::of(&error, ProgramFault::NoState)),
     }
 }
@@ -108,49 +109,49 @@ pub(crate) fn is_same(old: &CircuitConfig, config: &CircuitConfig) -> bool
     old == config
 }
 
-// Reports that a circuit begins as new.
-#[tactic(auto, unfolding(gw_machine::specs::Renewals::SystemTellsNew))]
-fn tell_new(rt: &impl Machine, circuit: usize)
-    ensures { SystemTellsNew circuit }
-{
-    let _ = eprintln!(rt; "circuit {} begins as new", circuit);
-}
-
 // Reports that a circuit begins as new if its configuration changed.
-fn tell_changed(rt: &impl Machine, circuit: usize, old: &CircuitConfig, config: &CircuitConfig)
-    ensures { old.now ≢ config.now → SystemTellsNew circuit }
+fn tell_changed<F: FileSystem>(
+    files: &mut F,
+    circuit: usize,
+    old: &CircuitConfig,
+    config: &CircuitConfig,
+)
+    ensures told { old.now ≢ config.now → SystemTellsNew circuit }
+    ensures calls { MakesSuch F.has_made files.old files.new (IsLine circuit old.now config.now) }
 {
     if !is_same(old, config) {
-        tell_new(rt, circuit);
+        files.tell_new(circuit);
     }
 }
 
 // Reports which circuits begin as new, since their configuration changed.
-pub(crate) fn tell_renewed(rt: &impl Machine, old: &GatewayConfig, config: &GatewayConfig)
-    ensures { AreTold old.now config.now 30 }
+pub(crate) fn tell_renewed<F: FileSystem>(
+    files: &mut F,
+    old: &GatewayConfig,
+    config: &GatewayConfig,
+)
+    ensures told { AreTold old.now config.now 30 }
+    ensures calls { MakesSuch F.has_made files.old files.new (AreLines old.now config.now 30) }
 {
     for at in 0..config.circuits.len() {
-        tell_changed(rt, at + 1, &old.circuits[at], &config.circuits[at]);
+        tell_changed(files, at + 1, &old.circuits[at], &config.circuits[at]);
     }
 }
 
 // Loads the gateway whose state is in the file at a path, with this configuration.
-fn loaded_gateway(
-    rt: &impl Machine,
+fn loaded_gateway<F: FileSystem>(
+    files: &mut F,
     config: &GatewayConfig,
     path: &str,
 ) -> Result<Gateway, ProgramFault>
     ensures ok { IfOk result (IsFromState (PathGives path.now) config.now) }
     ensures err { IfErr result (FailsToLoad (IsUnreadAt path.now) (PathGives path.now) config.now) }
+    ensures calls { MakesSuch F.has_made files.old files.new
+        (LoadsBy config.now path.now (is_done result)) }
 {
-    match open_file(rt, path) {
-        Ok(file) => {
-            let loaded = load_from(rt.alloc(), config, file)?;
-            tell_renewed(rt, &loaded.old, config);
-            Ok(loaded.gateway)
-        }
-        Err(error) => Err(ProgramFault::of(&error, ProgramFault::NoState)),
-    }
+    let loaded = load_from(files, config, path)?;
+    tell_renewed(files, &loaded.old, config);
+    Ok(loaded.gateway)
 }
 
 // Opens a new gateway. The error is that memory was refused.
@@ -163,17 +164,19 @@ fn open_gateway(alloc: Global, config: &GatewayConfig) -> Result<Gateway, AllocE
 }
 
 // Loads the gateway whose state is in a file if one is named; otherwise opens a new one.
-fn first_gateway(
-    rt: &impl Machine,
+fn first_gateway<F: FileSystem>(
+    files: &mut F,
     config: &GatewayConfig,
     path: Option<&str>,
 ) -> Result<Gateway, ProgramFault>
     ensures ok { IfOk result (HasBegun config.now (option_map (λ path. path.now) path.entry)) }
     ensures err { IfErr result (LacksGateway config.now (option_map (λ path. path.now) path.entry)) }
+    ensures calls { MakesSuch F.has_made files.old files.new
+        (BeginsBy config.now (option_map (λ path. path.now) path.entry) (is_done result)) }
 {
     match path {
-        Some(path) => loaded_gateway(rt, config, path),
-        None => match open_gateway(rt.alloc(), config) {
+        Some(path) => loaded_gateway(files, config, path),
+        None => match open_gateway(files.alloc(), config) {
             Ok(gateway) => Ok(gateway),
             Err(_) => Err(ProgramFault::OutOfMemory),
         },
@@ -181,8 +184,8 @@ fn first_gateway(
 }
 
 // The gateway that a log has if one is named that has one; otherwise as without a log.
-fn begun_gateway(
-    rt: &impl Machine,
+fn begun_gateway<F: FileSystem>(
+    files: &mut F,
     config: &GatewayConfig,
     log: Option<&str>,
     path: Option<&str>,
@@ -191,13 +194,16 @@ fn begun_gateway(
         (option_map (λ path. path.now) path.entry)) }
     ensures err { IfErr result (LacksFirst config.now (option_map (λ folder. folder.now) log.entry)
         (option_map (λ path. path.now) path.entry)) }
+    ensures calls { MakesSuch F.has_made files.old files.new
+        (BeginsFromBy config.now (option_map (λ folder. folder.now) log.entry)
+        (option_map (λ path. path.now) path.entry) (is_done result)) }
 {
     let Some(folder) = log else {
-        return first_gateway(rt, config, path);
+        return first_gateway(files, config, path);
     };
-    match resumed_gateway(rt, config, folder) {
+    match resumed_gateway(files, config, folder) {
         Ok(Some(gateway)) => Ok(gateway),
-        Ok(None) => first_gateway(rt, config, path),
+        Ok(None) => first_gateway(files, config, path),
         Err(fault) => Err(fault),
     }
 }
@@ -217,8 +223,8 @@ fn waiting(gateway: Gateway, wait: Option<u16>) -> Gateway
 /// something was kept; otherwise loads the state in a file if one is named, or opens a new gateway. Its
 /// wait for an acknowledgement, in signals, is `wait`; without one it is that of the state, or 100 signals.
 /// Circuits whose configuration changed begin as new, and standard error says which.
-pub fn begin_gateway(
-    rt: &impl Machine,
+pub fn begin_gateway<F: FileSystem>(
+    files: &mut F,
     config: &GatewayConfig,
     log: Option<&str>,
     path: Option<&str>,
@@ -229,8 +235,11 @@ pub fn begin_gateway(
         (λ asked. asked ≡ wait)) }
     ensures err { IfErr result (LacksFirst config.now (option_map (λ folder. folder.now) log.entry)
         (option_map (λ path. path.now) path.entry)) }
+    ensures calls { MakesSuch F.has_made files.old files.new
+        (BeginsFromBy config.now (option_map (λ folder. folder.now) log.entry)
+        (option_map (λ path. path.now) path.entry) (is_done result)) }
 {
-    let first = begun_gateway(rt, config, log, path)?;
+    let first = begun_gateway(files, config, log, path)?;
     Ok(waiting(first, wait))
 }
 

@@ -149,7 +149,8 @@ impl<R: Machine> System for Local<'_, R> {
 
     fn begin_gateway(&self, config: &Config) -> Result<Gateway, ProgramFault> {
         let gateway = &config.gateway;
-        begin_gateway(self.rt, gateway, self.log, self.load, self.wait)
+        let files = &mut LocalFiles::new(self.rt);
+        begin_gateway(files, gateway, self.log, self.load, self.wait)
     }
 
     fn save_gateway(&self, config: &Config, gateway: &Gateway) -> Result<(), ProgramFault> {

@@ -7,7 +7,7 @@ returns-in-Ok-load_gateway-clause-ok g c = inr (
   (
     c.in-Ok-load_gateway.loaded,
     rw (c.as_slice.ensures.value, c.in-Ok.ensures.octets) at c.in-Ok-load_gateway.ensures.loaded,
-    c.tell_renewed.ensures,
+    c.tell_renewed.ensures.told,
     refl,
   ),
 )

@@ -1,6 +1,6 @@
 use Rattle.std.proofs.KnownBytes.{starts_with_rest}
 use Rattle.gw_machine.specs.Files.{SystemReads}
-use Rattle.gw_files.proofs.setup.AnyText.read_up_to.Goals as goal
+use Rattle.gw_files.proofs.files.read_file.Goals as goal
 
 pub returns-clause-gives : goal.returns-clause-gives
 unfolding SystemReads
