@@ -4,7 +4,7 @@ use Rattle.gw_files.specs.FileCalls.{Does, FileCall, IsOne, Makes, MakesSuch, Pl
 use Rattle.gw_files.specs.StateCalls.{ReplacesBy, writing}
 
 -- what is behind the first of two lists, and behind that
-behind_both : (before xs ys : List FileCall) → behind before (xs ++ ys) ≡ behind (behind before xs) ys
+pub behind_both : (before xs ys : List FileCall) → behind before (xs ++ ys) ≡ behind (behind before xs) ys
 behind_both before [] ys = refl
 behind_both before (x ∷ xs) ys = behind_both (x ∷ before) xs ys
 
@@ -44,7 +44,7 @@ pub so : {F : Type 0} {has_made : F → List FileCall → Type 0} {a b : F} {P Q
     → ((xs : List FileCall) → P xs → Q xs) → MakesSuch has_made a b P → MakesSuch has_made a b Q
 so is first = record { calls = first.calls; are = is first.calls first.are; made = first.made }
 
--- calls were made, and calls behind them
+-- calls of one kind were made, and of another behind them
 pub both : {F : Type 0} {has_made : F → List FileCall → Type 0} {a b c : F} {P Q R : List FileCall → Type 0}
     → ((xs ys : List FileCall) → P xs → Q ys → R (xs ++ ys))
     → MakesSuch has_made a b P → MakesSuch has_made b c Q → MakesSuch has_made a c R

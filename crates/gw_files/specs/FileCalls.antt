@@ -8,6 +8,10 @@ pub data FileCall : Type 0 where
   Read : (path : List ℕ) → (most : ℕ) → (done : Bool) → FileCall
   ReadArea : (path : List ℕ) → (done : Bool) → FileCall
   Create : (path : List ℕ) → (done : Bool) → FileCall
+  CreateNew : (path : List ℕ) → (done : Bool) → FileCall
+  Append : (path : List ℕ) → (done : Bool) → FileCall
+  OpenBoth : (path : List ℕ) → (done : Bool) → FileCall
+  NeverWait : (done : Bool) → FileCall
   Write : (octets : List ℕ) → (done : Bool) → FileCall
   Sync : (done : Bool) → FileCall
   Rename : (from to : List ℕ) → (done : Bool) → FileCall

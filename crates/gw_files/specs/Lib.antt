@@ -7,6 +7,7 @@ pub mod LogFolder
 pub mod LogTape
 pub mod OneOf
 pub mod Recording
+pub mod RecordingCalls
 pub mod ReportsFile
 pub mod Resuming
 pub mod Starts

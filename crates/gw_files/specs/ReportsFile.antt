@@ -1,8 +1,9 @@
 -- How the FIFO of `--reports` is opened, or why not (module `reports`).
-use Rattle.std.specs.Prelude.{◌≡◌, ◌⊎◌, ⊤, ℕ, List, Some, None}
+use Rattle.std.specs.Prelude.{◌≡◌, ◌⊎◌, ⊤, ℕ, Bool, true, false, List, [], ◌∷◌, Some, None}
 use Rattle.std.specs.declared.fs.File.{File}
 use Rattle.std.specs.declared.io.Error.{Error}
 use Rattle.gw_machine.specs.Files.{SystemRefusesFile, SystemShowsFile}
+use Rattle.gw_files.specs.FileCalls.{FileCall, Plan, UpTo, all_done}
 use Rattle.gw_files.specs.Recording.{SystemLetsWait, SystemNeverWaits}
 use Rattle.gw_machine.specs.Status.{SaysRefused}
 use Rattle.gw_machine.specs.declared.program_fault.ProgramFault.{ProgramFault}
@@ -27,3 +28,13 @@ pub record AreOpenAt (path : List ℕ) (file : File) : Type 0 where
 abbrev pub LacksReportsAt : List ℕ → ProgramFault → Type 0
 LacksReportsAt path fault = SaysRefused (AreNotOpened path) program_faults.Reports fault
     ⊎ ((fault ≡ program_faults.Reports) × ((len : ℕ) × SystemShowsFile path (Some len)))
+
+-- what is at a path is opened, and no call on it is to wait
+abbrev pub opening_reports : List ℕ → Plan
+opening_reports path = FileCall.OpenBoth path ∷ FileCall.NeverWait ∷ []
+
+-- a path is looked at, and what is there is opened unless it is a regular file
+abbrev pub ReportsBy : List ℕ → Bool → List FileCall → Type 0
+ReportsBy path true calls = calls ≡ FileCall.Look path ∷ all_done (opening_reports path)
+ReportsBy path false calls = (rest : List FileCall) × UpTo (opening_reports path) rest
+    × (calls ≡ FileCall.Look path ∷ rest)

@@ -1,16 +1,18 @@
 //! What is done with files, none of it beside these calls (`FileSystem`).
 
 ghost use Rattle.std.specs.Prelude.{◌≡◌, ◌++◌, ◌∷◌, [], ℕ, List, Option, IfOk, IfErr, IfSome, OnOk};
-ghost use Rattle.std.specs.Prelude.{option_map, take, None};
+ghost use Rattle.std.specs.Prelude.{option_map, take, Some, None};
 
 use crate::files::{
-    create_file, file_len, open_file, read_area_of, read_file, remove_file, rename_file, sync_file,
-    tell_new, write_file,
+    append_file, create_file, create_new_file, file_len, never_wait, open_both, open_file,
+    read_area_of, read_file, remove_file, rename_file, sync_file, tell_new, write_file,
 };
+use crate::recording_file::RecordingFile;
 use gw_machine::Machine;
 use std::alloc::Global;
 use std::fs::File;
 use std::io;
+use std::rt::Stderr;
 
 /// The files of a machine, and standard error. The relations belong to the type, so a generic caller has them
 /// only for calls that it made: it can make none that its list of calls has not.
@@ -19,6 +21,9 @@ pub trait FileSystem {
     ghost use Rattle.log_files.specs.Area.{HasAreaOf};
     ghost use Rattle.gw_machine.specs.Files.{SystemCreates, SystemFailsToWrite, SystemRefusesFile};
     ghost use Rattle.gw_machine.specs.Files.{SystemRenames, SystemShowsFile, SystemSyncs, SystemTakes};
+    ghost use Rattle.gw_machine.specs.Files.{SystemAppends, SystemCreatesNew};
+    ghost use Rattle.gw_files.specs.Recording.{SystemLetsWait, SystemNeverWaits};
+    ghost use Rattle.gw_files.specs.ReportsFile.{SystemOpensBoth};
     ghost use Rattle.gw_machine.specs.Renewals.{SystemTellsNew};
     ghost use Rattle.gw_machine.specs.Setup.{IsUnreadAt, PathGives};
     ghost use Rattle.gw_files.specs.FileCalls.{FileCall, Makes, is_done};
@@ -69,6 +74,39 @@ pub trait FileSystem {
         ensures err { IfErr result (SystemRefusesFile path.now) }
         ensures calls { Makes has_made self.old self.new
             (FileCall.Create path.now (is_done result) ∷ []) };
+
+    /// Creates the file at a path, where there is none.
+    fn create_new(&mut self, path: &str) -> io::Result<Self::File>
+        ensures creates { IfOk result (λ file. SystemCreatesNew path.now 416 (system file)) }
+        ensures err { IfErr result (SystemRefusesFile path.now) }
+        ensures calls { Makes has_made self.old self.new
+            (FileCall.CreateNew path.now (is_done result) ∷ []) };
+
+    /// Opens what is at a path, to be appended to.
+    fn append(&mut self, path: &str) -> io::Result<Self::File>
+        ensures appends { IfOk result (λ file. SystemAppends path.now (system file)) }
+        ensures err { IfErr result (SystemRefusesFile path.now) }
+        ensures calls { Makes has_made self.old self.new
+            (FileCall.Append path.now (is_done result) ∷ []) };
+
+    /// Opens what is at a path, to be read and written, so that the opening of a FIFO waits for nobody.
+    fn open_both(&mut self, path: &str) -> io::Result<Self::File>
+        ensures opens { IfOk result (λ file. SystemOpensBoth path.now (system file)) }
+        ensures err { IfErr result (SystemRefusesFile path.now) }
+        ensures calls { Makes has_made self.old self.new
+            (FileCall.OpenBoth path.now (is_done result) ∷ []) };
+
+    /// Has each call on a file fail that would wait.
+    fn never_wait(&mut self, file: &Self::File) -> io::Result<()>
+        ensures ok { OnOk result (SystemNeverWaits (system file.now)) }
+        ensures err { IfErr result SystemLetsWait }
+        ensures calls { Makes has_made self.old self.new (FileCall.NeverWait (is_done result) ∷ []) };
+
+    /// The file of a recording, to which nothing was written yet.
+    fn recording_file(&self, file: Self::File) -> RecordingFile<File, Stderr>
+        ensures writer { result.writer ≡ Some (system file) }
+        ensures failed { result.failed ≡ 0 }
+        ensures log { result.log.octets ≡ [] };
 
     /// Writes octets to a file, all of them.
     fn write(&mut self, file: &mut Self::File, octets: &[u8]) -> io::Result<()>
@@ -146,6 +184,26 @@ impl<R: Machine> FileSystem for LocalFiles<'_, R> {
 
     fn create(&mut self, path: &str) -> io::Result<File> {
         create_file(self.rt, path)
+    }
+
+    fn create_new(&mut self, path: &str) -> io::Result<File> {
+        create_new_file(self.rt, path)
+    }
+
+    fn append(&mut self, path: &str) -> io::Result<File> {
+        append_file(self.rt, path)
+    }
+
+    fn open_both(&mut self, path: &str) -> io::Result<File> {
+        open_both(self.rt, path)
+    }
+
+    fn never_wait(&mut self, file: &File) -> io::Result<()> {
+        never_wait(file)
+    }
+
+    fn recording_file(&self, file: File) -> RecordingFile<File, Stderr> {
+        RecordingFile::new(file, self.rt.errors())
     }
 
     fn write(&mut self, file: &mut File, octets: &[u8]) -> io::Result<()> {

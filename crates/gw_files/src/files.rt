@@ -7,6 +7,8 @@ ghost use Rattle.gw_machine.specs.Renewals.{SystemTellsNew};
 ghost use Rattle.gw_files.specs.Files.{SystemFailsToRead, SystemReads};
 ghost use Rattle.gw_files.specs.Files.{SystemOpens, SystemRefusesFile, SystemShowsFile};
 ghost use Rattle.gw_files.specs.Files.{SystemCreates, SystemTakes, SystemFailsToWrite, SystemSyncs};
+ghost use Rattle.gw_files.specs.Recording.{SystemLetsWait, SystemNeverWaits};
+ghost use Rattle.gw_files.specs.ReportsFile.{SystemOpensBoth};
 ghost use Rattle.gw_files.specs.Files.{SystemAppends, SystemCreatesNew, SystemRenames};
 
 use gw_machine::Machine;
@@ -14,7 +16,9 @@ use log_files::read_area;
 use std::alloc::Global;
 use std::fs::{self, File, OpenOptions};
 use std::io::{self, Read, Write};
+use std::os::fd::OwnedFd;
 use std::os::unix::fs::OpenOptionsExt;
+use std::os::unix::net::UnixStream;
 
 // The permissions of a new file, less the umask: others may not read it, since it holds the speech of all
 // calls.
@@ -102,6 +106,28 @@ pub(crate) fn append_file(rt: &impl Machine, path: &str) -> io::Result<File>
     ensures err { IfErr result (SystemRefusesFile path.now) }
 {
     OpenOptions::new().append(true).open(rt, path)
+}
+
+/// Opens what is at a path to be read and written, so that the opening of a FIFO waits for nobody. The error
+/// is the system's.
+#[tactic(auto, unfolding(crate::specs::ReportsFile::SystemOpensBoth, crate::specs::Files::SystemRefusesFile))]
+pub(crate) fn open_both(rt: &impl Machine, path: &str) -> io::Result<File>
+    ensures opens { IfOk result (SystemOpensBoth path.now) }
+    ensures err { IfErr result (SystemRefusesFile path.now) }
+{
+    OpenOptions::new().read(true).write(true).open(rt, path)
+}
+
+/// Has each write to a file fail that would wait. (What is set is set of all descriptors of this opening of
+/// the file, so it is set through another one, by a type that can set it. What was opened by its path has no
+/// others.)
+#[tactic(auto, unfolding(crate::specs::Recording::SystemLetsWait, crate::specs::Recording::SystemNeverWaits))]
+pub(crate) fn never_wait(file: &File) -> io::Result<()>
+    ensures ok { OnOk result (SystemNeverWaits file.now) }
+    ensures err { IfErr result SystemLetsWait }
+{
+    let other = UnixStream::from(OwnedFd::from(file.try_clone()?));
+    other.set_nonblocking(true)
 }
 
 /// Writes octets to a file, all of them. The error is the system's.

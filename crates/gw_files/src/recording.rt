@@ -5,19 +5,18 @@ ghost use Rattle.std.specs.Prelude.{true, false};
 ghost use Rattle.gw_state.specs.Memory.{MemoryIsRefused};
 ghost use Rattle.gw_files.specs.Files.{SystemRefusesFile};
 ghost use Rattle.gw_machine.specs.System.{IsBegun};
-ghost use Rattle.gw_files.specs.Recording.{IsNotOpened, LacksRecording, MayNotOpen, SystemLetsWait};
+ghost use Rattle.gw_files.specs.Recording.{IsNotOpened, LacksRecording, MayNotOpen};
 ghost use Rattle.gw_files.specs.Recording.{IsDescriptor, IsOpenedAt, IsOpenedFor};
-ghost use Rattle.gw_files.specs.Recording.{SystemNeverWaits};
+ghost use Rattle.gw_files.specs.FileCalls.{MakesSuch, is_done};
+ghost use Rattle.gw_files.specs.RecordingCalls.{OpensBy, OpensForBy, OpensOldBy, RecordsBy, opening_of};
 
-use crate::files::{append_file, create_file, create_new_file, file_len};
+use crate::file_system::FileSystem;
 use crate::recording_file::RecordingFile;
-use gw_machine::{Machine, ProgramFault};
+use gw_machine::ProgramFault;
 use gw_session::{Recorder, TrunkRecord};
 use std::alloc::Global;
 use std::fs::File;
 use std::io;
-use std::os::fd::OwnedFd;
-use std::os::unix::net::UnixStream;
 use std::rt::Stderr;
 
 /// A requested recording.
@@ -36,73 +35,71 @@ pub type Tape = Option<Recorder<RecordingFile<File, Stderr>>>;
 
 // Whether a path is that of an open file of this process.
 fn is_descriptor(path: &str) -> bool
-    ensures { result ≡ true → IsDescriptor path.now }
+    ensures yes { result ≡ true → IsDescriptor path.now }
+    ensures no { result ≡ false → ¬ IsDescriptor path.now }
 {
     let octets = path.as_bytes();
     octets.len() >= 8 && octets[..8] == [b'/', b'd', b'e', b'v', b'/', b'f', b'd', b'/']
 }
 
 // Opens a file that is there. A regular one is emptied; None if it may not be written over.
-fn open_old(rt: &impl Machine, recording: Recording<'_>) -> io::Result<Option<File>>
-    ensures some { IfOk result (λ found. IfSome found
-        (IsOpenedAt recording.entry.path.now recording.entry.over)) }
+fn open_old<F: FileSystem>(files: &mut F, recording: Recording<'_>) -> io::Result<Option<F::File>>
+    ensures some { IfOk result (λ found. IfSome found (λ file.
+        IsOpenedAt recording.entry.path.now recording.entry.over (F.system file))) }
     ensures none { IfOk result (λ found. IfNone found
         (MayNotOpen recording.entry.path.now recording.entry.over)) }
     ensures err { IfErr result (SystemRefusesFile recording.entry.path.now) }
+    ensures calls { MakesSuch F.has_made files.old files.new
+        (OpensOldBy recording.entry.path.now recording.entry.over (opening_of result)) }
 {
-    match file_len(rt, recording.path)? {
+    match files.look(recording.path)? {
         Some(_) if !recording.over => Ok(None),
-        Some(_) => Ok(Some(create_file(rt, recording.path)?)),
-        None => Ok(Some(append_file(rt, recording.path)?)),
+        Some(_) => Ok(Some(files.create(recording.path)?)),
+        None => Ok(Some(files.append(recording.path)?)),
     }
 }
 
 // Opens the file of a recording: a new one, or what is there already. None if that may not be written over.
-fn open(rt: &impl Machine, recording: Recording<'_>) -> io::Result<Option<File>>
-    ensures some { IfOk result (λ found. IfSome found
-        (IsOpenedAt recording.entry.path.now recording.entry.over)) }
+fn open<F: FileSystem>(files: &mut F, recording: Recording<'_>) -> io::Result<Option<F::File>>
+    ensures some { IfOk result (λ found. IfSome found (λ file.
+        IsOpenedAt recording.entry.path.now recording.entry.over (F.system file))) }
     ensures none { IfOk result (λ found. IfNone found
         (MayNotOpen recording.entry.path.now recording.entry.over)) }
     ensures err { IfErr result (SystemRefusesFile recording.entry.path.now) }
+    ensures calls { MakesSuch F.has_made files.old files.new
+        (OpensBy recording.entry.path.now recording.entry.over (opening_of result)) }
 {
     if is_descriptor(recording.path) {
-        return Ok(Some(append_file(rt, recording.path)?));
+        return Ok(Some(files.append(recording.path)?));
     }
-    match create_new_file(rt, recording.path) {
+    match files.create_new(recording.path) {
         Ok(file) => Ok(Some(file)),
         Err(error) => match error.kind() {
-            io::ErrorKind::AlreadyExists => open_old(rt, recording),
+            io::ErrorKind::AlreadyExists => open_old(files, recording),
             _ => Err(error),
         },
     }
 }
 
-// Has each write to a file fail that would wait. (What is set is set of all descriptors of this opening of
-// the file, so it is set through another one, by a type that can set it. What was opened by its path has no
-// others.)
-#[tactic(auto, unfolding(crate::specs::Recording::SystemLetsWait, crate::specs::Recording::SystemNeverWaits))]
-pub(crate) fn never_wait(file: &File) -> io::Result<()>
-    ensures ok { OnOk result (SystemNeverWaits file.now) }
-    ensures err { IfErr result SystemLetsWait }
-{
-    let other = UnixStream::from(OwnedFd::from(file.try_clone()?));
-    other.set_nonblocking(true)
-}
-
 // Opens the file of a recording, whose writes wait only if they are to. None if the file that is there may
 // not be written over.
-fn open_as_asked(rt: &impl Machine, recording: Recording<'_>) -> io::Result<Option<File>>
-    ensures some { IfOk result (λ found. IfSome found
-        (IsOpenedFor recording.entry.path.now recording.entry.over recording.entry.waits)) }
+fn open_as_asked<F: FileSystem>(
+    files: &mut F,
+    recording: Recording<'_>,
+) -> io::Result<Option<F::File>>
+    ensures some { IfOk result (λ found. IfSome found (λ file. IsOpenedFor recording.entry.path.now
+        recording.entry.over recording.entry.waits (F.system file))) }
     ensures none { IfOk result (λ found. IfNone found
         (MayNotOpen recording.entry.path.now recording.entry.over)) }
     ensures err { IfErr result (IsNotOpened recording.entry.path.now) }
+    ensures calls { MakesSuch F.has_made files.old files.new (OpensForBy recording.entry.path.now
+        recording.entry.over recording.entry.waits (opening_of result)) }
 {
-    let Some(file) = open(rt, recording)? else {
+    let Some(file) = open(files, recording)? else {
         return Ok(None);
     };
     if !recording.waits {
-        never_wait(&file)?;
+        files.never_wait(&file)?;
     }
     Ok(Some(file))
 }
@@ -124,7 +121,10 @@ pub(crate) fn open_room(alloc: Global) -> Option<Box<TrunkRecord>>
 ///
 /// [`ProgramFault::OldRecording`] if a regular file is there that may not be written over,
 /// [`ProgramFault::Recording`] if the system refuses the file, [`ProgramFault::OutOfMemory`].
-pub fn begin(rt: &impl Machine, recording: Option<Recording<'_>>) -> Result<Tape, ProgramFault>
+pub fn begin<F: FileSystem>(
+    files: &mut F,
+    recording: Option<Recording<'_>>,
+) -> Result<Tape, ProgramFault>
     ensures err { IfErr result (λ program_fault. IsSomeAnd recording.entry
         (λ asked. LacksRecording asked.path.now asked.over program_fault)) }
     ensures ok { IfOk result (λ tape. IsBegun recording.entry
@@ -132,15 +132,16 @@ pub fn begin(rt: &impl Machine, recording: Option<Recording<'_>>) -> Result<Tape
     ensures opened { IfOk result (λ tape. MatchOption recording.entry (tape ≡ None)
         (λ asked. IsSomeAnd tape (λ recorder. IsSomeAnd recorder.sink.writer
         (IsOpenedFor asked.path.now asked.over asked.waits)))) }
+    ensures calls { MakesSuch F.has_made files.old files.new (RecordsBy recording.entry (is_done result)) }
 {
     let Some(recording) = recording else {
         return Ok(None);
     };
-    let Some(room) = open_room(rt.alloc()) else {
+    let Some(room) = open_room(files.alloc()) else {
         return Err(ProgramFault::OutOfMemory);
     };
-    match open_as_asked(rt, recording) {
-        Ok(Some(file)) => Ok(Some(Recorder::new(RecordingFile::new(file, rt.errors()), room))),
+    match open_as_asked(files, recording) {
+        Ok(Some(file)) => Ok(Some(Recorder::new(files.recording_file(file), room))),
         Ok(None) => Err(ProgramFault::OldRecording),
         Err(error) => Err(ProgramFault::of(&error, ProgramFault::Recording)),
     }

@@ -10,7 +10,7 @@ use crate::performing::SessionEnds;
 use crate::sealed::{StandardInput, StandardOutput};
 use clap::ArgMatches;
 use gw_command::{Filter, asks_live, reports_of};
-use gw_files::open_reports;
+use gw_files::{LocalFiles, open_reports};
 use gw_filter::{NoReports, ReportingSender, ToReports};
 use gw_machine::{CheckTells, Machine, ProgramFault, told_as};
 use gw_session::{FromRead, Sink, Source, Totals};
@@ -42,7 +42,7 @@ fn filter_reporting<S: Source + StandardInput, K: Sink + StandardOutput>(
         (S.tells ends.old.source) (S.tells ends.new.source) (K.tells ends.old.sink) (K.tells ends.new.sink)
         result }
 {
-    let file = match open_reports(rt, path) {
+    let file = match open_reports(&mut LocalFiles::new(rt), path) {
         Ok(file) => file,
         Err(fault) => return Err(fault),
     };
@@ -110,7 +110,7 @@ fn check_reporting<S: Source + StandardInput, K: Sink + StandardOutput>(
         (S.tells ends.old.source) (S.tells ends.new.source) (K.tells ends.old.sink) (K.tells ends.new.sink)
         result }
 {
-    let file = match open_reports(rt, path) {
+    let file = match open_reports(&mut LocalFiles::new(rt), path) {
         Ok(file) => file,
         Err(fault) => return Err(fault),
     };

@@ -160,7 +160,8 @@ impl<R: Machine> System for Local<'_, R> {
 
     fn begin_tape(&self, config: &Config, gateway: &Gateway) -> Result<Self::Tape, ProgramFault> {
         let Some(folder) = self.log else {
-            return Ok(OneOf::First(begin(self.rt, self.recording)?));
+            let files = &mut LocalFiles::new(self.rt);
+            return Ok(OneOf::First(begin(files, self.recording)?));
         };
         if self.recording.is_some() {
             return Err(ProgramFault::TwoRecordings);
