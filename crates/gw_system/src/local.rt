@@ -57,24 +57,24 @@ fn open_teller(
 #[derive(Drop)]
 pub struct Local<'m, R> {
     rt: &'m R,
-    /// The path of the configuration.
-    pub path: &'m str,
-    /// Who may send to the circuits.
-    pub senders: SourceFilter,
-    /// After how many datagrams of a circuit each is sent again, or 0.
-    pub repeat: u8,
-    /// The path of the state to load.
-    pub load: Option<&'m str>,
-    /// The path at which the state is saved at the end.
-    pub save: Option<&'m str>,
-    /// The wait for an acknowledgement in signals, if `--seizure-wait` is there.
-    pub wait: Option<u16>,
-    /// The recording that is asked for.
-    pub recording: Option<Recording<'m>>,
-    /// The folder of the trunk's log, if it is asked for.
-    pub log: Option<&'m str>,
-    /// The socket of `--tell`, if it is asked for.
-    pub tell: Option<&'m str>,
+    // The path of the configuration.
+    path: &'m str,
+    // Who may send to the circuits.
+    senders: SourceFilter,
+    // After how many datagrams of a circuit each is sent again, or 0.
+    repeat: u8,
+    // The path of the state to load.
+    load: Option<&'m str>,
+    // The path at which the state is saved at the end.
+    save: Option<&'m str>,
+    // The wait for an acknowledgement in signals, if `--seizure-wait` is there.
+    wait: Option<u16>,
+    // The recording that is asked for.
+    recording: Option<Recording<'m>>,
+    // The folder of the trunk's log, if it is asked for.
+    log: Option<&'m str>,
+    // The socket of `--tell`, if it is asked for.
+    tell: Option<&'m str>,
 }
 
 impl<R: Machine> System for Local<'_, R> {
