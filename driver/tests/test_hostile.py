@@ -11,6 +11,7 @@ import subprocess
 import sys
 import threading
 import unittest
+from collections.abc import Iterable, Iterator
 from concurrent.futures import ThreadPoolExecutor
 
 from . import support
@@ -25,6 +26,7 @@ from e1gw.service.pages import MOST_READERS, MOST_VISITORS
 from e1gw.service.handover import CannotBegin
 from e1gw.service.log_folder import RECORDS_ROOM, LogFiles
 from e1gw.service.service import make_own
+from e1gw.session import Kind, records_in
 from e1gw.testing.service import ask
 from e1gw.tie.site import STRANGERS
 from e1gw.trunks import Stream
@@ -33,6 +35,11 @@ OWN = 20                    # descriptors of a tie itself
 FLOODED = range(11, 31)     # circuits
 LONGEST = bytes(65_507)     # a datagram of IPv4
 READ = 4                    # multiframes: 2,048 octets
+
+
+def octets_in(records: Iterable[bytes]) -> Iterator[bytes]:
+    """Those of the trunk."""
+    return (record.body for each in records for record in records_in(each) if record.kind is Kind.TRUNK)
 
 
 class TakenPortTests(KeeperCase):
@@ -72,12 +79,21 @@ class FloodTests(KeeperCase):
         with socket.socket(socket.AF_INET, socket.SOCK_DGRAM) as other:
             for _ in range(count):
                 self.flooded(other)
-        self.dies()
+        self.assertTrue(self.octets_logged().endswith(b''.join(octets_in(self.given[-READ:]))))
+        os.kill(self.program, signal.SIGKILL)
+        self.goes_on()              # (the service counts octets, and may not have seen all of them: it had its stalls)
         self.assertLessEqual({*CIRCUITS} - {*FLOODED}, self.peers_heard(count * READ))
         self.assertGreater(self.logged() - before, RECORDS_ROOM)
         self.step(20)
         self.assertEqual(self.device.exchange.signals, self.up())
         self.ends()
+
+    def octets_logged(self) -> bytes:
+        """Those of the trunk that the log has, up to the last one."""
+        files = LogFiles(self.log())
+        self.addCleanup(files.close)
+        pairs = sorted(filter(None, map(files.pair, (0, 1))), key=lambda pair: pair.turn)
+        return b''.join(octets_in(pair.records for pair in pairs))
 
     def flooded(self, other: socket.socket) -> None:
         """One read of the trunk, before and while which their sockets are full."""
