@@ -1,4 +1,5 @@
 pub mod Made
+pub mod Folders
 pub mod Lines
 mod Front
 mod Loading

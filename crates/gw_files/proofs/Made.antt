@@ -13,7 +13,14 @@ done_both : (p q : Plan) → all_done (p ++ q) ≡ all_done p ++ all_done q
 done_both [] q = refl
 done_both (call ∷ p) q = ap (λ (xs : List FileCall). call true ∷ xs) (done_both p q)
 
--- what ended early did so behind what was done too
+-- what ended early ended so with more behind it
+pub up_to_first : (p q : Plan) (calls : List FileCall) → UpTo p calls → UpTo (p ++ q) calls
+up_to_first [] q calls none = absurd none
+up_to_first (call ∷ p) q calls (inl e) = inl e
+up_to_first (call ∷ p) q calls (inr (inl e)) = inr (inl e)
+up_to_first (call ∷ p) q calls (inr (inr (rest, e, more))) = inr (inr (rest, e, up_to_first p q rest more))
+
+-- .. and behind what was done
 up_to_behind : (p q : Plan) (calls : List FileCall) → UpTo q calls → UpTo (p ++ q) (all_done p ++ calls)
 up_to_behind [] q calls more = more
 up_to_behind (call ∷ p) q calls more = inr (inr (all_done p ++ calls, refl, up_to_behind p q calls more))
@@ -56,7 +63,7 @@ both is first then = record {
 }
 
 -- what was done behind a plan was done of both
-done_then : (p q : Plan) (ok : Bool) (xs ys : List FileCall) → xs ≡ all_done p → Does q ok ys
+pub done_then : (p q : Plan) (ok : Bool) (xs ys : List FileCall) → xs ≡ all_done p → Does q ok ys
     → Does (p ++ q) ok (xs ++ ys)
 done_then p q true xs ys e f = rw (e, f) (sym (done_both p q))
 done_then p q false xs ys e more = rw e (up_to_behind p q ys more)

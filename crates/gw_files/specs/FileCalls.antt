@@ -1,5 +1,6 @@
 -- The calls on files, and in which order they are made (module `file_system`).
-use Rattle.std.specs.Prelude.{◌≡◌, ◌⊎◌, ⊤, ℕ, Bool, true, false, List, [], ◌∷◌, Result, Ok, Err, map}
+use Rattle.std.specs.Prelude.{◌≡◌, ◌⊎◌, ⊤, ℕ, Bool, true, false, List, [], ◌∷◌, Option, Some, None}
+use Rattle.std.specs.Prelude.{Result, Ok, Err, map}
 
 -- A call on files, and whether the system did it. (A look has no such mark: it changes nothing. The mark of a
 -- write says whether all octets were taken.) Or a line on standard error.
@@ -12,6 +13,12 @@ pub data FileCall : Type 0 where
   Append : (path : List ℕ) → (done : Bool) → FileCall
   OpenBoth : (path : List ℕ) → (done : Bool) → FileCall
   NeverWait : (done : Bool) → FileCall
+  Keep : (path : List ℕ) → (done : Bool) → FileCall
+  Len : (len : Option ℕ) → FileCall
+  Fill : (from room : ℕ) → (done : Bool) → FileCall
+  Lock : (done : Bool) → FileCall
+  NoteProcess : (done : Bool) → FileCall
+  ReadProcess : FileCall
   Write : (octets : List ℕ) → (done : Bool) → FileCall
   Sync : (done : Bool) → FileCall
   Rename : (from to : List ℕ) → (done : Bool) → FileCall
@@ -22,6 +29,15 @@ pub data FileCall : Type 0 where
 abbrev pub is_done : {T E : Type 0} → Result T E → Bool
 is_done (Ok value) = true
 is_done (Err error) = false
+
+-- .. that is asked for a number, or whether it did something
+abbrev pub shown : {T E : Type 0} → Result T E → Option T
+shown (Ok value) = Some value
+shown (Err error) = None
+
+abbrev pub has_done : {E : Type 0} → Result Bool E → Bool
+has_done (Ok done) = done
+has_done (Err error) = false
 
 -- calls behind those that were made before, of which the latest is the first
 abbrev pub behind : List FileCall → List FileCall → List FileCall
@@ -68,3 +84,8 @@ IsOne call false calls = (done : Bool) × (calls ≡ call done ∷ [])
 abbrev pub Does : Plan → Bool → List FileCall → Type 0
 Does plan true calls = calls ≡ all_done plan
 Does plan false calls = UpTo plan calls
+
+-- .. or what came of them was refused
+abbrev pub Tries : Plan → Bool → List FileCall → Type 0
+Tries plan true calls = calls ≡ all_done plan
+Tries plan false calls = UpTo plan calls ⊎ (calls ≡ all_done plan)

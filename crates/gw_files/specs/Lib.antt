@@ -1,5 +1,6 @@
 pub mod BeginCalls
 pub mod FileCalls
+pub mod FolderCalls
 pub mod Files
 pub mod Lives
 pub mod LogContents

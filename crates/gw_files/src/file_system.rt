@@ -1,14 +1,19 @@
 //! What is done with files, none of it beside these calls (`FileSystem`).
 
 ghost use Rattle.std.specs.Prelude.{◌≡◌, ◌++◌, ◌∷◌, [], ℕ, List, Option, IfOk, IfErr, IfSome, OnOk};
-ghost use Rattle.std.specs.Prelude.{option_map, take, Some, None};
+ghost use Rattle.std.specs.Prelude.{OnErr, option_map, take, true, false, Some, None};
 
 use crate::files::{
-    append_file, create_file, create_new_file, file_len, never_wait, open_both, open_file,
-    read_area_of, read_file, remove_file, rename_file, sync_file, tell_new, write_file,
+    append_file, create_file, create_new_file, file_len, len_of, never_wait, open_both, open_file,
+    open_or_create, read_area_of, read_file, remove_file, rename_file, sync_file, take_lock,
+    tell_new, write_file,
 };
+use crate::lock_process::{holder, note_process};
+use crate::log_folder::LogLock;
 use crate::recording_file::RecordingFile;
+use crate::room::fill_file;
 use gw_machine::Machine;
+use log_files::{FileStore, StoreFault};
 use std::alloc::Global;
 use std::fs::File;
 use std::io;
@@ -21,12 +26,15 @@ pub trait FileSystem {
     ghost use Rattle.log_files.specs.Area.{HasAreaOf};
     ghost use Rattle.gw_machine.specs.Files.{SystemCreates, SystemFailsToWrite, SystemRefusesFile};
     ghost use Rattle.gw_machine.specs.Files.{SystemRenames, SystemShowsFile, SystemSyncs, SystemTakes};
-    ghost use Rattle.gw_machine.specs.Files.{SystemAppends, SystemCreatesNew};
+    ghost use Rattle.gw_machine.specs.Files.{SystemAppends, SystemCreatesNew, SystemHasLocked, SystemKeeps};
+    ghost use Rattle.gw_machine.specs.Files.{SystemLocks};
+    ghost use Rattle.gw_files.specs.LogFolder.{SystemFailsToFill, SystemFailsToLock, SystemFills};
+    ghost use Rattle.gw_files.specs.LogFolder.{SystemShowsLen};
     ghost use Rattle.gw_files.specs.Recording.{SystemLetsWait, SystemNeverWaits};
     ghost use Rattle.gw_files.specs.ReportsFile.{SystemOpensBoth};
     ghost use Rattle.gw_machine.specs.Renewals.{SystemTellsNew};
     ghost use Rattle.gw_machine.specs.Setup.{IsUnreadAt, PathGives};
-    ghost use Rattle.gw_files.specs.FileCalls.{FileCall, Makes, is_done};
+    ghost use Rattle.gw_files.specs.FileCalls.{FileCall, Makes, has_done, is_done, shown};
 
     /// An open file.
     type File: Drop;
@@ -107,6 +115,49 @@ pub trait FileSystem {
         ensures writer { result.writer ≡ Some (system file) }
         ensures failed { result.failed ≡ 0 }
         ensures log { result.log.octets ≡ [] };
+
+    /// Opens the file at a path to be read and written, or creates it. What it has stays.
+    fn keep(&mut self, path: &str) -> io::Result<Self::File>
+        ensures opens { IfOk result (λ file. SystemKeeps path.now 416 (system file)) }
+        ensures err { IfErr result (SystemRefusesFile path.now) }
+        ensures calls { Makes has_made self.old self.new
+            (FileCall.Keep path.now (is_done result) ∷ []) };
+
+    /// How many octets the file at a path has.
+    fn len(&mut self, file: &Self::File, path: &str) -> io::Result<u64>
+        ensures shows { IfOk result (SystemShowsLen (system file.now)) }
+        ensures err { IfErr result (SystemRefusesFile path.now) }
+        ensures calls { Makes has_made self.old self.new (FileCall.Len (shown result) ∷ []) };
+
+    /// Writes zeros to a file from this octet on, up to its room.
+    fn fill(&mut self, file: Self::File, from: u64, room: u64) -> Result<(), StoreFault>
+        ensures ok { OnOk result (SystemFills (system file) from room) }
+        ensures err { OnErr result SystemFailsToFill }
+        ensures calls { Makes has_made self.old self.new
+            (FileCall.Fill from room (is_done result) ∷ []) };
+
+    /// Locks a file, unless another process has locked it. Whether it did is returned.
+    fn lock(&mut self, file: &Self::File) -> io::Result<bool>
+        ensures taken { IfOk result (λ taken. taken ≡ true → SystemLocks (system file.now)) }
+        ensures other { IfOk result (λ taken. taken ≡ false → SystemHasLocked (system file.now)) }
+        ensures err { IfErr result (SystemFailsToLock (system file.now)) }
+        ensures calls { Makes has_made self.old self.new (FileCall.Lock (has_done result) ∷ []) };
+
+    /// Writes the number of this process into the file of its lock.
+    fn note_process(&mut self, lock: &Self::File) -> io::Result<()>
+        ensures calls { Makes has_made self.old self.new (FileCall.NoteProcess (is_done result) ∷ []) };
+
+    /// The process that has a lock, as its file says.
+    fn read_process(&mut self, lock: &Self::File) -> u32
+        ensures calls { Makes has_made self.old self.new (FileCall.ReadProcess ∷ []) };
+
+    /// What keeps the folder of a log, of the file that is locked.
+    fn log_lock(&self, file: Self::File) -> LogLock
+        ensures { result.file ≡ system file };
+
+    /// A file of this room as a store.
+    fn store(&self, file: Self::File, room: u64) -> FileStore
+        ensures { result.room ≡ room };
 
     /// Writes octets to a file, all of them.
     fn write(&mut self, file: &mut Self::File, octets: &[u8]) -> io::Result<()>
@@ -204,6 +255,38 @@ impl<R: Machine> FileSystem for LocalFiles<'_, R> {
 
     fn recording_file(&self, file: File) -> RecordingFile<File, Stderr> {
         RecordingFile::new(file, self.rt.errors())
+    }
+
+    fn keep(&mut self, path: &str) -> io::Result<File> {
+        open_or_create(self.rt, path)
+    }
+
+    fn len(&mut self, file: &File, path: &str) -> io::Result<u64> {
+        len_of(file, path)
+    }
+
+    fn fill(&mut self, file: File, from: u64, room: u64) -> Result<(), StoreFault> {
+        fill_file(file, from, room)
+    }
+
+    fn lock(&mut self, file: &File) -> io::Result<bool> {
+        take_lock(file)
+    }
+
+    fn note_process(&mut self, lock: &File) -> io::Result<()> {
+        note_process(self.rt, lock)
+    }
+
+    fn read_process(&mut self, lock: &File) -> u32 {
+        holder(lock)
+    }
+
+    fn log_lock(&self, file: File) -> LogLock {
+        LogLock::new(file)
+    }
+
+    fn store(&self, file: File, room: u64) -> FileStore {
+        FileStore::new(file, room)
     }
 
     fn write(&mut self, file: &mut File, octets: &[u8]) -> io::Result<()> {

@@ -1,12 +1,15 @@
 //! How a file is looked at, opened, read, created, written, synced, renamed and removed.
 
 ghost use Rattle.std.specs.Prelude.{◌≡◌, ◌++◌, ℕ, List, IfOk, IfErr, IfSome, OnOk, option_map, take};
+ghost use Rattle.std.specs.Prelude.{true, false};
 ghost use Rattle.std.specs.Io.KnownBytes.{Appends};
 ghost use Rattle.log_files.specs.Area.{HasAreaOf};
 ghost use Rattle.gw_machine.specs.Renewals.{SystemTellsNew};
 ghost use Rattle.gw_files.specs.Files.{SystemFailsToRead, SystemReads};
 ghost use Rattle.gw_files.specs.Files.{SystemOpens, SystemRefusesFile, SystemShowsFile};
 ghost use Rattle.gw_files.specs.Files.{SystemCreates, SystemTakes, SystemFailsToWrite, SystemSyncs};
+ghost use Rattle.gw_files.specs.Files.{SystemHasLocked, SystemKeeps, SystemLocks};
+ghost use Rattle.gw_files.specs.LogFolder.{SystemFailsToLock, SystemShowsLen};
 ghost use Rattle.gw_files.specs.Recording.{SystemLetsWait, SystemNeverWaits};
 ghost use Rattle.gw_files.specs.ReportsFile.{SystemOpensBoth};
 ghost use Rattle.gw_files.specs.Files.{SystemAppends, SystemCreatesNew, SystemRenames};
@@ -128,6 +131,49 @@ pub(crate) fn never_wait(file: &File) -> io::Result<()>
 {
     let other = UnixStream::from(OwnedFd::from(file.try_clone()?));
     other.set_nonblocking(true)
+}
+
+/// Opens the file at a path to be read and written, or creates it. What it has stays. The error is the
+/// system's.
+#[tactic(auto, unfolding(crate::specs::Files::SystemKeeps, crate::specs::Files::SystemRefusesFile))]
+pub(crate) fn open_or_create(rt: &impl Machine, path: &str) -> io::Result<File>
+    ensures opens { IfOk result (SystemKeeps path.now 416) }
+    ensures err { IfErr result (SystemRefusesFile path.now) }
+{
+    OpenOptions::new()
+        .read(true)
+        .write(true)
+        .create(true)
+        .mode(MODE)
+        .open(rt, path)
+}
+
+/// How many octets a file has. The error is the system's.
+#[tactic(auto, unfolding(crate::specs::LogFolder::SystemShowsLen, crate::specs::Files::SystemRefusesFile))]
+pub(crate) fn len_of(file: &File, path: &str) -> io::Result<u64>
+    ensures shows { IfOk result (SystemShowsLen file.now) }
+    ensures err { IfErr result (SystemRefusesFile path.now) }
+{
+    Ok(file.metadata()?.len())
+}
+
+/// Locks a file, unless another process has locked it. Whether it did is returned, or the system's error.
+#[tactic(auto, unfolding(crate::specs::Files::SystemLocks, crate::specs::Files::SystemHasLocked, crate::specs::LogFolder::SystemFailsToLock,))]
+pub(crate) fn take_lock(lock: &File) -> io::Result<bool>
+    ensures taken { IfOk result (λ taken. taken ≡ true → SystemLocks lock.now) }
+    ensures other { IfOk result (λ taken. taken ≡ false → SystemHasLocked lock.now) }
+    ensures err { IfErr result (SystemFailsToLock lock.now) }
+{
+    match lock.try_lock() {
+        Ok(()) => Ok(true),
+        Err(error) => {
+            let error = io::Error::from(error);
+            match error.kind() {
+                io::ErrorKind::WouldBlock => Ok(false),
+                _ => Err(error),
+            }
+        }
+    }
 }
 
 /// Writes octets to a file, all of them. The error is the system's.

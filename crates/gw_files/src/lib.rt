@@ -5,6 +5,7 @@
 mod file_system;
 mod files;
 pub mod laws;
+mod lock_process;
 mod log_contents;
 mod log_folder;
 mod log_tape;
@@ -14,6 +15,7 @@ mod recording;
 mod recording_file;
 mod reports;
 mod resuming;
+mod room;
 mod setup;
 mod state;
 

@@ -54,7 +54,7 @@ pub record LeavesOf (log : TrunkLogState) (place : ℕ) (gateway : Gateway) (rec
   pub turn : ℕ
   pub left : LeavesKept log.files (kept_as turn log.config place gateway records)
 
--- so many octets of records can be appended
+-- this many octets of records can be appended
 pub record CanAppend (log : TrunkLogState) (len : ℕ) : Type 0 where
   pub whole : log.broken ≡ false
   pub room : FitsBehind log.files len

@@ -63,7 +63,7 @@ impl<S: Store> Model for FileLog<S> {
 }
 
 impl<S: Store> FileLog<S> {
-    // The log that has these files, behind so many octets of records. Nothing is written.
+    // The log that has these files and has taken `place` octets of records. Nothing is written.
     pub(crate) fn new(
         alloc: Global,
         files: LogFiles<S>,

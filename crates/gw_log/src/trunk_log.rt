@@ -67,7 +67,8 @@ impl<S: Store> Model for TrunkLog<S> {
 }
 
 impl<S: Store> TrunkLog<S> {
-    /// The log that has these files, behind so many octets of records, with room for one. Nothing is written.
+    /// The log that has these files and has taken `place` octets of records, with room for one. Nothing is
+    /// written.
     pub fn new(
         alloc: Global,
         files: LogFiles<S>,

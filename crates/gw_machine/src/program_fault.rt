@@ -60,7 +60,7 @@ pub enum ProgramFault {
     /// The process of this number has the trunk's log.
     #[error("the log of the trunk is in use by process {0}")]
     LogInUse(u32),
-    /// The files of the trunk's log want so many octets, and there are fewer.
+    /// The files of the trunk's log want this many octets, and there are fewer.
     #[error("the log of the trunk wants {0} octets")]
     LogRoom(u64),
     /// The files of the trunk's log have nothing that can be loaded, and are not new.

@@ -1,4 +1,4 @@
--- However a session is cut, it did the first of what answers its log.
+-- However a session is cut off, what it did is the beginning of what answers its log.
 use Rattle.gw_session.proofs.Common.{◌≡◌, ◌⊎◌, inl, inr, ℕ, suc, List, [], ◌∷◌, ◌++◌, length, refl, sym, ap}
 use Rattle.gw_session.proofs.Common.{◌∙◌, append_assoc, append-nil, map, flat_map, Option, Some, Bool}
 use Rattle.gw_session.proofs.Common.{false, AllByRecursion, GatewayConfig, Event, HasHistory, Record, Reads, Reply}
@@ -338,7 +338,7 @@ none_first : (last later : List Event) → [] ≡ last ++ later → last ≡ []
 none_first [] later e = refl
 none_first (x ∷ last) later e = absurd (cc e)
 
--- however a session is cut, it did the first of what answers its log
+-- however a session is cut off, what it did is the beginning of what answers its log
 pub cut_sessions : CutSessionsAnswerTheirLogs
 cut_sessions config before gateway acts log records ending at_first cut reads =
     let p = cut.follows in

@@ -87,9 +87,9 @@ abbrev pub AreOfNext : List Event → List SessionInput → Type 0
 AreOfNext es [] = es ≡ []
 AreOfNext es (input ∷ inputs) = (later : List Event) × (events_in input ≡ es ++ later)
 
--- Acts did the first of what answers events that are logged: these are those of the first inputs, each of
--- which was answered behind all of its packets, and events of the next one, of whose packets the first were
--- sent.
+-- Acts are the beginning of what answers the events that are logged: those of the first inputs, each of
+-- which was answered behind all of its packets, and events of the next one, of whose packets the first ones
+-- were sent.
 pub record AnswersFirst (config : GatewayConfig) (before : List Event) (inputs : List SessionInput)
     (logged : List Event) (acts : List Act)
     : Type 0 where
@@ -107,8 +107,8 @@ pub record AnswersFirst (config : GatewayConfig) (before : List Event) (inputs :
   pub unanswered : List ℕ
   pub written_are : written config before inputs ≡ written config before answered ++ unanswered
 
--- However a session is cut off, it did the first of what answers the whole records in its log, and all of
--- that but for a part of the last record's.
+-- However a session is cut off, what it did is the beginning of what answers the whole records in its log,
+-- and lacks at most a part of the last one's answer.
 abbrev pub CutSessionsAnswerTheirLogs : Type 0
 CutSessionsAnswerTheirLogs = (config : GatewayConfig) (before : List Event) (gateway : Gateway)
     (acts : List Act) (octets : List ℕ) (records : List Record) (ending : RecordsEnd)

@@ -11,7 +11,7 @@ ghost use Rattle.gw_system.specs.Asked.{AreSenders, IsRepeat};
 
 use clap::ArgMatches;
 use gw_command::{log_of, recording_of, records_over, repeat_of, senders_of};
-use gw_files::{LogLock, Recording, lock_log};
+use gw_files::{LocalFiles, LogLock, Recording, lock_log};
 use gw_machine::{Machine, ProgramFault};
 use gw_udp::SourceFilter;
 
@@ -61,7 +61,7 @@ pub fn lock_asked(
     ensures err { IfErr result (FailsToLockIn (subcommand_rows_of matches.now)) }
 {
     match log_of(matches) {
-        Some(folder) => Ok(Some(lock_log(rt, folder)?)),
+        Some(folder) => Ok(Some(lock_log(&mut LocalFiles::new(rt), folder)?)),
         None => Ok(None),
     }
 }

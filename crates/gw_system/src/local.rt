@@ -166,7 +166,12 @@ impl<R: Machine> System for Local<'_, R> {
         if self.recording.is_some() {
             return Err(ProgramFault::TwoRecordings);
         }
-        match begin_log(self.rt, folder, &config.gateway, gateway) {
+        match begin_log(
+            &mut LocalFiles::new(self.rt),
+            folder,
+            &config.gateway,
+            gateway,
+        ) {
             Ok(log) => Ok(OneOf::Second(log)),
             Err(fault) => Err(fault),
         }

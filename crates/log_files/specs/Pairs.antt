@@ -46,7 +46,7 @@ HaveSameTurn first second =
 abbrev pub with_more : Kept → List ℕ → Kept
 with_more kept octets = record kept { records = kept.records ++ octets }
 
--- what was kept is of this turn and has so many octets of records, which with these behind have this checksum
+-- what was kept is of this turn and has `len` octets of records, which with these behind have this checksum
 pub record Counts (turn len : ℕ) (octets : List ℕ) (sum : ℕ) (kept : Kept) : Type 0 where
   pub turns : kept.turn ≡ turn
   pub counted : length kept.records ≡ len
@@ -101,12 +101,12 @@ pub record LeavesKept (files : LogState) (kept : Kept) : Type 0 where
   pub loaded : IfSome files.newest.contents (λ newest. IfSome files.other.contents (λ other.
       IsNewest newest other kept))
 
--- so many octets of records fit behind the others
+-- `len` octets of records fit behind the others
 pub record FitsBehind (files : LogState) (len : ℕ) : Type 0 where
   pub records : 24 + files.len + len ≤ files.newest.records_room
   pub counted : files.len + len < 2 ^ 32
 
--- a state of so many octets can be written in the next turn
+-- a state of `len` octets can be written in the next turn
 pub record CanTake (files : LogState) (len : ℕ) : Type 0 where
   pub state : 24 + len ≤ files.other.state_room
   pub counted : len < 2 ^ 32

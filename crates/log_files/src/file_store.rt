@@ -29,7 +29,7 @@ fn put_at(file: &File, at: u64, octets: &[u8]) -> Result<(), StoreFault>
 }
 
 impl FileStore {
-    /// A file of so many octets, which was opened to be written.
+    /// A file of `room` octets, which was opened to be written.
     pub fn new(file: File, room: u64) -> FileStore
         ensures { result ≡ record { file = file; room = room; failed = false } }
     {

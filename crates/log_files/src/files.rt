@@ -69,7 +69,7 @@ impl<S: Store> LogFiles<S> {
         self.len
     }
 
-    /// Whether so many octets of records fit behind the others.
+    /// Whether `len` octets of records fit behind the others.
     pub fn has_room(&self, len: usize) -> bool
         ensures yes { result ≡ true → FitsBehind self.now len }
         ensures no { result ≡ false → ¬ FitsBehind self.now len }
@@ -79,7 +79,7 @@ impl<S: Store> LogFiles<S> {
         len <= most && HEAD_LEN as u64 + u64::from(self.len) + len as u64 <= room
     }
 
-    /// Whether a state of so many octets can be written.
+    /// Whether a state of `len` octets can be written.
     pub fn can_take(&self, len: usize) -> bool
         ensures yes { result ≡ true → CanTake self.now len }
         ensures no { result ≡ false → ¬ CanTake self.now len }

@@ -64,8 +64,8 @@ impl<S: Store> Pair<S> {
         self.state.write_head(&head_over(turn, state))
     }
 
-    // Writes octets of records behind others, which are of this turn and so many, and then the head of all of
-    // them, whose checksum is `sum`.
+    // Writes octets of records behind `len` others of this turn, and then the head of all of them, whose
+    // checksum is `sum`.
     pub(crate) fn append(
         &mut self,
         turn: u64,

@@ -8,7 +8,7 @@ use crate::head::{HEAD_LEN, len_behind};
 use std::alloc::Global;
 use std::io::{self, Read};
 
-// Reads so many octets.
+// Reads `len` octets.
 fn read_octets<R: Read>(alloc: Global, reader: &mut R, len: usize) -> io::Result<Vec<u8>>
     ensures read { IfOk result (λ octets.
         Consumes (R.remaining reader.old) (R.remaining reader.new) octets.items) }

@@ -1,5 +1,5 @@
 use Rattle.std.proofs.Common.{length, ◌-◌, ◌≤◌}
-use Rattle.gw_files.proofs.log_folder.digits_in.Given as goal
+use Rattle.gw_files.proofs.lock_process.digits_in.Given as goal
 
 abbrev pub invariant-loop-len : goal.invariant-loop-len
 invariant-loop-len l = l.len ≤ length l.octets

@@ -1,7 +1,7 @@
 use Rattle.std.proofs.Common.{◌-◌, ◌≡◌, ◌≤◌}
 use Rattle.log_files.specs.Stores.{WhereKnown}
 use Rattle.gw_files.proofs.Filling.{FillsUpTo}
-use Rattle.gw_files.proofs.log_folder.fill.Given as goal
+use Rattle.gw_files.proofs.room.fill.Given as goal
 
 abbrev pub invariant-loop-at : goal.invariant-loop-at
 invariant-loop-at g l = (l.from ≤ l.at) × (l.room ≡ g.S.Store.room l.store)

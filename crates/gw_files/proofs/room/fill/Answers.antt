@@ -1,7 +1,7 @@
 use Rattle.std.proofs.Common.{◌+◌, ◌∙◌, arith, sym}
 use Rattle.log_files.proofs.Known.{where_then}
 use Rattle.gw_files.proofs.Filling.{FillsUpTo, fills_on}
-use Rattle.gw_files.proofs.log_folder.fill.Goals as goal
+use Rattle.gw_files.proofs.room.fill.Goals as goal
 
 pub loop-at-preserved : goal.loop-at-preserved
 loop-at-preserved g c = (
