@@ -1,5 +1,5 @@
 //! Which subcommand the command line asks for (`request_of`), and the values of its options.
-ghost use Rattle.std.specs.Prelude.{◌≡◌, ◌≢◌, ℕ, true, Some, IfSome, IfNone, option_map, codes};
+ghost use Rattle.std.specs.Prelude.{◌≡◌, ◌≢◌, ℕ, true, Some, IfOk, IfSome, IfNone, option_map, codes};
 ghost use Rattle.e1_g711.specs.declared.Law.{Law};
 ghost use Rattle.g726_codec.specs.declared.CodecKind.{CodecKind};
 ghost use Rattle.clap.specs.Words.{found_of, rows_of, subcommand_rows_of};
@@ -8,6 +8,7 @@ ghost use Rattle.gw_command.specs.Command.{law_name, codec_name, job_name, job_s
 ghost use Rattle.gw_command.specs.Command.{IsStream, IsJob, IsSession, session_name};
 ghost use Rattle.gw_command.specs.Command.{IsFilter, filter_name, IsTrunk, IsSatop, IsRequest, text_in};
 ghost use Rattle.gw_command.specs.Command.{HasFlag, HasText, SaysNumberIn, IsWaitOf, SaysWait};
+ghost use Rattle.gw_command.specs.Arguments.{AreArguments, SystemHas};
 ghost use Rattle.gw_command.specs.declared.command.Filter.{Filter};
 ghost use Rattle.gw_command.specs.declared.command.SpeechJob.{SpeechJob};
 ghost use Rattle.gw_command.specs.declared.command.Request.{Request};
@@ -20,8 +21,9 @@ use g726_codec::CodecKind;
 use g726_codec::names::{G726_16, G726_24, G726_32, G726_40};
 use gw_circuit::payload_types::{FIRST_DYNAMIC, static_type};
 use gw_speech::StreamSpec;
+use std::env::{self, Args};
+use std::io;
 use std::rt::Env;
-use std::{env, io};
 
 /// What the command line asks for: the subcommand, and the stream that a job's options name.
 #[derive(Clone, Copy, Debug, PartialEq, Eq)]
@@ -67,9 +69,19 @@ pub enum Filter {
     Crc4,
 }
 
+// The arguments of the command line, one after the other.
+#[tactic(auto, unfolding(crate::specs::Arguments::SystemHas))]
+fn args<R: Env + AllocGlobal>(rt: &R) -> io::Result<Args>
+    ensures { IfOk result SystemHas }
+{
+    env::args(rt)
+}
+
 /// The arguments of the command line, the name of the program first.
-pub fn arguments<R: Env + AllocGlobal>(rt: &R) -> io::Result<Vec<String>> {
-    let arguments = env::args(rt)?.collect(rt.alloc())?;
+pub fn arguments<R: Env + AllocGlobal>(rt: &R) -> io::Result<Vec<String>>
+    ensures { IfOk result (λ all. AreArguments all.items) }
+{
+    let arguments = args(rt)?.collect(rt.alloc())?;
     Ok(arguments)
 }
 

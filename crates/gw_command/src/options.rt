@@ -1,5 +1,9 @@
 //! The options as declared to `clap` (names, help, defaults, allowed values), and matched by it.
 
+ghost use Rattle.std.specs.Prelude.{IfErr, IfOk};
+ghost use Rattle.clap.specs.Words.{kind_of, subcommand_rows_of};
+ghost use Rattle.gw_command.specs.Arguments.{ClapFinds, ClapRefuses};
+
 use clap::builder::ValueParser;
 use clap::{Arg, ArgAction, ArgMatches, Command, Error};
 use g726_codec::names::{G726_16, G726_24, G726_32, G726_40};
@@ -603,8 +607,21 @@ fn whole<'a>(alloc: Global) -> Result<Command<'a>, AllocError> {
         .subcommands(commands)
 }
 
+// The arguments matched against a command.
+#[tactic(auto, unfolding(crate::specs::Arguments::ClapFinds, crate::specs::Arguments::ClapRefuses))]
+fn matched<'a>(command: Command<'a>, arguments: &'a [String]) -> Result<ArgMatches<'a>, Error>
+    ensures ok { IfOk result (λ found. ClapFinds arguments.now (subcommand_rows_of found)) }
+    ensures err { IfErr result (λ error. ClapRefuses arguments.now (kind_of error)) }
+{
+    command.try_get_matches_from(arguments)
+}
+
 /// The arguments matched against the declared subcommands and options.
 #[inline(never)]
-pub fn matches<'a>(alloc: Global, arguments: &'a [String]) -> Result<ArgMatches<'a>, Error> {
-    whole(alloc)?.try_get_matches_from(arguments)
+#[tactic(auto, unfolding(crate::specs::Arguments::ClapRefuses))]
+pub fn matches<'a>(alloc: Global, arguments: &'a [String]) -> Result<ArgMatches<'a>, Error>
+    ensures ok { IfOk result (λ found. ClapFinds arguments.now (subcommand_rows_of found)) }
+    ensures err { IfErr result (λ error. ClapRefuses arguments.now (kind_of error)) }
+{
+    matched(whole(alloc)?, arguments)
 }
