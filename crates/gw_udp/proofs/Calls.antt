@@ -1,5 +1,5 @@
 -- The sockets of circuits from call to call.
-use Rattle.std.proofs.Common.{◌≡◌, ℕ, ◌-◌, ◌<◌, ◌≤◌, ◌++◌, ◌∷◌, [], List, length, Bool, true, false}
+use Rattle.std.proofs.Common.{◌≡◌, ◌⊎◌, ℕ, ◌-◌, ◌≤◌, ◌++◌, ◌∷◌, [], List, length, Bool, true, false}
 use Rattle.std.proofs.Common.{Option, Some, None, Result, Ok, Err, refl, inl, inr, arith}
 use Rattle.std.proofs.lemmas.Bool.{ltb-true, ltb-false}
 use Rattle.std.proofs.lemmas.Bool.Decides.{eqb_tells}
@@ -40,18 +40,14 @@ asked_called receives sends circuit old new (Err fault) room some own others =
     record { some = some; own = λ d. (fault, room, own d); others = others }
 
 -- .. or it was held back, and found none
-pub receive_called : {S : Type 0} (receives : Received S) (sends : Sent S) (circuit given : ℕ)
+pub receive_called : {S : Type 0} (receives : Received S) (sends : Sent S) (circuit : ℕ) (enough : Type 0)
     (old new : List (Option (Endpoint S))) (r : Result (Option ℕ) PortFault) (room : List ℕ) → 1 ≤ circuit
-    → (65536 ≤ given → (r ≡ Ok None) × (new ≡ old))
-    → (¬ 65536 ≤ given → EndpointReceives receives circuit old new r room) → KeepsOthers circuit old new
-    → HasCalledOne receives sends (receive_call circuit r room) old new
-receive_called {S} receives sends circuit given old new r room some held asked others = go (nat_lt given 65536) refl
-  where
-    go : (b : Bool) → nat_lt given 65536 ≡ b → HasCalledOne receives sends (receive_call circuit r room) old new
-    go true few = let below : given < 65536 = ltb-true given 65536 few in
-        asked_called receives sends circuit old new r room some (asked (λ enough. omega (arith, below, enough))) others
-    go false enough = let is : (r ≡ Ok None) × (new ≡ old) = held (ltb-false given 65536 enough) in
-        rw (is.0, is.1) (record { some = some; own = λ d. inr refl; others = λ i d other. refl })
+    → (enough → r ≡ Ok None) → EndpointReceives receives circuit old new r room ⊎ (enough × (new ≡ old))
+    → KeepsOthers circuit old new → HasCalledOne receives sends (receive_call circuit r room) old new
+receive_called receives sends circuit enough old new r room some none (inl own) others =
+    asked_called receives sends circuit old new r room some own others
+receive_called receives sends circuit enough old new r room some none (inr held) others =
+    rw (none held.0, held.1) (record { some = some; own = λ d. inr refl; others = λ i d other. refl })
 
 -- a send of a circuit was a call at its own socket
 pub send_called : {S : Type 0} (receives : Received S) (sends : Sent S) (circuit : ℕ)

@@ -35,12 +35,16 @@ abbrev pub IsCounted : Readiness → Readiness → Type 0
 IsCounted r r' = ((r.receives + 1 < 250) × (r'.receives ≡ r.receives + 1) × (r'.came ≡ r.came))
     ⊎ ((r'.receives ≡ 0) × AsksSystem r'.poller r.came r'.came)
 
+-- that something came to the socket of a circuit is noted no more, and what came to others is still
+abbrev pub Clears : List Bool → List Bool → ℕ → Type 0
+Clears came came' circuit = (k : ℕ) → k < 30
+    → has_come came' k ≡ (if k == circuit - 1 then false else has_come came k)
+
 -- Whether something came to the socket of a circuit since this was last asked, as noted, or as the system
--- says now. It is noted no more, and what came to others is still.
+-- says now. It is noted no more.
 pub record IsAsked (r r' : Readiness) (circuit : ℕ) (is : Bool) : Type 0 where
   pub looked : Readiness
   pub looks : IsCounted r looked
   pub counted : r'.receives ≡ looked.receives
   pub is_noted : is ≡ has_come looked.came (circuit - 1)
-  pub others : (k : ℕ) → k < 30
-      → has_come r'.came k ≡ (if k == circuit - 1 then false else has_come looked.came k)
+  pub cleared : Clears looked.came r'.came circuit

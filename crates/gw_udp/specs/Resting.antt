@@ -18,12 +18,14 @@ pub record Asks {S : Type 0} (receives : Received S) (old new : Resting S)
   pub received : receives old.socket new.socket r room
   pub then : new.rests ≡ rests_after old.most r
 
--- a receive rested: the socket inside is unchanged, and the answer is none
-pub record Rests {S : Type 0} (old new : Resting S) (r : Result (Option (ℕ × SocketAddr)) PortFault)
-    : Type 0 where
+-- a receive rested: the socket inside is unchanged, and one less is to rest
+pub record HasRested {S : Type 0} (old new : Resting S) : Type 0 where
   pub one_less : new.rests + 1 ≡ old.rests
   pub stays : new.socket ≡ old.socket
-  pub none : r ≡ Ok None
+
+-- .. and its answer is none
+abbrev pub Rests : {S : Type 0} → Resting S → Resting S → Result (Option (ℕ × SocketAddr)) PortFault → Type 0
+Rests old new r = HasRested old new × (r ≡ Ok None)
 
 -- A receive asked the socket inside, or rested; either way as many receives may rest as before. (So at least
 -- one of `most` and 1 receives asks.)

@@ -3,7 +3,8 @@
 ghost use Rattle.std.specs.Prelude.{◌≡◌, ◌≤◌, ℕ, List, length, Ok, None, IfOk, IfErr, IfSome, IsTrue};
 ghost use Rattle.std.specs.Prelude.{IsFalse};
 ghost use Rattle.std.specs.Prelude.{if◌then◌else◌};
-ghost use Rattle.gw_udp.specs.Resting.{RestingIsBound, RestingReceives, RestingSends, Asks, rests_after};
+ghost use Rattle.gw_udp.specs.Resting.{Asks, HasRested, RestingIsBound, RestingReceives, RestingSends};
+ghost use Rattle.gw_udp.specs.Resting.{rests_after};
 ghost use Rattle.gw_udp.specs.Socket.{KeepsBound, ReceivesAny};
 
 use crate::resting::Resting;
@@ -48,6 +49,8 @@ impl<S: Socket> Socket for Resting<S> {
 
     ghost asks = { Asks S.receives };
 
+    ghost rested = { HasRested };
+
     ghost sends = { RestingSends S.sends };
 
     fn bind<N: Net>(net: &N, address: SocketAddr) -> io::Result<Resting<S>>
@@ -89,6 +92,7 @@ impl<S: Socket> Socket for Resting<S> {
     fn rests(&mut self, came: bool) -> bool
         ensures rests { IsTrue result
             → (room : List ℕ) → RestingReceives S.receives self.old self.new (Ok None) room }
+        ensures rested { IsTrue result → HasRested self.old self.new }
         ensures stays { IsFalse result → self.new ≡ self.old }
         ensures asks { IsTrue came → IsFalse result }
     {

@@ -2,7 +2,7 @@
 
 ghost use Rattle.std.specs.Prelude.{◌≡◌, ◌==◌, ◌||◌, ◌-◌, ◌<◌, ℕ, Bool, MatchOption, ⊤};
 ghost use Rattle.mio.specs.Events.{items};
-ghost use Rattle.gw_udp.specs.Ready.{AreNoted, AsksSystem, IsAsked, IsCounted, SystemHasReported, has_come};
+ghost use Rattle.gw_udp.specs.Ready.{AreNoted, AsksSystem, Clears, IsCounted, SystemHasReported, has_come};
 ghost use Rattle.gw_udp.specs.Socket.{KeepsBound};
 
 use crate::socket::Socket;
@@ -125,15 +125,23 @@ impl Readiness {
     }
 
     /// Counts a receive, and returns whether the system has said that something came to the socket of this
-    /// circuit since this was last asked.
+    /// circuit since this was last cleared.
     #[inline]
     pub(crate) fn came(&mut self, circuit: CircuitNo) -> bool
-        ensures { IsAsked self.old self.new circuit result }
+        ensures counts { IsCounted self.old self.new }
+        ensures noted { result ≡ has_come self.new.came (circuit - 1) }
     {
         self.count();
+        self.came[usize::from(circuit.get()) - 1]
+    }
+
+    /// Clears that something came to the socket of this circuit, which is asked now.
+    pub(crate) fn clear(&mut self, circuit: CircuitNo)
+        ensures clears { Clears self.old.came self.new.came circuit }
+        ensures counts { self.new.receives ≡ self.old.receives }
+        ensures poller { self.new.poller ≡ self.old.poller }
+    {
         let at = usize::from(circuit.get()) - 1;
-        let came = self.came[at];
         self.came[at] = false;
-        came
     }
 }

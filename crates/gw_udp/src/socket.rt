@@ -41,6 +41,9 @@ pub trait Socket: Drop {
     /// .. that asked the system.
     ghost asks: { Received Self } = { λ _ _ _ _. ⊤ };
 
+    /// Relates a socket before and after a receive that did not ask the system.
+    ghost rested: { Self → Self → Type 0 } = { λ _ _. ⊤ };
+
     /// Relates a socket before and after a send, the destination, the datagram, and the answer.
     ghost sends: { Sent Self } = { λ _ _ _ _ _. ⊤ };
 
@@ -77,6 +80,7 @@ pub trait Socket: Drop {
     /// whether the system has said that something came.
     fn rests(&mut self, came: bool) -> bool
         ensures rests { IsTrue result → (room : List ℕ) → receives self.old self.new (Ok None) room }
+        ensures rested { IsTrue result → rested self.old self.new }
         ensures stays { IsFalse result → self.new ≡ self.old }
         ensures asks { IsTrue came → IsFalse result };
 
@@ -118,6 +122,8 @@ impl Socket for SystemSocket {
     ghost receives = { ReceivesOnce };
 
     ghost asks = { ReceivesOnce };
+
+    ghost rested = { λ _ _. ⊥ };
 
     ghost sends = { SendsTo };
 

@@ -9,11 +9,11 @@ ghost use Rattle.gw_records.specs.Ports.{Receives, Sends, CountsFault, KeepsSend
 ghost use Rattle.gw_state.specs.Memory.{MemoryIsRefused};
 ghost use Rattle.gw_udp.specs.Names.{IsAddressOf, LacksAddress, SystemLooksUp};
 ghost use Rattle.gw_udp.specs.Given.{GivesFew, HasGivenEnough, given_after};
-ghost use Rattle.gw_udp.specs.Ready.{IsAsked, IsCounted};
+ghost use Rattle.gw_udp.specs.Ready.{Clears, IsAsked, IsCounted};
 ghost use Rattle.gw_udp.specs.Udp.{EachHears, Hears, IsEndpointOf, IsEndpoint, HasEndpoints, KeepsOthers};
 ghost use Rattle.gw_udp.specs.Opening.{Blames, LacksSocket, IsFaultOf, FailsToOpen};
 ghost use Rattle.gw_udp.specs.Socket.{KeepsBound};
-ghost use Rattle.gw_udp.specs.Udp.{ReceivesFrom, EndpointReceives, EndpointSends, TakesFrom};
+ghost use Rattle.gw_udp.specs.Udp.{ReceivesFrom, EndpointReceives, EndpointRests, EndpointSends, TakesFrom};
 ghost use Rattle.gw_udp.specs.Calls.{HasCalled, AreBound, IsFresh};
 
 use crate::given::GivenOctets;
@@ -232,7 +232,7 @@ fn receive_from<S: Socket>(
 }
 
 // Whether a receive at the socket of a circuit finds none without asking the system; if there is no socket,
-// it does.
+// it does unless something is said to have come.
 #[inline]
 fn rests_at<S: Socket>(
     endpoints: &mut [Option<Endpoint<S>>],
@@ -242,19 +242,18 @@ fn rests_at<S: Socket>(
     requires { length endpoints.old ≡ 30 }
     ensures rests { IsTrue result → (room : List ℕ)
         → EndpointReceives S.receives circuit endpoints.old endpoints.new (Ok None) room }
+    ensures rested { IsTrue result → EndpointRests S.rested circuit endpoints.old endpoints.new }
     ensures stays { IsFalse result → endpoints.new ≡ endpoints.old }
     ensures others { KeepsOthers circuit endpoints.old endpoints.new }
-    ensures asks { IsTrue came → IsTrue result
-        → (d : Option (Endpoint S)) → slice_index_or endpoints.old (circuit - 1) d ≡ None }
+    ensures asks { IsTrue came → IsFalse result }
 {
     match &mut endpoints[usize::from(circuit.get()) - 1] {
         Some(endpoint) => endpoint.socket.rests(came),
-        None => true,
+        None => !came,
     }
 }
 
 // Receives at a circuit's socket, by a call of the system.
-#[inline(never)]
 fn ask_at<S: Socket>(
     endpoints: &mut [Option<Endpoint<S>>],
     circuit: CircuitNo,
@@ -279,30 +278,39 @@ fn ask_at<S: Socket>(
     }
 }
 
-// Receives at the socket of a circuit. (What asks the system is apart, since most receives do not.)
-#[inline]
-fn receive_at<S: Socket>(
+// Receives at a circuit's socket, by a call of the system, unless it gave enough since the last look. (What
+// came to it then stays there, and noted, so it is received after the next one.)
+#[inline(never)]
+fn ask_more<S: Socket>(
     endpoints: &mut [Option<Endpoint<S>>],
+    readiness: &mut Readiness,
+    given: &GivenOctets,
     circuit: CircuitNo,
-    came: bool,
     room: &mut [u8],
 ) -> Result<Option<usize>, PortFault>
     requires { length endpoints.old ≡ 30 }
     ensures bound { IfOk result (λ got. IfSome got (λ n. n ≤ length room.new)) }
-    ensures own { EndpointReceives S.receives circuit endpoints.old endpoints.new
-        result room.new }
-    ensures asks { IsTrue came
+    ensures enough { HasGivenEnough given.now.counts circuit
+        → (result ≡ Ok None) × (endpoints.new ≡ endpoints.old) × (readiness.new ≡ readiness.old) }
+    ensures own { EndpointReceives S.receives circuit endpoints.old endpoints.new result room.new
+        ⊎ (HasGivenEnough given.now.counts circuit × (endpoints.new ≡ endpoints.old)) }
+    ensures asks { ¬ HasGivenEnough given.now.counts circuit
         → EndpointReceives S.asks circuit endpoints.old endpoints.new result room.new }
+    ensures clears { ¬ HasGivenEnough given.now.counts circuit
+        → Clears readiness.old.came readiness.new.came circuit
+        × (readiness.new.receives ≡ readiness.old.receives) }
     ensures others { KeepsOthers circuit endpoints.old endpoints.new }
+    ensures in_range { (1 ≤ circuit) × (circuit ≤ 30) }
 {
-    if rests_at(endpoints, circuit, came) {
+    if given.are_enough(circuit) {
         return Ok(None);
     }
+    readiness.clear(circuit);
     ask_at(endpoints, circuit, room)
 }
 
-// Receives at the socket of a circuit, unless it gave enough since the last look. (What came to it then stays
-// there, and noted, so it is received after the next one.)
+// Receives at the socket of a circuit, unless it gave enough since the last look. (What may ask the system is
+// apart, since most receives do not.)
 #[inline]
 fn receive_more<S: Socket>(
     endpoints: &mut [Option<Endpoint<S>>],
@@ -314,21 +322,21 @@ fn receive_more<S: Socket>(
     requires { length endpoints.old ≡ 30 }
     ensures bound { IfOk result (λ got. IfSome got (λ n. n ≤ length room.new)) }
     ensures enough { HasGivenEnough given.now.counts circuit
-        → (result ≡ Ok None) × (endpoints.new ≡ endpoints.old) × IsCounted readiness.old readiness.new }
-    ensures own { ¬ HasGivenEnough given.now.counts circuit
-        → EndpointReceives S.receives circuit endpoints.old endpoints.new result room.new }
+        → (result ≡ Ok None) × IsCounted readiness.old readiness.new × ((endpoints.new ≡ endpoints.old)
+        ⊎ EndpointRests S.rested circuit endpoints.old endpoints.new) }
+    ensures own { EndpointReceives S.receives circuit endpoints.old endpoints.new result room.new
+        ⊎ (HasGivenEnough given.now.counts circuit × (endpoints.new ≡ endpoints.old)) }
     ensures asks { ¬ HasGivenEnough given.now.counts circuit
         → (came : Bool) × IsAsked readiness.old readiness.new circuit came × (IsTrue came
         → EndpointReceives S.asks circuit endpoints.old endpoints.new result room.new) }
     ensures others { KeepsOthers circuit endpoints.old endpoints.new }
     ensures in_range { (1 ≤ circuit) × (circuit ≤ 30) }
 {
-    if given.are_enough(circuit) {
-        readiness.count();
+    let came = readiness.came(circuit);
+    if rests_at(endpoints, circuit, came) {
         return Ok(None);
     }
-    let came = readiness.came(circuit);
-    receive_at(endpoints, circuit, came, room)
+    ask_more(endpoints, readiness, given, circuit, room)
 }
 
 // Sends by the socket of a circuit, to its peer.
@@ -440,10 +448,12 @@ impl<S: Socket> Ports for UdpPorts<S> {
         ensures counts { CountsFault self.old.receive_failed self.new.receive_failed result }
         ensures sends_stay { KeepsSends (told self.old) (told self.new) }
         ensures enough { HasGivenEnough self.old.given.counts circuit → (result ≡ Ok None)
-            × (self.new.endpoints.items ≡ self.old.endpoints.items)
-            × IsCounted self.old.readiness self.new.readiness }
-        ensures own { ¬ HasGivenEnough self.old.given.counts circuit → EndpointReceives S.receives circuit
-            self.old.endpoints.items self.new.endpoints.items result room.new }
+            × IsCounted self.old.readiness self.new.readiness
+            × ((self.new.endpoints.items ≡ self.old.endpoints.items)
+            ⊎ EndpointRests S.rested circuit self.old.endpoints.items self.new.endpoints.items) }
+        ensures own { EndpointReceives S.receives circuit self.old.endpoints.items self.new.endpoints.items
+            result room.new ⊎ (HasGivenEnough self.old.given.counts circuit
+            × (self.new.endpoints.items ≡ self.old.endpoints.items)) }
         ensures asks { ¬ HasGivenEnough self.old.given.counts circuit
             → (came : Bool) × IsAsked self.old.readiness self.new.readiness circuit came
             × (IsTrue came → EndpointReceives S.asks circuit self.old.endpoints.items

@@ -1,6 +1,6 @@
 use Rattle.std.proofs.Common.{length, drop, take_at, arith, rules}
 use Rattle.std.proofs.Math.Logic.{∥∥₁_map}
-use Rattle.gw_udp.specs.Given.{given_by}
+use Rattle.gw_udp.specs.Given.{HasGivenEnough}
 use Rattle.gw_udp.proofs.Calls.{called_more, receive_called}
 use Rattle.gw_udp.proofs.Looks.{receive_few}
 use Rattle.gw_udp.proofs.udp.UdpPortsPorts.receive.Goals as goal
@@ -18,9 +18,9 @@ invariant_of-self g c =
       bound = c.args.self.now.bound;
       called = ∥∥₁_map c.args.self.now.called (λ called. rw (c.received.ensures, whole)
           (called_more _ _ _ _ _ _ _ called
-          (receive_called _ _ c.args.circuit (given_by c.args.self.now.given.counts c.args.circuit) _ _
+          (receive_called _ _ c.args.circuit (HasGivenEnough c.args.self.now.given.counts c.args.circuit) _ _
           c.receive_more-received.result c.receive_more-received.new.room c.receive_more-received.ensures.in_range.0
-          (λ enough. let is = rw same at c.receive_more-received.ensures.enough enough in (is.0, is.1))
+          (λ enough. (c.receive_more-received.ensures.enough enough).0)
           (rw same at c.receive_more-received.ensures.own) (rw same at c.receive_more-received.ensures.others))));
       few = ∥∥₁_map c.args.self.now.few (λ few. rw (c.received.ensures, c.count.ensures)
           (receive_few _ _ _ c.args.circuit _ _ (search rules) c.receive_more-received.ensures.in_range.0
