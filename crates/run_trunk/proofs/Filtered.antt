@@ -16,8 +16,8 @@ use Rattle.g704_crc4.specs.declared.counting.TrunkChecker.{TrunkChecker}
 use Rattle.g704_framing.specs.Replies.{replies_after}
 use Rattle.gw_command.specs.Command.{HasText}
 use Rattle.gw_filter.specs.Align.{align_reply}
-use Rattle.gw_filter.specs.Check.{HasReported, IsChecked}
-use Rattle.gw_filter.specs.Crc4.{HasSent, IsFramed}
+use Rattle.gw_filter.specs.Check.{HasReported}
+use Rattle.gw_filter.specs.Crc4.{HasSent}
 use Rattle.gw_filter.specs.Filter.{RepliesTo}
 use Rattle.gw_filter.specs.declared.sending.Crc4Sender.{Crc4Sender}
 use Rattle.gw_filter.proofs.Sends.{is_sent}
@@ -81,12 +81,17 @@ made-if command law place is_on (Some s) received given held asked is made =
 pub of-three : {A B C D : Type 0} → ∥ A ∥₁ → ∥ B ∥₁ → ∥ C ∥₁ → (A → B → C → D) → ∥ D ∥₁
 of-three {C = C} {D = D} a b c follows = ∥∥₁_map₂ {A = C → D} (∥∥₁_map₂ a b follows) c (λ rest z. rest z)
 
+-- What follows of a checker, if there is one.
+pub told-by : {F : Type 0} (Has : F → Type 0) (None-is Told : Type 0) (filter : Option F) (f : F)
+    → filter ≡ Some f → ∥ MatchOption filter None-is Has ∥₁ → (Has f → Told) → ∥ Told ∥₁
+told-by Has None-is Told filter f is has tells = ∥∥₁_map has (λ h. tells (rw is at h))
+
 -- The counts of a checker are told, if there is one.
 pub told-of : {F T : Type 0} (Has : F → Type 0) (None-is Told : Type 0) (totals : Option T) (filter : Option F) (f : F)
     → filter ≡ Some f → ∥ MatchOption filter None-is Has ∥₁ → (Has f → IfSome totals (λ _. Told))
     → IfSome totals (λ _. ∥ Told ∥₁)
 told-of Has None-is Told None filter f is has tells = tt
-told-of Has None-is Told (Some totals) filter f is has tells = ∥∥₁_map has (λ h. tells (rw is at h))
+told-of Has None-is Told (Some totals) filter f is has tells = told-by Has None-is Told filter f is has tells
 
 -- A device that did not fail in the end took all, if no wait for it has ended without room.
 pub taken-whole : (A B : Type 0) (output rest : Result Bool DeviceFault) (before between behind : ℕ)

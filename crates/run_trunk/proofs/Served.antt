@@ -106,6 +106,7 @@ trunk_so is t = record {
   output = t.output;
   goes = t.goes;
   told_is = t.told_is;
+  live = t.live;
   tells = t.tells;
 }
 

@@ -7,9 +7,10 @@ use Rattle.gw_switch.specs.declared.gateway.Gateway.{Gateway}
 use Rattle.gw_switch.specs.Events.{Event, octets}
 use Rattle.gw_switch.specs.Standing.{HasHistory}
 use Rattle.g704_crc4.specs.ReceiverCounts.{receiver_counts_of}
+use Rattle.g704_crc4.specs.declared.counting.ReceiverCounts.{ReceiverCounts}
 use Rattle.gw_command.specs.Command.{HasFlag, HasText, text_in}
 use Rattle.gw_filter.specs.Align.{align_reply}
-use Rattle.gw_filter.specs.Check.{AreReported, HasReported, IsChecked}
+use Rattle.gw_filter.specs.Check.{AreReported, IsChecked}
 use Rattle.gw_filter.specs.Crc4.{IsFramed}
 use Rattle.gw_filter.specs.Filter.{RepliesTo}
 use Rattle.gw_filter.specs.declared.checking.Checked.{Checked}
@@ -17,23 +18,24 @@ use Rattle.gw_filtered.specs.Filters.{ReturnsBehind, ReturnsIf}
 use Rattle.gw_slots.specs.Frames.{device_frames, whole_trunk}
 use Rattle.gw_trunk.specs.Multiframes.{GoesInTime}
 use Rattle.gw_trunk.specs.declared.device.DeviceFault.{DeviceFault}
-use Rattle.std.specs.Prelude.{◌≤◌, ◌&&◌, IfOk, Result, Ok, Err}
+use Rattle.std.specs.Prelude.{◌≤◌, ◌&&◌, ⊤, IfOk, Result, Ok, Err}
 use Rattle.gw_trunk.specs.System.{SystemPairs}
 use Rattle.gw_machine.specs.Report.{CountsArePrinted, SystemPrints}
 use Rattle.gw_machine.specs.CommandLine.{CommandLine}
 use Rattle.run_trunk.specs.declared.filters.Crc4.{Crc4}
 use Rattle.run_trunk.specs.declared.filters.TrunkFilters.{TrunkFilters}
 
--- A checker that has checked nothing, and its reports, of which none has come. They go by one connection and
--- come by another, which the system has joined.
-pub record AreJoined {R : Type 0} (crc4 : Crc4 R) : Type 0 where
-  pub begins : HasReported crc4.checker.checker crc4.checker.reported crc4.checker.reports.log.octets [] []
+-- Reports go by one connection and come by another, which the system has joined. None went, and none has
+-- come.
+pub record AreJoined (crc4 : Crc4) : Type 0 where
+  pub unsent : crc4.outward.log.octets ≡ []
   pub unread : crc4.reports.log.octets ≡ []
-  pub joined : SystemPairs crc4.checker.reports.start.value crc4.reports.reader
+  pub joined : SystemPairs crc4.outward.start.value crc4.reports.reader
 
 -- the filters that the command asks for, through which nothing has passed
-pub record AreAsked {R : Type 0} (command : CommandLine) (filters : TrunkFilters R) : Type 0 where
+pub record AreAsked (command : CommandLine) (filters : TrunkFilters) : Type 0 where
   pub slots : HasText (codes "slots") (codes "1-31") command filters.slots
+  pub live : HasFlag (codes "live") command filters.live
   pub align : HasFlag (codes "align") command (is_some filters.aligner)
   pub aligner : IfSome filters.aligner (λ aligner. StandsAfter aligner [])
   pub asks_crc4 : HasFlag (codes "crc4") command (is_some filters.crc4)
@@ -134,6 +136,16 @@ pub record CountsAreTold (octets : List ℕ) : Type 0 where
 -- .. if the command asks for CRC-4
 abbrev pub CountsAreToldIf : CommandLine → List ℕ → Type 0
 CountsAreToldIf command octets = AsksFlag (codes "crc4") command → ∥ CountsAreTold octets ∥₁
+
+-- Counts were given to standard error as a line. Std says nothing of that, so it holds of all; but it is
+-- unfolded only where the line is printed.
+unfoldable pub SystemTellsLive : ReceiverCounts → Type 0
+SystemTellsLive counts = ⊤
+
+-- the counts of octets were printed as a line, if the command asks for CRC-4 and for such lines
+abbrev pub LiveIsTold : CommandLine → List ℕ → Type 0
+LiveIsTold command octets = AsksFlag (codes "crc4") command → AsksFlag (codes "live") command
+    → ∥ SystemTellsLive (receiver_counts_of octets) ∥₁
 
 -- What the command asks to be told at the end of a trunk of which octets came and multiframes were discarded:
 -- if it asks for totals, the counts, and how many were discarded.

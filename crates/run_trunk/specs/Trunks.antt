@@ -18,7 +18,7 @@ use Rattle.gw_trunk.specs.declared.device.DeviceFault.{DeviceFault}
 use Rattle.gw_trunk.specs.declared.waiting.Waiting.{Waiting}
 use Rattle.gw_trunk.specs.System.{SystemRefusesDoor, SystemRefusesStream, SystemWatches}
 use Rattle.gw_trunk.specs.Waiting.{WaitsFor}
-use Rattle.run_trunk.specs.Filters.{Comes, EndIsTold, Goes, IsPlaceOf}
+use Rattle.run_trunk.specs.Filters.{Comes, EndIsTold, Goes, IsPlaceOf, LiveIsTold}
 use Rattle.run_trunk.specs.Serving.{Carried, Traffic}
 use Rattle.gw_machine.specs.System.{EndedSaved, LacksTapeOrPorts, NotBegun, Serves}
 use Rattle.gw_machine.specs.CommandLine.{ByGateway, CommandLine, OnNewStreams, save_in}
@@ -92,8 +92,9 @@ told_behind (Err fault) output = Err fault
 
 -- The trunk was waited for at standard input and output, and what the command names for the end with the
 -- first. Octets came from it and were sent to it, clients asked and were answered, and this was done of it
--- by the gateway. What came and what was sent passed the filters that the command asks for. What the command
--- asks to be told at the end was told, if it ended well.
+-- by the gateway. What came and what was sent passed the filters that the command asks for. The line of
+-- counts at the end was told if the command asks for such lines; and the rest of what it asks for then, if it
+-- ended well.
 pub record HasTrunk (command : CommandLine) (law : Law) (gateway : Gateway)
     (does : Traffic → Result Totals ProgramFault → Type 0) (told : Result Totals ProgramFault) : Type 0 where
   pub poll : Poll
@@ -111,6 +112,7 @@ pub record HasTrunk (command : CommandLine) (law : Law) (gateway : Gateway)
   pub output : Result Bool DeviceFault
   pub goes : ∥ Goes command place passed.went discarded output ∥₁
   pub told_is : told ≡ told_behind ended output
+  pub live : LiveIsTold command passed.came
   pub tells : OnOk told (EndIsTold command passed.came discarded)
 
 -- the command names a descriptor for the end, and no socket of clients

@@ -5,13 +5,14 @@ ghost use Rattle.clap.specs.Words.{subcommand_rows_of};
 ghost use Rattle.gw_command.specs.Command.{HasFlag, text_in};
 ghost use Rattle.gw_machine.specs.System.{LacksSession};
 ghost use Rattle.gw_machine.specs.CommandLine.{TakesAsked, files_in};
-ghost use Rattle.run_trunk.specs.Filters.{AreAsked, EndIsTold};
+ghost use Rattle.run_trunk.specs.Filters.{AreAsked, EndIsTold, LiveIsTold};
 ghost use Rattle.run_trunk.specs.Trunks.{IsEndedBy, IsInputOf, IsOutput, IsReported, LacksControl};
 ghost use Rattle.run_trunk.specs.Trunks.{LacksServing, LacksStream, ServesBy, ServesTrunk, told_behind};
 
+use crate::fileless::Fileless;
 use crate::filters::{
-    Incoming, PrintedSlots, TrunkFilters, filtered_input, filtered_output, filters_as_asked,
-    finish_input, finish_output, parted, receiver_from,
+    Incoming, PrintedSlots, TrunkFilters, checker_from, filtered_input, filtered_output,
+    filters_as_asked, finish_input, finish_output, parted, receiver_from,
 };
 use crate::performing::{TrunkRecords, perform_trunk};
 use crate::sealed::{AnswersDevice, TrunkDevice, TrunkSource};
@@ -37,7 +38,7 @@ const STDIN: i32 = 0;
 const STDOUT: i32 = 1;
 
 // Opens the trunk at standard input, without clients.
-fn open_stdin(rt: &impl Machine, input: Stdin) -> Result<FromDevice<Stdin>, ProgramFault>
+fn open_stdin(rt: &impl Fileless, input: Stdin) -> Result<FromDevice<Stdin>, ProgramFault>
     ensures came { IfOk result (λ incoming. incoming.reader.log.octets ≡ []) }
     ensures reported { IfOk result (λ incoming. IsReported (pos 0) incoming.waiting.poll) }
     ensures err { IfErr result LacksStream }
@@ -49,7 +50,7 @@ fn open_stdin(rt: &impl Machine, input: Stdin) -> Result<FromDevice<Stdin>, Prog
 }
 
 // Opens the trunk at standard output.
-fn open_stdout(rt: &impl Machine, output: Stdout) -> Result<ToDevice<Stdout>, ProgramFault>
+fn open_stdout(rt: &impl Fileless, output: Stdout) -> Result<ToDevice<Stdout>, ProgramFault>
     ensures went { IfOk result (λ outgoing. outgoing.log.octets ≡ []) }
     ensures waiting { IfOk result (λ outgoing. IsOutput outgoing.waiting) }
     ensures err { IfErr result LacksStream }
@@ -95,23 +96,35 @@ fn end_as_asked(matches: &ArgMatches<'_>, incoming: &WithClients<Stdin>) -> Resu
 
 // The ends of a trunk in service, and the filters that are asked for.
 #[derive(Drop)]
-struct TrunkEnds<'r, R, I: TrunkInput, O: TrunkOutput, A: TrunkOutput> {
+struct TrunkEnds<I: TrunkInput, O: TrunkOutput, A: TrunkOutput> {
     incoming: I,
     outgoing: O,
     answers: A,
-    filters: TrunkFilters<'r, R>,
+    filters: TrunkFilters,
 }
 
 // Tells the end of a trunk: the counts of what came, and then how many multiframes were discarded.
-fn tell_end<'t, 'r, R: Machine, I: TrunkInput + Drop, S: DeviceSlots, K: Switch, L: Switch>(
+fn tell_end<
+    't,
+    'r,
+    R: Fileless,
+    I: TrunkInput + Drop,
+    S: DeviceSlots,
+    K: Switch,
+    L: Switch,
+    V: Switch,
+>(
     rt: &'r R,
     matches: &ArgMatches<'_>,
     told: &Result<Totals, ProgramFault>,
-    incoming: Incoming<'t, 'r, R, I, S, K, L>,
+    incoming: Incoming<'t, 'r, R, I, S, K, L, V>,
     discarded: u64,
 )
-    requires { HasFlag (codes "crc4") (subcommand_rows_of matches.now) L.is_on }
-    ensures { OnOk told.now (EndIsTold (subcommand_rows_of matches.now) incoming.entry.log.octets discarded) }
+    requires crc4 { HasFlag (codes "crc4") (subcommand_rows_of matches.now) L.is_on }
+    requires live { HasFlag (codes "live") (subcommand_rows_of matches.now) V.is_on }
+    ensures live { LiveIsTold (subcommand_rows_of matches.now) incoming.entry.log.octets }
+    ensures end { OnOk told.now (EndIsTold (subcommand_rows_of matches.now) incoming.entry.log.octets
+        discarded) }
 {
     let totals = match told {
         Ok(totals) if wants_totals(matches) => Some(*totals),
@@ -140,7 +153,7 @@ fn told_behind(
 #[inline(never)]
 fn carry_from<
     'r,
-    R: Machine,
+    R: Fileless,
     Y: System,
     I: TrunkInput + TrunkSource + Drop,
     O: TrunkDevice + Drop,
@@ -148,6 +161,7 @@ fn carry_from<
     S: DeviceSlots,
     K: Switch,
     L: Switch,
+    V: Switch,
     P: Phase,
 >(
     rt: &'r R,
@@ -155,7 +169,7 @@ fn carry_from<
     system: &Y,
     config: &Config,
     gateway: &mut Gateway,
-    ends: TrunkEnds<'r, R, I, O, A>,
+    ends: TrunkEnds<I, O, A>,
 ) -> Result<Totals, ProgramFault>
     requires input { IsInputOf (subcommand_rows_of matches.now) (I.poll ends.incoming) }
     requires output { IsOutput (O.waiting ends.outgoing) }
@@ -167,6 +181,7 @@ fn carry_from<
     requires slots { ends.filters.slots ≡ S.is_on }
     requires align { is_some ends.filters.aligner ≡ K.is_on }
     requires crc4 { is_some ends.filters.crc4 ≡ L.is_on }
+    requires live { ends.filters.live ≡ V.is_on }
     requires place { (gateway.old.trunk.position % 512 ≡ P.place) × (P.place ≡ S.place) }
     requires law { config.now.gateway.law ≡ S.law }
     ensures { ServesBy (subcommand_rows_of matches.now) config.now.gateway.law
@@ -180,19 +195,20 @@ fn carry_from<
         answers,
         filters: TrunkFilters {
             slots,
+            live,
             aligner,
             crc4,
         },
     } = ends;
     let place = gateway.place();
     let receiver = receiver_from(slots, config.gateway.law, place);
-    let (checker, reports) = parted(crc4);
-    let incoming = filtered_input::<R, I, S, K, L>(
+    let (outward, reports) = parted(crc4);
+    let incoming = filtered_input::<R, I, S, K, L, V>(
         PrintedSlots { rt },
         incoming,
         receiver,
         aligner,
-        checker,
+        checker_from(rt, live, outward),
     );
     let outgoing = filtered_output::<R, O, S, L, P>(rt, outgoing, slots, reports, place);
     let mut trunk = TrunkRecords {
@@ -210,7 +226,7 @@ fn carry_from<
 // Serves a trunk between its ends with the configuration and the gateway of the system.
 fn carry<
     'r,
-    R: Machine,
+    R: Fileless,
     Y: System,
     I: TrunkInput + TrunkSource + Drop,
     O: TrunkDevice + Drop,
@@ -219,7 +235,7 @@ fn carry<
     rt: &'r R,
     matches: &ArgMatches<'_>,
     system: &Y,
-    ends: TrunkEnds<'r, R, I, O, A>,
+    ends: TrunkEnds<I, O, A>,
 ) -> Result<Totals, ProgramFault>
     requires takes { TakesAsked (subcommand_rows_of matches.now) (Y.files system.now) }
     requires input { IsInputOf (subcommand_rows_of matches.now) (I.poll ends.incoming) }
@@ -236,7 +252,7 @@ fn carry<
 {
     let config = system.read_config()?;
     let mut gateway = system.begin_gateway(&config)?;
-    carry_from::<R, Y, I, O, A, Brand, Brand, Brand, Brand>(
+    carry_from::<R, Y, I, O, A, Brand, Brand, Brand, Brand, Brand>(
         rt,
         matches,
         system,
@@ -247,7 +263,7 @@ fn carry<
 }
 
 // Serves the trunk without clients. Then no descriptor asks for its end.
-fn serve_alone<R: Machine, Y: System>(
+fn serve_alone<R: Fileless, Y: System>(
     rt: &R,
     matches: &ArgMatches<'_>,
     system: &Y,
@@ -274,7 +290,7 @@ fn serve_alone<R: Machine, Y: System>(
 }
 
 // Serves the trunk with clients. The descriptor that the matches name asks for the end of this trunk.
-fn serve_clients<R: Machine, Y: System>(
+fn serve_clients<R: Fileless, Y: System>(
     rt: &R,
     matches: &ArgMatches<'_>,
     system: &Y,

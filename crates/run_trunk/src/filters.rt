@@ -4,31 +4,38 @@ ghost use Rattle.std.specs.Prelude.{◌≡◌, ◌<◌, ℕ, List, [], true, IfO
 ghost use Rattle.std.specs.Prelude.{codes};
 ghost use Rattle.clap.specs.Words.{subcommand_rows_of};
 ghost use Rattle.g704_bits.specs.Standing.{StandsAfter};
+ghost use Rattle.g704_crc4.specs.ReceiverCounts.{receiver_counts_of};
 ghost use Rattle.gw_command.specs.Command.{HasFlag, HasText};
 ghost use Rattle.gw_filter.specs.Check.{HasReported};
 ghost use Rattle.gw_machine.specs.Report.{SlotsAreTold};
 ghost use Rattle.gw_machine.specs.CommandLine.{CommandLine};
 ghost use Rattle.gw_slots.specs.Receiving.{HasMadeWhole};
 ghost use Rattle.run_trunk.specs.Filters.{AreAsked, AreJoined, CountsAreTold, Goes, GoesFramed, both_ended};
+ghost use Rattle.run_trunk.specs.Filters.{SystemTellsLive};
 ghost use Rattle.run_trunk.specs.Trunks.{LacksStream};
 
+use crate::fileless::Fileless;
 use clap::ArgMatches;
 use e1_g711::Law;
 use g704_bits::BitAligner;
 use gw_command::{asks_align, asks_crc4, asks_live, asks_slots};
-use gw_filter::{BufferFilter, ReportingChecker, ReportingSender, ToReports};
-use gw_filtered::{FilteredInput, FilteredOutput, Phase, PhasedFilter, Switch, SwitchedFilter};
-use gw_machine::{
-    LiveCounts, Machine, ProgramFault, print_receiver_counts, print_slots, print_unreported,
+use gw_filter::{
+    BufferFilter, CountsTeller, ReceiverCounts, ReportingChecker, ReportingSender, ToReports,
 };
+use gw_filtered::{FilteredInput, FilteredOutput, Phase, PhasedFilter, Switch, SwitchedFilter};
+use gw_machine::{LiveCounts, ProgramFault, print_receiver_counts, print_slots, print_unreported};
 use gw_session::{FromRead, Totals};
 use gw_slots::{DeviceSlots, SlotDropper, SlotInput, SlotReceiver, SlotTeller};
 use gw_trunk::{DeviceFault, MultiframeDropper, TrunkInput, TrunkOutput, open_pair};
 use mio::net::UnixStream;
+use std::marker::PhantomData;
 use std::rt::Stderr;
 
 /// Checks the CRC-4 multiframes of what comes, and reports errored ones to the sender.
-pub(crate) type Checker<'r, R> = ReportingChecker<ToReports<UnixStream>, LiveCounts<'r, R>>;
+pub(crate) type Checker<'r, R, V> = ReportingChecker<
+    ToReports<UnixStream>,
+    PrintedCounts<'r, R, V>,
+>;
 
 /// Puts CRC-4 multiframes into what goes, from a place in a multiframe on.
 pub(crate) type Sender<P> = PhasedFilter<ReportingSender<FromRead<UnixStream>>, P>;
@@ -40,7 +47,7 @@ pub(crate) struct PrintedSlots<'r, R> {
     pub(crate) rt: &'r R,
 }
 
-impl<R: Machine> SlotTeller for PrintedSlots<'_, R> {
+impl<R: Fileless> SlotTeller for PrintedSlots<'_, R> {
     ghost has_told = { λ _. SlotsAreTold };
 
     fn tell(&mut self, late: Option<u8>) {
@@ -48,10 +55,37 @@ impl<R: Machine> SlotTeller for PrintedSlots<'_, R> {
     }
 }
 
+// Prints the counts of a checker up to now on standard error, as a line.
+#[tactic(auto, unfolding(crate::specs::Filters::SystemTellsLive))]
+fn print_live(rt: &impl Fileless, counts: &ReceiverCounts)
+    ensures { SystemTellsLive counts.now }
+{
+    LiveCounts { rt, live: true }.tell(counts);
+}
+
+/// Prints the counts of a checker on standard error, if that is asked for.
+#[derive(Drop)]
+pub(crate) struct PrintedCounts<'r, R, V: Switch> {
+    rt: &'r R,
+    is_live: bool,
+    of: PhantomData<V>,
+    ghost is: { is_live ≡ V.is_on },
+}
+
+impl<R: Fileless, V: Switch> CountsTeller for PrintedCounts<'_, R, V> {
+    ghost has_told = { λ _ counts. V.is_on ≡ true → SystemTellsLive counts };
+
+    fn tell(&mut self, counts: &ReceiverCounts) {
+        if self.is_live {
+            print_live(self.rt, counts);
+        }
+    }
+}
+
 /// What comes of a trunk, with all slots, aligned and then checked.
-pub(crate) type Incoming<'t, 'r, R, I, S, K, L> = FilteredInput<
+pub(crate) type Incoming<'t, 'r, R, I, S, K, L, V> = FilteredInput<
     FilteredInput<SlotInput<I, PrintedSlots<'t, R>, S>, SwitchedFilter<BitAligner, K>>,
-    SwitchedFilter<Checker<'r, R>, L>,
+    SwitchedFilter<Checker<'r, R, V>, L>,
 >;
 
 /// Where what is sent goes, with CRC-4 and then without slot 0.
@@ -63,20 +97,22 @@ pub(crate) type Framed<O, S, L, P> = FilteredOutput<
 /// Where what is sent goes, by multiframes first.
 pub(crate) type Outgoing<O, S, L, P> = MultiframeDropper<Framed<O, S, L, P>, Stderr>;
 
-/// The checker of a trunk, and its reports for the sender.
+/// Where the reports of a checker go, and what they come from for the sender.
 #[derive(Drop)]
-pub(crate) struct Crc4<'r, R> {
-    pub(crate) checker: Checker<'r, R>,
+pub(crate) struct Crc4 {
+    pub(crate) outward: ToReports<UnixStream>,
     pub(crate) reports: FromRead<UnixStream>,
 }
 
 /// The filters of a trunk that are asked for, through which nothing has passed.
 #[derive(Drop)]
-pub(crate) struct TrunkFilters<'r, R> {
+pub(crate) struct TrunkFilters {
     /// Whether the device has slots 1 to 31 alone.
     pub(crate) slots: bool,
+    /// Whether the counts of CRC-4 multiframes are printed.
+    pub(crate) live: bool,
     pub(crate) aligner: Option<BitAligner>,
-    pub(crate) crc4: Option<Crc4<'r, R>>,
+    pub(crate) crc4: Option<Crc4>,
 }
 
 // The aligner of what comes, if the matches ask for one.
@@ -90,25 +126,22 @@ fn aligner_as_asked(matches: &ArgMatches<'_>) -> Option<BitAligner>
     None
 }
 
-// A checker whose reports come by a connection that the system has joined to it.
-fn open_crc4<'r, R: Machine>(rt: &'r R, live: bool) -> Result<Crc4<'r, R>, ProgramFault>
+// Two connections that the system has joined, one for reports to go and one for them to come.
+fn open_crc4(rt: &impl Fileless) -> Result<Crc4, ProgramFault>
     ensures ok { IfOk result AreJoined }
     ensures err { IfErr result LacksStream }
 {
     match open_pair(rt) {
         Ok((near, far)) => Ok(Crc4 {
-            checker: ReportingChecker::new(ToReports::new(near), LiveCounts { rt, live }),
+            outward: ToReports::new(near),
             reports: FromRead::new(far),
         }),
         Err(error) => Err(ProgramFault::of(&error, ProgramFault::Trunk)),
     }
 }
 
-// The checker of what comes and its reports, if the matches ask for CRC-4.
-fn crc4_as_asked<'r, R: Machine>(
-    rt: &'r R,
-    matches: &ArgMatches<'_>,
-) -> Result<Option<Crc4<'r, R>>, ProgramFault>
+// Where reports go and come from, if the matches ask for CRC-4.
+fn crc4_as_asked(rt: &impl Fileless, matches: &ArgMatches<'_>) -> Result<Option<Crc4>, ProgramFault>
     ensures asked { IfOk result (λ c. HasFlag (codes "crc4") (subcommand_rows_of matches.now) (is_some c)) }
     ensures joined { IfOk result (λ c. IfSome c AreJoined) }
     ensures err { IfErr result LacksStream }
@@ -116,23 +149,24 @@ fn crc4_as_asked<'r, R: Machine>(
     if !asks_crc4(matches) {
         return Ok(None);
     }
-    match open_crc4(rt, asks_live(matches)) {
+    match open_crc4(rt) {
         Ok(crc4) => Ok(Some(crc4)),
         Err(fault) => Err(fault),
     }
 }
 
 /// The filters that the matches ask for.
-pub(crate) fn filters_as_asked<'r, R: Machine>(
-    rt: &'r R,
+pub(crate) fn filters_as_asked(
+    rt: &impl Fileless,
     matches: &ArgMatches<'_>,
-) -> Result<TrunkFilters<'r, R>, ProgramFault>
+) -> Result<TrunkFilters, ProgramFault>
     ensures ok { IfOk result (AreAsked (subcommand_rows_of matches.now)) }
     ensures err { IfErr result LacksStream }
 {
     match crc4_as_asked(rt, matches) {
         Ok(crc4) => Ok(TrunkFilters {
             slots: asks_slots(matches),
+            live: asks_live(matches),
             aligner: aligner_as_asked(matches),
             crc4,
         }),
@@ -140,16 +174,37 @@ pub(crate) fn filters_as_asked<'r, R: Machine>(
     }
 }
 
-/// A checker and its reports, if they are there.
-pub(crate) fn parted<'r, R>(
-    crc4: Option<Crc4<'r, R>>,
-) -> (Option<Checker<'r, R>>, Option<FromRead<UnixStream>>)
-    ensures checker { result.0 ≡ option_map (λ c. c.checker) crc4.entry }
-    ensures reports { result.1 ≡ option_map (λ c. c.reports) crc4.entry }
+/// Where reports go and where they come from, if they do.
+pub(crate) fn parted(
+    crc4: Option<Crc4>,
+) -> (Option<ToReports<UnixStream>>, Option<FromRead<UnixStream>>)
+    ensures outward { result.0 ≡ option_map (λ c. c.outward) crc4 }
+    ensures reports { result.1 ≡ option_map (λ c. c.reports) crc4 }
 {
     match crc4 {
-        Some(Crc4 { checker, reports }) => (Some(checker), Some(reports)),
+        Some(Crc4 { outward, reports }) => (Some(outward), Some(reports)),
         None => (None, None),
+    }
+}
+
+/// The checker of what comes, if its reports go anywhere.
+pub(crate) fn checker_from<'r, R: Fileless, V: Switch>(
+    rt: &'r R,
+    is_live: bool,
+    outward: Option<ToReports<UnixStream>>,
+) -> Option<Checker<'r, R, V>>
+    requires live { is_live ≡ V.is_on }
+    requires unsent { IfSome outward (λ o. o.log.octets ≡ []) }
+    ensures is { is_some result ≡ is_some outward }
+    ensures begins { IfSome result (λ c. HasReported c.checker c.reported c.reports.log.octets [] []) }
+{
+    match outward {
+        Some(outward) => {
+            let of = PhantomData;
+            let teller = PrintedCounts { rt, is_live, of };
+            Some(ReportingChecker::new(outward, teller))
+        }
+        None => None,
     }
 }
 
@@ -169,18 +224,19 @@ pub(crate) fn receiver_from(is_on: bool, law: Law, place: u16) -> Option<SlotRec
 pub(crate) fn filtered_input<
     't,
     'r,
-    R: Machine,
+    R: Fileless,
     I: TrunkInput,
     S: DeviceSlots,
     K: Switch,
     L: Switch,
+    V: Switch,
 >(
     teller: PrintedSlots<'t, R>,
     incoming: I,
     slots: Option<SlotReceiver>,
     aligner: Option<BitAligner>,
-    checker: Option<Checker<'r, R>>,
-) -> Incoming<'t, 'r, R, I, S, K, L>
+    checker: Option<Checker<'r, R, V>>,
+) -> Incoming<'t, 'r, R, I, S, K, L, V>
     requires came { I.came incoming ≡ [] }
     requires slots { IfSome slots (λ s. HasMadeWhole s S.law S.place [] []) }
     requires aligner { IfSome aligner (λ a. StandsAfter a []) }
@@ -191,7 +247,10 @@ pub(crate) fn filtered_input<
 {
     let whole = SlotInput::<I, PrintedSlots<'t, R>, S>::new(incoming, slots, teller);
     let aligned = FilteredInput::new(whole, SwitchedFilter::<BitAligner, K>::new(aligner));
-    FilteredInput::new(aligned, SwitchedFilter::<Checker<'r, R>, L>::new(checker))
+    FilteredInput::new(
+        aligned,
+        SwitchedFilter::<Checker<'r, R, V>, L>::new(checker),
+    )
 }
 
 // The sender of what goes, from a place in a multiframe on.
@@ -210,7 +269,7 @@ fn sender_from<P: Phase>(reports: Option<FromRead<UnixStream>>, place: u16) -> O
 
 /// Where what is sent goes, by multiframes, with CRC-4 from a place on if there are reports, and without slot
 /// 0 if the device has none.
-pub(crate) fn filtered_output<R: Machine, O: TrunkOutput, S: DeviceSlots, L: Switch, P: Phase>(
+pub(crate) fn filtered_output<R: Fileless, O: TrunkOutput, S: DeviceSlots, L: Switch, P: Phase>(
     rt: &R,
     outgoing: O,
     slots: bool,
@@ -227,7 +286,7 @@ pub(crate) fn filtered_output<R: Machine, O: TrunkOutput, S: DeviceSlots, L: Swi
     let sender = sender_from(reports, place);
     let frames = FilteredOutput::new(outgoing, SlotDropper::<S>::new(slots, place));
     let framed = FilteredOutput::new(frames, SwitchedFilter::<Sender<P>, L>::new(sender));
-    MultiframeDropper::new(framed, rt.errors())
+    MultiframeDropper::new(framed, rt.error_stream())
 }
 
 // How two writers ended, one behind the other.
@@ -278,7 +337,7 @@ pub(crate) fn finish_output<O: TrunkOutput + Drop, S: DeviceSlots, L: Switch, P:
 }
 
 // Tells the counts of a checker, and how many errored submultiframes are not reported.
-fn tell_counts<R: Machine>(rt: &R, checker: &Checker<'_, R>, totals: &Totals)
+fn tell_counts<R: Fileless, V: Switch>(rt: &R, checker: &Checker<'_, R, V>, totals: &Totals)
     ensures { (octets returned : List ℕ) → HasReported checker.now.checker checker.now.reported
         checker.now.reports.log.octets octets returned → CountsAreTold octets }
 {
@@ -287,9 +346,16 @@ fn tell_counts<R: Machine>(rt: &R, checker: &Checker<'_, R>, totals: &Totals)
     print_unreported(rt, checked.unreported);
 }
 
-// Tells the counts of a checker as a line, and as those of the end if the totals are asked for.
-fn tell_checked<R: Machine>(rt: &R, checker: &mut Checker<'_, R>, totals: Option<Totals>)
-    ensures { (octets returned : List ℕ) → HasReported checker.old.checker checker.old.reported
+// Tells the counts of a checker as a line if that is asked for, and as those of the end if the totals are.
+fn tell_checked<R: Fileless, V: Switch>(
+    rt: &R,
+    checker: &mut Checker<'_, R, V>,
+    totals: Option<Totals>,
+)
+    ensures live { (octets returned : List ℕ) → HasReported checker.old.checker checker.old.reported
+        checker.old.reports.log.octets octets returned → V.is_on ≡ true
+        → SystemTellsLive (receiver_counts_of octets) }
+    ensures counts { (octets returned : List ℕ) → HasReported checker.old.checker checker.old.reported
         checker.old.reports.log.octets octets returned → IfSome totals (λ _. CountsAreTold octets) }
 {
     checker.tell_now();
@@ -298,18 +364,21 @@ fn tell_checked<R: Machine>(rt: &R, checker: &mut Checker<'_, R>, totals: Option
     }
 }
 
-/// Tells the counts of what came, if it was checked: as a line, and as those of the end if the totals are
-/// asked for.
+/// Tells the counts of what came, if it was checked: as a line if that is asked for, and as those of the end
+/// if the totals are.
 pub(crate) fn finish_input<
     't,
     'r,
-    R: Machine,
+    R: Fileless,
     I: TrunkInput + Drop,
     S: DeviceSlots,
     K: Switch,
     L: Switch,
->(rt: &'r R, incoming: Incoming<'t, 'r, R, I, S, K, L>, totals: Option<Totals>)
-    ensures { L.is_on ≡ true → IfSome totals (λ _. ∥ CountsAreTold incoming.entry.log.octets ∥₁) }
+    V: Switch,
+>(rt: &'r R, incoming: Incoming<'t, 'r, R, I, S, K, L, V>, totals: Option<Totals>)
+    ensures live { L.is_on ≡ true → V.is_on ≡ true
+        → ∥ SystemTellsLive (receiver_counts_of incoming.entry.log.octets) ∥₁ }
+    ensures counts { L.is_on ≡ true → IfSome totals (λ _. ∥ CountsAreTold incoming.entry.log.octets ∥₁) }
 {
     if let Some(checker) = incoming.into_filter().into_filter() {
         let mut checker = checker;

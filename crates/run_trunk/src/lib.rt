@@ -2,6 +2,7 @@
 #![tactic(auto)]
 
 mod carrying;
+mod fileless;
 mod filters;
 mod performing;
 mod sealed;

@@ -5,9 +5,9 @@
 ghost use Rattle.mio.specs.declared.poll.Poll.{Poll};
 ghost use Rattle.gw_trunk.specs.declared.waiting.Waiting.{Waiting};
 
+use crate::fileless::Fileless;
 use crate::filters::{Incoming, Outgoing};
 use gw_filtered::{Phase, Switch};
-use gw_machine::Machine;
 use gw_slots::DeviceSlots;
 use gw_trunk::{FromDevice, NoClients, ToDevice, TrunkInput, TrunkOutput, WithClients};
 use mio::net::UnixStream;
@@ -42,8 +42,14 @@ impl TrunkSource for WithClients<Stdin> {
     ghost poll = { λ d. d.clients.poll };
 }
 
-impl<R: Machine, I: TrunkInput + TrunkSource, S: DeviceSlots, K: Switch, L: Switch> FilteredSource
-    for Incoming<'_, '_, R, I, S, K, L> {}
+impl<
+    R: Fileless,
+    I: TrunkInput + TrunkSource,
+    S: DeviceSlots,
+    K: Switch,
+    L: Switch,
+    V: Switch,
+> FilteredSource for Incoming<'_, '_, R, I, S, K, L, V> {}
 
 impl TrunkDevice for ToDevice<Stdout> {
     ghost waiting = { λ d. d.waiting };

@@ -1,4 +1,4 @@
-use Rattle.std.proofs.Common.{◌≡◌, ◌∙◌, ◌++◌, Some, refl, sym, ap}
+use Rattle.std.proofs.Common.{◌∙◌, ◌++◌, Some, refl, sym, ap}
 use Rattle.std.specs.Prelude.{codes}
 use Rattle.clap.specs.Words.{subcommand_rows_of}
 use Rattle.gw_command.specs.Command.{HasFlag, HasText}
@@ -52,7 +52,8 @@ returns g c =
       output = c.finish_output-discarded.result.1;
       goes = rw c.into_outgoing.ensures at (c.finish_output-discarded.ensures command has_slots crc4);
       told_is = c.told_behind-told.ensures;
-      tells = rw c.into_incoming.ensures at c.tell_end.ensures;
+      live = rw c.into_incoming.ensures at c.tell_end.ensures.live;
+      tells = rw c.into_incoming.ensures at c.tell_end.ensures.end;
     })
     c.told_behind-told.ensures (λ e. rw e refl) c.new.ensures.reads (ap Some c.new.ensures.log)
     c.new.ensures.failed c.new-2.ensures.failed
