@@ -115,8 +115,7 @@ class World:
         for player in self.players:
             player.accept()
 
-    def run(self, seconds: float, until: Callable[[], bool] | None = None,
-            each: Callable[[], None] | None = None) -> bool:
+    def run(self, seconds: float, until: Callable[[], bool] | None = None) -> bool:
         """Goes on for so long, or until something holds; returns whether it does."""
         self.due = max(self.due, time.monotonic())
         end = self.due + seconds
@@ -128,8 +127,6 @@ class World:
             self._listen()
             for player in self.players:
                 player.act()
-            if each:
-                each()
             if until and until():
                 return True
         return until is None

@@ -1,23 +1,22 @@
-"""The instructions an octet of `e1gw satop`, by callgrind: satop_cost.py PROGRAM [SHORTER LONGER].
+"""The instructions an octet of `e1gw satop`, by callgrind, for bench/streams.
 
 A far end sends packets of 256 octets, in which frames begin three bits late. Each octet that the program plays is given
 back to it, and the next packet is sent when the one of these octets has come. (Up to 1000 packets the program plays as
 fast as they come.) The figure is the slope between two numbers of packets, for an octet both ways: received, put in
-order, aligned and played; read and sent. The status is 2 if nothing could be measured."""
+order, aligned and played; read and sent."""
 from __future__ import annotations
 
 import os
-import re
 import select
 import socket
 import struct
 import subprocess
-import sys
 import tempfile
 import time
 from typing import Iterator
 
 import paths    # noqa: F401 (makes e1gw known)
+from costs import callgrind, collected
 from e1gw.exchange import Exchange
 from e1gw.testing.ports import free_ports
 
@@ -102,15 +101,15 @@ class Ends:
         return self.played
 
 
-def run(program: str, packets: int, out: str = '/dev/null') -> tuple[int, int]:
+def run(program: str, packets: int) -> tuple[int, int]:
     """The instructions of a run over this many packets, and the octets that came and went."""
     near, there = free_ports(2)
     far = FarEnd(('127.0.0.1', there), ('127.0.0.1', near))
     ours, its = socket.socketpair()
     with tempfile.TemporaryDirectory() as folder, ours, far.socket:
         log = os.path.join(folder, 'log')
-        words = ['valgrind', '--tool=callgrind', f'--callgrind-out-file={out}', f'--log-file={log}', program, 'satop',
-                 f'127.0.0.1:{near}', f'127.0.0.1:{there}', '--size', str(SIZE), '--jitter', str(JITTER)]
+        words = callgrind(log, program, 'satop', f'127.0.0.1:{near}', f'127.0.0.1:{there}', '--size', str(SIZE),
+                          '--jitter', str(JITTER))
         process = subprocess.Popen(words, stdin=its.fileno(), stdout=its.fileno(), stderr=subprocess.DEVNULL)
         its.close()
         try:
@@ -120,25 +119,10 @@ def run(program: str, packets: int, out: str = '/dev/null') -> tuple[int, int]:
         finally:
             process.kill()
             process.wait()
-        with open(log, encoding='utf-8') as file:
-            found = re.search(r'Collected : (\d+)', file.read())
-    if not found:
-        raise SystemExit('callgrind has counted nothing')
-    return int(found[1]), octets
+        return collected(log), octets
 
 
-def main() -> int:
-    program = sys.argv[1]
-    shorter, longer = map(int, sys.argv[2:4]) if len(sys.argv) > 2 else (200, 1000)
-    try:
-        before, few = run(program, shorter)
-        after, many = run(program, longer)
-    except (SystemExit, OSError, subprocess.TimeoutExpired) as why:
-        print(f'satop_cost: {why}', file=sys.stderr)
-        return 2
-    print(round((after - before) / (many - few)))
-    return 0
-
-
-if __name__ == '__main__':
-    sys.exit(main())
+def cost(program: str, shorter: int = 200, longer: int = 1000) -> float:
+    """The instructions for an octet both ways, between two numbers of packets."""
+    (before, few), (after, many) = (run(program, packets) for packets in (shorter, longer))
+    return (after - before) / (many - few)
