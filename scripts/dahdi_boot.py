@@ -41,8 +41,7 @@ StandardOutput=file:/dev/ttyS0
 ExecStopPost=/bin/poweroff -f
 '''
 KERNEL = re.compile(r'\s*$|\[ *[0-9.]+\]')      # what the kernel says
-SCENES = ('dahdi_far.py', 'dahdi_inside.py', 'dahdi_scenes.py', 'dahdi_start.py', 'dahdi_talk.py', 'dahdi_trace.py',
-          'paths.py')
+SCENES = ('dahdi_far.py', 'dahdi_inside.py', 'dahdi_scenes.py', 'dahdi_start.py', 'dahdi_talk.py', 'paths.py')
 # What the package has, and where.
 PACKAGE = {
     'dist/system/e1gw-trunk@.service': f'{UNITS}/e1gw-trunk@.service',

@@ -15,13 +15,13 @@ from pathlib import Path
 from typing import Any, Callable, Iterable, Iterator
 
 from paths import TOP
-from e1gw.dahdi import NUMBER, SPAN, SpanFacts, request_of, span_facts
+from e1gw.dahdi import NUMBER, request_of
 from e1gw.testing.service import Service
 
 PROGRAM = f'{TOP}/out/e1gw'
 DYNAMIC = struct.Struct('=20s40siii')
 CREATE, DESTROY = request_of(3, 80, DYNAMIC.size), request_of(1, 81, DYNAMIC.size)
-SPAN_STATUS, SHUTDOWN = request_of(3, 10, SPAN.size), request_of(1, 100, NUMBER.size)
+SHUTDOWN = request_of(1, 100, NUMBER.size)
 SLOTS = 31
 DEVICES = '/dev/dahdi/1', '/dev/dahdi/32'           # the bundles of the two spans
 CLEAR, LAW = 'clear=1-31\nclear=32-62\n', 'alaw=1-62\n'
@@ -176,10 +176,6 @@ def unconfigure() -> None:
     """No channel is configured."""
     for number in 1, 2:
         control(SHUTDOWN, NUMBER.pack(number))
-
-
-def span_of(number: int) -> SpanFacts:
-    return span_facts(control(SPAN_STATUS, NUMBER.pack(number) + bytes(SPAN.size - NUMBER.size)))
 
 
 def tell(span: int, alarms: int, maintenance: bool = False, count: int = 0) -> None:

@@ -14,7 +14,6 @@ from pathlib import Path
 from typing import Callable, Iterator
 
 import dahdi_inside as inside
-import dahdi_trace as trace
 from paths import TOP
 from dahdi_inside import BACK, DEVICES, Site, SceneFailed, asks, until
 from dahdi_far import FarEnd, openr2, simulated
@@ -85,20 +84,8 @@ class Pair:
 
     def talk(self, seconds: float) -> Talk:
         talk = Talk(PORTS, THIRTY, seconds)
-        trace.begin()
-        try:
-            talk.run()
-        finally:
-            trace.end()
+        talk.run()
         return talk
-
-    def names(self) -> dict[int, str]:
-        """Those of all processes that have a part in the calls."""
-        its = {os.getpid(): 'talk'}
-        for site in self.sites:
-            its |= {n: f'{site.name} program' for n in site.programs()}
-            its[site.service.driver.pid] = f'{site.name} service'
-        return its
 
     def end(self) -> None:
         for site in self.sites:
@@ -134,7 +121,6 @@ def thirty_calls() -> str:
     compared = talk.compared()
     told = ', '.join(figures(compared))
     if before != after or any(one.found != 1 or one.wrong or one.missing for one in compared):
-        print(*(f'  {words}' for words in trace.stood(talk.began, pair.names())), sep='\n')
         raise SceneFailed(f'slot 16 and multiframe alignment lost: {before} before, {after} behind; sent late by '
                           f'{talk.late:.3f} s at most; {told}')
     return told

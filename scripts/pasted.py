@@ -26,7 +26,8 @@ HOSTS = ('192.0.2.10', '198.51.100.20')         # of examples: both are this mac
 # What pages have from elsewhere: lines that come before a page's first.
 EXCHANGE = 'e1gw-config --write trunk1; e1gw-exchange card > seen & sleep 1\n'
 TRUNK = 'mkdir -p /var/lib/e1gw/{1}; e1gw-trunk --config trunk1.toml --unix card --control {0} --keep 10m ' \
-        '--session /var/lib/e1gw/{1} --calls /var/lib/e1gw/{1}/calls.csv < /dev/null > trunk.log 2>&1 & sleep 2\n'
+        '--session /var/lib/e1gw/{1} --calls /var/lib/e1gw/{1}/calls.csv --json /var/lib/e1gw/{1}/events < /dev/null ' \
+        '> trunk.log 2>&1 & sleep 2\n'
 SESSION = 'e1gw-config --first-local 5002 > trunk1.toml; examples/first_call/make > trunk1.rec\n' \
           'tools/records --to-raw trunk1.rec > trunk.raw; e1gw replay --config trunk1.toml < trunk1.rec > sent.rec\n'
 # A /dev of the page's own, and a card in it.

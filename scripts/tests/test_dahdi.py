@@ -1,4 +1,4 @@
-"""The parts of scripts/dahdi that need no machine: what became of octets, multiframes without slot 0, and traces."""
+"""The parts of scripts/dahdi that need no machine: what became of octets, and multiframes without slot 0."""
 from __future__ import annotations
 
 import random
@@ -8,7 +8,6 @@ import unittest
 import paths    # noqa: F401 (makes e1gw known)
 from dahdi_far import Multiframes, with_slot_0, without_slot_0
 from dahdi_talk import HEAD, OCTETS, Comparison, Way, compare
-from dahdi_trace import trace_of
 from e1gw.exchange import Exchange, is_multiframe
 
 SILENCE = b'\xd5' * 70
@@ -61,22 +60,3 @@ class MultiframeTests(unittest.TestCase):
             self.assertTrue(all(is_multiframe(each, 0) for each in found))
             self.assertEqual(without_slot_0(found[0]), without_slot_0(sent[1]))
         self.assertEqual(with_slot_0(without_slot_0(sent[0])), sent[0])
-
-
-SWITCH = ' {}-{} [000] d..2. {}: sched_switch: prev_comm={} prev_pid={} prev_prio=120 prev_state=S ==> ' \
-    'next_comm={} next_pid={} next_prio=120\n'
-READ = '    e1gw-7 [000] .....  {}: card_read: (dahdi_chan_read+0x0/0x3a0 [dahdi])\n'
-
-
-class TraceTests(unittest.TestCase):
-    def test_who_had_the_processor(self) -> None:
-        """Between two reads of a process: it itself, one that is known by another name, and a part of a third."""
-        lines = ['# tracer: nop\n', SWITCH.format('<idle>', 0, '1.000000', 'swapper/0', 0, 'e1gw', 7),
-                 READ.format('1.001000'), SWITCH.format('e1gw', 7, '1.011000', 'e1gw', 7, 'python3', 9),
-                 SWITCH.format('python3', 9, '1.018000', 'python3', 9, 'kworker/0:1-ev ents', 12),
-                 SWITCH.format('kworker/0:1-ev ents', 12, '1.022000', 'kworker/0:1-ev ents', 12, 'e1gw', 7),
-                 READ.format('1.021000'), READ.format('1.023000')]
-        trace = trace_of(lines, {9: 'talk'})
-        self.assertEqual(trace.gaps(7), [(1.001, 1.021)])
-        self.assertEqual(trace.shares(1.001, 1.021), 'e1gw 10.0, talk 7.0, kworker/0:1-ev ents 3.0')
-        self.assertEqual((trace.gaps(9), trace.shares(2, 3)), ([], ''))

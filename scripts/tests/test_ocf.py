@@ -78,3 +78,12 @@ class AgentTests(unittest.TestCase):
             with self.subTest(states):
                 self.assertEqual([self.does(each, *states) for each in ('monitor', 'demote')], [NOT_RUNNING, 0])
         self.assertEqual(self.does('monitor', 'active'), ACTIVE)
+
+
+class ExampleTests(unittest.TestCase):
+    def test_a_machine_is_banned_for_a_time(self) -> None:
+        """Where failures ban a machine they are forgotten again: both were banned for ever, and nobody carried the
+        trunk."""
+        for name in 'west.crm', 'rack.sh':
+            with open(os.path.join(TOP, 'dist', 'ocf', name), encoding='utf-8') as file:
+                self.assertRegex(file.read(), r'rsc_defaults [^\n]*\bmigration-threshold=3 failure-timeout=\d+min\b')
