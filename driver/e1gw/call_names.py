@@ -42,10 +42,8 @@ class CallNames:
             with open(self._path, encoding='utf-8') as file:
                 self._noted = file.read()
             found = json.loads(self._noted)
-            # (one of an earlier version has no more than a base)
-            base, last = ({int(n): int(count) for n, count in its.items()} for its in (
-                found['base'], found.get('last', {})))
-            in_call = [int(n) for n in found.get('in_call', ())]
+            base, last = ({int(n): int(count) for n, count in found[key].items()} for key in ('base', 'last'))
+            in_call = [int(n) for n in found['in_call']]
             self._noted_life, self._session, self._base = str(found['life']), str(found['session']), base
             self._last, self._in_call = last, in_call
         except (OSError, ValueError, KeyError, TypeError, AttributeError):
@@ -61,8 +59,7 @@ class CallNames:
     def begin(self, session: str, told: Seizures, lines: Mapping[int, Line], are_known: bool = False) -> None:
         """A program has told how all lines stand, and how often each was seized in its session. `are_known`: all of
         these seizures were counted before, by its log."""
-        goes_on = self._last or session == self._session
-        self.life = self.life or (self._noted_life if goes_on else '') or secrets.token_hex(4)
+        self.life = self.life or self._noted_life or secrets.token_hex(4)
         if session != self._session and are_known:
             self._session, self._base = session, {n: self._last.get(n, 0) - count for n, count in told.items()}
         elif session != self._session:

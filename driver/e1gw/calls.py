@@ -7,6 +7,7 @@ import os
 import time
 from contextlib import suppress
 from dataclasses import dataclass, replace
+from itertools import takewhile
 from typing import Callable, Iterable, Iterator, Mapping, NamedTuple
 
 from .counts import DatagramCounts
@@ -39,11 +40,14 @@ class CallLine(NamedTuple):
 FIELDS = CallLine._fields
 
 
+def files_of(path: str) -> list[str]:
+    """A file that lines are appended to, and those that it has followed, the newest first."""
+    return [path, *takewhile(os.path.exists, (f'{path}.{n}' for n in range(1, KEPT + 1)))]
+
+
 def read_calls(path: str, word: str = '') -> Iterator[CallLine]:
     """The lines of calls in a file and those that it has followed, those with a word in them, the last one first."""
-    for each in (path, *(f'{path}.{n}' for n in range(1, KEPT + 1))):
-        if each != path and not os.path.exists(each):
-            return
+    for each in files_of(path):
         with open(each, encoding='utf-8', errors='replace', newline='') as file:
             lines = [line for line in file if word in line and line.endswith('\n')]
         rows = [row for row in csv.reader(lines) if len(row) == len(FIELDS) and row[1].isdecimal()]

@@ -56,6 +56,12 @@ class Clock:
         """Whether octets flow at their rate."""
         return len(self._lows) == WINDOW and max(self._lows) - min(self._lows) < STEADY
 
+    def missed(self) -> None:
+        """Octets were not seen: what the others are behind by is measured anew."""
+        self._low = self._base = None
+        self._lows.clear()
+        self._rates.clear()
+
     def look(self, now: float) -> list[ClockFinding]:
         """To be called each TICK: what has become of the flow since."""
         if now - self._looked >= self.gap:

@@ -43,7 +43,7 @@ peer_host = "{peer}"
 peer_port = {peer_port}
 '''
 OPTIONS = '''# Options of e1gw-trunk(1) for the trunk {name}.
-TRUNK="{device} --http 127.0.0.1:{http} --session /var/lib/e1gw/{name} --keep 1h --calls /var/lib/e1gw/{name}/calls.csv"
+TRUNK="{device} --http 127.0.0.1:{http} --session {folder} --keep 1h --calls {folder}/calls.csv --json {folder}/events"
 '''
 
 
@@ -94,7 +94,8 @@ def text_of(plan: Plan) -> str:
 
 def options_text(name: str, trunk: int, device: str) -> str:
     """The options of the unit of a trunk."""
-    return OPTIONS.format(name=name, device=device.replace('NAME', name), http=METRICS + trunk)
+    return OPTIONS.format(name=name, device=device.replace('NAME', name), http=METRICS + trunk,
+                          folder=f'/var/lib/e1gw/{name}')
 
 
 def plan_of(asked: argparse.Namespace) -> Plan:

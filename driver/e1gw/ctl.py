@@ -30,13 +30,11 @@ from .ctl_calls import OutageForm, Wanted, calls_listed, outages_listed
 from .ctl_drain import drain
 from .faults import checked, number, words_of_fault
 from .session import CIRCUITS
-from .session_clock import moment
+from .session_clock import second_of
 
 ASKING = ('status', 'events', 'help', 'metrics', 'role')
 SEVERAL = ('seize', 'clear', 'answer', 'clear-back', 'block', 'unblock', 'codec')
 TAKEN = {'block': 'drain', 'unblock': 'undrain'}        # what an operator blocks is kept (e1gw-trunk(1))
-GIVEN = {taken: given for given, taken in TAKEN.items()}
-
 
 # The commands that have these options.
 OPTIONS = {'last': ('calls',), 'circuit': ('calls',), 'since': ('calls', 'outages'), 'until': ('outages',),
@@ -78,13 +76,13 @@ def each_circuit(command: str) -> list[str]:
     return [' '.join([words[0], circuit, *words[2:]]) for circuit in circuits_of(words[1])]
 
 
-def ask(stream: BinaryIO, line: socket.socket, command: str, front: str = '') -> bool:
-    """Gives a command and prints what answers it; returns whether it was done."""
+def ask(stream: BinaryIO, line: socket.socket, command: str, typed: str, front: str = '') -> bool:
+    """Gives a command and prints what answers it, by the word that was typed; returns whether it was done."""
     with suppress(BrokenPipeError):     # (there is no answer then)
         line.sendall(command.encode() + b'\n')
     lines = answer_of(stream)
     word = command.split()[0]
-    lines = [GIVEN.get(word, word) + each.removeprefix(word) if each.startswith(f'{word} ') else each for each in lines]
+    lines = [typed + each.removeprefix(word) if each.startswith(f'{word} ') else each for each in lines]
     print('\n'.join(f'{front}{each}' for each in lines), flush=True)
     if word in ASKING and not lines[0].endswith(('help', 'to 30')):
         return True
@@ -108,18 +106,19 @@ def run(path: str, words: list[str]) -> int:
             follow(stream)
             return 0
         commands = [' '.join(words)] if words else (each.strip() for each in sys.stdin)
-        done = [ask(stream, line, each) for command in commands if command for each in each_circuit(command)]
+        done = [ask(stream, line, each, command.split()[0])
+                for command in commands if command for each in each_circuit(command)]
     return 0 if all(done) else 1
 
 
 def run_all(words: list[str], patience: float) -> int:
     """Gives each trunk of this machine a command; a line of an answer begins with the trunk's name."""
-    status = 0
+    status, command = 0, ' '.join(words)
     for name, path in trunks_here():
         try:
             with connected(path, patience) as line:
                 stream: BinaryIO = line.makefile('rb')
-                done = [ask(stream, line, each, f'{name}: ') for each in each_circuit(' '.join(words))]
+                done = [ask(stream, line, each, command.split()[0], f'{name}: ') for each in each_circuit(command)]
                 status |= not all(done)
         except (OSError, EOFError) as fault:
             print(f'{name}: it does not answer: {words_of_fault(fault, path)}', flush=True)
@@ -195,7 +194,7 @@ def main(patience: float = PATIENCE) -> None:
     parser.add_argument('--now', action='store_true', default=None, help='block, drain: calls are cleared')
     parser.add_argument('--within', metavar='MINUTES', type=number(0, 10_000, float), help='drain: waits no longer '
                         'for the end of calls')
-    time = checked(moment, 'a time such as 2026-11-23T07:30:00Z')
+    time = checked(second_of, 'a time such as 2026-11-23T07:30:00Z')
     parser.add_argument('--since', metavar='TIME', type=time, help='calls, outages: those that ended after TIME (UTC)')
     parser.add_argument('--until', metavar='TIME', type=time, help='outages: those that began before TIME')
     parser.add_argument('--csv', action='store_true', default=None, help='outages: as CSV')

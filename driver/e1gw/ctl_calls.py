@@ -8,11 +8,11 @@ from itertools import islice, takewhile
 from math import inf
 from typing import Any, Iterable, Iterator, Mapping
 
-from .calls import CallLine, csv_line, read_calls
+from .calls import CallLine, csv_line, files_of, read_calls
 from .ctl_all import each_status
 from .outages import FIELDS, outages_in
 from .service.page import outages_page
-from .session_clock import moment
+from .session_clock import second_of
 
 LAST = 20                   # calls that have ended, if nothing else is asked for
 WRITTEN = 3600.0            # seconds behind its end within which each has its line
@@ -42,8 +42,8 @@ class Wanted:
         """Those of calls that have ended, the last one first."""
         last, since = self.last, self.since or 0.0
         if since:
-            ended = (each for each in takewhile(lambda each: moment(each.ended) >= since - WRITTEN, ended)
-                     if moment(each.ended) >= since)
+            ended = (each for each in takewhile(lambda each: second_of(each.ended) >= since - WRITTEN, ended)
+                     if second_of(each.ended) >= since)
         return [*islice(self.circuits(ended), last or (None if since else LAST))]
 
     def circuits(self, calls: Iterable[CallLine]) -> Iterator[CallLine]:
@@ -72,6 +72,13 @@ def calls_listed(trunks: Iterable[tuple[str, str]], wanted: Wanted, patience: fl
     return each_status(trunks, patience, lists)
 
 
+def lines_of(path: str) -> Iterator[str]:
+    """The lines of a file and of those that it has followed."""
+    for each in reversed(files_of(path)):
+        with open(each, encoding='utf-8', errors='replace') as lines:
+            yield from lines
+
+
 def outages_listed(trunks: Iterable[tuple[str, str]], since: float | None, until: float | None, form: OutageForm,
                    patience: float) -> int:
     """Prints the outages of trunks between two times; returns the status."""
@@ -85,9 +92,8 @@ def outages_listed(trunks: Iterable[tuple[str, str]], since: float | None, until
     def lists(name: str, told: Mapping[str, Any]) -> None:
         if not told['events_file']:
             raise ValueError('it writes no --json FILE: its outages are not known')
-        with open(told['events_file'], encoding='utf-8', errors='replace') as lines:
-            for each in outages_in(lines, since or 0.0, inf if until is None else until):
-                puts(each.fields(told.get('name', name)))
+        for each in outages_in(lines_of(told['events_file']), since or 0.0, inf if until is None else until):
+            puts(each.fields(told.get('name', name)))
     puts(FIELDS)
     status = each_status(trunks, patience, lists)
     if rows:

@@ -17,16 +17,13 @@ DRAIN_WORDS = {'drained': 'blocked by the operator', 'drains': 'blocked once the
 TRANSPORT = 'e1gw_transport'        # of what a transport tells, its own names and kinds
 # A number of each circuit's row: its name, what it is, its key, and how many of its units are one.
 CIRCUIT_NUMBERS = (
-    ('e1gw_circuit_state_seconds', 'Time in state, by the trunk.', 'for', 1),
     ('e1gw_circuit_seizures_total', 'Calls begun.', 'seizures', 1),
     ('e1gw_circuit_answers_total', 'Calls answered.', 'answers', 1),
     ('e1gw_circuit_unacknowledged_total', 'Seizures that were not acknowledged.', 'unacknowledged', 1),
     ('e1gw_circuit_faults_total', 'Invalid line signals.', 'faults', 1),
     ('e1gw_circuit_open_seconds_total', 'Time with the speech path connected.', 'open', 1),
     ('e1gw_rtp_lost', 'Packets that did not come, by sequence number.', 'lost', 1),
-    ('e1gw_rtp_jitter_seconds', 'Interarrival jitter (RFC 3550, 6.4.1).', 'jitter_ms', 1000),
-    ('e1gw_jitter_buffer_seconds', 'Depth of the jitter buffer, prefill of the configuration.', 'jitter_buffer_ms',
-     1000))
+    ('e1gw_rtp_jitter_seconds', 'Interarrival jitter (RFC 3550, 6.4.1).', 'jitter_ms', 1000))
 
 
 # ---- the text of Prometheus, version 0.0.4 ----
@@ -86,8 +83,7 @@ def _of_flow(status: Status, clock: Status) -> list[Family]:
     """What is known of the flow of octets, and of the transport of a trunk that is carried."""
     found: list[Family] = []
     if 'gaps' in clock:
-        found += [('e1gw_trunk_gaps_total', 'Slips, at which octets of the trunk were lost.', clock['gaps']),
-                  ('e1gw_trunk_gap_seconds_total', 'Seconds of the trunk that slips have lost.', clock['gap_seconds'])]
+        found.append(('e1gw_trunk_gaps_total', 'Slips, at which octets of the trunk were lost.', clock['gaps']))
     if clock.get('ppm') is not None:
         found.append(('e1gw_trunk_rate_ppm', 'The rate relative to this machine\'s clock, over a minute.',
                       clock['ppm']))
@@ -109,7 +105,6 @@ def crc4_families(status: Status) -> list[Family]:
         ('e1gw_crc4_errored_total', 'Errored submultiframes that this end received, and those that the other end '
          'reports by E bits.',
          [({'end': 'this'}, crc4['errored']), ({'end': 'other'}, crc4['far_end_errored'])]),
-        ('e1gw_crc4_alignments_total', 'How often CRC multiframe alignment was found.', crc4['multiframes_found']),
         ('e1gw_crc4_alignment_losses_total', 'How often CRC multiframe alignment was lost.', crc4['multiframes_lost']),
         ('e1gw_crc4_given_up_total', 'Losses of alignment for 915 of 1000 errored submultiframes (G.706, '
          '4.3.2).', crc4['given_up'])]
@@ -119,7 +114,6 @@ def _of_circuits(status: Status) -> list[Family]:
     rows = [({'circuit': row['circuit']}, row) for row in status['circuits']]
     way = {'sent': 'sent', 'admitted': 'received'}
     counts = [(labels, what, n) for labels, row in rows for what, n in row['datagrams'].items()]
-    sockets = [(labels, row['socket']) for labels, row in rows if row['socket']]
     return [
         ('e1gw_circuit_state', 'The state of each line: 1 for the one that it is in.',
          [({**labels, 'role': row['role'], 'state': state}, state == row['state']) for labels, row in rows
@@ -134,9 +128,7 @@ def _of_circuits(status: Status) -> list[Family]:
          [({**labels, 'cause': what}, n) for labels, what, n in counts if what not in way]),
         ('e1gw_counts_stale', '1 where the counts of packets are not those of now.', status['stale']),
         ('e1gw_socket_dropped_total', 'Packets for which the kernel had no room.',
-         [(labels, its['dropped']) for labels, its in sockets]),
-        ('e1gw_socket_waiting_octets', 'Octets that wait in the socket.',
-         [(labels, its['waiting']) for labels, its in sockets])]
+         [(labels, row['socket']['dropped']) for labels, row in rows if row['socket']])]
 
 
 def _of_service(status: Status) -> list[Family]:

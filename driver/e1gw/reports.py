@@ -1,4 +1,4 @@
-"""What a follower tells (`e1gw replay --tell`, e1gw(1)): the whole state of a trunk, then each change, line by line."""
+"""What a program tells (--tell, e1gw-tell(5)): the whole state of a trunk, then each change, line by line."""
 from __future__ import annotations
 
 import time
@@ -19,7 +19,7 @@ class BadTelling(Exception):
 
 
 class TrunkState:
-    """The lines and the alarms of a trunk, as a follower tells them. Its clock is this machine's. `tell` is called with
+    """The lines and the alarms of a trunk, as a program tells them. Its clock is this machine's. `tell` is called with
     each change, `began` with each whole state."""
 
     def __init__(self, config: Mapping[str, Any], tell: Callable[[Placed], None], counts: DatagramCounts,
@@ -63,7 +63,7 @@ class TrunkState:
             'circuits': [line.status(now) | rest for line in self.lines.values()]}
 
     def begin(self, place: int | None = None) -> None:
-        """A follower is there that will tell the whole state; its session has begun at this place, by default that of
+        """A program is there that will tell the whole state; its session has begun at this place, by default that of
         now."""
         if place is None or place != self._before:
             self.counts.begin()

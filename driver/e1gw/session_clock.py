@@ -18,7 +18,7 @@ NEAR = 0.25                 # seconds by which the file and the slip may tell of
 SOON = 2 * OCTETS_A_SECOND  # octets behind the begin of a file within which that is noted
 
 
-def moment(text: str) -> float:
+def second_of(text: str) -> float:
     """Seconds since 1970, or a date and time, in UTC if it names no zone. ValueError for others."""
     if text.replace('.', '', 1).isdecimal():
         return float(text)

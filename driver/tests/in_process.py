@@ -57,10 +57,13 @@ def listens(path):
 if what == '--version':
     print('e1gw 7.7')
     sys.exit()
-plan = take(what)
+plan = take('save' if '--save' in words else what)
 with open(os.path.join(here, 'starts'), 'a') as file:
     print(json.dumps([what, os.getpid(), *words]), file=file)
 if what != 'trunk':
+    if '--save' in words:
+        with open(at('--save'), 'w') as file:
+            file.write('saved')
     print('\n'.join(plan.get('rows', ())))
     ends(plan)
 lock = open(os.path.join(at('--log'), 'lock'), 'a')
@@ -153,13 +156,16 @@ class ServiceCase(support.FolderCase, unittest.IsolatedAsyncioTestCase):
     def plan(self, *each: dict[str, Any], what: str = 'trunk') -> None:
         self.write(what, ''.join(f'{json.dumps(one)}\n' for one in each))
 
+    def words(self, *options: str) -> list[str]:
+        """A command line; these options may name another trunk, configuration or program."""
+        trunk = () if {'--in', '--unix', '--tcp'} & {*options} else ('--unix', self.path('card'))
+        return ['--config', self.config, '--program', self.path('e1gw'), '--folder', self.path('run'), *trunk, *options]
+
     def begins(self, *options: str) -> asyncio.Task[int]:
         """Another service of this trunk."""
         self.control = self.path(f'ctl{len(os.listdir(self.folder))}')      # (at one of before somebody listens still)
         open(self.control + '.', 'w', encoding='ascii').close()
-        words = ['--config', self.config, '--unix', self.path('card'), '--program', self.path('e1gw'), '--folder',
-                 self.path('run'), '--control', self.control, *options]
-        asked = service.parser().parse_args(words)
+        asked = service.parser().parse_args(self.words('--control', self.control, *options))
         self.task = asyncio.create_task(service.serve(asked, wants_of(asked)))
         return self.task
 
@@ -178,10 +184,9 @@ class ServiceCase(support.FolderCase, unittest.IsolatedAsyncioTestCase):
 
     async def dies(self) -> None:
         """The service is killed."""
-        tasks = asyncio.all_tasks() - {asyncio.current_task()}
-        for task in tasks:
+        for task in (tasks := asyncio.all_tasks() - {asyncio.current_task()}):
             task.cancel()
-        await asyncio.wait(tasks)
+        await asyncio.gather(*tasks, return_exceptions=True)
 
     def starts(self, what: str = 'trunk') -> list[list[Any]]:
         """What was started of this subcommand: its words, behind the subcommand and the number of the process."""

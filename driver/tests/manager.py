@@ -55,7 +55,7 @@ class Manager:
         else:
             self.files[name] = file
 
-    def _take_all(self) -> None:
+    def take_all(self) -> None:
         """Returns once all is taken that was told before, as systemd does before it starts a service again."""
         marks = self._marks
         with socket.socket(socket.AF_UNIX, socket.SOCK_DGRAM) as line:
@@ -64,7 +64,7 @@ class Manager:
 
     def starts(self, words: list[str], told: int) -> subprocess.Popen[bytes]:
         """Starts the service with what is kept, from descriptor 3 on."""
-        self._take_all()
+        self.take_all()
         script = ('import os, sys\n'
                   'os.environ["LISTEN_PID"] = str(os.getpid())\n'
                   'os.execv(sys.argv[1], sys.argv[1:])\n')
@@ -84,7 +84,7 @@ class Manager:
 
     def forget(self) -> None:
         """Nothing is kept of what was told before."""
-        self._take_all()
+        self.take_all()
         while self.files:
             os.close(self.files.popitem()[1])
 

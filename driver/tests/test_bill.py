@@ -1,15 +1,14 @@
-"""The lines of calls against the octets of the trunk, whatever dies in whatever order: a trunk in service in one
-process, by its own time. What its programs tell is cut from what one replay tells of all records; the service, its
-notes and the log are those of e1gw-trunk, which is killed between any two of its writes."""
+"""The lines of calls, whatever dies in whatever order: a trunk in service in one process, by its own time. Its calls,
+and what its programs tell of them, are by chance; the service, its notes and the log are those of e1gw-trunk, which is
+killed between any two of its writes."""
 from __future__ import annotations
 
-import asyncio
 import contextlib
 import csv
 import os
 import pickle
 import random
-import tempfile
+import tomllib
 from dataclasses import dataclass, field
 from datetime import datetime
 from types import SimpleNamespace
@@ -18,29 +17,37 @@ from unittest import mock
 
 from . import support
 from .properties import PropertyCase
-from .test_program_killed import CIRCUITS
 from e1gw import call_names
 from e1gw.calls import FIELDS
 from e1gw.counts import DatagramCounts
-from e1gw.exchange import ACKNOWLEDGED, ANSWERED, IDLE, SEIZED
 from e1gw.events import Event, LineChanged
-from e1gw.lines import Role, read_config
+from e1gw.lines import IN_CALL, Role, State
 from e1gw.service import log_folder, reader as readers, status as statuses
 from e1gw.service.log_folder import LogPair, LogWriter
-from e1gw.service.missed import told_again
 from e1gw.service.reader import ReadingNote
 from e1gw.service.status import OperatedTrunk, TrunkStatus
-from e1gw.service.version import ProgramVersion
-from e1gw.session import MULTIFRAME, Command, Kind, Packet, command_record, datagram_record, records_in, trunk_record
+from e1gw.session import CIRCUITS, MULTIFRAME, Command, trunk_record
 from e1gw.writers import put_file
 
 BEGIN, STEP = 1_000_000_000.0, 0.002        # the time of day at octet 0; seconds of a multiframe
 LONG, LOOK = 600, 20        # multiframes of the session, and from one look of the service to the next
-ALIGNED, RECOGNISED = 20, 25        # multiframes in which alignment is found, and a signal recognised
+ALIGNED, LATE = 20, 3       # multiframes in which alignment is found; by which a line may be early or late
 CALLED = range(11, 21)      # circuits with calls
-FAR = 1 << 60
+FAR, RECORD = 1 << 60, trunk_record(bytes(MULTIFRAME))
 QUIET = 60                  # multiframes at the end without a change
 EXAMPLES = 120              # sequences: with another --seed of scripts/drivers others
+ACKED, ANSWERED, BACK, IDLE = (State.ACKED, None), (State.ANSWERED, None), (State.CLEAREDBACK, None), (State.IDLE, None)
+SEIZED, CLEAR = (State.SEIZED, Command.SEIZE), (State.RELEASING, Command.CLEAR)
+# How calls go (Q.421): the states of the line, and the commands that led there.
+Step = tuple[State, Command | None]
+WAYS: dict[Role, tuple[tuple[Step, ...], ...]] = {
+    Role.INCOMING: ((ACKED, IDLE), (ACKED, (State.ANSWERED, Command.ANSWER), IDLE),
+                    (ACKED, (State.ANSWERED, Command.ANSWER), (State.CLEAREDBACK, Command.CLEAR_BACK), IDLE)),
+    Role.OUTGOING: ((SEIZED, ACKED, CLEAR, IDLE), (SEIZED, ACKED, ANSWERED, CLEAR, IDLE),
+                    (SEIZED, ACKED, ANSWERED, BACK, CLEAR, IDLE), (SEIZED, (State.RELEASING, None), IDLE))}
+# Who ended a call, by the state that it had last; else the gateway an outgoing one, the exchange an incoming one.
+ENDED_BY = {(Role.OUTGOING, State.SEIZED): 'not acknowledged', (Role.OUTGOING, State.CLEAREDBACK): 'exchange',
+            (Role.INCOMING, State.CLEAREDBACK): 'gateway'}
 
 
 class Died(Exception):
@@ -48,8 +55,8 @@ class Died(Exception):
 
 
 @dataclass
-class BitCall:
-    """A call by the signals of its circuit: the multiframes with which it began, was answered and ended."""
+class PlayedCall:
+    """A call: the multiframes with which it began, was answered and ended; how many packets there were of it."""
 
     circuit: int
     number: int
@@ -57,8 +64,7 @@ class BitCall:
     answered: int | None = None
     ended: int | None = None
     by: str = 'stop'
-    sent: int = 0
-    received: int = 0
+    packets: int = 0
 
 
 @dataclass
@@ -67,152 +73,65 @@ class ToldMultiframe:
     since octet 0; and the lines of what has changed."""
 
     alarms: bytes
-    rows: dict[bytes, bytes]
-    seizures: tuple[int, ...]
+    rows: dict[int, bytes]
+    seizures: dict[int, int]
     changes: bytes = b''
 
 
 class CalledSession:
-    """A session with calls, all that is told of it, and the calls that its octets have."""
+    """A session with calls, and all that is told of it."""
 
-    def __init__(self, folder: str) -> None:
-        self.config, dice = os.path.join(folder, 'trunk.toml'), random.Random(7)
+    def __init__(self) -> None:
+        dice = random.Random(7)
         self.roles = {n: Role.INCOMING if n % 2 else Role.OUTGOING for n in CIRCUITS}
-        with open(self.config, 'w', encoding='ascii') as file:
-            file.write(support.config_text({n: {'role': str(role), 'prefill': 160} for n, role in self.roles.items()}))
-        self.exchange, self.given = support.Exchange(), list[bytes]()      # the records of each multiframe
-        plans = {n: sorted(self._planned(n, dice)) for n in CALLED}
-        for m in range(LONG):
-            records = b''
-            for n, plan in plans.items():
-                while plan and plan[0][0] == m:
-                    _, what = plan.pop(0)
-                    if isinstance(what, Command):
-                        records += command_record(n, what)
-                    else:
-                        self.exchange.pairs[n] = what
-                if m % 10 == n % 10:
-                    records += datagram_record(n, Packet(8, m // 10, 16 * m, n, bytes(160)).encode())
-            self.given.append(trunk_record(self.exchange.multiframe()) + records)
-        self.tables = read_config(self.config)
-        self._look(folder)
+        self.tables = tomllib.loads(support.config_text({n: {'role': str(role)} for n, role in self.roles.items()}))
+        self.calls, self._going = list[PlayedCall](), dict[int, PlayedCall]()
+        self._steps = {n: self._planned(self.roles[n], dice) for n in CALLED}
+        self._packets = dict.fromkeys(CIRCUITS, 0)
+        first = ToldMultiframe(b'alarms 1 1 0 0', {n: self._row(n, State.FAULT) for n in CIRCUITS},
+                               dict.fromkeys(CIRCUITS, 0))
+        self.told = [first]
+        for m in range(1, LONG + 1):
+            self.told.append(self._next(m, self.told[-1]))
 
-    def _planned(self, n: int, dice: random.Random) -> list[tuple[int, Command | int]]:
-        """What the exchange signals and the operator asks for on a circuit, and when."""
-        found, m, is_in = list[tuple[int, Command | int]](), 30 + dice.randrange(60), n % 2
-
-        def comes(what: Command | int, least: int = 12, most: int = 90) -> None:
-            nonlocal m
-            found.append((m, what))
-            m += dice.randrange(least, most)
+    def _planned(self, role: Role, dice: random.Random) -> dict[int, Step]:
+        """The states of a line, and the multiframes with which they begin."""
+        found, m = dict[int, Step](), 30 + dice.randrange(60)
         while m < LONG:
-            kind = dice.randrange(4)
-            comes(SEIZED if is_in else Command.SEIZE, 25, 60)
-            if is_in:
-                if kind:
-                    comes(Command.ANSWER)
-                if kind == 2:
-                    comes(Command.CLEAR_BACK, 20)
-                comes(IDLE, 40, 120)
-            elif kind == 3:
-                m += 140
-            else:
-                comes(ACKNOWLEDGED, 25)
-                if kind:
-                    comes(ANSWERED, 25)
-                if kind == 2:
-                    comes(ACKNOWLEDGED, 25)
-                comes(Command.CLEAR, 15, 30)
-                comes(IDLE, 60, 140)
-        return [each for each in found if each[0] < LONG - QUIET]
+            for step in dice.choice(WAYS[role]):
+                found[m] = step
+                m += dice.randrange(12, 100)
+        return {m: step for m, step in found.items() if m < LONG - QUIET}
 
-    def _look(self, folder: str) -> None:
-        """What the program says of it."""
-        records, saved = b''.join(self.given), os.path.join(folder, 'saved')
-        support.run('replay', '--config', self.config, '--save', saved)
-        out, pair = support.run('replay', '--config', self.config, given=records), LogPair(
-            0, 0, support.octets_of(saved), records)
-        with open(support.program(), 'rb') as program, open(self.config, 'rb') as config:
-            version = ProgramVersion(support.program(), program.fileno(), config.fileno(), 'any')
-            text = asyncio.run(told_again(version, [pair], folder)).decode()
-        self.told = self._parted(text.splitlines())
-        self.calls = self._called([*records_in(records)], [*records_in(out)])
+    def _row(self, n: int, state: State) -> bytes:
+        packets = self._packets[n]
+        return f'line {n:2} {self.roles[n]:8} {state:11} 10 10 {packets:10} {packets:10} {0:10} pcma      8'.encode()
 
-    def _parted(self, lines: list[str]) -> list[ToldMultiframe]:
-        """What is told of each multiframe, from the state at octet 0 on."""
-        now, found, at = ToldMultiframe(b'', {}, (0,) * 30), list[ToldMultiframe](), 0
-        changes: dict[int, list[str]] = {}
-        for line in lines:
-            word, _, rest = line.partition(' ')
-            at = -(-int(rest) // MULTIFRAME) if word == 'at' else at
-            if word in ('alarms', 'line', 'command'):
-                changes.setdefault(at, []).append(line)
-        was = dict.fromkeys(CIRCUITS, 'idle')
-        for m in range(LONG + 1):
-            seizures = list(now.seizures)
-            its, rows, alarms = changes.get(m, []), dict(now.rows), now.alarms
-            for words in map(str.split, its):
-                if words[0] == 'alarms':
-                    alarms = ' '.join(words).encode()
-                elif words[0] == 'line':
-                    n = int(words[1])
-                    rows[words[1].encode()] = ' '.join(words).encode()
-                    seizures[n - 1] += was[n] == 'idle' and words[3] in ('seized', 'acked')
-                    was[n] = words[3]
-            now = ToldMultiframe(alarms, rows, tuple(seizures), ''.join(f'{line}\n' for line in its).encode())
-            found.append(now)
-        return found
-
-    def _called(self, given: list[Any], out: list[Any]) -> list[BitCall]:
-        """The calls by what the exchange and the gateway signal, and by packets, of which there are none between."""
-        found, going, counts = list[BitCall](), dict[int, BitCall](), dict.fromkeys(CIRCUITS, 0)
-        ins = [record.body for record in given if record.kind is Kind.TRUNK]
-        last, m, acked = dict[int, BitCall](), 0, set[int]()
-        asked = [record for record in given if record.kind is not Kind.TRUNK]
-        was = dict.fromkeys(CIRCUITS, IDLE)
-        for record in out:
-            if record.kind is Kind.DATAGRAM:
-                last[record.circuit].sent += 1
-            elif record.kind is Kind.ANSWER:
-                of = asked.pop(0)
-                if of.kind is Kind.DATAGRAM and not record.body[1]:
-                    last[of.circuit].received += 1
-            else:
-                for n in CIRCUITS:
-                    pair, far = (pair_of(body, n) for body in (record.body, ins[m]))
-                    acked |= {n} if far == ACKNOWLEDGED else set()
-                    if m < ALIGNED:
-                        pair = IDLE
-                    if was[n] == IDLE and pair != IDLE:
-                        counts[n] += 1
-                        going[n] = last[n] = BitCall(n, counts[n], m)
-                        found.append(going[n])
-                        acked.discard(n)
-                    elif call := going.get(n):
-                        self._goes(call, was[n], pair, far, m, n in acked)
-                        if pair == IDLE:
-                            del going[n]
-                    was[n] = pair
-                m += 1
-        return found
-
-    def _goes(self, call: BitCall, was: int, pair: int, far: int, m: int, is_acked: bool) -> None:
-        """A call at a multiframe of the gateway and one of the exchange."""
-        is_in = self.roles[call.circuit] is Role.INCOMING
-        if call.answered is None and (pair if is_in else far) == ANSWERED:
-            call.answered = m
-        if pair == IDLE:
-            is_back = call.answered is not None and (was if is_in else far) == ACKNOWLEDGED
-            call.ended = m
-            call.by = 'gateway' if is_in is is_back else 'exchange'
-            if not (is_in or is_acked):
-                call.by = 'not acknowledged'
-
-
-def pair_of(body: bytes, n: int) -> int:
-    """The pair of a circuit in a multiframe."""
-    octet = body[32 * ((n - 1) % 15 + 1) + 16]
-    return (octet >> 4 if n < 16 else octet & 15) >> 2
+    def _next(self, m: int, before: ToldMultiframe) -> ToldMultiframe:
+        """Another multiframe."""
+        now = ToldMultiframe(before.alarms, {**before.rows}, {**before.seizures})
+        changed = dict[int, Step](dict.fromkeys(CIRCUITS, IDLE)) if m == ALIGNED else \
+            {n: steps[m] for n, steps in self._steps.items() if m in steps}
+        if m == ALIGNED:
+            now.alarms, now.changes = b'alarms 0 0 0 0', b'alarms 0 0 0 0\n'
+        for n, call in self._going.items():
+            call.packets += m % 10 == n % 10
+            self._packets[n] += m % 10 == n % 10
+        for n, (state, command) in changed.items():
+            now.changes += b'command %d %d 0\n' % (n, command) if command is not None else b''
+            if state in IN_CALL and n not in self._going:
+                now.seizures[n] += 1
+                self.calls.append(PlayedCall(n, now.seizures[n], m))
+                self._going[n] = self.calls[-1]
+            elif state not in IN_CALL and (over := self._going.pop(n, None)):
+                was = State(before.rows[n].split()[3].decode())
+                over.ended, role = m, self.roles[n]
+                over.by = ENDED_BY.get((role, was), 'gateway' if role is Role.OUTGOING else 'exchange')
+            if state is State.ANSWERED:
+                self._going[n].answered = m
+            now.rows[n] = self._row(n, state)
+            now.changes += now.rows[n] + b'\n'
+        return now
 
 
 def now(work: Coroutine[Any, Any, Any]) -> None:
@@ -286,9 +205,9 @@ class BilledTrunk:
         reader = readers.LogReader(self.path('log'), 0.1, None, lambda: None, lambda: b'')
         self.carrier = SimpleNamespace(
             reader=reader, program=self.program, pair=None, version=lambda: SimpleNamespace(
-                name='', config_path=lambda: self.session.config),
+                name='', config_path=lambda: 'config'),
             places=SimpleNamespace(tell=self.path('tell'), folder=self.folder, control=''),
-            trunk=SimpleNamespace(facts=dict, outage=lambda: None))
+            trunk=SimpleNamespace(facts=lambda: {'fault': ''}, outage=lambda: None))
         read, begun, note = pickle.loads(self.disk.note) if self.disk.note else (ReadingNote(), 0, None)
         reader.take_up(read, None)
         self.status = status = TrunkStatus(OperatedTrunk(self.carrier, None), 'west', self.tells,  # type: ignore
@@ -375,7 +294,7 @@ class BilledTrunk:
     def state_at(self, m: int, begun: int) -> bytes:
         """What a program tells that has begun with this octet, at a multiframe."""
         its, before = self.session.told[m], self.session.told[begun // MULTIFRAME].seizures
-        counts = ' '.join(str(new - old) for new, old in zip(its.seizures, before))
+        counts = ' '.join(str(its.seizures[n] - before[n]) for n in CIRCUITS)
         return b'\n'.join([b'e1gw tell 1 A', b'at %d' % (m * MULTIFRAME - begun), its.alarms, *its.rows.values(),
                            f'seizures {counts}'.encode(), b'now', b''])
 
@@ -400,9 +319,8 @@ class BilledTrunk:
         for _ in range(count):
             if not self.program.lives or self.m >= self.end:
                 return
-            records = self.session.given[self.m]
-            self.unlogged += records
-            self.places.append(self.places[-1] + len(records))
+            self.unlogged += RECORD
+            self.places.append(self.places[-1] + len(RECORD))
             self.m += 1
             self.now += STEP
             self.when.append(self.now)
@@ -456,7 +374,7 @@ class BilledTrunk:
         if not self.status:
             self.serves()
         near = {m + d for call in self.session.calls for m in (call.seized, call.answered, call.ended) if m
-                for d in range(-4, RECOGNISED + 4)}
+                for d in range(-LATE, LATE + 1)}
         for _ in range(3):
             self.goes_on(LOOK)
         while self.m in near and self.m < self.end:
@@ -471,13 +389,7 @@ class BilledTrunk:
 
 
 class BillTests(PropertyCase):
-    @classmethod
-    def setUpClass(cls) -> None:
-        super().setUpClass()
-        support.program()
-        cls.session = CalledSession(cls.enterClassContext(tempfile.TemporaryDirectory()))
-
-    session: CalledSession
+    session = CalledSession()
 
     def within(self, trunk: BilledTrunk) -> contextlib.ExitStack:
         """The service of a trunk goes by its time."""
@@ -493,7 +405,8 @@ class BillTests(PropertyCase):
         return held
 
     def trunk(self, folder: str) -> BilledTrunk:
-        with mock.patch.multiple(log_folder, RECORDS_ROOM=2 << 20, STATE_ROOM=4096):
+        with mock.patch.multiple(log_folder, RECORDS_ROOM=512 << 10, STATE_ROOM=4096), \
+                mock.patch.object(statuses, 'read_config', lambda path: self.session.tables):
             return BilledTrunk(self.session, folder)
 
     def test_a_log_that_has_ended(self) -> None:
@@ -510,17 +423,16 @@ class BillTests(PropertyCase):
         """The line of each call up to now, by its id without the life."""
         found = {}
         for call in self.session.calls:
-            if call.seized >= trunk.m:
+            if call.seized > trunk.m:
                 continue
-            is_over = call.ended is not None and call.ended < trunk.m
-            is_answered = call.answered is not None and call.answered < trunk.m
+            is_over = call.ended is not None and call.ended <= trunk.m
+            is_answered = call.answered is not None and call.answered <= trunk.m
             times = {'seized': call.seized, 'answered': call.answered if is_answered else None,
                      'ended': call.ended if is_over else None}
-            slow = RECOGNISED * (self.session.roles[call.circuit] is Role.OUTGOING)
             found[f'{call.circuit}-{call.number}'] = {
-                'times': {key: m is not None and (trunk.when[m - 3], trunk.when[min(
-                    m + 3 + slow * (key == 'answered'), trunk.m - 1)] + LOOK * STEP) for key, m in times.items()},
-                'by': call.by if is_over else 'stop', 'packets': (call.sent, call.received) if is_over else None}
+                'times': {key: m is not None and (trunk.when[m - LATE], trunk.when[min(m + LATE, trunk.m) - 1]
+                                                  + LOOK * STEP) for key, m in times.items()},
+                'by': call.by if is_over else 'stop', 'packets': call.packets if is_over else None}
         return found
 
     def test_each_call_has_one_line(self) -> None:
@@ -556,7 +468,7 @@ class BillTests(PropertyCase):
                     assert (told is None) == (not within), (key, row, want)
                     assert not within or within[0] - 0.001 <= (told or 0) <= within[1], (key, told, row, want)
             if want['packets']:
-                assert (row['sent'], row['received']) == tuple(map(str, want['packets'])), (row, want)
+                assert row['sent'] == row['received'] == str(want['packets']), (row, want)
 
 
 def seconds_of(text: str) -> float | None:

@@ -20,14 +20,14 @@ from e1gw.service import events
 
 class CallEndTests(unittest.TestCase):
     def test_a_seizure_that_is_not_acknowledged(self) -> None:
-        rows, lines, moments = list[str](), {1: Line(1)}, iter((1_000_000_000.0, 1_000_000_001.25))
+        rows, lines, moments = list[str](), {1: Line(1)}, iter((1_000_000_000.0, 1_000_000_001.9996))
         calls = CallLog('west', lines, DatagramCounts(), rows.append, lambda: next(moments))
         for was, state in ((State.IDLE, State.SEIZED), (State.SEIZED, State.RELEASING), (State.RELEASING, State.IDLE)):
             calls.took(LineChanged(1, Role.OUTGOING, was, state, 100))
             lines[1].unacknowledged += state is State.SEIZED
         self.assertEqual(rows, [])                  # (they are noted first)
         calls.give()
-        self.assertEqual(rows, ['west,1,outgoing,2001-09-09T01:46:40.000Z,,2001-09-09T01:46:41.250Z,not acknowledged,'
+        self.assertEqual(rows, ['west,1,outgoing,2001-09-09T01:46:40.000Z,,2001-09-09T01:46:41.999Z,not acknowledged,'
                                 'pcma,0,0,0,0,-1-0'])
 
     def test_another_gateway(self) -> None:
@@ -147,19 +147,19 @@ class CallPropertyTests(PropertyCase):
 
 class CallFileTests(support.FolderCase):
     def test_a_full_file_is_moved_away(self) -> None:
-        head = ','.join(FIELDS) + '\n'
-        with mock.patch.object(events, 'MOST_OCTETS', len(head) + 25):
-            file = events.EventFile('calls', self.path('calls.csv'), lambda _, why: self.fail(why), head.strip())
-            for number in range(10, 40):
-                file.put(f'line of {number}')
-            file.close()
-        names = sorted(os.listdir(self.folder))
         self.assertIn(f'A file of {MOST_OCTETS >> 20} MiB is renamed', support.text_of(
             f'{support.TOP}/dist/man/e1gw-trunk.1'))
-        self.assertEqual(names, ['calls.csv', *(f'calls.csv.{n}' for n in range(1, KEPT + 1))])
-        for name, line in (('calls.csv', '39'), ('calls.csv.1', '37'), (f'calls.csv.{KEPT}', '21')):
-            with open(self.path(name), encoding='ascii') as held:
-                self.assertEqual((held.readline(), line in held.read()), (head, True), name)
+        for kind, head in ('calls', ','.join(FIELDS) + '\n'), ('events', ''):
+            with mock.patch.object(events, 'MOST_OCTETS', len(head) + 25):
+                file = events.EventFile(kind, self.path(kind), lambda _, why: self.fail(why), head.strip())
+                for number in range(10, 40):
+                    file.put(f'line of {number}')
+                file.close()
+            names = sorted(name for name in os.listdir(self.folder) if name.startswith(kind))
+            self.assertEqual(names, [kind, *(f'{kind}.{n}' for n in range(1, KEPT + 1))])
+            for name, line in ((kind, '39'), (f'{kind}.1', '37'), (f'{kind}.{KEPT}', '21')):
+                text = support.text_of(self.path(name))
+                self.assertEqual((text.startswith(head), line in text), (True, True), name)
 
 
 class NamingTests(support.FolderCase):
@@ -190,15 +190,9 @@ class NamingTests(support.FolderCase):
                 naming = self.naming()
                 self.assertEqual((self.counts(naming, session, told, state), naming.life), (count, first.life))
 
-    def test_a_note_of_an_earlier_version(self) -> None:
-        """It has what was counted before a session, and says nothing of another one."""
-        for session, count in ('a', 7), ('b', 2):
-            self.write('calls', '{"life": "x", "session": "a", "base": {"1": 5}}')
-            naming = self.naming()
-            self.assertEqual((self.counts(naming, session, 2), naming.life == 'x'), (count, session == 'a'))
-
     def test_a_note_that_is_none(self) -> None:
-        for text in ('', '[]', '{"life": 1}', '{"life": "x", "session": "a", "base": {"x": 1}}'):
+        for text in ('', '[]', '{"life": 1}', '{"life": "x", "session": "a", "base": {"1": 5}}',
+                     '{"life": "x", "session": "a", "base": {"x": 1}, "last": {}, "in_call": []}'):
             self.write('calls', text)
             naming = self.naming()
             self.assertEqual(self.counts(naming, 'a', 2), 2)

@@ -3,11 +3,9 @@ from __future__ import annotations
 
 import unittest
 
-from . import support
 from .properties import PropertyCase
 from e1gw.clock import DRIFT, STEADY, TICK, Clock, ClockFinding
 
-assert support.TOP
 RECORD = 0.004
 BURSTS = [('quiet', 0.06), ('at_once', 0.06), ('go', 0.04)] * 10
 

@@ -86,10 +86,9 @@ class ProgramBuiltTests(support.FolderCase):
         os.chmod(program, 0o755)
         os.symlink(program, self.path('bin/e1gw'))
         words = [os.path.join(DRIVER, 'e1gw-trunk'), '--config', 'c', '--unix', 'u']
-        for path in program, self.path('bin/e1gw'), 'e1gw':
-            for more, variable in (['--program', path], ''), (list[str](), path):
-                with self.subTest(path=path, more=more):
-                    status, out, said = ran(*words, *more, env=AROUND | {
-                        'E1GW': variable, 'PATH': f'{self.path("bin")}:{os.environ["PATH"]}'})
-                    self.assertEqual((status, out, said.count('\n')), (2, '', 1))
-                    self.assertRegex(said, 'is not proved, and only a proved program carries calls: scripts/build ')
+        for path, variable in (program, ''), ('', self.path('bin/e1gw')), ('e1gw', ''):
+            with self.subTest(path=path, variable=variable):
+                status, out, said = ran(*words, *['--program', path] * bool(path), env=AROUND | {
+                    'E1GW': variable, 'PATH': f'{self.path("bin")}:{os.environ["PATH"]}'})
+                self.assertEqual((status, out, said.count('\n')), (2, '', 1))
+                self.assertRegex(said, 'is not proved, and only a proved program carries calls: scripts/build ')

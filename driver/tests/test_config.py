@@ -1,20 +1,25 @@
 """e1gw-config: what it writes is a configuration to the program, and no two trunks have a port in common."""
 from __future__ import annotations
 
-import os
+import contextlib
+import io
 import re
 import tomllib
 from typing import Any
+from unittest import mock
 
 from . import support
-from e1gw.config import options_text, parser, plan_of, text_of
-
-LAUNCHER = os.path.join(support.TOP, 'driver', 'e1gw-config')
+from e1gw.config import main, options_text, parser, plan_of, text_of
 
 
 class ConfigTests(support.FolderCase):
-    def made(self, *words: str) -> tuple[int, str, str]:
-        return support.ran(LAUNCHER, *words, cwd=self.folder)
+    def made(self, *words: str) -> tuple[object, str, str]:
+        """The status of e1gw-config, what it writes, and what it says."""
+        with contextlib.redirect_stdout(io.StringIO()) as out, contextlib.redirect_stderr(io.StringIO()) as said, \
+                mock.patch('sys.argv', ['e1gw-config', *words]), self.assertRaises(SystemExit) as ended, \
+                contextlib.chdir(self.folder):
+            main()
+        return ended.exception.code, out.getvalue(), said.getvalue()
 
     def table(self, name: str) -> dict[str, Any]:
         """A file that was written, which the program takes, with a line for each of thirty circuits."""
@@ -22,8 +27,15 @@ class ConfigTests(support.FolderCase):
         self.assertEqual((status, len(listed.splitlines()), said), (0, 30, ''))
         return tomllib.loads(support.text_of(self.path(name)))
 
-    def test_the_example_of_the_package(self) -> None:
-        self.assertEqual(self.made(), (0, support.text_of(f'{support.TOP}/dist/system/thirty.toml'), ''))
+    def test_without_values(self) -> None:
+        """The second circuit is on ports of its own: the next even ones (RFC 3550, 11)."""
+        status, text, said = self.made()
+        table = tomllib.loads(text)
+        found = status, said, table['law'], table['host'], len(table['circuit'])
+        self.assertEqual(found, (0, '', 'A', '127.0.0.1', 30))
+        self.assertEqual(table['circuit'][1], {
+            'number': 2, 'role': 'outgoing', 'codec': 'pcma', 'ptime': 20, 'prefill': 320, 'local_port': 24004,
+            'peer_host': '127.0.0.1', 'peer_port': 34004})
 
     def test_thirty_circuits_of_each_codec(self) -> None:
         for words, codec, payload in ((['--law', 'mu'], 'pcmu', None), (['--codec', 'g726-32'], 'g726-32', 96),

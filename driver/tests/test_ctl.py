@@ -43,19 +43,6 @@ class CtlWordTests(unittest.TestCase):
             self.assertEqual([ctl.path_of(word) for word in ('west', 'east', './east', '/east')],
                              ['west', f'{ctl_all.SOCKETS}/east/control', './east', '/east'])
 
-    def test_a_trunk_that_is_not_in_service(self) -> None:
-        """Where a folder has its name."""
-        said, here = io.StringIO(), '/run/e1gw/no-such-trunk/control: No such file or directory'
-        with tempfile.TemporaryDirectory() as folder, contextlib.chdir(folder), \
-                mock.patch.object(sys, 'argv', ['e1gw-ctl', 'no-such-trunk', 'status']), \
-                contextlib.redirect_stderr(said), self.assertRaises(SystemExit) as ended:
-            os.mkdir('no-such-trunk')
-            ctl.main()
-        self.assertEqual(ended.exception.code, 2)
-        self.assertEqual(said.getvalue(), f'e1gw-ctl: {here} (systemctl status e1gw-trunk@no-such-trunk; '
-                         'e1gw-ctl alone lists the trunks)\n')
-        self.assertEqual(ctl.unit_words('./west.control', FileNotFoundError()), '')
-
 
 class StandInTrunk:
     """Answers commands at a control socket by what a test gives; without an answer it closes the connection."""
@@ -134,6 +121,15 @@ class CtlAnswerTests(support.FolderCase):
                          (1, ['seize 1: done', 'seize 2: not idle', 'trunk west', 'rows'], ''))
         self.assertEqual(self.ctl('west', given='seize 1\n')[0], 0)
         self.assertEqual(self.ctl('west', 'none'), (1, [], 'e1gw-ctl: the trunk has ended\n'))
+
+    def test_a_trunk_that_is_not_in_service(self) -> None:
+        """Where a folder has its name."""
+        with contextlib.chdir(self.folder):
+            os.mkdir('north')
+            self.assertEqual(self.ctl('north', 'status'), (
+                2, [], f'e1gw-ctl: {self.path("run/north/control")}: No such file or directory (systemctl status '
+                'e1gw-trunk@north; e1gw-ctl alone lists the trunks)\n'))
+        self.assertEqual(ctl.unit_words('./west.control', FileNotFoundError()), '')
 
     def test_told_at_once(self) -> None:
         """Each answer can be read before the next one is waited for."""
@@ -226,6 +222,10 @@ class CtlAnswerTests(support.FolderCase):
             3, ['west: 6 answered', 'calls are left after 0 minutes', last]))
         with mock.patch('e1gw.ctl_drain.time.sleep', side_effect=KeyboardInterrupt):
             self.assertEqual(self.drained('west', 'drain'), (3, ['west: 6 answered', 'calls are left', last]))
+        self.drains('west', (6,), ())
+        self.trunks['east'].answers = {'drain 1-30': 'drain 1-30: done\n\n', 'status json': '{"circuits": []}\n\n'}
+        self.assertEqual(self.drained('--all', 'drain')[1][:3], [
+            'east: no call is left', 'west: 6 answered', 'west: no call is left'])
         self.drains('west', ())
         self.trunks['east'].answers = {'drain 1-30': 'drain 1-30: the other machine is to carry the trunk\n\n'}
         self.assertEqual(self.drained('--all', 'drain'), (
@@ -234,9 +234,10 @@ class CtlAnswerTests(support.FolderCase):
             self.assertEqual(self.ctl('west', *words, '--within', '3')[0], 2)
 
     def test_words_that_were_given(self) -> None:
-        """What answers `unblock` names it, and no command that it is made into."""
+        """What answers `unblock` names it, and no command that it is made into; nor the other way round."""
         self.trunks['west'].answers['undrain 3'] = 'undrain 3: done\n\n'
         self.assertEqual(self.ctl('west', 'unblock', '3')[:2], (0, ['unblock 3: done']))
+        self.assertEqual(self.ctl('west', given='undrain 3\nunblock 3\n')[1], ['undrain 3: done', 'unblock 3: done'])
 
     def test_outages(self) -> None:
         """Of the file of a trunk; as text, as CSV, and as a page."""

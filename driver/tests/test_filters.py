@@ -25,8 +25,8 @@ def late(octets: bytes, before: int = 0xFF) -> bytes:
 class FilteredWorld(World):
     """A driver with four circuits, whose exchange is late with --align and sends CRC-4 with --crc4."""
 
-    def __init__(self, *options: str, is_late: bool = False, has_crc4: bool = True, **more: Any) -> None:
-        self.is_late, self.has_crc4 = is_late or '--align' in options, has_crc4 and '--crc4' in options
+    def __init__(self, *options: str, **more: Any) -> None:
+        self.is_late, self.has_crc4 = '--align' in options, '--crc4' in options
         self.sender, self.last = Crc4Sender(), 0xFF
         super().__init__(config_of(FOUR), *options, **more)
 
@@ -101,17 +101,6 @@ class FilterServiceTests(support.FolderCase):
             counts: dict[str, int] = world.known()['crc4'] or {}
             return counts if counts.get('submultiframes') and counts['aligned'] is None else None
         return support.until(found)
-
-    def test_an_exchange_without_it(self) -> None:
-        """Without CRC-4; and late, where no alignment is asked for."""
-        world = self.world('--crc4', has_crc4=False)
-        world.step(SECOND)
-        world.until(lambda: world.told()['crc4']['aligned'] is not None)
-        self.assertIn('CRC-4: no multiframe alignment, lost 0; errored 0 of 0 submultiframes', world.ask('status'))
-        self.assertEqual(world.quit()[1].count('no CRC multiframe alignment'), 1)
-        world = self.world(is_late=True)
-        world.step(100)
-        self.assertEqual(world.ask('seize 1'), 'seize 1: no alignment')
 
     def test_the_program_dies_inside_a_multiframe(self) -> None:
         """The exchange keeps the alignment of frames and multiframes."""

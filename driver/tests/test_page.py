@@ -15,9 +15,10 @@ from e1gw.events import (AlarmChanged, CardAlarm, CardAlarmChanged, Connected, C
                          Event, Fed, Flows, LineChanged, NotFed, ReadEvents, RemoteAlarmChanged, Slip, SlotsChange,
                          SlotsChanged, Stalled, TrunkLost, TrunkOpened)
 from e1gw.lines import Alignment, Role, State
+from e1gw.metrics import NOT_OPEN
 from e1gw.service import pages
 from e1gw.service.options import kept_of
-from e1gw.service.page import message_of, page_of, trunks_page
+from e1gw.service.page import circuit_row, message_of, page_of, trunk_row, trunks_page
 from e1gw.service.pages import EventReaders, PageRequest
 
 EVIL = '"><script>alert(1)</script><img src=x onerror=alert(1)>\'&</td></table>'
@@ -67,6 +68,20 @@ class TextTests(unittest.TestCase):
 
 def line_changed(state: State) -> LineChanged:
     return LineChanged(1, Role.OUTGOING, State.IDLE, state, 0)
+
+
+class StateTests(unittest.TestCase):
+    def test_circuits_that_are_blocked(self) -> None:
+        """An outgoing one stays idle: a tile and a square say that the operator has taken it. If the trunk is not open
+        nothing is known of a line."""
+        for fault, state, drain, words in (
+                (None, 'idle', 'drained', 'idle, drained'), (None, 'answered', None, 'answered'),
+                (None, 'acked', 'drains', 'acked, drains'), ('x', 'idle', None, NOT_OPEN)):
+            row = {'circuit': 7, 'state': state, 'role': 'outgoing', 'drain': drain}
+            status: dict[str, Any] = {'fault': fault, 'http': ['', 9102], 'circuits': [row]}
+            self.assertEqual(circuit_row(status, row, {})[:3], ['7', words, 'outgoing'])
+            self.assertIn(f'<i data-s="{words}" title="7 {words}">',
+                          trunk_row(TrunkHere(True, TrunkLine('a'), status), ''))
 
 
 class StandingTests(unittest.TestCase):

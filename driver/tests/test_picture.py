@@ -18,8 +18,9 @@ from .picture_made import (TROUBLES, MadeSession, PictureSender, configured, mad
 from e1gw.picture.facts import MOST, RANK, Facts, Row, Spans
 from e1gw.picture.findings import findings
 from e1gw.picture.page import MOST as MOST_OCTETS
-from e1gw.picture.page import draw, numbers
-from e1gw.picture.svg import Scale, apart, clock, duration, runs
+from e1gw.picture.page import draw
+from e1gw.picture.svg import Scale, Sheet, apart, clock, duration, runs
+from e1gw.session_clock import Break
 from e1gw.session import OCTETS_A_SECOND, Codec, Kind, codec_record, records_in, trunk_record
 
 
@@ -251,8 +252,19 @@ class PicturePageTests(unittest.TestCase):
         words = self.checked(draw(read_session('law = "A"\n', b''), 'e1gw'))
         self.assertIn('No datagrams came', words)
 
+    def test_times_stand_apart(self) -> None:
+        """Where slips bring round times together, some have no text: by 5 pixels of a character, at least."""
+        second = OCTETS_A_SECOND
+        breaks = [Break(place, 0.4, 0.4) for place in range(second, 2 * second, second // 8)]
+        sheet = Sheet(40, 'times')
+        sheet.grid(Scale(0, 4 * second, 1.8e9, breaks), 16, 40)
+        found = re.findall(r'<text x="([0-9.]+)"[^>]*text-anchor="(\w+)">([^<]*)', ''.join(sheet.out))
+        wide = [5 * len(words) for *_, words in found]
+        left = [float(x) - {'start': 0, 'middle': its / 2, 'end': its}[side] for (x, side, _), its in zip(found, wide)]
+        self.assertGreater(len(found), 4)
+        self.assertFalse([each for each in zip(left, wide, left[1:]) if each[0] + each[1] > each[2]])
+
     def test_small_things(self) -> None:
-        self.assertEqual(numbers([1, 2, 3, 4, 7, 9, 10]), '1 to 4, 7, 9, 10')
         self.assertEqual(runs([1, 2, 4, 9], 2), [(1, 4), (9, 9)])
         self.assertEqual(apart([1, 2, 11, 12, 30], 10), [1, 11, 30])
         self.assertEqual(clock(59.9996, 3), '00:01:00.000')

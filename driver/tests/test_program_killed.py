@@ -216,15 +216,6 @@ class KeeperCase(support.FolderCase):
         """The next program goes on behind all that was answered."""
         self.assertIn(f'behind octet {(len(self.heard) - self.first) * MULTIFRAME}', self.goes_on())
 
-    def other_program(self, *cases: str) -> None:
-        """From the next one on, a program that does what these cases of a shell say, else what the program does."""
-        own, path = ''.join(f'{case} ;;\n' for case in cases), self.path('program')
-        with contextlib.suppress(FileNotFoundError):
-            os.unlink(path)
-        self.write('program', f'#!/bin/sh\ncase $1 in\n{own}*) exec {support.program()} "$@" ;;\nesac\n')
-        os.chmod(path, 0o755)
-        self.command[self.command.index('--program') + 1] = path
-
     def log(self) -> str:
         """The folder of the log."""
         words = words_of(self.program)

@@ -41,10 +41,14 @@ class ToldTests(unittest.TestCase):
         self.take(*BEGIN, 'now')
 
     def take(self, *lines: str) -> None:
-        self.told.take(('\n'.join(lines) + '\n').encode())
+        """Lines that come in pieces."""
+        text = ('\n'.join(lines) + '\n').encode()
+        for at in range(0, len(text), 29):
+            self.told.take(text[at:at + 29])
 
     def again(self, *changed: str, place: int = 512, begun: int | None = None) -> None:
-        """Another connection; the whole state has these lines."""
+        """Another connection; the whole state has these lines. (Of a line before it half has come.)"""
+        self.told.take(b'line  1 outgo')
         self.told.lost()
         self.told.begin(begun)
         rows = {line[5:7]: line for line in (*BEGIN[3:], *changed) if line.startswith('line')}
@@ -69,6 +73,8 @@ class ToldTests(unittest.TestCase):
         self.assertEqual((self.told.law, self.told.place, self.told.outage()), ('A', 512, None))
         self.assertEqual({row['state'] for row in self.told.status()['circuits']}, {'idle'})
         self.assertEqual(self.circuit()['jitter_buffer_ms'], 40)
+        self.take('weather fine', '', 'end')            # (words of a later version)
+        self.assertEqual(self.events, [])
 
     def test_nothing_was_told_yet(self) -> None:
         """No circuit is in fault for that."""
@@ -140,12 +146,10 @@ class ToldTests(unittest.TestCase):
         self.assertEqual([found[key] for key in ('lost', 'jitter_ms', 'stale')], [2, 0.62, False])
         self.assertEqual(self.counted, [(1, 0, 65536), (1, 14, 65536), (1, 0, 131072), (1, 0, 131072),
                                         (1, 11, 131072), (1, 11, 131072)])
-
-    def test_a_row_is_told_before_its_counts(self) -> None:
-        self.take(row(1, 'blocked', '11 10', counts=(0, 0, 3)))
-        self.assertEqual(self.circuit()['datagrams'], {'sent': 0, 'admitted': 0})
-        self.take(counts(1, 0, NotOpen=3))
-        self.assertEqual(self.circuit()['datagrams'], {'sent': 0, 'admitted': 0, 'NotOpen': 3})
+        self.take(row(2, 'blocked', '11 10', counts=(0, 0, 3)))         # (a row is told before its counts)
+        self.assertEqual(self.circuit(2)['datagrams'], {'sent': 0, 'admitted': 0})
+        self.take(counts(2, 0, NotOpen=3))
+        self.assertEqual(self.circuit(2)['datagrams'], {'sent': 0, 'admitted': 0, 'NotOpen': 3})
 
     def test_what_was_refused_while_nobody_was_told(self) -> None:
         self.take(counts(1, 0, Late=1))
@@ -193,12 +197,6 @@ class ToldTests(unittest.TestCase):
         self.take('now')
         self.assertFalse(self.circuit()['stale'])
 
-    def test_octets_in_pieces(self) -> None:
-        text = '\n'.join([row(1, 'seized', '00 10'), row(1, 'acked', '00 11'), '']).encode()
-        for at in range(len(text)):
-            self.told.take(text[at:at + 1])
-        self.assertEqual(self.names(), [('state', 'idle', 'seized'), ('state', 'seized', 'acked')])
-
     def test_what_is_not_understood(self) -> None:
         for line in ('line 1', row(1, 'asleep'), row(31, 'idle'), 'alarms 1 1', 'alarms a b c d', 'at x',
                      'counts 1 0', counts(1, 0) + ' 0', counts(99, 0), 'command 1 9 0'):
@@ -214,10 +212,6 @@ class ToldTests(unittest.TestCase):
             self.take('at 512')
         with self.assertRaises(BadTelling):
             self.told.take(b'x' * 5000)
-
-    def test_words_of_a_later_version(self) -> None:
-        self.take('weather fine', '', 'end')
-        self.assertEqual(self.events, [])
 
 
 class ReportReadingTests(support.FolderCase, unittest.IsolatedAsyncioTestCase):

@@ -17,41 +17,15 @@ class ResyncRuleTests(unittest.TestCase):
     def setUp(self) -> None:
         self.restarted: list[tuple[float, int]] = []
         self.told: list[Event] = []
+        self.now = 0.0
         self.rule = Resyncs(lambda circuits: self.restarted.extend((self.now, n) for n in circuits), self.told.append)
-        self.now, self.counts = 0.0, True
 
-    def go(self, seconds: float, *codes: int, every: float = 0.02, circuits: tuple[int, ...] = (1,)) -> None:
-        """Datagrams of open circuits come, with these answers by turns."""
-        for n in range(round(seconds / every)):
-            self.now += every
-            for circuit in circuits:
-                self.rule.counted(circuit, codes[n % len(codes)], round(self.now * SECOND))
-            self.rule.look(self.now, round(self.now * SECOND), [1, 2, 3], self.counts)
-
-    def test_how_often(self) -> None:
-        """Half a second in which half of the datagrams or more are refused for their time. A stranger's and those that
-        come twice say nothing of it, nor do counts that are not those of now."""
-        stranger, others = int(DatagramRefusal.WRONG_SOURCE), [int(each) for each in DatagramRefusal
-                                                               if each not in (LATE, FULL)]
-        rows: list[tuple[float, float, list[int], int]] = [
-            (0.6, 0.02, [LATE], 1), (0.6, 0.02, [FULL], 1), (3, 0.02, [0, LATE], 1), (3, 0.02, [0, 0, LATE], 0),
-            (3, 0.02, others, 0), (0.6, 0.02, [LATE, stranger, stranger], 1),
-            *[(0.8, every, [LATE], 1) for every in (0.005, 0.01, 0.03, 0.06, 0.1, 0.2)]]
-        for seconds, every, codes, count in rows:
-            with self.subTest(every=every, codes=codes):
-                self.setUp()
-                self.go(seconds, *codes, every=every)
-                self.assertEqual(len(self.restarted), count)
-        self.setUp()
-        self.counts = False
-        self.go(3, LATE)
-        self.assertEqual(self.restarted, [])
-
-    def come(self, code: int, *moments: float) -> None:
+    def come(self, code: int, *moments: float, circuits: tuple[int, ...] = (1,)) -> None:
         """Datagrams with this answer, and a look behind each."""
         for self.now in moments:
-            self.rule.counted(1, code, round(self.now * SECOND))
-            self.rule.look(self.now, round(self.now * SECOND), [1], True)
+            for n in circuits:
+                self.rule.counted(n, code, round(self.now * SECOND))
+            self.rule.look(self.now, round(self.now * SECOND), [1, 2], True)
 
     def test_limits(self) -> None:
         """Of half a second what came in it, without its first moment; half of it, three at least, over a quarter; and
@@ -75,28 +49,27 @@ class ResyncRuleTests(unittest.TestCase):
         self.come(LATE, 30.8125)
         self.assertEqual(self.restarted[2:], [(30.5, 1), (30.8125, 1)])
 
+    def go(self, *stretches: tuple[int, float]) -> None:
+        """Datagrams come, with each of these answers for so many seconds."""
+        for code, seconds in stretches:
+            self.come(code, *(self.now + n / 50 for n in range(1, round(50 * seconds) + 1)))
+
     def test_refusals_of_another_cause(self) -> None:
         """Behind a second without any it is restarted at once; one that is refused now and then waits."""
         for between, count in ((1.2, 2), (4.0, 2), (0.8, 1), (1.02, 2), (1.0, 1)):
             with self.subTest(between):
                 self.setUp()
-                self.go(0.4, LATE)
-                self.go(between, 0)
-                self.go(0.6, FULL)
+                self.go((LATE, 0.4), (0, between), (FULL, 0.6))
                 self.assertEqual(len(self.restarted), count)
         self.setUp()
-        self.go(0.4, LATE)
-        for _ in range(4):
-            self.go(0.5, 0)
-            self.go(0.02, LATE)
-        self.go(0.6, LATE)
+        self.go((LATE, 0.4), *[(0, 0.5), (LATE, 0.02)] * 4, (LATE, 0.6))
         self.assertEqual(len(self.restarted), 1)
 
     def test_what_is_told(self) -> None:
-        self.go(19, LATE, circuits=(1, 2))
-        self.assertEqual(len(self.restarted), 4)
+        """One event for all."""
+        self.come(FULL, 1.0, 1.2, 1.4, circuits=(2, 1))
         self.assertEqual([event.words() for event in self.told],
-                         [f'jitter buffer resynchronised, {REFUSED}: circuits 1, 2'] * 2)
+                         [f'jitter buffer resynchronised, {REFUSED}: circuits 1, 2'])
 
 
 class RememberedCall:

@@ -2,7 +2,6 @@
 from __future__ import annotations
 
 import csv
-import json
 import os
 import signal
 import unittest
@@ -21,39 +20,21 @@ from e1gw.lines import Role, State, lines_of
 from e1gw.service.missed import MissedReports
 from e1gw.session import MULTIFRAME, OCTETS_A_SECOND
 
-FAR = 0.003                 # seconds, of a line's times, which have milliseconds
+FAR = 0.005                 # seconds, of a line's times, which have milliseconds
 
 
 class MissedCallsTests(RestartedKeeperCase):
-    def rows(self) -> list[dict[str, str]]:
-        return list(csv.DictReader(support.text_of(self.path('its-calls')).splitlines()))
-
-    def seconds(self, row: dict[str, str], first: str, last: str) -> float:
-        """From one time of a line to another one."""
-        return (datetime.fromisoformat(row[last]) - datetime.fromisoformat(row[first])).total_seconds()
-
-    def places(self, circuit: int) -> list[tuple[str, int]]:
-        """The states of a line, by what was told, and where on the trunk each began."""
-        events = map(json.loads, support.text_of(self.path('its-json')).splitlines())
-        return [(event['state'], event['place']) for event in events
-                if event['event'] == 'state' and event['circuit'] == circuit]
-
     def test_while_no_service_is_there(self) -> None:
         """Calls end, begin and end, and begin, while the service is killed, and while it is replaced another one ends.
         Each has one line, with the times of the trunk."""
-        self.begins('--control', self.path('its-control'), '--calls', self.path('its-calls'), '--json',
-                    self.path('its-json'))
+        self.begins('--control', self.path('its-control'), '--calls', self.path('its-calls'))
         pairs = self.device.exchange.pairs
         self.known(lambda rows: {row['state'] for row in rows} == {'answered'})
-        self.step(200)
         self.settles()
         self.kill_keeper()
-        pairs.update({1: IDLE, 3: IDLE})
-        self.step(60)
-        pairs[1] = SEIZED
-        self.step(30)
-        pairs.update({1: IDLE, 3: SEIZED})
-        self.step(40)
+        for changes, count in ({1: IDLE, 3: IDLE}, 60), ({1: SEIZED}, 30), ({1: IDLE, 3: SEIZED}, 40):
+            pairs.update(changes)
+            self.step(count)
         self.comes_back()
         self.known(lambda rows: (rows[0]['state'], rows[2]['state']) == ('idle', 'acked'))
         self.settles()
@@ -63,17 +44,14 @@ class MissedCallsTests(RestartedKeeperCase):
         self.awaits('the service was replaced; (?=program)')
         self.known(lambda rows: rows[4]['state'] == 'idle')
         self.ends()
-        rows = self.rows()
+        rows = [*csv.DictReader(support.text_of(self.path('its-calls')).splitlines())]
         self.assertEqual(sorted(int(row['circuit']) for row in rows), sorted([1, 3, *CIRCUITS]))
-        self.assertEqual(len({row['call'] for row in rows}), len(rows))
-        self.assertTrue(all(row['seized'] for row in rows))
-        ended = {(int(row['circuit']), row['by']) for row in rows if row['by'] != 'stop'}
-        self.assertEqual(ended, {(n, 'exchange') for n in (1, 3, 5)})
-        second = next(row for row in rows if row['circuit'] == '1' and not row['answered'])
-        states = dict(self.places(1)[-2:])
-        self.assertAlmostEqual(self.seconds(second, 'seized', 'ended'),
-                               (states['idle'] - states['acked']) / OCTETS_A_SECOND, delta=FAR)
-        self.assertAlmostEqual(self.seconds(second, 'seized', 'ended'), 30 * MULTIFRAME / OCTETS_A_SECOND, delta=FAR)
+        self.assertEqual((len({row['call'] for row in rows}), all(row['seized'] for row in rows)), (len(rows), True))
+        self.assertEqual({(row['circuit'], row['by']) for row in rows if row['by'] != 'stop'},
+                         {(n, 'exchange') for n in '135'})
+        seized, ended = (datetime.fromisoformat(row[key]) for row in rows for key in ('seized', 'ended')
+                         if row['circuit'] == '1' and not row['answered'])
+        self.assertAlmostEqual((ended - seized).total_seconds(), 30 * MULTIFRAME / OCTETS_A_SECOND, delta=FAR)
         self.assertEqual(os.listdir(self.memory), [])
 
 

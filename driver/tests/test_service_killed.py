@@ -9,7 +9,6 @@ import signal
 import subprocess
 import time
 import unittest
-from dataclasses import replace
 from typing import Any, Callable
 
 from . import support
@@ -17,14 +16,9 @@ from .manager import Manager
 from .support import SECONDS
 from .test_program_killed import KeeperCase
 from .world import LAUNCHER
-from e1gw.service.memory import in_memory
 from e1gw.service.note import NoteFiles, ServiceNote, note_in
 from e1gw.service.process import UNKNOWN, Child, start_of
-from e1gw.service.reader import ReadingNote
 from e1gw.testing.service import ask
-
-
-OVER = 4200                 # multiframes behind which a log is written over: two files of 1 MiB
 
 
 class RestartedKeeperCase(KeeperCase):
@@ -104,7 +98,8 @@ class RestartedKeeperCase(KeeperCase):
         """The trunk ends, and nothing of it is left."""
         self.ends()
         self.assertEqual(os.listdir(self.memory), [])
-        support.until(lambda: not self.manager.files)
+        self.manager.take_all()
+        self.assertEqual(self.manager.files, {})
 
 
 class KilledKeeperTests(RestartedKeeperCase):
@@ -126,25 +121,6 @@ class KilledKeeperTests(RestartedKeeperCase):
         self.survives()
 
 
-    def test_a_log_that_reaches_back_no_further(self) -> None:
-        """The program has written over what no service has read. The next one has its place from the program."""
-        self.begins('--control', self.path('its-control'))
-        for has_read in True, False:
-            support.until(lambda: (note := self.noted()) and note.read.place > 0)
-            note = self.noted()
-            self.kill_keeper()
-            if not has_read and note:                       # (it was killed in its first second)
-                (folder,) = glob.glob(os.path.join(glob.escape(self.memory), '*'))
-                NoteFiles(folder).put(replace(note, read=ReadingNote()).text())
-            self.step(OVER)
-            self.comes_back()
-            while 'connected to the program' not in self.told()[self.told_from:]:
-                self.step()             # (a program tells at the next octets, and the service has its turn behind them)
-                ask(self.path('its-control'), b'status')
-            self.dies()
-        self.assertIn('octets of the log were not read in time', self.told())
-        self.survives()
-
 
 class ChildTests(unittest.IsolatedAsyncioTestCase):
     async def test_a_number_that_another_process_has(self) -> None:
@@ -160,17 +136,3 @@ class ChildTests(unittest.IsolatedAsyncioTestCase):
         os.kill(pid, signal.SIGSTOP)
         await its.over.wait()
         self.assertEqual((its.status, its.words()), (UNKNOWN, 'ended'))
-
-    async def test_what_it_says(self) -> None:
-        """Each line is told once, also to the next service. What comes each second is not held for long."""
-        said = in_memory(b'circuit 3 begins as new\nlive submulti')
-        its = Child(os.getpid(), said=said)
-        self.addCleanup(its.close)
-        self.assertEqual(its.news(), ['circuit 3 begins as new'])
-        os.write(said, b'frames 1\noctets 512\n' + 5000 * b'live 2\n')
-        self.assertEqual(its.news(), ['live submultiframes 1'] + 5000 * ['live 2'])
-        self.assertEqual((its.lines, its.totals()), (['circuit 3 begins as new'], {'octets': 512}))
-        later = Child(os.getpid(), said=said)
-        os.write(said, b'fault 5 Read\n')
-        self.assertEqual(later.news(), ['fault 5 Read'])
-        self.assertLess(512 * os.fstat(said).st_blocks, 5000)

@@ -14,23 +14,16 @@ import shutil
 import signal
 import subprocess
 import time
-import tomllib
-import unittest
 from typing import Any, Callable
 from unittest import mock
 
 from . import support
-from .test_program_killed import CIRCUITS, NO_EFFECT, KeeperCase
+from .test_program_killed import CIRCUITS, NO_EFFECT
 from .test_service_killed import RestartedKeeperCase
 from .test_recorder import RecorderCase
-from .test_trunk import catches, is_there
+from .test_trunk import catches
 from .world import words_of
-from e1gw.exchange import IDLE, SEIZED
-from e1gw.lines import config_text
-from e1gw.service.log_folder import LogPair
-from e1gw.service.memory import in_memory
-from e1gw.service.version import ProgramVersion, with_addresses
-from e1gw.session import Codec, Command, Kind, codec_record, command_record, records_in, trunk_record
+from e1gw.session import Codec, Kind, codec_record, records_in
 from e1gw.testing.service import ask
 
 HELD = 12                   # multiframes that a device holds which nobody reads
@@ -257,7 +250,7 @@ class ServiceEventsCase(RestartedKeeperCase, RecorderCase):
     def operator_asks_between_programs(self) -> None:
         """The next program is given it."""
         os.kill(self.program, signal.SIGKILL)
-        support.until(lambda: not is_there(self.program))
+        support.until(lambda: support.state_of(self.program) in ('', 'Z'))
         with support.connected(self.path('its-control')) as line:
             line.sendall(b'codec 3 g726-32 96\n')
             self.goes_on()
@@ -332,119 +325,3 @@ def parted(octets: bytes) -> tuple[bytes, list[tuple[int, bytes]]]:
         elif record.encode() != NO_EFFECT:
             others.append((len(trunk), record.encode()))
     return bytes(trunk), others
-
-
-class ServiceNameTests(RestartedKeeperCase):
-    """By which a tie knows calls."""
-
-    def names(self, circuit: int, state: str) -> tuple[str, list[int]]:
-        """The life of the names, and how often each line was seized, once a circuit is in this state."""
-        status = self.known(lambda circuits: circuits[circuit - 1]['state'] == state)
-        return str(status['life']), [row['seizures'] for row in status['circuits']]
-
-    @mock.patch.dict(os.environ)
-    def test_calls_keep_their_names(self) -> None:
-        """The next program and the next service count seizures as those before them, and one in between, also if both
-        die. One that begins with a state has its calls, which have two lines then."""
-        os.environ['RUNTIME_DIRECTORY'] = self.folder       # (where a unit's note stays)
-        self.begins('--control', self.path('its-control'), '--state', self.path('its-state'), '--calls',
-                    self.path('its-calls'))
-        before = self.names(30, 'answered')
-        self.assertEqual(before[1], [1] * 30)
-        self.dies()
-        self.assertEqual(self.names(30, 'answered'), before)
-        self.settles()
-        self.kill_keeper()
-        self.comes_back()
-        self.assertEqual(self.names(30, 'answered'), before)
-        self.kill_keeper()
-        for pair in IDLE, SEIZED:
-            self.device.exchange.pairs[1] = pair
-            self.step(20)
-        self.comes_back()
-        self.assertEqual(after := self.names(1, 'acked'), (before[0], [2] + [1] * 29))
-        self.kill_keeper()
-        os.kill(self.program, signal.SIGKILL)
-        self.again()
-        self.goes_on()
-        self.assertEqual(self.names(1, 'acked'), after)
-        self.leaves_nothing()
-        self.device.line.close()
-        self.again()
-        self.device.accept()
-        self.goes_on()
-        self.assertEqual(self.names(1, 'acked'), after)
-        self.ends()
-        rows = csv.DictReader(support.text_of(self.path('its-calls')).splitlines())
-        calls = [row['call'] for row in rows if row['by'] == 'stop']        # (one may be told to have ended)
-        self.assertEqual((len(calls), len({*calls})), (60, 30))
-
-
-class ServiceVersionTests(KeeperCase):
-    def test_names_are_looked_up_once(self) -> None:
-        """No program has a name to look up, however the file spells it."""
-        text, spelled = self.peers.config(prefill=0), self.chance.choice((
-            'peer_host = "localhost"', '"peer_host" = "local\\u0068ost"', "'peer_host'='localhost' # a name"))
-        self.write('trunk.toml', text.replace('prefill = 0', spelled))
-        self.starts()
-        words = words_of(self.program)
-        number = os.path.basename(words[words.index('--config') + 1])
-        text = support.text_of(f'/proc/{self.program}/fd/{number}')
-        self.assertEqual((text.count('localhost'), text.count('peer_host = "127.0.0.1"')), (0, 1))
-        self.assertEqual(words[words.index('--senders') + 1], 'any')
-        self.ends()
-
-    def test_a_program_that_may_not_be_executed_any_more(self) -> None:
-        """No reload takes it; the one that was tried goes on."""
-        self.other_program()
-        self.starts()
-        self.calls()
-        os.chmod(self.path('program'), 0o644)
-        self.keeper.send_signal(signal.SIGHUP)
-        self.awaits('reload: refused.*Permission denied')
-        self.survives()
-
-
-class KeptWaitTests(support.FolderCase, unittest.IsolatedAsyncioTestCase):
-    async def test_seizure_wait(self) -> None:
-        """The log is read again with the wait of the program that has written it: a seizure of 300 ms is one still."""
-        config, exchange, saved = support.config_text({2: {'role': 'outgoing'}}), support.Exchange(), self.path('state')
-        support.run('replay', '--config', self.write('trunk.toml', config), '--save', saved)
-        first, then = (b''.join(trunk_record(exchange.multiframe()) for _ in range(count)) for count in (20, 150))
-        log = LogPair(0, 0, support.octets_of(saved), first + command_record(2, Command.SEIZE) + then)
-        for wait, calls in (200, frozenset[int]()), (2000, frozenset((2,))):
-            files = os.open(support.program(), os.O_RDONLY), in_memory(config.encode())
-            version = ProgramVersion(support.program(), *files, 'any', wait=wait)
-            for file in files:
-                self.addCleanup(os.close, file)
-            self.assertEqual((await version.check(log))[1], calls)
-
-
-class SpellingTests(support.FolderCase):
-    """What names are replaced in is a file again, with the same meaning for the program."""
-
-    SPELLED = (
-        b'law = "mu" # or \'A\'\n["circuit"]\n', b'law = """mu"""\nhost = \'127.0.0.1\'\ncircuit = []\n',
-        b'"law" = \'mu\'\n[[circuit]]\nnumber = 0x1\n"peer_host" = "west"\npeer_port = 9_000\nlocal_port = 0o17\n'
-        b'[[ "circuit" ]]\nnumber=+3\ncodec="g726-\\u00324"\npayload = 0b1100000\n',
-        b'circuit = [{number = 2, "peer_host" = "west", local_port = 5000, peer_port = 5002, prefill = 160},\n'
-        b'{ssrc = 4294967295, number = 30, role = "incoming"}]\nlaw = "A"\n')
-
-    def state(self, octets: bytes) -> bytes | None:
-        """What the program saves of a new gateway; None if it refuses the configuration."""
-        config, state = self.write('spelled.toml', octets), self.path('state')
-        done = support.ran(support.program(), 'replay', '--config', config, '--save', state)
-        return support.octets_of(state) if done[0] == 0 else None
-
-    def test_spellings(self) -> None:
-        taken = 0
-        for octets in self.SPELLED:
-            with self.subTest(octets):
-                if before := self.state(octets):
-                    taken += 1
-                    tables = with_addresses(tomllib.loads(octets.decode()), {'west': '10.0.0.1'})
-                    again = config_text(tables)
-                    self.assertEqual(self.state(again.encode()), before)
-                    meant = tomllib.loads(octets.decode().replace('"west"', '"10.0.0.1"'))
-                    self.assertEqual({'circuit': [], **tomllib.loads(again)}, meant)
-        self.assertGreaterEqual(taken, 3)

@@ -60,16 +60,6 @@ class LineKilledTests(RestartedKeeperCase):
         exchange = self.device.exchange
         self.assertEqual((exchange.signals, exchange.remote_alarms), (self.up(), False))
 
-    def test_align(self) -> None:
-        """Each program finds alignment again, and the calls go on."""
-        self.device.exchange = LateExchange()
-        self.begins('--align')
-        self.goes_on_over_all()
-        for _ in range(3):
-            self.killed(signal.SIGKILL)
-            self.is_up()
-        self.leaves_nothing()
-
     def test_crc4(self) -> None:
         """It goes on with the next program in its phase: two submultiframes are errored for each at most."""
         self.begins('--crc4')

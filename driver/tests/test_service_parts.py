@@ -1,6 +1,7 @@
 """One process a trunk: its parts, by a clock that the test gives."""
 from __future__ import annotations
 
+import asyncio
 import logging
 import os
 import signal
@@ -20,22 +21,25 @@ from e1gw.calls import CallRecord, CallsNote
 from e1gw.crc4 import Crc4Note
 from e1gw.events import AlarmChanged, AlignmentLost
 from e1gw.lines import Alignment
-from e1gw.service import events, trunk
+from e1gw.service import connection, events, lifecycle, trunk
 from e1gw.service.commands import unix_listener
-from e1gw.service.decisions import TRIED
+from e1gw.service.connection import NoAnswer, ProgramConnection
+from e1gw.service.decisions import TRIED, Wish
 from e1gw.service.journal import MINUTE, MOST, LineLimit
 from e1gw.service.handover import Handover, Left, Notifier, given_files, note_of, takes_up
-from e1gw.service.lifecycle import TrunkCarrier
+from e1gw.service.lifecycle import TrunkCarrier, point
 from e1gw.service.log_folder import LogPair
 from e1gw.service.memory import in_memory
 from e1gw.service.note import NoteFiles, ServiceNote
 from e1gw.service.ports import TakenPorts
 from e1gw.service.process import start_of
+from e1gw.service.program import ProgramPlaces
 from e1gw.service.reader import ReadingNote
 from e1gw.service.recordings import RecordingNote
 from e1gw.service.reload import outcome
 from e1gw.service.trunk import SatopNote
 from e1gw.service.version import ProgramVersion, VersionHistory
+from e1gw.session import Command, CommandRefusal, Kind, Record, command_record
 from e1gw.testing.ports import free_ports
 
 
@@ -133,7 +137,8 @@ class HandoverTests(support.FolderCase):
         handover.put(self.note(), {'line-in': self.files[0]})
         handover.put(self.note(), {'line-in': self.files[1]})
         handover.forget()
-        support.until(lambda: not manager.files)
+        manager.take_all()
+        self.assertEqual(manager.files, {})
         told = [f'{what} {name}' for what, name in zip(manager.told, manager.told[1:]) if name.startswith('FDNAME=')]
         self.assertEqual(told, ['FDSTOREREMOVE=1 FDNAME=other', 'FDSTORE=1 FDNAME=line-in',
                                 'FDSTOREREMOVE=1 FDNAME=line-in', 'FDSTORE=1 FDNAME=line-in',
@@ -223,6 +228,45 @@ class HandoverTests(support.FolderCase):
             self.assertIsNone(note_of(self.folder, opens), octets)
 
 
+    def test_a_note_that_is_torn(self) -> None:
+        """The one before it is whole: they are written in turn. What is there is not written again."""
+        files, notes = NoteFiles(self.folder), [self.path(name) for name in ('note.0', 'note.1')]
+        for text in b'one', b'two', b'three':
+            files.put(text)
+        self.assertEqual([NoteFiles(self.folder).read(), *sorted(os.listdir(self.folder))],
+                         [b'three', 'note.0', 'note.1'])
+        os.utime(notes[0], (0, 0))
+        files.put(b'three')
+        self.assertEqual(os.stat(notes[0]).st_mtime, 0)
+        os.unlink(notes[0])
+        files.put(b'three')
+        os.truncate(notes[0], 28)           # (a head has 24 octets)
+        self.assertEqual(NoteFiles(self.folder).read(), b'three')
+        os.truncate(notes[1], 28)
+        self.assertEqual(NoteFiles(self.folder).read(), b'')
+
+    def test_another_program_for_what_is_gone(self) -> None:
+        """Once a minute at most; at once for a port that is free again."""
+        carrier, program, wishes = mock.Mock(_due=0.0, _noted=(200.0, None)), mock.Mock(), list[Wish]()
+        carrier.trunk.note.return_value, carrier.taken.are_free.return_value = None, False
+        for now in 100.0, 130.0, 159.0, 160.0, 161.0:
+            carrier.wish, carrier.taken.are_free.return_value = Wish.NONE, now > 160
+            with mock.patch.object(lifecycle, 'time', SimpleNamespace(monotonic=lambda: now)):
+                TrunkCarrier._look(carrier, program)
+            wishes.append(carrier.wish)
+        self.assertEqual(wishes, [Wish.RENEW, Wish.NONE, Wish.NONE, Wish.RENEW, Wish.RENEW])
+        carrier.note.assert_not_called()
+
+    def test_another_configuration(self) -> None:
+        """Of what is logged before it nothing is told again."""
+        carrier = mock.Mock(places=ProgramPlaces(self.folder), _gone=None)
+        for config, first in (b'one', 0), (b'one', 0), (b'two', 77):
+            carrier.reader.first, carrier.reader.octets = 0, 77
+            carrier.versions.now.config_octets.return_value = config
+            TrunkCarrier._make_folder(carrier)
+            self.assertEqual((carrier.reader.first, support.octets_of(self.path('config'))), (first, config))
+
+
 class ControlSocketTests(support.FolderCase):
     def test_there_once_it_listens(self) -> None:
         """Who waited for it to be there was refused until it listened."""
@@ -240,7 +284,123 @@ class ControlSocketTests(support.FolderCase):
         self.assertEqual((found, os.listdir(self.folder)), ([False, True], ['control']))
 
 
+class ProgramConnectionTests(support.FolderCase, unittest.IsolatedAsyncioTestCase):
+    """Records that are given to programs, one after another, at a socket."""
+
+    async def asyncSetUp(self) -> None:
+        asyncio.get_running_loop().set_debug(False)     # (a slow turn is no fault)
+        path = self.path('program')
+        self.listener, self.fault, self.hurries = support.listening(path), '', 0
+        self.addCleanup(self.listener.close)
+        self.stood = list[tuple[str, bool, str]]()
+        self.its = ProgramConnection(lambda: path, lambda what, on, why: self.stood.append((what, on, why)),
+                                     self.hurried, lambda: self.fault)
+        for name, limit in ('NEXT', 900.0), ('PATIENCE', 900.0), ('AGAIN', 0.0):
+            self.enterContext(mock.patch.object(connection, name, limit))
+        self.addCleanup(asyncio.create_task(self.its.run()).cancel)
+        self.line = await self.accepted()
+
+    def hurried(self) -> None:
+        self.hurries += 1
+
+    async def accepted(self) -> socket.socket:
+        line = (await asyncio.to_thread(self.listener.accept))[0]
+        self.addCleanup(line.close)
+        while not self.stood or not self.stood[-1][1]:
+            await asyncio.sleep(0)
+        return line
+
+    def asks(self, circuit: int, teller: object = None, **more: Any) -> asyncio.Task[Record]:
+        return asyncio.create_task(self.its.ask(command_record(circuit, Command.SEIZE), lambda: teller, **more))
+
+    async def test_answers(self) -> None:
+        """In their order. What has none when the program ends gets none, and what comes then goes to the next one."""
+        first, lost = self.asks(1), self.asks(2)
+        await asyncio.to_thread(support.read_from, self.line, 10)
+        self.line.sendall(answer(1))
+        self.assertEqual((await first).circuit, 1)
+        self.line.close()
+        with self.assertRaisesRegex(NoAnswer, 'the connection to the program is lost'):
+            await lost
+        later = self.asks(3)
+        line = await self.accepted()
+        self.assertEqual(await asyncio.to_thread(support.read_from, line, 5), command_record(3, Command.SEIZE))
+        line.sendall(answer(3, CommandRefusal.NOT_IDLE))
+        self.assertIs((await later).refusal, CommandRefusal.NOT_IDLE)
+        line.sendall(answer(9))             # (nobody has asked)
+        while len(self.stood) < 4:
+            await asyncio.sleep(0)
+        gone = f'{self.path("program")}: it'
+        self.assertEqual(self.stood, [('control', True, ''), ('control', False, f'{gone} has closed the connection'),
+                                      ('control', True, ''), ('control', False, f'{gone} sent an unexpected record')])
+
+    async def test_an_answer_waits_for_its_report(self) -> None:
+        """Of two that are alike each has its own; one waits no more when nobody tells, or another one does."""
+        both, other = [self.asks(1, 'teller') for _ in range(2)], self.asks(2)
+        for circuit in 1, 1, 2:
+            self.line.sendall(answer(circuit))
+        await other
+        for n in 0, 1:
+            self.assertFalse(both[n].done())
+            self.its.told(command_record(1, Command.SEIZE))
+            await both[n]
+        self.assertGreater(self.hurries, 0)
+        told = list[object](['teller', 'teller', 'another'])
+        late = asyncio.create_task(self.its.ask(command_record(4, Command.SEIZE), lambda: told.pop(0)))
+        self.line.sendall(answer(4))
+        await late
+
+    async def test_with_no_program(self) -> None:
+        """Who waits is told why there is none; what may be left out waits for none."""
+        self.listener.close()
+        self.line.close()
+        while self.stood[-1][1]:
+            await asyncio.sleep(0)
+        with self.assertRaisesRegex(NoAnswer, '^no connection to the program$'):
+            await self.asks(1, waits=False)
+        waits = self.asks(1)
+        await asyncio.sleep(0.01)
+        self.assertFalse(waits.done())
+        self.fault = 'standby'
+        with self.assertRaisesRegex(NoAnswer, '^standby$'):
+            await waits
+
+
+def answer(circuit: int, refusal: int = 0) -> bytes:
+    """What a program answers to a command."""
+    return bytes([Kind.ANSWER, circuit, 0, 2, Kind.COMMAND, refusal])
+
+
+class PointTests(support.FolderCase):
+    def test_a_name_leads_to_the_socket_of_now(self) -> None:
+        name, taken = self.path('name'), self.path('taken')
+        for path in 'a', 'a', 'b':
+            point(name, path)
+            self.assertEqual((os.readlink(name), os.listdir(self.folder)), (path, ['name']))
+        os.mkdir(taken)
+        with self.assertLogs('e1gw.service.lifecycle') as told:
+            point(taken, 'b')
+        self.assertEqual(told.records[0].getMessage(), f'{taken} does not lead to the process of now: Is a directory')
+
+
 class TrunkEndTests(support.FolderCase, unittest.IsolatedAsyncioTestCase):
+    async def test_what_is_opened_too_late(self) -> None:
+        """It is closed: some devices can be opened once."""
+        goes, stream = threading.Event(), mock.Mock()
+
+        def opens() -> mock.Mock:
+            goes.wait()
+            return stream
+        opening = asyncio.create_task(trunk.opened(opens))
+        await asyncio.sleep(0)
+        opening.cancel()
+        with self.assertRaises(asyncio.CancelledError):
+            await opening
+        stream.close.assert_not_called()
+        goes.set()
+        while not stream.close.called:
+            await asyncio.sleep(0.001)
+
     async def test_ends(self) -> None:
         """A socket, a FIFO and a file tell that they have ended; a device has if nothing was taken of it."""
         mine, its = socket.socketpair()

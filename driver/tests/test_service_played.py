@@ -7,18 +7,22 @@ import json
 import os
 import re
 import signal
+import socket
+import tomllib
 from typing import Any
 from unittest import mock
 
 from . import support
 from .in_process import ServiceCase, plain
 from .support import SECONDS
-from e1gw.service import lifecycle, service, version
+from e1gw.lines import config_text
+from e1gw.service import decisions, lifecycle, service, version
 from e1gw.service.decisions import Takeover
 from e1gw.service.handover import Left, version_for
 from e1gw.service.log_folder import LogPair
 from e1gw.service.options import wants_of
 from e1gw.service.program import ProgramPlaces
+from e1gw.service.version import ProgramVersion, version_of_now
 
 LOGGED = LogPair(1, 0, b'state', b'')
 HAND = ', what it had in hand is lost: 2048 octets (8 ms) at most'
@@ -70,7 +74,7 @@ ENDS: dict[str, tuple[str, list[dict[str, Any]], list[str], int]] = {
 class PlayedEndTests(ServiceCase):
     async def test_what_follows(self) -> None:
         for name, (options, plans, lines, status) in ENDS.items():
-            with self.subTest(name):
+            with self.subTest(name), mock.patch.object(decisions, 'WITHIN', SECONDS):       # (deaths go by no clock)
                 self.write('starts', '')
                 self.records.clear()
                 self.plan(*plans)
@@ -98,6 +102,30 @@ class PlayedEndTests(ServiceCase):
             self.assertRegex(await self.ask('reload'), '^reload: refused, the version before goes on: the program does '
                              r'not begin within 0.1 s; silent for \d+\.\d s: no calls$')
         await self.ends()
+
+    async def test_what_asked_the_one_before_to_end(self) -> None:
+        """The next one is not asked by it."""
+        folder = wants_of(service.parser().parse_args(self.words())).folder
+        os.mkdir(folder)
+        os.mkfifo(f'{folder}/end')
+        self.addCleanup(os.close, end := os.open(f'{folder}/end', os.O_RDWR))
+        os.write(end, b'\n')
+        self.begins()
+        await self.says('carries')
+        await self.ends()
+        self.assertEqual(len(self.starts()), 1)
+
+    async def test_a_state_that_is_kept(self) -> None:
+        """It is loaded, is gone once a program goes on from it, and is saved at the end. What is not saved is told."""
+        state = self.write('state', 'loaded')
+        for plan, kept, status in ((WAITS, 'saved', 0), (says('no room'), '', 1)):
+            self.plan(plan, what='save')
+            self.begins('--state', state)
+            await self.says('begins with what was saved: program')
+            self.assertFalse(os.path.exists(state))
+            self.assertEqual((await self.ask('quit'), await self.task), ('quit: done', status))
+            self.assertEqual(support.text_of(state) if os.path.exists(state) else '', kept)
+        self.assertEqual(self.said()[-1], 'error: the state is not saved: no room')
 
     async def test_a_check_that_hangs(self) -> None:
         self.begins()
@@ -161,6 +189,143 @@ class PlayedReloadTests(ServiceCase):
             f'warning: the version before comes back: program D goes on after T ms{HAND}', QUIT])
 
 
+    async def test_one_that_does_not_come_up(self) -> None:
+        self.plan(WAITS, says('socket 1'), WAITS)
+        self.begins()
+        await self.says('carries')
+        self.assertRegex(await self.ask('reload'), '^reload: refused, the version before goes on: the program says: '
+                         r'socket 1: its port is free now, or its peer cannot be reached; silent for \d\.\d s: '
+                         'no calls$')
+        await self.ends()
+
+    async def test_a_program_that_may_not_be_executed_any_more(self) -> None:
+        """No reload takes it; the one that was tried goes on."""
+        self.begins()
+        await self.says('carries')
+        os.chmod(self.path('e1gw'), 0o644)
+        self.assertIn('Permission denied', await self.ask('reload'))
+        os.kill(self.starts()[-1][1], signal.SIGKILL)
+        await self.says('goes on after')
+        await self.ends()
+
+
+class PlayedRefusalTests(ServiceCase):
+    """What is refused names the file or the address that it is of, and is left as it is."""
+
+    def refused(self, *words: str) -> tuple[int, str]:
+        """The status of a command line, and what it says."""
+        self.records.clear()
+        loop = asyncio.new_event_loop()
+        try:
+            return service.status_of(self.words(*words), loop), '\n'.join(each.getMessage() for each in self.records)
+        finally:
+            loop.run_until_complete(self.dies())
+            loop.close()
+
+    def test_rows(self) -> None:
+        none, precious, taken = self.path('none'), self.write('precious', 'precious'), self.path('card')
+        bad = self.write('bad.toml', 'law = "B"\n')
+        with socket.create_server(('127.0.0.1', 0)) as held, socket.socket() as deaf, \
+                socket.socket(socket.AF_INET, socket.SOCK_DGRAM) as datagrams:
+            for line in datagrams, deaf:            # (deaf does not listen)
+                line.bind(('127.0.0.1', 0))
+            place, away = (f'127.0.0.1:{line.getsockname()[1]}' for line in (held, deaf))
+            port = datagrams.getsockname()[1]
+            used = self.write('port.toml', support.config_text({3: {'local_port': port, 'peer_port': 9}}))
+            names = self.write('names.toml', support.config_text({3: {'peer_host': 'no.such.invalid'}}))
+            lost, in_use = 'the trunk cannot be opened: ', f'port {port} is in use (ss -ulpn shows by whom)\nends: '
+            rows: list[tuple[str, int, str]] = [
+                (f'--control {none}/ctl', 2, f'cannot listen: --control {none}/ctl: No such file'),
+                (f'--control {precious}', 2, f'{precious} is there and no socket'),
+                (f'--control {taken}', 2, f'at {taken} another one listens'),
+                (f'--program-control {taken}', 2, f'--program-control {taken}: somebody listens there'),
+                (f'--tell {precious}', 2, f'--tell {precious}: somebody listens there, or something'),
+                (f'--http {place}', 2, f'cannot listen: --http {place}: Address already in use'),
+                (f'--config {none}', 2, f'{none}: No such file or directory'),
+                (f'--program {none}', 2, f'{none}: No such file or directory'),
+                ('--keep 1h', 2, '--keep wants --session; see e1gw-trunk --help'),
+                # the unit tries these again
+                (f'--config {names}', 1, 'no.such.invalid: Name or service not known'),
+                (f'--unix {none}', 1, f'{lost}{none}: No such file or directory'),
+                (f'--tcp {away}', 1, f'{lost}{away}: Connection refused'),
+                (f'--config {used} --in /dev/zero --out /dev/null', 1,
+                 f'{in_use}the program says: socket 3, behind octet 0')]
+            away_names = mock.AsyncMock(side_effect=socket.gaierror(-2, 'Name or service not known'))
+            with mock.patch.object(asyncio.BaseEventLoop, 'getaddrinfo', away_names):
+                for words, status, told in rows:
+                    with self.subTest(words):
+                        self.plan(says('socket 3'))
+                        ended, said = self.refused(*words.split())
+                        self.assertEqual((ended, told in said, 'Errno' in said), (status, True, False), said)
+        self.plan(says('config 5 OutOfRange at 0'), what='check')
+        ended, said = self.refused('--config', bad, '--in', '/dev/null', '--out', precious, '--session', precious)
+        self.assertEqual((ended, f'{bad}:1: law is \'B\', and has to be "A" or "mu"' in said), (2, True), said)
+        self.assertEqual(support.text_of(precious), 'precious')
+
+    async def test_a_device_that_is_not_there_yet(self) -> None:
+        """The status says so, and not that a program is missing; and systemd learns it."""
+        none = self.path('none')
+        why = f'the trunk cannot be opened: {none}: No such file or directory'
+        self.begins('--in', none, '--out', none, '--reopen')
+        await self.until(lambda: 'STATUS=the trunk is not open yet' in self.manager.told)
+        await self.until(lambda: any(each.getMessage() == f'{why}; it is tried again' for each in self.records))
+        first, second, *_ = (await self.ask('status')).splitlines()
+        self.assertEqual((first, await self.ask('seize 1')), ('trunk trunk, e1gw 7.7, not open', f'seize 1: {why}'))
+        self.assertRegex(second, f' UTC, {why}; the other end: not heard$')
+        await self.ends()
+
+
+class PlayedVersionTests(ServiceCase):
+    """What a configuration is before a program has it."""
+
+    async def version(self, text: str, senders: str | None = None, path: str = '') -> ProgramVersion:
+        self.write('trunk.toml', text)
+        found = await version_of_now(self.path('e1gw'), path or self.config, senders, 300)
+        self.addCleanup(found.close)
+        return found
+
+    async def test_what_is_refused(self) -> None:
+        os.mkfifo(self.path('fifo'))
+        peer = support.config_text({3: {'local_port': 9, 'peer_port': 9, 'peer_host': '255.255.255.255'}})
+        for text, path, words in (('x = ' + '[' * 1200, '', 'the configuration is not understood: '),
+                                  ('#' * 65_537, '', 'the configuration has more than 65536 octets'),
+                                  ('', self.path('fifo'), f'{self.path("fifo")} is no file'),
+                                  (peer, '', 'circuit 3: peer_host 255.255.255.255 is the address of no machine')):
+            with self.subTest(words), self.assertRaisesRegex(version.VersionRefused, f'^{words}'):
+                await self.version(text, path=path)
+        await self.version('#' * 65_536)
+        self.plan(says('state 5 Config at 0'), what='check')
+        with self.assertRaisesRegex(version.VersionRefused, '^state 5 Config at 0$') as refused:
+            await self.version('')
+        self.assertTrue(refused.exception.is_config)
+
+    async def test_names_are_looked_up_once(self) -> None:
+        """No program has a name to look up. Whose datagrams are received follows from whether there are names."""
+        found = [(socket.AF_INET6, 0, 0, '', ('::1', 0)), (socket.AF_INET, 0, 0, '', ('10.0.0.1', 0))]
+        with mock.patch.object(asyncio.BaseEventLoop, 'getaddrinfo', mock.AsyncMock(return_value=found)):
+            for host, asked, address, senders in (
+                    ('west', None, '10.0.0.1', 'any'), ('10.0.0.2', None, '10.0.0.2', 'host'),
+                    ('west', 'host', '10.0.0.1', 'host'), ('10.0.0.2', 'any', '10.0.0.2', 'any')):
+                its = await self.version(support.config_text({
+                    3: {'local_port': 9, 'peer_port': 9, 'peer_host': host}, 4: {}}), asked)
+                text = its.config_octets().decode()
+                self.assertEqual((text.count('west'), text.count(f'peer_host = "{address}"'), its.senders, its.name),
+                                 (0, 1, senders, '7.7'))
+        words = self.starts('check')[-1]
+        self.assertEqual((len(self.starts('check')), words[words.index('--seizure-wait') + 1]), (6, '300'))
+
+    def test_spellings(self) -> None:
+        """Where names are replaced there is a file again, with the same meaning, however it was spelled."""
+        for text in ('law = """mu"""\nhost = \'127.0.0.1\'\ncircuit = []\n',
+                     '"law" = \'mu\'\n[[circuit]]\nnumber = 0x1\n"peer_host" = "west"\npeer_port = 9_000\n'
+                     '[[ "circuit" ]]\nnumber=+3\ncodec="g726-\\u00324"\npayload = 0b1100000\n',
+                     'circuit = [{number = 2, "peer_host" = "west", local_port = 5000},\n{ssrc = 7, number = 30}]'):
+            with self.subTest(text):
+                again = config_text(version.with_addresses(tomllib.loads(text), {'west': '10.0.0.1'}))
+                meant = tomllib.loads(text.replace('"west"', '"10.0.0.1"'))
+                self.assertEqual({'circuit': [], **tomllib.loads(again)}, {'circuit': [], **meant})
+
+
 class PlayedWatchTests(ServiceCase):
     """What an operator has of it."""
 
@@ -172,14 +337,42 @@ class PlayedWatchTests(ServiceCase):
         self.assertEqual({key: status[key] for key in ('name', 'version', 'fault', 'program', 'commands')},
                          {'name': 'west', 'version': '7.7', 'fault': None, 'program': True, 'commands': []})
         self.assertEqual({row['state'] for row in status['circuits']}, {'idle'})
-        for words, answer in (('seize 1', 'seize 1: done'), ('seize 31', 'seize 31: circuits are 1 to 30'),
-                              ('codec 1 pcma 8', 'codec 1: done'), ('seize 1', 'seize 1: done'),
-                              ('role', 'role: there is no other machine (--feed, --standby)')):
+        for words, answer in COMMANDS:
             self.assertEqual(await self.ask(words), answer)
+        self.assertIn('\n  seize N, clear N', await self.ask('help'))
         status = json.loads(await self.ask('status json'))
         self.assertEqual(status['commands'], [{'command': 'codec', 'answer': 'done', 'count': 1},
                                               {'command': 'seize', 'answer': 'done', 'count': 2}])
         await self.ends()
+
+    async def test_names_of_sockets(self) -> None:
+        """A control socket that somebody removes is there again; the names of the program's sockets go at the end."""
+        names = self.path('p'), self.path('t')
+        self.begins('--control-mode', '600', '--program-control', names[0], '--tell', names[1])
+        await self.says('carries')
+        self.assertEqual([os.path.basename(os.readlink(name)) for name in names], ['program', 'tell'])
+        os.unlink(self.control)
+        await self.until(lambda: os.path.exists(self.control))
+        self.assertEqual(os.stat(self.control).st_mode & 0o777, 0o600)
+        await self.ends()
+        self.assertFalse(any(map(os.path.lexists, (*names, self.control))))
+
+
+# Commands, and what is answered.
+CODECS = 'codecs are pcma, pcmu, g726-16, g726-24, g726-32, g726-40'
+COMMANDS = (
+    ('seize 1', 'seize 1: done'), ('codec 1 pcma 8', 'codec 1: done'), ('seize 1', 'seize 1: done'),
+    *((f'seize {word}', f'seize {word}: circuits are 1 to 30') for word in ('0', '31', 'x', '\u0663')),
+    *((f'codec 1 {words}', f'codec 1: {answer}') for words, answer in (
+        ('pcmu 0', 'the law of the trunk is A'), ('g729 18', CODECS), ('pcma 128', 'payload types are 0 to 127'),
+        ('pcma -1', 'payload types are 0 to 127'), ('pcma 0128', 'payload types are 0 to 127'))),
+    ('seize', 'seize: wants a circuit'), ('seize 1 2', 'seize: wants a circuit'),
+    ('codec 1 pcma', 'codec: wants a circuit, a codec and a payload type'), ('on-loss keep', 'on-loss: done'),
+    ('on-loss drop', 'on-loss: wants keep, or clear or block and seconds'),
+    ('status 31', 'status 31: circuits are 1 to 30'), ('drain 31', 'drain 31: circuits are 1 to 30'),
+    ('role', 'role: there is no other machine (--feed, --standby)'),
+    ('hello', 'hello: no such command; there are seize, clear, answer, clear-back, block, unblock, drain, undrain, '
+     'codec, status, events, on-loss, role, promote, demote, move, reload, quit and help'))
 
 
 async def never(*_: object, **__: object) -> list[tuple[Any, ...]]:
@@ -237,7 +430,8 @@ class PlayedTakeoverTests(ServiceCase):
         await self.says('reload: program')
         os.kill(os.getpid(), signal.SIGTERM)
         self.assertEqual(await self.task, 0)
-        support.until(lambda: not self.manager.files)
+        self.manager.take_all()
+        self.assertEqual(self.manager.files, {})
         told = [line.partition('=')[0] for line in self.manager.told if not line.startswith('FD')]
         self.assertEqual([word for word in told if word != 'WATCHDOG'],
                          ['READY', 'STATUS', 'RELOADING', 'MONOTONIC_USEC', 'READY', 'STATUS', 'STOPPING'])

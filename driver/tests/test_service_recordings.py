@@ -1,6 +1,7 @@
 """One process a trunk: what is kept of it, whatever ends meanwhile, and what its octets show of the flow."""
 from __future__ import annotations
 
+import asyncio
 import glob
 import json
 import os
@@ -8,12 +9,15 @@ import tempfile
 import time
 import types
 import unittest
+from contextlib import closing
 from unittest import mock
 
 from . import support
 from .logs import WrittenLog
+from .test_watch import FACTS
 from e1gw.clock import TICK
-from e1gw.service import reader, recordings, watch
+from e1gw.service import reader, recordings, status, watch
+from e1gw.service.log_folder import RECORDS, LogFiles
 from e1gw.session import MULTIFRAME
 
 RECORD = MULTIFRAME / 256_000       # seconds
@@ -57,7 +61,7 @@ class ServiceFlowTests(support.FolderCase, unittest.IsolatedAsyncioTestCase):
         with tempfile.NamedTemporaryFile('w') as config:
             trunk = mock.Mock(flow=self.reader.clock.status, **{
                 'places.return_value.tell': config.name,
-                'config_path.return_value': config.name, 'place.return_value': 0, 'facts.return_value': {}})
+                'config_path.return_value': config.name, 'place.return_value': 0, 'facts.return_value': FACTS})
             found = watch.TrunkWatch(watch.WatchWants(name='west'), trunk)
             self.reader.found = found.flowed
             with mock.patch.object(found, 'tell') as tells:
@@ -92,6 +96,43 @@ class ServiceFlowTests(support.FolderCase, unittest.IsolatedAsyncioTestCase):
         self.log.multiframe()
         self.reader.look()
         self.assertEqual(self.reader.octets, told + MULTIFRAME)
+
+    async def test_what_was_written_over(self) -> None:
+        """It is not read as what was there before."""
+        self.log.multiframe()
+        with closing(LogFiles(self.path('log'))) as files:
+            number = files.newest() or 0
+            head = files.heads(number)
+            assert head
+            before = files.octets(RECORDS[number], head)
+            self.log.multiframe()
+            self.assertEqual(files.octets(RECORDS[number], head), before)       # (more is behind it)
+            for _ in range(2):
+                self.log.turns()
+                for _ in range(3):
+                    self.log.multiframe()
+            self.assertIsNone(files.octets(RECORDS[number], head))
+
+    async def test_where_a_program_says_that_it_is(self) -> None:
+        """Who has missed a part counts on from there. One that does not say it has told something else, or has gone."""
+        self.reader.look()
+        self.reader.octets, self.reader.has_missed = 1000, True
+        tells = iter([b'e1gw tell 1 A\nat 2048\nalarms', b'e1gw tell 1 A\nat 2560\n', *3 * [b'e1gw tell 1 A\nat 512\n'],
+                      b'x' * 300, b'e1gw tell 1 A\n'])
+
+        def came(_: asyncio.StreamReader, writer: asyncio.StreamWriter) -> None:
+            writer.write(next(tells))
+            writer.close()
+        await asyncio.start_unix_server(came, self.path('tell'))
+        its = status.OperatedTrunk(mock.Mock(reader=self.reader, program=mock.Mock(begun=500), **{
+            'places.tell': self.path('tell')}), mock.Mock())
+        await its.know_place()
+        await its.know_place()              # (nothing is missed any more)
+        self.assertEqual((self.reader.octets, self.reader.has_missed), (500 + 2560, False))
+        for _ in range(2):
+            self.reader.has_missed = True
+            with self.assertRaisesRegex(OSError, 'it does not tell where it is'):
+                await its.know_place()
 
     async def test_slips_are_noted(self) -> None:
         """Beside the file of a ring, at the place where octets were lost; and what a program had in hand."""

@@ -3,7 +3,6 @@ from __future__ import annotations
 
 import csv
 import re
-import socket
 import sys
 import unittest
 from typing import Iterator
@@ -71,27 +70,3 @@ class ServiceReloadTests(unittest.TestCase):
         self.world.configure('[[circuit]]'.join(tables[:10] + mute[10:]))
         self.assertEqual(self.reload(), (0, 'reload: it takes the ports of 1 calls (circuits 10)\nreload: done\n'))
         self.assertEqual([*self.up()], [6, 7, 8, 9, 10])
-
-    def test_a_port_that_is_taken(self) -> None:
-        """It is named, and the version before comes back with its calls, whose silence is told."""
-        call(self.world, 1)
-        with socket.socket(socket.AF_INET, socket.SOCK_DGRAM) as line:
-            line.bind(('127.0.0.1', 0))
-            port = line.getsockname()[1]
-            self.world.configure(re.sub(r'local_port = \d+', f'local_port = {port}', self.text, count=1))
-            status, said = self.reload()
-        self.assertEqual((status, re.sub(r'\d+\.\d s', 'T s', said)), (
-            1, 'reload: refused, the version before goes on: the program says: socket 1: port '
-            f'{port} is in use (ss -ulpn shows by whom); silent for T s: 1 calls (circuits 1)\n'))
-        self.assertEqual([*self.up()], [1])
-
-    def test_a_peer_that_nobody_can_be(self) -> None:
-        call(self.world, 1)
-        self.world.configure(self.text.replace('prefill = 160', 'prefill = 160\npeer_host = "255.255.255.255"', 1))
-        self.assertEqual(self.reload(), (1, 'reload: refused, the trunk goes on as it was: circuit 1: peer_host '
-                                         '255.255.255.255 is the address of no machine\n'))
-        self.assertEqual([*self.up()], [1])
-
-    def test_nobody_listens(self) -> None:
-        self.world.quit()
-        self.assertEqual(self.reload(), (2, ''))

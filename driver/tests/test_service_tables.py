@@ -2,6 +2,7 @@
 from __future__ import annotations
 
 import asyncio
+import io
 import os
 import socket
 import unittest
@@ -18,7 +19,7 @@ from e1gw.service.memory import in_memory, octets_in
 from e1gw.service.options import folder_of, opens_of, recording_of, wants_of, watched_of
 from e1gw.service.ports import AGAIN, TakenPorts
 from e1gw.service.process import UNKNOWN, Child, ran, signal_words
-from e1gw.service.program import ProgramPlaces, TrunkProgram
+from e1gw.service.program import MOST_PATH, ProgramPlaces, TrunkProgram
 from e1gw.service.recordings import RecordingNote, RecordingWants, TrunkRecording
 from e1gw.service.service import parser
 from e1gw.service.standby import TrunkStandby
@@ -58,13 +59,29 @@ class OptionTests(unittest.TestCase):
         self.assertEqual((its.line.opens, its.line.satop()[:2]), (None, ['127.0.0.1:5000', '127.0.0.1:5001']))
 
     def test_what_cannot_be_together(self) -> None:
-        for words in ('--in a', '--out a', '--unix u --in a --out b', '--unix u --clear --align',
+        for words in ('--out a', '--unix u --in a --out b', '--unix u --clear --align',
                       '--clear --crc4 --unix u', '--satop 127.0.0.1:5000,127.0.0.1:5001 --clear',
                       '--satop 127.0.0.1:5000,127.0.0.1:5001 --align', '--unix u --picture 60 --http 127.0.0.1:1',
                       '--unix u --picture 60 --session s --keep 1h', '--unix u --name a/b', '--unix u --name a\x01b',
-                      f'--unix u --name {os.fsdecode(bytes([255]))}'):
+                      f'--unix u --name {os.fsdecode(bytes([255]))}', '', '--in a', '--unix u --tcp b:1',
+                      '--unix u --keep 1h', '--unix u --on-loss drop', '--unix u --feed 127.0.0.1:1',
+                      '--unix u --feed 10.0.0.1:1 --standby 10.0.0.2:1', '--tcp .x:1', '--tcp 127.0.0.1:99999',
+                      *(f'--unix u {option} /{"x" * MOST_PATH}' for option in ('--program-control', '--tell')),
+                      f'--unix u --folder /{"x" * (MOST_PATH - 1)}'):
             with self.subTest(words), self.assertRaises(ValueError):
                 wants_of(self.asked(words))
+        for option in '--program-control', '--tell':
+            wants_of(self.asked(f'--unix u {option} /{"x" * (MOST_PATH - 1)}'))
+
+    def test_what_is_no_value(self) -> None:
+        """It is named, with the file of a unit's options."""
+        for words in '--repeat 9', '--session s --keep 1x', '--http 1', '--gap x', '--unix u --no-such-option':
+            with self.subTest(words), mock.patch.dict(os.environ, {'E1GW_OPTIONS': '/none/west.options'}), \
+                    mock.patch('sys.stderr', new_callable=io.StringIO) as told, \
+                    self.assertRaises(SystemExit) as refused:
+                self.asked(words)
+            self.assertEqual(refused.exception.code, 2)
+            self.assertIn('/none/west.options, which has its options, is missing', told.getvalue())
 
     def test_the_folder(self) -> None:
         """The same for each start of a trunk, and for no other one."""
@@ -128,6 +145,19 @@ class ChildEndTests(unittest.IsolatedAsyncioTestCase):
         child = await self.ended('echo a; echo octets 7; echo records 2; echo errored 3; echo satop x; printf rest')
         self.assertEqual(child.news(), ['a', 'satop x', 'rest'])
         self.assertEqual((child.news(), child.lines, child.totals()), ([], ['a', 'rest'], {'octets': 7, 'records': 2}))
+
+    async def test_what_was_heard_is_given_back(self) -> None:
+        """Each line is told once, also to the next service. What comes each second is not held for long."""
+        said = in_memory(b'circuit 3 begins as new\nlive submulti')
+        its = Child(os.getpid(), said=said)
+        self.addCleanup(its.close)
+        self.assertEqual(its.news(), ['circuit 3 begins as new'])
+        os.write(said, b'frames 1\n' + 5000 * b'live 2\n')
+        self.assertEqual(its.news(), ['live submultiframes 1'] + 5000 * ['live 2'])
+        later = Child(os.getpid(), said=said)
+        os.write(said, b'fault 5 Read\n')
+        self.assertEqual(later.news(), ['fault 5 Read'])
+        self.assertLess(512 * os.fstat(said).st_blocks, 5000)
 
     async def test_ran(self) -> None:
         async def of(script: str, given: bytes = b'', seconds: float = 900.0) -> tuple[int | None, str, bytes]:
@@ -249,6 +279,17 @@ class RecordingTests(support.FolderCase, unittest.IsolatedAsyncioTestCase):
         await asyncio.to_thread(its.close)
         self.assertEqual((support.text_of(path), its.is_over()), ('noted octets', True))
         self.assertEqual(its.note(0), replace(left, place=12, octets=9, size=12))
+
+    async def test_what_is_written_waits_no_more(self) -> None:
+        path = self.path('kept')
+        with mock.patch.object(recordings, 'MOST_BEHIND', 150):
+            its = TrunkRecording(RecordingWants(path, None, 'west', 'c', 200), lambda: None,
+                                 RecordingNote(path, None, '', (), path, 0, 0, 0, 0))
+            for place in 99, 198:
+                its.put(bytes(99), place, place)
+                await its.has(place, 900.0)
+            await asyncio.to_thread(its.close)
+        self.assertEqual((its.why, os.path.getsize(path)), ('', 198))
 
     async def test_one_that_is_too_slow(self) -> None:
         """It ends, is told once, and takes no more."""

@@ -1,19 +1,16 @@
-"""The SIP front end of examples/sip: calls between an agent, this test or sipp, and the exchange of a trunk."""
+"""The SIP front end of examples/sip: calls between an agent, which is this test, and the exchange of a trunk."""
 from __future__ import annotations
 
 import math
 import os
 import re
-import shutil
 import socket
 import subprocess
 import sys
-import unittest
-from contextlib import ExitStack
+from contextlib import ExitStack, suppress
 from unittest import mock
 
 from . import support, world
-from .support import SECONDS
 from .test_trunk import aligned
 from e1gw.exchange import ACKNOWLEDGED
 from e1gw.testing.datagrams import PACKET, packets, speech
@@ -25,52 +22,29 @@ OFFER = ('v=0\r\no=- 1 1 IN IP4 127.0.0.1\r\ns=-\r\nc=IN IP4 127.0.0.1\r\nt=0 0\
          'm=audio {port} RTP/AVP {payload} 101\r\n')
 
 
-class Heard:
-    """Whether a message has come, and which."""
-
-    def __init__(self, line: socket.socket) -> None:
-        self.line, self.text = line, ''
-
-    def __call__(self) -> bool:
-        try:
-            self.text = self.line.recv(65536).decode()
-        except BlockingIOError:
-            return False
-        return True
-
-
-class FrontEndCase(support.FolderCase):
-    """A front end of this many circuits, and an agent."""
-
-    law, circuits = 'A', 2
+class SipFrontEndTests(support.FolderCase):
+    """A front end of two circuits, and an agent."""
 
     def setUp(self) -> None:
         super().setUp()
         held = ExitStack()
         self.addCleanup(held.close)
-        sip, *ports = free_ports(1 + 2 * self.circuits)
+        sip, *ports = free_ports(5)
         text = support.config_text({n: {'ptime': 10, 'prefill': 160, 'local_port': local, 'peer_port': peer}
-                                    for n, local, peer in zip(range(1, 31), ports[::2], ports[1::2])}, self.law)
+                                    for n, local, peer in ((1, *ports[:2]), (2, *ports[2:]))})
         self.world = held.enter_context(world.World(text))
         aligned(self.world)
-        self.front_end = subprocess.Popen([sys.executable, '-B', FRONT_END, self.world.path('ctl'), self.world.config,
-                                           '--sip', f'127.0.0.1:{sip}'], stdout=subprocess.PIPE)
-        held.callback(self.end)
-        assert self.front_end.stdout
-        self.assertEqual(self.front_end.stdout.readline(), f'calls are taken at 127.0.0.1:{sip}\n'.encode())
+        front_end = held.enter_context(subprocess.Popen(
+            [sys.executable, '-B', FRONT_END, self.world.path('ctl'), self.world.config, '--sip', f'127.0.0.1:{sip}'],
+            stdout=subprocess.PIPE))
+        held.callback(front_end.kill)
+        assert front_end.stdout
+        self.assertEqual(front_end.stdout.readline(), f'calls are taken at 127.0.0.1:{sip}\n'.encode())
         self.agent, self.speech = (held.enter_context(socket.socket(socket.AF_INET, socket.SOCK_DGRAM)) for _ in '12')
         for line in (self.agent, self.speech):
             line.bind(('127.0.0.1', 0))
         self.agent.connect(('127.0.0.1', sip))
 
-    def end(self) -> None:
-        self.front_end.kill()
-        self.front_end.wait(SECONDS)
-        assert self.front_end.stdout
-        self.front_end.stdout.close()
-
-
-class SipFrontEndTests(FrontEndCase):
     def sends(self, method: str, call: str, payload: int = 8) -> None:
         body = OFFER.format(port=self.speech.getsockname()[1], payload=payload) if method == 'INVITE' else ''
         number = 1 if method in ('INVITE', 'CANCEL') else 2
@@ -85,9 +59,16 @@ class SipFrontEndTests(FrontEndCase):
         """Waits, while the trunk goes on, for messages that begin so, one after another; the last one."""
         self.agent.setblocking(False)
         for first in firsts:
-            self.world.until(found := Heard(self.agent))
-            self.assertEqual(found.text.split('\r\n')[0], first)
-        return found.text
+            self.world.until(self.heard)
+            self.assertEqual(self.text.split('\r\n')[0], first)
+        return self.text
+
+    def heard(self) -> bool:
+        """Whether a message has come."""
+        with suppress(BlockingIOError):
+            self.text = self.agent.recv(65536).decode()
+            return True
+        return False
 
     def is_up(self, call: str) -> tuple[str, int]:
         """A call is made and answered; where the front end takes its speech."""
@@ -135,17 +116,3 @@ class SipFrontEndTests(FrontEndCase):
         self.hears('SIP/2.0 100 Trying', 'SIP/2.0 503 Service Unavailable')
         self.sends('CANCEL', 'first')
         self.hears('SIP/2.0 200 OK', 'SIP/2.0 487 Request Terminated')
-
-
-@unittest.skipUnless(shutil.which('sipp'), 'no sipp')
-class SippTests(FrontEndCase):
-    law, circuits = 'mu', 30        # (sipp offers PCMU)
-
-    def test_thirty_calls_at_once(self) -> None:
-        host, port = self.agent.getpeername()
-        words = ['sipp', '-sn', 'uac', f'{host}:{port}', '-i', host, '-m', '30', '-l', '30', '-r', '30', '-d', '1000',
-                 '-nostdin', '-timeout', str(SECONDS)]
-        with open(self.path('sipp'), 'wb') as said, subprocess.Popen(words, cwd=self.folder, stdout=said) as sipp:
-            self.world.until(lambda: sipp.poll() is not None)
-        self.assertEqual(sipp.returncode, 0, support.text_of(self.path('sipp'))[-2000:])
-        self.world.until(lambda: {row['state'] for row in self.world.told()['circuits']} == {'idle'})

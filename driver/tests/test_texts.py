@@ -58,7 +58,6 @@ e1gw_role 1
 e1gw_fed 0
 e1gw_feed_age_seconds 29.5
 e1gw_trunk_gaps_total 26
-e1gw_trunk_gap_seconds_total 27.26
 e1gw_trunk_rate_ppm -28.6
 e1gw_transport{what="span"} 2
 e1gw_transport{what="block"} 8
@@ -68,13 +67,11 @@ e1gw_crc4_aligned 1
 e1gw_crc4_submultiframes_total 31
 e1gw_crc4_errored_total{end="this"} 32
 e1gw_crc4_errored_total{end="other"} 33
-e1gw_crc4_alignments_total 34
 e1gw_crc4_alignment_losses_total 35
 e1gw_crc4_given_up_total 36
 e1gw_circuit_state{circuit="7",role="incoming",state="answered"} 1
 e1gw_circuit_state{circuit="8",role="incoming",state="idle"} 1
 e1gw_circuit_drain{circuit="7"} 0
-e1gw_circuit_state_seconds{circuit="7"} 12.34
 e1gw_circuit_seizures_total{circuit="7"} 5
 e1gw_circuit_answers_total{circuit="7"} 4
 e1gw_circuit_unacknowledged_total{circuit="7"} 3
@@ -82,7 +79,6 @@ e1gw_circuit_faults_total{circuit="7"} 2
 e1gw_circuit_open_seconds_total{circuit="7"} 67.89
 e1gw_rtp_lost{circuit="7"} 9
 e1gw_rtp_jitter_seconds{circuit="7"} 0.001234
-e1gw_jitter_buffer_seconds{circuit="7"} 0.04
 e1gw_rtp_packets_total{circuit="7",direction="sent"} 101
 e1gw_rtp_packets_total{circuit="7",direction="received"} 102
 e1gw_rtp_packets_total{circuit="8",direction="sent"} 0
@@ -91,7 +87,6 @@ e1gw_rtp_discarded_total{circuit="7",cause="Late"} 6
 e1gw_rtp_discarded_total{circuit="7",cause="Full"} 8
 e1gw_counts_stale 1
 e1gw_socket_dropped_total{circuit="7"} 14
-e1gw_socket_waiting_octets{circuit="7"} 13
 e1gw_commands_total{command="seize",answer="done"} 25
 e1gw_jitter_buffer_resyncs_total 24
 e1gw_ended{what="json"} 1

@@ -115,7 +115,8 @@ class DeathTests(PairCase):
         support.until(lambda: b.ask('role') == 'active, fed')       # (it hears of that later than the standby)
         since = self.clock.stops()
         self.step(4)
-        self.takes_over(a, since, since, by=b)
+        self.clock.steps(lambda: self.copy.look() == log.look(), a.process.pid, b.process.pid)
+        self.takes_over(a, since, self.clock.now(), by=b)
         log.look()
         self.assertIn(log.records[-20_000:], self.copy.records)
 

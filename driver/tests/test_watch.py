@@ -10,13 +10,18 @@ from typing import Any
 from unittest import mock
 
 from . import support
+from e1gw.calls import CallsNote
 from e1gw.clock import ClockFinding
 from e1gw.events import CallsCleared, Event, FlowChanged, Flows, Stalled, WatchEnded
 from e1gw.lines import Role, State
 from e1gw.service import decisions, status, trunk, watch
+from e1gw.service.commands import MOST_HELD, ControlPeer
 from e1gw.service.journal import NOTICE, LineFormatter
 from e1gw.service.pages import MOST_VISITORS, WebServer
 from e1gw.session import Command, command_record
+
+
+FACTS: dict[str, Any] = {'since': 0.0, 'fault': '', 'version': '', 'carried': {}, 'pair': {}, 'session': None}
 
 
 class TrunkWatchCase(support.FolderCase, unittest.IsolatedAsyncioTestCase):
@@ -27,7 +32,7 @@ class TrunkWatchCase(support.FolderCase, unittest.IsolatedAsyncioTestCase):
         config = self.write('trunk.toml', 'law = "A"\n')
         its = mock.Mock(flow=dict, **{
             'places.return_value.tell': config, 'config_path.return_value': config, 'place.return_value': 0,
-            'outage.return_value': None, 'facts.return_value': facts})
+            'outage.return_value': None, 'facts.return_value': FACTS | facts})
         found = watch.TrunkWatch(watch.WatchWants(name='west', calls=self.path('calls')), its)
         self.addCleanup(found._close)
         self.given, self.told = list[bytes](), list[Event]()
@@ -63,6 +68,24 @@ class WatchEdgeTests(TrunkWatchCase):
             with mock.patch.object(found._calls, 'put') as put:
                 found._put_call('a line')
             self.assertEqual(put.call_count, lines)
+
+    async def test_lines_that_the_service_before_may_have_written(self) -> None:
+        """Each is in the file once."""
+        self.write('calls', 'a line\n')
+        found = self.watched()
+        found.take_up(CallsNote(0, 0.0, {}, (), {}, ('a line', 'another line')))
+        found._close()
+        self.assertEqual(support.text_of(self.path('calls')), 'a line\nanother line\n')
+
+    def test_who_takes_too_little(self) -> None:
+        """He is closed; who is gone is told nothing."""
+        for held, is_gone, calls in ((MOST_HELD, False, (1, 0)), (MOST_HELD + 1, False, (1, 1)), (0, True, (0, 0))):
+            writer = mock.Mock()
+            writer.transport.get_write_buffer_size.return_value = held
+            writer.transport.is_closing.return_value = is_gone
+            with mock.patch('time.monotonic', lambda: 0.0):
+                ControlPeer(writer).tell('words')
+            self.assertEqual((writer.write.call_count, writer.transport.abort.call_count), calls)
 
     async def test_who_is_cleared(self) -> None:
         """What this end can end; and idle incoming circuits are blocked if that is wanted."""

@@ -138,7 +138,7 @@ class WebTests(unittest.TestCase):
 
     def test_rules_name_what_there_is(self) -> None:
         named = set[str]()
-        for name in ('alerts.yml', 'dashboard.json'):
+        for name in ('alerts.yml', 'dashboard.py'):
             named |= set(re.findall(r'\be1gw_\w+', support.text_of(f'{support.TOP}/dist/package/{name}')))
         pair = {'role': 'active', 'fed': False, 'feed_age': None}
         more = exposition(self.world.status() | {'crc4': Crc4().status()} | pair)

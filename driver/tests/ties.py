@@ -62,12 +62,10 @@ class StandInDriver:
         self.pairs = dict.fromkeys(roles, IDLE)
         self.seizures = dict.fromkeys(roles, 0)
         self.codecs = dict.fromkeys(roles, G726)
-        self.configured = dict.fromkeys(roles, G726)
         self.drained = set[int]()       # which the operator has blocked
-        self.refuses = False            # changes of codec
         self.silent = False             # it answers nothing
         self.knows = True               # its program has told it the states
-        self.law, self.life = 'A', 'a'
+        self.life = 'a'
         self.alarm = self.acknowledges = False
         self.asked: list[str] = []
         self.behind: list[Callable[[], None]] = []      # what happens behind a status
@@ -121,22 +119,17 @@ class StandInDriver:
 
     def status(self) -> dict[str, Any]:
         none = {'frame': False, 'multiframe': False}
-        trunk = {'life': self.life, 'trunk_up': True, 'clock': {'stalled': False}, 'law': self.law,
+        trunk = {'life': self.life, 'trunk_up': True, 'clock': {'stalled': False}, 'law': 'A',
                  'alarm': {**none, 'frame': self.alarm}, 'remote_alarm': none}
         return trunk | {'circuits': [
             {'circuit': n, 'role': str(self.roles[n]), 'state': str(self.states[n]) if self.knows else UNKNOWN,
              'seizures': self.seizures[n], 'drain': 'drained' if n in self.drained else None,
              'for': asyncio.get_running_loop().time() - self.since[n],
              'codec': self.codecs[n].codec, 'payload': self.codecs[n].payload,
-             'configured_codec': self.configured[n].codec, 'configured_payload': self.configured[n].payload}
+             'configured_codec': G726.codec, 'configured_payload': G726.payload}
             for n in self.roles]}
 
-    def configure(self, n: int, coding: Coding) -> None:
-        self.codecs[n] = self.configured[n] = coding
-
     def change(self, n: int, coding: Coding) -> str:
-        if self.refuses:
-            return f'codec {n}: not now'
         self.codecs[n] = coding
         self.tell(event='codec', circuit=n, codec=coding.codec, payload=coding.payload)
         return f'codec {n}: done'
@@ -199,7 +192,7 @@ class TieCase(unittest.IsolatedAsyncioTestCase):
     def tie(self, name: str, waits: bool = False, **more: Any) -> tuple[Tie, Site]:
         driver = self.west if name == 'west' else self.east
         told = self.events[name]
-        options = TieOptions(driver.path, more.get('pairs'), HOLD, waits, more.get('until'))
+        options = TieOptions(driver.path, None, HOLD, waits, more.get('until'))
         made = Tie(options, f'run {next(RUNS)} of {name}',
                    lambda report: told.append(report.plain()))
         if not self.port:

@@ -37,13 +37,6 @@ def words_of(pid: int) -> list[str]:
     return []
 
 
-def given_file(pid: int, option: str) -> int:
-    """A file in memory that a process was given by an option, which stays when the process goes; -1 for none."""
-    words = words_of(pid)
-    path = words[words.index(option) + 1] if option in words else ''
-    return os.open(path.replace('/dev/fd', f'/proc/{pid}/fd'), os.O_RDONLY) if path else -1
-
-
 def children(parent: int, *words: str) -> list[int]:
     """The processes that a process has started with these words behind the program's name."""
     found = []

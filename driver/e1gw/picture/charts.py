@@ -288,7 +288,8 @@ class PlayoutChart:
         sheet.grid(self.scale, TOP, TOP + HIGH)
         step = next(step for step in (20, 40, 80, 100) if self.top / step <= 5)
         for ms in range(0, int(self.top) + 1, step):
-            sheet.words(LEFT - 6, max(self.y(ms) + 3, TOP + 7), f'{ms} ms', 'tick', 'end')
+            words = f'{ms} ms' if ms + step > self.top else str(ms)     # (beside the prefill there is little room)
+            sheet.words(LEFT - 6, max(self.y(ms) + 3, TOP + 7), words, 'tick', 'end')
         sheet.path(f'M{LEFT} {self.y(0):.1f}h{WIDE}', 'zero')
         sheet.path(f'M{LEFT} {self.y(self.row.prefill / 8):.1f}h{WIDE}', 'prefill', 'the prefill')
 

@@ -8,7 +8,7 @@ import time
 from collections.abc import Callable, Iterator
 
 from ..faults import checked, number
-from ..session_clock import moment
+from ..session_clock import second_of
 from ..session_files import InputError, RecordedSession
 from ..lines import read_config, with_wait
 from ..frames import raw_words_of
@@ -55,7 +55,7 @@ def parser() -> argparse.ArgumentParser:
     words.add_argument('--circuits', metavar='LIST', help='only these circuits, such as 1,2,7 or 3-9', type=checked(
         lambda text: sorted({n for word in text.split(',') for n in circuits_of(word)}),
         'a list of circuits, 1 to 30, such as 1,2,7 or 3-9'))
-    words.add_argument('--begin', type=checked(moment, 'a time such as 2026-11-23T07:30:00Z'), metavar='TIME',
+    words.add_argument('--begin', type=checked(second_of, 'a time such as 2026-11-23T07:30:00Z'), metavar='TIME',
                        help='when the session began, in UTC')
     words.add_argument('--seizure-wait', type=number(200, 8000), metavar='MS',
                        help='as of the gateway [default: that of the kept session, or 200]')

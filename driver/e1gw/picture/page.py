@@ -10,7 +10,7 @@ import time
 from collections.abc import Iterable, Mapping, Sequence
 from urllib.parse import quote
 
-from ..lines import OPEN
+from ..lines import OPEN, circuit_words
 from . import charts
 from .facts import SECOND, Cell, Facts, Row, joined
 from .findings import Anomaly, findings
@@ -56,24 +56,13 @@ def loud(heard: Mapping[str, HeardSamples], way: str) -> str:
     return ' / '.join(f'{10 * math.log10(power / seen.looks):.0f}' for power in (seen.power, seen.under_other))
 
 
-def numbers(circuits: Iterable[int]) -> str:
-    """Circuits in words: 1 to 4, 7."""
-    out: list[list[int]] = []
-    for n in sorted(circuits):
-        if out and n == out[-1][1] + 1:
-            out[-1][1] = n
-        else:
-            out.append([n, n])
-    return ', '.join(str(a) if a == b else f'{a}, {b}' if b == a + 1 else f'{a} to {b}' for a, b in out)
-
-
 def found_item(group: list[Anomaly], shown: set[int]) -> str:
     """An anomaly of the trunk, or of all circuits that have it."""
     first, circuits, others = group[0], sorted({each.circuit for each in group}), {each.seen for each in group}
     if not first.circuit:
         who = 'the trunk'
     elif len(circuits) > 1:
-        who = f'{len(circuits)} circuits ({numbers(circuits)})'
+        who = f'{len(circuits)} circuits ({circuit_words(circuits)})'
     else:
         who = f'circuit {circuits[0]}'
         who = f'<a href="#c{circuits[0]}">{who}</a>' if circuits[0] in shown else who
@@ -140,15 +129,16 @@ class PicturePage:
         """The drawings of jitter buffers, the troubled circuits first."""
         out = ''
         if self.facts.under_way:
-            out = (f'<p class="note">Calls were up when the session began (circuits {numbers(self.facts.under_way)}): '
-                   'of the first of them that each circuit has it is counted from its first datagram, as if that had '
-                   'come just the prefill before its turn.</p>')
+            circuits = circuit_words(self.facts.under_way)
+            out = (f'<p class="note">Calls were up when the session began (circuits {circuits}): of the first '
+                   'of them that each circuit has it is counted from its first datagram, as if that had come just the '
+                   'prefill before its turn.</p>')
         if not (self.troubled or self.even):
             return out + '<p>No datagrams came. (A session that was kept of <code>serve</code> may hold none: give a ' \
                          'capture.)</p>'
         even = ''
         if self.even:
-            names = numbers(row.number for row in self.even)
+            names = circuit_words(row.number for row in self.even)
             even = (f'<details{" open" * (not self.troubled)}><summary>Circuits whose datagrams came in time and '
                     f'evenly: {names}</summary>{self._playouts(self.even)}</details>')
         return out + self._playouts(self.troubled) + even
@@ -220,7 +210,7 @@ class PicturePage:
 
     def drawn(self, refresh: int | None) -> str:
         facts = self.facts
-        quiet = f'<p class="note">Nothing but idle: circuits {numbers(self.quiet)}.</p>' if self.quiet else ''
+        quiet = f'<p class="note">Nothing but idle: circuits {circuit_words(self.quiet)}.</p>' if self.quiet else ''
         return PAGE.substitute(
             title=escape(self.title), summary=self.summary(), found=self.found, quiet=quiet, counts=self.counts(),
             refresh=f'<meta http-equiv="refresh" content="{refresh}">' if refresh else '',

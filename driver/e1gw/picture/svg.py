@@ -123,11 +123,15 @@ class Sheet:
         out.append(f'<text x="{x:.1f}" y="{y:g}" class="{kind}"{side}>{html.escape(words)}</text>')
 
     def grid(self, scale: Scale, top: float, bottom: float) -> None:
-        """Lines at round times, with their texts above."""
+        """Lines at round times, with their texts above where there is room: slips bring times together."""
+        free = 0.0
         for x, words in scale.ticks():
             right, half = LEFT + WIDE + RIGHT, TICK * len(words) / 2
-            place = (right - 1, 'end') if x + half > right else (x, 'middle') if x - half > LEFT else (x, 'start')
-            self.words(place[0], top - 3, words, 'tick', place[1])
+            at, anchor, left = (right - 1, 'end', right - 2 * half) if x + half > right else (
+                (x, 'middle', x - half) if x - half > LEFT else (x, 'start', x))
+            if left >= free:
+                self.words(at, top - 3, words, 'tick', anchor)
+                free = left + 2 * half
         self.path((f'M{x:.1f} {top:g}V{bottom:g}' for x, _ in scale.ticks()), 'grid')
 
     def drawn(self) -> str:

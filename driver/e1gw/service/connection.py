@@ -76,8 +76,6 @@ class ProgramConnection:
         for each in self._given:
             if not each.answer.done():
                 each.answer.set_exception(NoAnswer('no answer, the connection to the program is lost'))
-                each.answer.exception()
-        self._given.clear()
 
     async def ask(self, record: bytes, teller: Callable[[], object], waits: bool = True) -> Record:
         """The answer to a record, once the record is reported, too: what follows from it is known

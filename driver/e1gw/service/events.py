@@ -24,12 +24,12 @@ logger = logging.getLogger(__name__)
 
 
 class LineFile(logging.handlers.RotatingFileHandler):
-    """A file that is appended to. With a head, which each file begins with, ten files of 10 MiB are kept. A new one has
-    the mode 640; one that somebody has moved or removed is followed by another one."""
+    """A file that is appended to: ten files of 10 MiB are kept, each with its head. A new one has the mode 640; one
+    that somebody has moved or removed is followed by another one."""
 
     def __init__(self, path: str, head: str = '') -> None:
         self._head = head
-        super().__init__(path, maxBytes=MOST_OCTETS if head else 0, backupCount=KEPT)
+        super().__init__(path, maxBytes=MOST_OCTETS, backupCount=KEPT)
 
     def _open(self) -> Any:
         stream = open(open_to_append(self.baseFilename), 'a', encoding='utf-8')

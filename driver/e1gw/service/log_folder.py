@@ -98,6 +98,10 @@ class LogFiles:
                        for name, file in self._files.items())
         return False
 
+    def written(self) -> float:
+        """When records were written last, by the time of day."""
+        return max(os.fstat(self._files[name]).st_mtime for name in RECORDS)
+
     def head(self, name: str) -> Head | None:
         """The head of a file, if it is whole."""
         return head_of(os.pread(self._files[name], HEAD_LEN, 0))

@@ -14,7 +14,6 @@ from typing import Any, Union, get_args, get_origin, get_type_hints
 from ..calls import CallsNote
 from ..writers import write_at
 from .log_folder import HEAD_LEN, Head, head_of
-from .memory import octets_in
 from .process import start_of
 from .reader import ReadingNote
 from .recordings import RecordingNote
@@ -57,13 +56,8 @@ class NoteFiles:
 
     def _read(self, number: int) -> tuple[int, bytes]:
         """The turn in which a file was written, and its octets; none if it is not whole."""
-        with suppress(OSError):
-            file = os.open(self._paths[number], os.O_RDONLY | os.O_CLOEXEC)
-            try:
-                octets = octets_in(file)
-            finally:
-                os.close(file)
-            head = head_of(octets)
+        with suppress(OSError), open(self._paths[number], 'rb') as file:
+            head = head_of(octets := file.read())
             text = octets[HEAD_LEN:HEAD_LEN + head.length] if head else b''
             if head and zlib.adler32(text) == head.sum:
                 return head.turn, text

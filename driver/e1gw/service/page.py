@@ -17,7 +17,7 @@ from ..ctl_all import TrunkHere, TrunkLine
 from ..events import ReadEvent
 from ..metrics import NOT_OPEN, head_of
 from ..session import CIRCUITS
-from ..session_clock import moment
+from ..session_clock import second_of
 
 Rows = Sequence[Sequence[str]]
 Parts = dict[str, Rows]             # the rows of each body of a table, by its id
@@ -65,22 +65,27 @@ def length(seconds: float) -> str:
     return f'{hours}:{rest // 60:02}:{rest % 60:02}' if hours else f'{rest // 60}:{rest % 60:02}'
 
 
+def state_words(status: Mapping[str, Any], row: Mapping[str, Any]) -> str:
+    """The state of a circuit, and how far its block by the operator is."""
+    return NOT_OPEN if status.get('fault') else ', '.join(filter(None, (row['state'], row.get('drain'))))
+
+
 def circuit_row(status: Mapping[str, Any], row: Mapping[str, Any], calls: Mapping[str, Mapping[str, str]]) -> list[str]:
     """A circuit: number, state, role, and of its call, if it is in one, how long it lasts, codec, loss and jitter."""
     call = calls.get(str(row['circuit']))
-    cells = [str(row['circuit']), NOT_OPEN if status.get('fault') else row['state'], row['role']]
+    cells = [str(row['circuit']), state_words(status, row), row['role']]
     if not call:
         return [*cells, '', '', '', '']
     begin = call['seized'] or call['answered']
-    age = status['time'] - moment(begin) if begin else row['for']
+    age = status['time'] - second_of(begin) if begin else row['for']
     return [*cells, length(age), row['codec'], call['lost'], f'{row["jitter_ms"]:.1f}']
 
 
 def ended_row(line: str, kept: str | None) -> list[str]:
     """A call that has ended, by its line."""
     call = CallLine(*next(csv.reader([line])))
-    begin, end = call.seized or call.answered, moment(call.ended)
-    lasted = length(end - moment(begin)) if begin else ''
+    begin, end = call.seized or call.answered, second_of(call.ended)
+    lasted = length(end - second_of(begin)) if begin else ''
     return [clock(end), call.circuit, call.direction, lasted, call.by, call.codec, call.lost, call.late,
             call.call if kept is None else f'e1gw-call {call.call}{kept}']
 
@@ -146,8 +151,8 @@ def trunk_row(trunk: TrunkHere, here: str) -> str:
     host, port = status['http']
     host = HOST if host in (here, '0.0.0.0', '::') else f'[{host}]' if ':' in host else host
     name = f'<a href="//{escape(host)}:{port}/">{name}</a>' if port else name
-    lines = ''.join(f'<i data-s="{escape(row["state"])}" title="{row["circuit"]} {escape(row["state"])}"></i>'
-                    for row in status['circuits'])
+    states = ((row['circuit'], escape(state_words(status, row))) for row in status['circuits'])
+    lines = ''.join(f'<i data-s="{state}" title="{circuit} {state}"></i>' for circuit, state in states)
     return f'<tr><td>{name}</td><td>{lines}</td>{"".join(f"<td>{cell}</td>" for cell in reversed(cells))}</tr>'
 
 

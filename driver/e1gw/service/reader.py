@@ -12,7 +12,7 @@ from typing import Callable, Sequence
 
 from ..clock import TICK, Clock, ClockFinding
 from ..faults import words_of_fault
-from ..session import whole_records
+from ..session import OCTETS_A_SECOND, whole_records
 from .journal import NOTICE
 from .log_folder import FolderReader, LogBegun, LogFiles, LogNews, LogPair, LogPiece, LogState
 from .recordings import FileBegin, RecordingNote, RecordingWants, TrunkRecording, has_room
@@ -29,13 +29,14 @@ logger = logging.getLogger(__name__)
 @dataclass(frozen=True)
 class ReadingNote:
     """What the next service has to know of the reading: up to which place of the log that is, and the octet of the
-    trunk there; the octet from which on the log is of this machine, and of one configuration; and the octets with which
-    the last programs began, each with the time of day."""
+    trunk there; the octet from which on the log is of this machine, and of one configuration; the octets with which
+    the last programs began, each with the time of day; and when the log was written up to that place."""
 
     place: int = -1
     octets: int = 0
     first: int = 0
     starts: tuple[tuple[int, float], ...] = ()
+    written: float = 0.0
 
 
 def octets_in(news: Sequence[LogNews]) -> int:
@@ -54,7 +55,8 @@ class LogReader:
         self.found: Callable[[ClockFinding], None] = lambda finding: None
         self.told: Callable[[], int] = lambda: 0
         self.octets = 0                         # of the trunk, up to now
-        self.has_missed = False                 # .. too few, since a part of the log was not read
+        self.has_missed = False                 # .. too few, since a part of the log was not read: so many, by its time
+        self._missed = 0
         self.rests = False                      # the other machine carries the trunk
         self.is_loaded = False                  # the log has begun with a state that was kept elsewhere
         self.first, self.starts = 0, ReadingNote().starts       # (see there)
@@ -62,6 +64,7 @@ class LogReader:
         self._files: LogFiles | None = None
         self._reader: FolderReader | None = None
         self._place = -1                        # of the log, up to where it was read
+        self._written = 0.0                     # when that was written
         self._recording: TrunkRecording | None = None
         self._begun: int | None = None          # the octet of the trunk with which the file of now begins, if any
         self._lost, self._is_cut, self._retry = 0.0, False, asyncio.Event()
@@ -72,7 +75,8 @@ class LogReader:
     def take_up(self, read: ReadingNote, left: RecordingNote | None) -> None:
         """Begins, where the service before this one was, and with the recording that it has left if it made the same
         and the log has what that lacks."""
-        self._place, self.octets, self.first, self.starts = read.place, read.octets, read.first, read.starts
+        self._place, self.octets, self._written = read.place, read.octets, read.written
+        self.first, self.starts = read.first, read.starts
         self._found = self._pairs()
         if not (wants := self._wants):
             return
@@ -156,21 +160,25 @@ class LogReader:
 
     async def copied(self) -> None:
         """Before a program starts, whose first state is written over the older pair: keeps that for what is to be told
-        of it, and waits a moment until a recording has what is behind."""
+        of it, and waits a moment until a recording has what is behind. (The one that could say what was not counted is
+        no more.)"""
         self.look()
+        self.count_on()
         self._found = [*self._found, *self._pairs()[:-1]][-MOST_FOUND:]
         self.starts = (*self.starts, (self.octets, time.time()))[-MOST_FOUND:]
         if self._recording and self._reader:
             await self._recording.has(self._reader.base, MOST_WAIT)
 
-    def count_on(self, missed: int) -> None:
-        """So many octets of the trunk were not counted."""
-        self.octets, self.has_missed = self.octets + missed, False
+    def count_on(self, missed: int | None = None) -> None:
+        """So many octets of the trunk were not counted, or as many as its time had, if nobody can say it any more."""
+        if self.has_missed:
+            self.octets += self._missed if missed is None else missed
+        self.has_missed, self._missed = False, 0
 
     # ---- for the service that comes after this one ----
 
     def noted(self) -> ReadingNote:
-        return ReadingNote(self._place, self.octets, self.first, self.starts)
+        return ReadingNote(self._place, self.octets, self.first, self.starts, self._written)
 
     def recording_note(self) -> RecordingNote | None:
         recording = self._recording
@@ -199,20 +207,23 @@ class LogReader:
         """Reads what there is."""
         if self.rests or not (self._reader or self.has_log() and self._reader):
             return
-        assert self._reader
-        before = self.octets
+        assert self._reader and self._files
+        before, written = self.octets, self._files.written()
         its = self._reader.look()
         for number, news in enumerate(its, 1):
-            self._take(news, its[number:])
+            self._take(news, its[number:], written)
+        self._written = written if its else self._written
         now = time.monotonic()
         if self.octets > before:
             self.clock.took(self.octets - before, now)
+        if any(isinstance(news, LogBegun) for news in its):
+            self.clock.missed()
         for finding in self.clock.look(now):
             if finding.what == 'gap' and self._recording and self._begun is not None:
                 self._recording.slip(self.octets, round(finding.value, 3))
             self.found(finding)
 
-    def _take(self, news: LogNews, behind: Sequence[LogNews]) -> None:
+    def _take(self, news: LogNews, behind: Sequence[LogNews], written: float) -> None:
         if isinstance(news, LogPiece):
             self.octets += whole_records(news.octets)[1]
             self._place = news.place + len(news.octets)
@@ -220,17 +231,20 @@ class LogReader:
                 self._recording.put(news.octets, self._place, self.octets)
             return
         if isinstance(news, LogBegun):
-            self._is_overtaken(news, octets_in(behind))
+            self._is_overtaken(news, octets_in(behind), written)
         self._place = news.state.place
         self._see_file(news.state, isinstance(news, LogBegun))
 
-    def _is_overtaken(self, news: LogBegun, behind: int) -> None:
-        """The reading begins at a state, perhaps behind what was not seen; these octets of the trunk are behind that.
-        (A log that has begun with a state that was kept is read from there on.)"""
+    def _is_overtaken(self, news: LogBegun, behind: int, written: float) -> None:
+        """The reading begins at a state, perhaps behind what was not seen; these octets of the trunk are behind that,
+        and were written up to then. (A log that has begun with a state that was kept is read from there on.)"""
         if news.missed:
             logger.warning('%d octets of the log were not read in time: no event and no recording has them',
                            news.missed, extra={'kind': 'overtaken'})
-            self.octets, self.has_missed = max(self.octets, self.told() - behind), True
+            passed = min(round((written - self._written) * OCTETS_A_SECOND) - behind, news.missed)
+            passed += self.octets + self._missed
+            self.octets = max(self.octets, self.told() - behind)
+            self.has_missed, self._missed = True, max(0, passed - self.octets)
         elif news.is_anew or self._place < 0 and not self.is_loaded:
             self.octets, self.has_missed = max(0, self.told() - behind) * bool(news.state.place), news.state.place > 0
 

@@ -30,8 +30,8 @@ from .reload import ReloadRequests
 
 AGAIN = 0.1                 # seconds between two tries to connect, and two looks
 REST, SHORT_REST = 0.05, 0.01       # between two reads of reports; the latter if somebody follows events
-ANSWERS = 5                 # of a program where it is
-MOST_GREETING = 256         # octets behind which a program has told where it is
+ANSWERS, PATIENCE = 5, 0.2  # of a program where it is; seconds for them while it has told other things
+MOST_GREETING = 256         # octets, which come at once, in which a program tells where it is
 FIRST = 2.0                 # seconds before it is reported that the program was never there
 BOTH = 'reports', 'control'         # the sockets of the program at which this service is a client
 
@@ -93,17 +93,20 @@ class OperatedTrunk:
         program = self._carrier.program
         return program.begun if program else 0
 
-    async def know_place(self) -> None:
+    async def know_place(self, seconds: float | None = None) -> None:
         """Where a part of the log was not read, its reader counts on from where the program says that it is. Octets may
-        come between that word and a look, so the most of some answers is so."""
+        come between that word and a look, so the most of some answers is so. It is asked another time if it does not
+        say that within these seconds: it hangs, or no octets come."""
         reader, missed = self._carrier.reader, 0
-        for _ in range(ANSWERS if reader.has_missed else 0):
-            with connected(self.places().tell) as line:
-                place = self.begun() + await place_told(line)
-            for _ in range(2):                  # (one finds nothing while a head is written)
-                reader.look()
-            missed = max(missed, place - reader.octets)
-        reader.count_on(missed)
+        with suppress(TimeoutError):
+            async with asyncio.timeout(seconds):
+                for _ in range(ANSWERS if reader.has_missed else 0):
+                    with connected(self.places().tell) as line:
+                        place = self.begun() + await place_told(line)
+                    for _ in range(2):          # (one finds nothing while a head is written)
+                        reader.look()
+                    missed = max(missed, place - reader.octets)
+                reader.count_on(missed)
 
     def starts(self) -> Sequence[tuple[int, float]]:
         """The octets with which programs began, and the time of day."""
@@ -151,14 +154,10 @@ async def readable(line: socket.socket) -> None:
 
 async def place_told(line: socket.socket) -> int:
     """At which octet of its session a program tells the state of now, which stays to be read; else OSError."""
-    while True:
-        await readable(line)
-        octets = line.recv(MOST_GREETING, socket.MSG_PEEK)
-        if found := re.search(rb'^at (\d+)\n', octets, re.M):
-            return int(found[1])
-        if not octets or len(octets) == MOST_GREETING:
-            raise OSError(0, 'it does not tell where it is')
-        await asyncio.sleep(SHORT_REST)
+    await readable(line)
+    if found := re.search(rb'^at (\d+)\n', line.recv(MOST_GREETING, socket.MSG_PEEK), re.M):
+        return int(found[1])
+    raise OSError(0, 'it does not tell where it is')
 
 
 class TrunkStatus:
@@ -302,7 +301,7 @@ class TrunkStatus:
                 while self.takes(line, 1 << 16):
                     await self._rest()
                     await readable(line)
-                    await self._trunk.know_place()
+                    await self._trunk.know_place(PATIENCE)
             except OSError as fault:
                 self._why = words_of_fault(fault)
             finally:

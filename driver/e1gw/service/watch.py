@@ -64,7 +64,7 @@ class TrunkWatch:
         self.status = TrunkStatus(trunk, wants.name, self.tell, self._counts, self._put_call)
         self._lines = self.status.lines
         self._program = ProgramConnection(lambda: trunk.places().control, self.status.stands, self.status.hurry,
-                                          lambda: trunk.facts().get('fault', ''))
+                                          lambda: str(trunk.facts()['fault']))
         self._lines.commanded = self._program.told
         self._events, self._ended_calls = ReadEvents(), deque[str](maxlen=LAST)
         self.pages = TrunkPages(self._values, self.status.take_now, list(self._lines.lines.values()),
@@ -75,7 +75,7 @@ class TrunkWatch:
         self.status.waiting = lambda: [*self._calls.waiting] if self._calls else []
         self.disconnects = DisconnectWatch(on_loss_of(wants.on_loss), self.clear_all)
         self._outages = OutageWatch(wants.dark, self.clear_all)
-        self._done, self._resyncs, self._began = Counter[tuple[str, str]](), 0, time.time()
+        self._done, self._resyncs = Counter[tuple[str, str]](), 0
         self._json = EventFile('json', sys.stdout if wants.json == '-' else wants.json, self._note) \
             if wants.json else None
         self._calls = EventFile('calls', wants.calls, self._note, ','.join(FIELDS)) if wants.calls else None
@@ -136,7 +136,7 @@ class TrunkWatch:
                 self._calls.put(line)
 
     def _put_call(self, line: str) -> None:
-        if self.trunk.facts().get('pair', {}).get('role') != 'standby':
+        if self.trunk.facts()['pair'].get('role') != 'standby':
             self._ended_calls.appendleft(line)
             if self._calls:
                 self._calls.put(line)
@@ -178,19 +178,19 @@ class TrunkWatch:
     def _values(self) -> dict[str, Any]:
         """All that is known, as plain values."""
         now, facts = time.time(), self.trunk.facts()
-        fault = facts.get('fault') or None
+        fault = facts['fault'] or None
         status = self.status.values() | {
-            'name': self.wants.name, 'version': facts.get('version', ''), 'time': round(now, 3), 'fault': fault,
-            'uptime': 0.0 if fault else round(now - facts.get('since', self._began), 3),
+            'name': self.wants.name, 'version': facts['version'], 'time': round(now, 3), 'fault': fault,
+            'uptime': 0.0 if fault else round(now - facts['since'], 3),
             'calls': [line._asdict() for line in self.status.calls.going()],
             'calls_file': self.wants.calls and os.path.abspath(self.wants.calls),
             'events_file': self.wants.json and os.path.abspath(self.wants.json) if self.wants.json != '-' else None,
-            'stale': self._counts.stale(), 'ended': self.ended | {'session': facts.get('session')},
+            'stale': self._counts.stale(), 'ended': self.ended | {'session': facts['session']},
             'renewed': self._resyncs, 'alarms': self._events.alarms(), 'http': self.wants.http,
             'commands': [{'command': name, 'answer': answer, 'count': n}
                          for (name, answer), n in sorted(self._done.items())]}
         status['clock'] = self.trunk.flow() | status['clock']
-        status |= facts.get('carried', {}) | facts.get('pair', {})
+        status |= facts['carried'] | facts['pair']
         for row in status['circuits']:
             row.update(self._counts.status(row['circuit']) | {'drain': self.drains.kept.now.word(row['circuit'])})
         return status

@@ -65,8 +65,7 @@ def exposition(status: dict[str, Any]) -> str:
         ('e1gw_tie_calls', 'Calls on joined circuits.', status['calls']),
         ('e1gw_tie_calls_given_up_total', 'Calls that could not be set up, or that were lost.', status['given_up']),
         ('e1gw_tie_commands_total', 'Commands by answer.',
-         [({'command': row['command'], 'answer': row['answer']}, row['count']) for row in status['commands']]),
-        ('e1gw_tie_uptime_seconds', 'Seconds since the tie was started.', status['uptime'])]
+         [({'command': row['command'], 'answer': row['answer']}, row['count']) for row in status['commands']])]
     return ''.join(family(*each) for each in families)
 
 

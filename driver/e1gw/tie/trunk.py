@@ -60,8 +60,6 @@ class TrunkLink:
         """Looks at the trunk again and again, which ends calls and blocks circuits if this program dies."""
         await self.ask('events')
         answer = await self.ask(f'on-loss block {self._hold:g} alive {ALIVE:g}')
-        if not answer.endswith('done'):         # (an e1gw-trunk that does not know the last words)
-            answer = await self.ask(f'on-loss block {self._hold:g}')
         if not answer.endswith('done'):
             self._tell(Warned('the trunk clears no calls if this program dies', answer=answer))
         while True:

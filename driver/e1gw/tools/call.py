@@ -35,8 +35,7 @@ from ..picture.page import draw
 from ..picture.reading import SessionReading
 from ..picture.svg import duration
 from ..session import FRAME, BadSession, Kind, Record, records_for, records_in, refusal_of
-from ..session_clock import SessionClock
-from ..session_clock import moment as second_of
+from ..session_clock import SessionClock, second_of
 from ..session_files import InputError, RecordedSession, kept_between
 from .pcap import Announcements, PlacedRecords, Timed, packets_of, write_capture
 from .records import write_wave

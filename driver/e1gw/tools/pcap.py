@@ -35,7 +35,7 @@ from ..lines import law_of, lines_of, read_config
 from ..packets import BadCapture, packets
 from ..session import (CIRCUITS, SAMPLES_A_SECOND, BadPacket, BadSession, Kind, Record, Repetitions, datagram_record,
                        packet_of, records)
-from ..session_clock import SessionClock, moment
+from ..session_clock import SessionClock, second_of
 from ..session_files import InputError, kept
 
 NAME = os.path.basename(sys.argv[0])    # in the package e1gw-pcap
@@ -248,7 +248,7 @@ def asked_for() -> argparse.Namespace:
     words.add_argument('--back', action='store_true')
     words.add_argument('--circuit', metavar='N', type=int, choices=CIRCUITS)
     words.add_argument('--config', metavar='FILE')
-    words.add_argument('--begin', metavar='TIME', type=checked(moment, 'a time such as 2026-11-23T07:30:00Z'))
+    words.add_argument('--begin', metavar='TIME', type=checked(second_of, 'a time such as 2026-11-23T07:30:00Z'))
     words.add_argument('--in', metavar='SESSION', dest='given')
     words.add_argument('file', nargs='?')
     return words.parse_args()
