@@ -100,12 +100,12 @@ class CallRecord:
 @dataclass(frozen=True)
 class CallsNote:
     """What another service goes on with: the octet of the trunk up to which changes were told, and the time of day
-    then; each line's state and how often it was seized; the calls, and the counts at the end of the last call of each
-    circuit; and lines of calls that may not be in their file yet."""
+    then; each line's state, how often it was seized, and when the state changed; the calls, and the counts at the end
+    of the last call of each circuit; and lines of calls that may not be in their file yet."""
 
     place: int
     at: float
-    states: dict[int, tuple[str, int]]
+    states: dict[int, tuple[str, int, float]]
     calls: tuple[CallRecord, ...]
     before: dict[int, dict[str, int]]
     lines: tuple[str, ...]
@@ -210,15 +210,16 @@ class CallLog:
 
     def note(self, place: int, at: float, waiting: Iterable[str]) -> CallsNote:
         """What another service goes on with; changes were told up to this place at that time, and these lines wait."""
-        states = {n: (str(line.state), line.seizures) for n, line in self._lines.items()}
+        states = {n: (str(line.state), line.seizures, line.since) for n, line in self._lines.items()}
         return CallsNote(place, at, states, (*self._calls.values(),), self._before, (*waiting, *self.lines))
 
     def take_up(self, note: CallsNote) -> None:
         """Goes on with the calls that another service has noted."""
         self._calls = {call.circuit: replace(call, unacknowledged=0) for call in note.calls}
         self._before = note.before
-        for n, (state, seizures) in note.states.items():
-            self._lines[n].state, self._lines[n].seizures = State(state), seizures
+        for n, (state, seizures, since) in note.states.items():
+            self._lines[n].begin(State(state), since)
+            self._lines[n].seizures = seizures
 
     def finish(self) -> None:
         """The trunk is no longer carried: writes all."""

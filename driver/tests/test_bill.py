@@ -133,6 +133,10 @@ class CalledSession:
             now.changes += now.rows[n] + b'\n'
         return now
 
+    def changed(self, n: int, last: int) -> int:
+        """The multiframe up to this one in which the state of a line changed last."""
+        return max(m for m in (ALIGNED, *self._steps.get(n, ())) if m <= last)
+
 
 def now(work: Coroutine[Any, Any, Any]) -> None:
     """Does what waits for nothing."""
@@ -188,7 +192,6 @@ class BilledTrunk:
         self.connected: Program | None = None
         self.end = LONG - 4 * LOOK                  # up to where something may die
         self.unheard = 0        # programs that were started since one was heard: the log has what two of them did
-        self.serves()
 
     def path(self, name: str) -> str:
         return os.path.join(self.folder, name)
@@ -368,6 +371,10 @@ class BilledTrunk:
         self.program_dies(untold, silent)
         self.serves()
 
+    def told_in(self, m: int) -> tuple[float, float]:
+        """Between which times a change in a multiframe may be told to be."""
+        return self.when[m - LATE] - 0.001, self.when[min(m + LATE, self.m) - 1] + LOOK * STEP
+
     def ends(self) -> list[dict[str, str]]:
         """All lines, once the trunk has ended at a moment without a change."""
         self.left, self.end = FAR, LONG - 1
@@ -381,6 +388,7 @@ class BilledTrunk:
             self.goes_on(1)
         self.looks()
         assert self.status
+        self.since = {n: line.since for n, line in self.status.lines.lines.items()}
         self.status.calls.finish()
         self.disk.file += self.waiting
         self.carrier.reader.take_out()
@@ -392,7 +400,7 @@ class BillTests(PropertyCase):
     session = CalledSession()
 
     def within(self, trunk: BilledTrunk) -> contextlib.ExitStack:
-        """The service of a trunk goes by its time."""
+        """A service of a trunk begins, and goes by its time."""
         held, clock = contextlib.ExitStack(), SimpleNamespace(time=lambda: trunk.now, monotonic=lambda: trunk.now)
 
         def puts(path: str, octets: bytes) -> None:
@@ -402,11 +410,11 @@ class BillTests(PropertyCase):
                                   (statuses, 'told_again', trunk.told_again),
                                   (statuses, 'read_config', lambda path: self.session.tables)):
             held.enter_context(mock.patch.object(module, name, its))
+        trunk.serves()
         return held
 
     def trunk(self, folder: str) -> BilledTrunk:
-        with mock.patch.multiple(log_folder, RECORDS_ROOM=512 << 10, STATE_ROOM=4096), \
-                mock.patch.object(statuses, 'read_config', lambda path: self.session.tables):
+        with mock.patch.multiple(log_folder, RECORDS_ROOM=512 << 10, STATE_ROOM=4096):
             return BilledTrunk(self.session, folder)
 
     def test_a_log_that_has_ended(self) -> None:
@@ -430,8 +438,7 @@ class BillTests(PropertyCase):
             times = {'seized': call.seized, 'answered': call.answered if is_answered else None,
                      'ended': call.ended if is_over else None}
             found[f'{call.circuit}-{call.number}'] = {
-                'times': {key: m is not None and (trunk.when[m - LATE], trunk.when[min(m + LATE, trunk.m) - 1]
-                                                  + LOOK * STEP) for key, m in times.items()},
+                'times': {key: m is not None and trunk.told_in(m) for key, m in times.items()},
                 'by': call.by if is_over else 'stop', 'packets': call.packets if is_over else None}
         return found
 
@@ -466,9 +473,12 @@ class BillTests(PropertyCase):
                 if key != 'ended' or row['by'] != 'stop':
                     told = seconds_of(row[key])
                     assert (told is None) == (not within), (key, row, want)
-                    assert not within or within[0] - 0.001 <= (told or 0) <= within[1], (key, told, row, want)
+                    assert not within or within[0] <= (told or 0) <= within[1], (key, told, row, want)
             if want['packets']:
                 assert row['sent'] == row['received'] == str(want['packets']), (row, want)
+        for n, since in trunk.since.items():
+            first, last = trunk.told_in(trunk.session.changed(n, trunk.m))
+            assert first <= since <= last, (n, since, first, last)
 
 
 def seconds_of(text: str) -> float | None:

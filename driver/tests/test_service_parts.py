@@ -212,7 +212,7 @@ class HandoverTests(support.FolderCase):
         counts = Crc4Note({'errored': 3}, None, {})
         line = replace(self.note().trunk, names=('near', 'far'), crc4=counts, satop=SatopNote(('a', 'b'), 7, '', 8, 9))
         ring = RecordingNote('/kept', 3600, '', (('west-1', 0), ('west-2', 99)), 'west-2', 99, 1000, 500, 7)
-        calls = CallsNote(7, 8.5, {3: ('idle', 9)}, (CallRecord(3, None, 1), CallRecord(4, 1.5, 0, 2.5, number=7)),
+        calls = CallsNote(7, 8.5, {3: ('idle', 9, 4.5)}, (CallRecord(3, None, 1), CallRecord(4, 1.5, 0, 2.5, number=7)),
                           {3: {'sent': 5}}, ('a line',))
         for note in (self.note(opens=opens),
                      self.note(trunk=line, recording=ring, read=ReadingNote(1 << 60), calls=calls)):

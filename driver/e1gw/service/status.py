@@ -167,7 +167,7 @@ class TrunkStatus:
                  put: Callable[[str], None]) -> None:
         self._trunk, self.tell = trunk, tell
         tables = read_config(trunk.config_path())
-        self.lines = TrunkState(tables, self._tells, counts, began=self._told_all)
+        self.lines = TrunkState(tables, self._tells, counts, time.monotonic, self._told_all)
         self.calls = CallLog(name, self.lines.lines, counts, put, self._day)
         self.is_followed: Callable[[], bool] = lambda: False
         self.start = time.monotonic()
