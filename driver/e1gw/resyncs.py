@@ -1,10 +1,10 @@
 """Which open calls have their jitter buffer resynchronised, by a restart of their playout, and when.
 
 The playout counts the trunk's time from a call's first datagram. Octets of the trunk that are lost move all later
-datagrams against it: the calls are restarted. A call most of whose datagrams are refused for their time, as Late or as
-Full, is restarted, too. For each of the two no call is restarted again within 10 s, so that one whose network is too
-slow is not restarted all the time. Refusals of a call that was well for a second in between have another cause: it is
-restarted at once.
+datagrams against it: the calls are restarted, once in 10 s. A call most of whose datagrams are refused for their time,
+as Late or as Full, is restarted, too. If that mends nothing, since the trunk was still behind, it is restarted again
+after 1 s, then after 2, 4, 8 and each 10 s: one whose network is too slow is not restarted all the time. Refusals of a
+call that was well for a second in between have another cause: it is restarted at once.
 """
 from __future__ import annotations
 
@@ -18,7 +18,8 @@ from .session import OCTETS_A_SECOND, DatagramRefusal
 
 REFUSED_FOR = 0.5           # seconds of the trunk whose datagrams are looked at
 FEWEST = 3                  # refused datagrams in them
-APART = 10.0                # seconds between two restarts of a call for lost octets, and two for the same refusals
+FIRST = 1.0                 # seconds between the first two restarts for the same refusals; then twice as many each time
+APART = 10.0                # .. at most; and between two for lost octets
 WELL = OCTETS_A_SECOND      # octets of the trunk over which no datagram is refused if what was the cause is over
 REFUSED = 'datagrams are refused for their time'
 _SPAN = round(REFUSED_FOR * OCTETS_A_SECOND)
@@ -36,6 +37,7 @@ class OpenCall:
     since: int = 0                      # datagrams before this place are of a playout that has ended
     lost_at: float = -inf               # when it was restarted for lost octets
     refused_at: float = -inf            # when for refusals, unless it was well since
+    wait: float = FIRST                 # seconds until it may be restarted for the same ones again
     well: tuple[int, int] | None = None     # the first and the last datagram since one was refused
     why: str | None = None              # why it is to be restarted for lost octets
 
@@ -45,7 +47,7 @@ class OpenCall:
             return
         self.fresh, first, seen = True, place - _SPAN, self.seen
         if refused and self.well and self.well[1] - self.well[0] >= WELL:
-            self.refused_at = -inf
+            self.refused_at, self.wait = -inf, FIRST
         self.well = None if refused else (self.well[0] if self.well else place, place)
         seen.append(place)
         while seen[0] <= first:
@@ -67,7 +69,8 @@ class OpenCall:
         why = None
         if self.why and now - self.lost_at >= APART:
             why, self.lost_at = self.why, now
-        elif counts and now - self.refused_at >= APART and self.is_refused():
+        elif counts and now - self.refused_at >= self.wait and self.is_refused():
+            self.wait = FIRST if self.refused_at == -inf else min(2 * self.wait, APART)
             why, self.refused_at = REFUSED, now
         self.fresh = False
         return why

@@ -6,7 +6,7 @@ from typing import Any
 
 from .properties import PropertyCase
 from e1gw.events import Event
-from e1gw.resyncs import APART, REFUSED, Resyncs
+from e1gw.resyncs import APART, FIRST, REFUSED, Resyncs
 from e1gw.session import DatagramRefusal
 
 LATE, FULL = int(DatagramRefusal.LATE), int(DatagramRefusal.FULL)
@@ -29,7 +29,7 @@ class ResyncRuleTests(unittest.TestCase):
 
     def test_limits(self) -> None:
         """Of half a second what came in it, without its first moment; half of it, three at least, over a quarter; and
-        again after ten seconds. What came before a restart for another reason does not count."""
+        again after a second, and then two. What came before a restart for another reason does not count."""
         self.come(0, 1.0, 1.01)
         self.come(LATE, 1.25)
         self.come(0, 1.3, 1.375)
@@ -37,17 +37,19 @@ class ResyncRuleTests(unittest.TestCase):
         self.assertEqual(self.restarted, [])
         self.come(LATE, 1.5)
         self.assertEqual(self.restarted, [(1.5, 1)])
-        self.come(LATE, 11.0, 11.25, 11.4375, 11.499)
-        self.assertEqual(len(self.restarted), 1)
-        self.come(LATE, 11.5)
-        self.assertEqual(self.restarted[1:], [(11.5, 1)])
+        for end in 2.5, 4.5:
+            before = len(self.restarted)
+            self.come(LATE, end - 0.5, end - 0.25, end - 0.0625, end - 0.001)
+            self.assertEqual(len(self.restarted), before)
+            self.come(LATE, end)
+            self.assertEqual(self.restarted[before:], [(end, 1)])
         self.come(0, *(30 + n / 200 for n in range(80)))
         self.rule.want([1], 'gap')
         self.come(0, 30.5)
         self.come(LATE, 30.5625, 30.625, 30.75)
-        self.assertEqual(len(self.restarted), 3)
+        self.assertEqual(len(self.restarted), 4)
         self.come(LATE, 30.8125)
-        self.assertEqual(self.restarted[2:], [(30.5, 1), (30.8125, 1)])
+        self.assertEqual(self.restarted[3:], [(30.5, 1), (30.8125, 1)])
 
     def go(self, *stretches: tuple[int, float]) -> None:
         """Datagrams come, with each of these answers for so many seconds."""
@@ -56,14 +58,20 @@ class ResyncRuleTests(unittest.TestCase):
 
     def test_refusals_of_another_cause(self) -> None:
         """Behind a second without any it is restarted at once; one that is refused now and then waits."""
-        for between, count in ((1.2, 2), (4.0, 2), (0.8, 1), (1.02, 2), (1.0, 1)):
+        for between, count in ((1.2, 4), (2.0, 4), (0.8, 3), (1.02, 4), (1.0, 3)):
             with self.subTest(between):
                 self.setUp()
-                self.go((LATE, 0.4), (0, between), (FULL, 0.6))
+                self.go((LATE, 3.6), (0, between), (FULL, 0.6))
                 self.assertEqual(len(self.restarted), count)
         self.setUp()
-        self.go((LATE, 0.4), *[(0, 0.5), (LATE, 0.02)] * 4, (LATE, 0.6))
-        self.assertEqual(len(self.restarted), 1)
+        self.go((LATE, 3.6), *[(0, 0.5), (LATE, 0.02)] * 4, (LATE, 0.6))
+        self.assertEqual(len(self.restarted), 3)
+
+    def test_a_network_that_is_too_slow(self) -> None:
+        """It is restarted less and less often."""
+        self.go((LATE, 60.0))
+        its = [at for at, _ in self.restarted]
+        self.assertEqual([round(later - at) for at, later in zip(its, its[1:])], [1, 2, 4, 8, 10, 10, 10, 10])
 
     def test_what_is_told(self) -> None:
         """One event for all."""
@@ -79,14 +87,14 @@ class RememberedCall:
         self.come = list[tuple[int, bool]]()            # places of datagrams, and which of them were refused
         self.good = list[int]()                         # places of those since one was refused
         self.fresh, self.since, self.wanted = False, 0, ''
-        self.at = {'lost': -APART, REFUSED: -APART}     # when it was restarted last for what
+        self.lost, self.again = -APART, list[float]()   # when it was restarted for lost octets, for the same refusals
 
     def comes(self, place: int, refused: bool) -> None:
         if place >= self.since:
             self.fresh = True
             self.come.append((place, refused))
             if refused and self.good and self.good[-1] - self.good[0] >= SECOND:
-                self.at[REFUSED] = -APART
+                self.again = []
             self.good = [] if refused else [*self.good, place]
 
     def due(self, now: float, counts: bool) -> str | None:
@@ -94,13 +102,17 @@ class RememberedCall:
         last = [(at, bad) for at, bad in self.come if at > self.come[-1][0] - SECOND // 2]
         bad = [at for at, refused in last if refused]
         half = self.fresh and len(bad) >= max(3, len(last) / 2) and bad[-1] - bad[0] >= SECOND // 4
-        found = 'lost' if self.wanted and now - self.at['lost'] >= APART else REFUSED if (
-            counts and half and now - self.at[REFUSED] >= APART) else None
+        may = not self.again or now - self.again[-1] >= min(APART, FIRST * 2 ** (len(self.again) - 1))
+        found = 'lost' if self.wanted and now - self.lost >= APART else REFUSED if counts and half and may else None
         self.fresh = False
         return found
 
     def restarted(self, why: str, now: float, place: int) -> None:
-        self.at[why], self.since, self.wanted = now, place, ''
+        if why == REFUSED:
+            self.again.append(now)
+        else:
+            self.lost = now
+        self.since, self.wanted = place, ''
         self.come.clear()
 
 
@@ -114,7 +126,7 @@ class ResyncPropertyTests(PropertyCase):
             st.tuples(st.just('burst'), st.lists(st.sampled_from((0, LATE)), min_size=1, max_size=4),
                       st.sampled_from((0.3, 0.52, 0.6, 1.02, 1.2))),
             st.tuples(st.just('want'), st.just(0), st.sampled_from((0.0, 0.5))),
-            st.tuples(st.just('wait'), st.booleans(), st.sampled_from((0.02, 4.0, 10.0))),
+            st.tuples(st.just('wait'), st.booleans(), st.sampled_from((0.02, 1.0, 4.0, 10.0))),
             st.tuples(st.just('close'), st.booleans(), st.just(0.02)))
 
         def check(chosen: list[tuple[str, Any, float]], ahead: int) -> None:
