@@ -179,13 +179,13 @@ class FolderReader:
 
     def __init__(self, files: LogFiles, place: int = -1) -> None:
         """`place` is up to where it was read before, if it was. `base` is that of the newest state."""
-        self.files, self.place, self._turn, self.base = files, place, -1, 0
+        self.files, self.place, self.base = files, place, 0
+        self._turn, self._number = -1, 0    # of the pair that was read last
 
     def look(self) -> list[LogNews]:
         """What there is of news. Nothing while it is written over faster than it is read."""
-        number = self.files.newest()
-        head = self.files.heads(number) if number is not None else None
-        if number is None or not head or head.turn < self._turn:       # (a head is written in this moment)
+        number, head = self._newest()
+        if not head or head.turn < self._turn:      # (a head is written in this moment)
             return []
         if head.turn == self._turn:
             return self._more(number, head, self.base)
@@ -196,13 +196,21 @@ class FolderReader:
         if not state.place < self.place <= state.place + head.length:       # (else it was read before)
             found.append(self._at(state))
             self.place = state.place
-        self._turn, self.base = state.turn, state.place
+        self._turn, self._number, self.base = state.turn, number, state.place
         return found + self._more(number, head, state.place)
+
+    def _newest(self) -> tuple[int, Head | None]:
+        """The number of the newest pair, and the head of its records. It is mostly the one that was read last: the
+        head of the other one's state, which is written behind all else of that, is of an earlier turn."""
+        other, head = self.files.head(STATES[1 - self._number]), self.files.head(RECORDS[self._number])
+        if head and head.turn == self._turn and not (other and other.turn > self._turn):
+            return self._number, head
+        number = self.files.newest()
+        return (number, self.files.heads(number)) if number is not None else (0, None)
 
     def is_overtaken(self) -> bool:
         """Whether what is to be read next is written over."""
-        number = self.files.newest()
-        head = self.files.heads(number) if number is not None else None
+        head = self._newest()[1]
         return head is not None and 0 <= self._turn < head.turn - 1
 
     def _at(self, state: LogState) -> LogNews:

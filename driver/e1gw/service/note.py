@@ -43,7 +43,7 @@ class ServiceNote:
     calls: CallsNote | None
 
     def text(self) -> bytes:
-        return json.dumps({'version': VERSION, **dataclasses.asdict(self)}).encode() + b'\n'
+        return json.dumps({'version': VERSION, **vars(self)}, default=vars).encode() + b'\n'
 
 
 class NoteFiles:
