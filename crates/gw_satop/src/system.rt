@@ -103,10 +103,10 @@ fn renew_trunk(poll: &Poll, descriptor: i32) -> bool
         .is_ok()
 }
 
-// Waits for events, for this time at most. There are none if the system refuses.
+// Waits once for events, for this time at most. There are none if the system refuses.
 #[tactic(auto, unfolding(gw_trunk::specs::System::SystemReports))]
 fn wait_for_events(poll: &mut Poll, events: &mut Events, limit: Duration)
-    ensures { SystemReports poll.new (Some (as_nanos limit)) (items events.new) }
+    ensures { SystemReports poll.old poll.new (Some (as_nanos limit)) (items events.new) }
 {
     let _ = poll.poll(events, Some(limit));
 }

@@ -11,7 +11,7 @@ use Rattle.gw_trunk.specs.System.{SystemListens, SystemWrote}
 -- clients are accepted at this path, and there is none yet
 pub record TellsFrom (path : List ℕ) (config : Config) (gateway : Gateway) (t : Teller) : Type 0 where
   pub begun : telling.HasBegun t config.gateway.law gateway
-  pub listens : SystemListens path t.door
+  pub listens : SystemListens path t.door.listener
 
 -- .. where a path is named; else there are no clients
 abbrev pub TellsAsked : Option (List ℕ) → Config → Gateway → Option Teller → Type 0

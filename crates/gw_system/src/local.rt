@@ -23,6 +23,7 @@ use gw_repeat::{Repeating, packet_words};
 use gw_session::Recorder;
 use gw_switch::Gateway;
 use gw_tell::Teller;
+use gw_trunk::LocalDoors;
 use gw_udp::{OpenFault, Resting, Socket, SourceFilter, SystemSocket, UdpPorts, open_sockets};
 use log_files::FileStore;
 use std::fs::File;
@@ -50,7 +51,8 @@ fn open_teller(
     ensures ok { IfOk result (TellsFrom path.now config.now gateway.now) }
     ensures err { IfErr result (SystemRefusesTeller path.now) }
 {
-    Teller::open(rt, path, config.gateway.law, gateway)
+    let law = config.gateway.law;
+    Teller::open(rt.alloc(), &mut LocalDoors::new(rt), path, law, gateway)
 }
 
 /// What a session or a trunk takes from this system, by the matches of the command line.

@@ -3,11 +3,10 @@ use Rattle.std.proofs.Common.{◌≡◌, ◌⊎◌, inl, inr, ◌∙◌, ◌+◌
 use Rattle.std.proofs.Common.{zero, suc, length, length-append}
 use Rattle.mio.specs.declared.net.uds.stream.UnixStream.{UnixStream}
 use Rattle.gw_switch.specs.declared.gateway.Gateway.{Gateway}
-use Rattle.gw_trunk.specs.System.{SystemAccepted, SystemHasNobody}
 use Rattle.gw_tell.specs.declared.place.ClientSlot.{ClientSlot}
 use Rattle.gw_tell.specs.declared.teller.Teller.{Teller}
 use Rattle.gw_tell.specs.Clients.{at, AllFree, AllHaveRoom, IsOpen}
-use Rattle.gw_tell.specs.Telling.{LetAllIn, LetsIn, Welcomes}
+use Rattle.gw_tell.specs.Telling.{Accepts, FindsNobody, LetAllIn, LetsIn, Welcomes}
 
 -- one client was let in for each of this many connections
 abbrev pub HasLetIn : Gateway → ℕ → Teller → Teller → Type 0
@@ -15,35 +14,35 @@ HasLetIn gateway turns first now = (streams : List UnixStream) × (length stream
     × LetAllIn gateway streams first now
 
 -- One more is let in.
-let-more : (gateway : Gateway) (streams : List UnixStream) (stream : UnixStream) (first before after : Teller)
-    → LetAllIn gateway streams first before → SystemAccepted before.door stream
-    → Welcomes gateway stream before after → LetAllIn gateway (streams ++ stream ∷ []) first after
-let-more gateway [] stream first before after all accepted one =
-    (after, rw all at accepted, rw all at one, refl)
-let-more gateway (s ∷ streams) stream first before after all accepted one =
-    (all.0, all.1, all.2, let-more gateway streams stream all.0 before after all.3 accepted one)
+let-more : (gateway : Gateway) (streams : List UnixStream) (stream : UnixStream)
+    (first before opened after : Teller) → LetAllIn gateway streams first before → Accepts stream before opened
+    → Welcomes gateway stream opened after → LetAllIn gateway (streams ++ stream ∷ []) first after
+let-more gateway [] stream first before opened after all accepted one =
+    (opened, after, rw all at accepted, one, refl)
+let-more gateway (s ∷ streams) stream first before opened after all accepted one =
+    (all.0, all.1, all.2, all.3, let-more gateway streams stream all.1 before opened after all.4 accepted one)
 
 -- .. in the next turn
-pub one-let-in : (gateway : Gateway) (turns : ℕ) (stream : UnixStream) (first before after : Teller)
-    → HasLetIn gateway turns first before → SystemAccepted before.door stream
-    → Welcomes gateway stream before after → HasLetIn gateway (turns + 1) first after
-one-let-in gateway turns stream first before after (streams, count, all) accepted one = (
+pub one-let-in : (gateway : Gateway) (turns : ℕ) (stream : UnixStream) (first before opened after : Teller)
+    → HasLetIn gateway turns first before → Accepts stream before opened
+    → Welcomes gateway stream opened after → HasLetIn gateway (turns + 1) first after
+one-let-in gateway turns stream first before opened after (streams, count, all) accepted one = (
   streams ++ stream ∷ [],
   omega (arith, count, length-append streams (stream ∷ [])),
-  let-more gateway streams stream first before after all accepted one,
+  let-more gateway streams stream first before opened after all accepted one,
 )
 
 -- Nobody is found at the door.
-pub nobody-let-in : (gateway : Gateway) (turns : ℕ) (first now : Teller) → turns < 8
-    → HasLetIn gateway turns first now → SystemHasNobody now.door → LetsIn gateway first now
-nobody-let-in gateway turns first now fewer (streams, count, all) nobody =
-    record { streams = streams; all = all; ends = inr (omega (arith, count, fewer), nobody) }
+pub nobody-let-in : (gateway : Gateway) (turns : ℕ) (first now last : Teller) → turns < 8
+    → HasLetIn gateway turns first now → FindsNobody now last → LetsIn gateway first last
+nobody-let-in gateway turns first now last fewer (streams, count, all) nobody =
+    record { streams = streams; last = now; all = all; ends = inr (omega (arith, count, fewer), nobody) }
 
 -- All eight turns were used.
 pub all-let-in : (gateway : Gateway) (turns : ℕ) (first now : Teller) → turns ≡ 8
     → HasLetIn gateway turns first now → LetsIn gateway first now
 all-let-in gateway turns first now full (streams, count, all) =
-    record { streams = streams; all = all; ends = inl (count ∙ full) }
+    record { streams = streams; last = now; all = all; ends = inl (count ∙ full, refl) }
 
 -- Eight places that are open are all free, and all have room.
 pub all_open : {S : Type 0} {m : _} (a b c d e f g h : ClientSlot S m) → IsOpen a → IsOpen b → IsOpen c → IsOpen d

@@ -59,17 +59,26 @@ pub record HasPlace (gateway : Gateway) (stream : UnixStream) (t t' : Teller) : 
 abbrev pub Welcomes : Gateway → UnixStream → Teller → Teller → Type 0
 Welcomes gateway stream t t' = (AllTaken t.places × (t' ≡ t)) ⊎ HasPlace gateway stream t t'
 
+-- a connection was accepted at the door
+abbrev pub Accepts : UnixStream → Teller → Teller → Type 0
+Accepts stream t t' = SystemAccepted t.door t'.door stream × (t' ≡ record t { door = t'.door })
+
+-- nobody was found there
+abbrev pub FindsNobody : Teller → Teller → Type 0
+FindsNobody t t' = SystemHasNobody t.door t'.door × (t' ≡ record t { door = t'.door })
+
 -- connections were accepted, one after another, and each was welcomed
 abbrev pub LetAllIn : Gateway → List UnixStream → Teller → Teller → Type 0
 LetAllIn gateway [] t t' = t' ≡ t
-LetAllIn gateway (stream ∷ streams) t t' = (between : Teller) × SystemAccepted t.door stream
-    × Welcomes gateway stream t between × LetAllIn gateway streams between t'
+LetAllIn gateway (stream ∷ streams) t t' = (opened between : Teller) × Accepts stream t opened
+    × Welcomes gateway stream opened between × LetAllIn gateway streams between t'
 
 -- Connections were accepted until nobody was found at the door, or eight.
 pub record LetsIn (gateway : Gateway) (t t' : Teller) : Type 0 where
   pub streams : List UnixStream
-  pub all : LetAllIn gateway streams t t'
-  pub ends : (length streams ≡ 8) ⊎ ((length streams < 8) × SystemHasNobody t'.door)
+  pub last : Teller
+  pub all : LetAllIn gateway streams t last
+  pub ends : ((length streams ≡ 8) × (t' ≡ last)) ⊎ ((length streams < 8) × FindsNobody last t')
 
 -- clients are looked at behind a record of the trunk: behind each if there is none, else once in 2,048 octets
 abbrev pub IsLook : Record → ℕ → Teller → Type 0

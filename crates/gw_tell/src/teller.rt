@@ -3,6 +3,7 @@
 ghost use Rattle.std.specs.Prelude.{◌≡◌, ◌<◌, ◌≤◌, ℕ, List, true, false, length, take, drop};
 ghost use Rattle.std.specs.Prelude.{IfSome, IfNone, IfOk, None};
 ghost use Rattle.gw_records.specs.Records.{named};
+ghost use Rattle.gw_trunk.specs.Door.{HasMadeSuch, TriesDoor};
 ghost use Rattle.gw_trunk.specs.System.{SystemListens, SystemWrote};
 ghost use Rattle.gw_tell.specs.Lines.{at_line, end_line};
 ghost use Rattle.gw_tell.specs.Clients.{AllAreHeard, AllAreTold, AllFree, AllHaveRoom, AllTaken, at};
@@ -21,12 +22,10 @@ use g704_cas::CircuitNo;
 use gw_records::RecordHead;
 use gw_session::Watch;
 use gw_switch::Gateway;
-use gw_trunk::{LocalDoors, accept, open_door};
-use mio::net::{UnixListener, UnixStream};
+use gw_trunk::{Door, Doors, open_door};
+use mio::net::UnixStream;
 use std::alloc::Global;
 use std::io;
-use std::net::Net;
-use std::rt::Files;
 
 // How many clients there may be at once.
 const MOST_CLIENTS: usize = 8;
@@ -39,7 +38,7 @@ const LOOK: u64 = 2048;
 /// that leaves, or for whom there is no room, loses its connection, and nothing else happens.
 #[derive(Drop)]
 pub struct Teller {
-    door: UnixListener,
+    door: Door,
     places: [ClientSlot<UnixStream>; 8],
     law: Law,
     // The octets of the trunk that the session has acted on.
@@ -116,26 +115,29 @@ fn open_places(alloc: Global) -> io::Result<[ClientSlot<UnixStream>; 8]>
 
 impl Teller {
     ghost use Rattle.gw_tell.specs.Clients.{OnlyAt, Seats};
-    ghost use Rattle.gw_tell.specs.Telling.{HasBegun, IsLook, KeepsPlace, LetsIn};
+    ghost use Rattle.gw_tell.specs.Telling.{Accepts, FindsNobody, HasBegun, IsLook, KeepsPlace, LetsIn};
     ghost use Rattle.gw_tell.specs.Telling.{TellsChanges, Welcomes};
     ghost use Rattle.gw_tell.specs.Reports.{place_after, whole_state};
     ghost use Rattle.gw_tell.specs.Seizures.{AreCounted};
 
     /// Listens at a path, with no client yet, and takes the memory of all places. The error is the system's,
     /// or that memory was refused.
-    pub fn open(
-        rt: &(impl Files + Net + AllocGlobal),
+    #[tactic(auto, using(gw_trunk::proofs::Opening::tried))]
+    pub fn open<D: Doors>(
+        alloc: Global,
+        doors: &mut D,
         path: &str,
         law: Law,
         gateway: &Gateway,
     ) -> io::Result<Teller>
         ensures begun { IfOk result (λ t. HasBegun t law gateway.now) }
-        ensures door { IfOk result (λ t. SystemListens path.now t.door) }
+        ensures door { IfOk result (λ t. SystemListens path.now t.door.listener) }
+        ensures calls { HasMadeSuch D.has_made doors.old doors.new (TriesDoor path.now) }
     {
-        let door = open_door(&mut LocalDoors::new(rt), path)?;
+        let door = open_door(doors, path)?;
         Ok(Teller {
-            door,
-            places: open_places(rt.alloc())?,
+            door: Door::new(door),
+            places: open_places(alloc)?,
             law,
             place: 0,
             told: GatewayStatus::of(gateway),
@@ -228,12 +230,20 @@ impl Teller {
         }
     }
 
+    // Accepts a connection, if one waits, and returns it.
+    fn accept_one(&mut self) -> Option<UnixStream>
+        ensures some { IfSome result (λ stream. Accepts stream self.old self.new) }
+        ensures none { IfNone result (FindsNobody self.old self.new) }
+    {
+        self.door.accept()
+    }
+
     // Accepts the connections that wait at the door, eight at most.
     fn let_in(&mut self, gateway: &Gateway)
         ensures { LetsIn gateway.now self.old self.new }
     {
         for _turn in 0..MOST_CLIENTS {
-            let Some(stream) = accept(&self.door) else {
+            let Some(stream) = self.accept_one() else {
                 return;
             };
             self.welcome(stream, gateway);

@@ -3,7 +3,7 @@ use Rattle.std.proofs.Common.{◌≡◌, ◌+◌, ◌<◌, ◌++◌, ◌∷◌, 
 use Rattle.std.proofs.Common.{refl, ap, sym, length-append}
 use Rattle.mio.specs.declared.net.uds.stream.UnixStream.{UnixStream}
 use Rattle.gw_trunk.specs.declared.clients.Clients.{Clients}
-use Rattle.gw_trunk.specs.Clients.{AnswersKnock, FindsNobody, LetAllIn, LetsIn}
+use Rattle.gw_trunk.specs.Clients.{Accepts, AnswersKnock, FindsNobody, LetAllIn, LetsIn, Places}
 
 -- Nobody knocks, and nothing was done; or a connection was accepted in each turn so far.
 abbrev pub IsAnswering : ℕ → Clients → Clients → Type 0
@@ -17,24 +17,26 @@ let-more [] stream first before after all one = (after, rw all at one, refl)
 let-more (s ∷ streams) stream first before after all one =
     (all.0, all.1, let-more streams stream all.0 before after all.2 one)
 
--- That somebody knocks is not forgotten then.
+-- That somebody knocks is not forgotten when one is placed,
+placed-knocks : (stream : UnixStream) (opened after : Clients) → Places stream opened after
+    → after.knocks ≡ opened.knocks
+placed-knocks stream opened after (inl full) = ap (λ (c : Clients). c.knocks) full.1
+placed-knocks stream opened after (inr (place, room, inl new)) = ap (λ (c : Clients). c.knocks) new.same
+placed-knocks stream opened after (inr (place, room, inr refused)) = ap (λ (c : Clients). c.knocks) refused.1
+
+-- .. nor when one is let in.
 still-knocks : (stream : UnixStream) (before after : Clients) → LetsIn stream before after
     → after.knocks ≡ before.knocks
-still-knocks stream before after l = elim l.does [
-  | inl full ↦ ap (λ (c : Clients). c.knocks) full.1
-  | inr placed ↦ elim placed.2 [
-    | inl new ↦ ap (λ (c : Clients). c.knocks) new.same
-    | inr refused ↦ ap (λ (c : Clients). c.knocks) refused.1
-  ]
-]
+still-knocks stream before after l = placed-knocks stream l.opened after l.does
+    ∙ ap (λ (c : Clients). c.knocks) l.accepted.1
 
 -- A turn in which one was let in.
 pub one-answered : (turns : ℕ) (stream : UnixStream) (first before between after : Clients)
-    → IsAnswering turns first before → before.knocks ≡ true → between ≡ before → LetsIn stream between after
-    → IsAnswering (turns + 1) first after
-one-answered turns stream first before between after (inl quiet) knocks same one = let no = quiet.0 in cc
-one-answered turns stream first before between after (inr busy) knocks same one =
-    let one' : LetsIn stream before after = rw same at one in
+    → IsAnswering turns first before → before.knocks ≡ true → Accepts stream before between
+    → Places stream between after → IsAnswering (turns + 1) first after
+one-answered turns stream first before between after (inl quiet) knocks accepts one = let no = quiet.0 in cc
+one-answered turns stream first before between after (inr busy) knocks accepts one =
+    let one' : LetsIn stream before after = record { opened = between; accepted = accepts; does = one } in
     inr (
       still-knocks stream before after one' ∙ knocks,
       busy.1,

@@ -1,6 +1,6 @@
 -- Calls at a door that were made one behind the other.
-use Rattle.std.proofs.Common.{◌≡◌, ◌++◌, List, append_assoc, refl}
-use Rattle.gw_trunk.specs.Door.{DoorCall, HasMadeSuch, HasMadeThese}
+use Rattle.std.proofs.Common.{◌≡◌, ◌++◌, ℕ, Bool, List, append_assoc, refl}
+use Rattle.gw_trunk.specs.Door.{DoorCall, HasMadeSuch, HasMadeThese, OpensBy, TriesDoor}
 
 -- Just these calls were made.
 pub exactly : {D : Type 0} {has_made : D → List DoorCall → Type 0} {a b : D} (calls : List DoorCall)
@@ -16,3 +16,8 @@ both is first then = record {
   are = is first.calls then.calls first.are then.are;
   made = λ before made. rw append_assoc at (then.made (before ++ first.calls) (first.made before made));
 }
+
+-- A door was tried at a path.
+pub tried : {D : Type 0} {has_made : D → List DoorCall → Type 0} {a b : D} (path : List ℕ) (ok : Bool)
+    → HasMadeSuch has_made a b (OpensBy path ok) → HasMadeSuch has_made a b (TriesDoor path)
+tried path ok opens = record { calls = opens.calls; are = (ok, opens.are); made = opens.made }

@@ -220,10 +220,10 @@ abbrev pub AreWoken : {S : Type 0} {m : _} → List Event → List (Option (Clie
 AreWoken events places places' = (k : ℕ) → k < 8
     → IsWokenAt (comes (k + 2) events) (leaves (k + 2) events) (at places k) (at places' k)
 
--- The system was asked for events, for a time at most, and they are noted: those of the trunk, of the door,
--- of what asks for the end, and of clients.
+-- The system was asked for events once, for a time at most, and they are noted: those of the trunk, of the
+-- door, of what asks for the end, and of clients.
 pub record Looks (limit : Option ℕ) (clients clients' : Clients) : Type 0 where
-  pub reported : SystemReports clients'.poll limit (items clients'.events)
+  pub reported : SystemReports clients.poll clients'.poll limit (items clients'.events)
   pub octets_is : clients'.octets ≡ (comes 0 (items clients'.events) || clients.octets)
   pub knocks_is : clients'.knocks ≡ (comes 1 (items clients'.events) || clients.knocks)
   pub ends_is : clients'.ends ≡ (comes 10 (items clients'.events) || clients.ends)
@@ -272,18 +272,28 @@ pub record HasNew (stream : UnixStream) (place : ℕ) (clients clients' : Client
   pub others : OnlyAt place clients.places clients'.places
   pub same : clients' ≡ record clients { places = clients'.places; came = at_most (clients.came + 1) }
 
--- A connection was accepted. It is that of a new client, at the place of one. It is dropped if each place
--- has a client that is there and gave a record, or if the system refuses to report what comes of it.
+-- A connection is that of a new client, at the place of one. It is dropped if each place has a client that is
+-- there and gave a record, or if the system refuses to report what comes of it.
+abbrev pub Places : UnixStream → Clients → Clients → Type 0
+Places stream clients clients' = (AreAllKnown clients.places × (clients' ≡ clients))
+    ⊎ ((place : ℕ) × MakesRoom clients.places place × (HasNew stream place clients clients'
+    ⊎ (SystemWatches clients.poll stream (place + 2) false × (clients' ≡ clients))))
+
+-- a connection was accepted at the door
+abbrev pub Accepts : UnixStream → Clients → Clients → Type 0
+Accepts stream clients clients' = SystemAccepted clients.door clients'.door stream
+    × (clients' ≡ record clients { door = clients'.door })
+
+-- .. and is that of a new client, or dropped
 pub record LetsIn (stream : UnixStream) (clients clients' : Clients) : Type 0 where
-  pub accepted : SystemAccepted clients.door stream
-  pub does : (AreAllKnown clients.places × (clients' ≡ clients))
-      ⊎ ((place : ℕ) × MakesRoom clients.places place × (HasNew stream place clients clients'
-      ⊎ (SystemWatches clients.poll stream (place + 2) false × (clients' ≡ clients))))
+  pub opened : Clients
+  pub accepted : Accepts stream clients opened
+  pub does : Places stream opened clients'
 
 -- nobody was found at the door, and it is noted that nobody knocks
 abbrev pub FindsNobody : Clients → Clients → Type 0
-FindsNobody clients clients' =
-    SystemHasNobody clients.door × (clients' ≡ record clients { knocks = false })
+FindsNobody clients clients' = SystemHasNobody clients.door clients'.door
+    × (clients' ≡ record clients { door = clients'.door; knocks = false })
 
 -- connections were accepted, one after another, and each client was let in
 abbrev pub LetAllIn : List UnixStream → Clients → Clients → Type 0
@@ -346,7 +356,7 @@ pub record AreOpened (descriptor : ℤ) (door : UnixListener) (answers : UnixStr
   pub descriptor_is : clients.descriptor ≡ descriptor
   pub watched : SystemWatches clients.poll descriptor 0 clients.is_waited_for
   pub door_watched : SystemWatches clients.poll door 1 true
-  pub door_is : clients.door ≡ door
+  pub door_is : clients.door.listener ≡ door
   pub answers_are : clients.answers.reader ≡ answers
   pub nobody : (k : ℕ) → k < 8 → at clients.places k ≡ None
   pub unread : (clients.octets ≡ false) × (clients.is_drained ≡ false) × (clients.is_refused ≡ false)

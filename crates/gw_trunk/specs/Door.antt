@@ -1,5 +1,5 @@
 -- How a door is opened at a path: what is asked of the system, and in which order (module `door`).
-use Rattle.std.specs.Prelude.{◌≡◌, ◌⊎◌, ◌++◌, ℕ, Bool, true, false, List, [], ◌∷◌, Option, Some}
+use Rattle.std.specs.Prelude.{◌≡◌, ◌⊎◌, ◌++◌, ℕ, Bool, true, false, List, [], ◌∷◌, Option, Some, None}
 use Rattle.std.specs.declared.io.ErrorKind.{ErrorKind}
 use Rattle.std.specs.declared.io.ErrorKind.TheVariants.{ConnectionRefused}
 use Rattle.gw_trunk.specs.System.{SystemShowsSocket, SystemConnects}
@@ -56,3 +56,12 @@ abbrev pub OpensBy : List ℕ → Bool → List DoorCall → Type 0
 OpensBy path ok calls = ((ok ≡ false) × ClearsBy path false calls)
     ⊎ ((front back : List DoorCall) × ClearsBy path true front × ListensBy path ok back
     × (calls ≡ front ++ back))
+
+-- .. whether or not it was
+abbrev pub TriesDoor : List ℕ → List DoorCall → Type 0
+TriesDoor path calls = (ok : Bool) × OpensBy path ok calls
+
+-- all calls at doors of whoever opens one at a path; none, where there is no path
+abbrev pub OpensAt : {D : Type 0} → (D → List DoorCall → Type 0) → D → D → Option (List ℕ) → Type 0
+OpensAt has_made old new None = new ≡ old
+OpensAt has_made old new (Some path) = HasMadeSuch has_made old new (TriesDoor path)

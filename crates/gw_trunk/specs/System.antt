@@ -34,9 +34,13 @@ SystemWasGiven writer octets = ⊤
 unfoldable pub SystemWasTold : {S : Type 0} → S → Type 0
 SystemWasTold writer = ⊤
 
--- a connection that waited at a door was accepted
-unfoldable pub SystemAccepted : {D S : Type 0} → D → S → Type 0
-SystemAccepted door stream = ⊤
+-- a door was asked once for a connection that waits, and accepted one
+unfoldable pub SystemAccepted : {D S : Type 0} → D → D → S → Type 0
+SystemAccepted door door' stream = ⊤
+
+-- .. and nobody waited that could be let in
+unfoldable pub SystemHasNobody : {D : Type 0} → D → D → Type 0
+SystemHasNobody door door' = ⊤
 
 -- the system was asked to report what comes of a source under a token, and this is whether it agreed
 unfoldable pub SystemWatches : {P S : Type 0} → P → S → ℕ → Bool → Type 0
@@ -46,14 +50,10 @@ SystemWatches poll source token agreed = ⊤
 unfoldable pub SystemRenews : {P S I : Type 0} → P → S → I → Bool → Type 0
 SystemRenews poll descriptor interest agreed = ⊤
 
--- .. to wait for events, for this many nanoseconds at most if there is a limit, and reported these; none if
--- it refused
-unfoldable pub SystemReports : {P E : Type 0} → P → Option ℕ → List E → Type 0
-SystemReports poll nanoseconds events = ⊤
-
--- nobody waited at a door that could be let in
-unfoldable pub SystemHasNobody : {S : Type 0} → S → Type 0
-SystemHasNobody door = ⊤
+-- .. to wait for events once, for this many nanoseconds at most if there is a limit, and reported these; none
+-- if it refused
+unfoldable pub SystemReports : {P E : Type 0} → P → P → Option ℕ → List E → Type 0
+SystemReports poll poll' nanoseconds events = ⊤
 
 -- the system was asked to wait for this many nanoseconds at most, and reported nothing
 unfoldable pub SystemReportedNone : {S : Type 0} → S → ℕ → Type 0

@@ -17,7 +17,7 @@ pub record WaitsFor (descriptor : ℤ) (interest : Interest) (waiting : Waiting)
 -- for what came before
 abbrev pub Rests : Waiting → Waiting → Type 0
 Rests waiting waiting' = (waiting.is_refused ≡ true)
-    × SystemReports waiting'.poll (Some 1000000) (items waiting'.events)
+    × SystemReports waiting.poll waiting'.poll (Some 1000000) (items waiting'.events)
     × (waiting' ≡ record waiting { poll = waiting'.poll; events = waiting'.events; is_refused = false })
 
 -- .. or it was asked to report what came before, and then to wait without an end; or it refused the first
@@ -26,7 +26,7 @@ Waits waiting waiting' = Rests waiting waiting'
     ⊎ ((waiting.is_refused ≡ false)
     × ((SystemRenews waiting.poll waiting.descriptor waiting.interest false × (waiting' ≡ waiting))
     ⊎ (SystemRenews waiting.poll waiting.descriptor waiting.interest true
-    × SystemReports waiting'.poll None (items waiting'.events)
+    × SystemReports waiting.poll waiting'.poll None (items waiting'.events)
     × (waiting' ≡ record waiting {
       poll = waiting'.poll;
       events = waiting'.events;

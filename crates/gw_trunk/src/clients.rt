@@ -6,16 +6,17 @@ ghost use Rattle.std.specs.List.{list_all};
 ghost use Rattle.std.specs.Duration.{as_nanos};
 ghost use Rattle.mio.specs.Event.{event_token, is_read_closed};
 ghost use Rattle.mio.specs.Events.{items};
-ghost use Rattle.gw_trunk.specs.System.{SystemAccepted, SystemHasNobody, SystemRefusesStream};
+ghost use Rattle.gw_trunk.specs.System.{SystemRefusesStream};
 ghost use Rattle.gw_trunk.specs.System.{SystemWatches};
 ghost use Rattle.gw_trunk.specs.Clients.{Answers, AnswersKnock, AreAllKnown, AreOpened, AreWoken, Asks};
 ghost use Rattle.gw_trunk.specs.Clients.{CanRead, FindsNobody, Gets, GetsRead, GivesAnswer, IsWokenAt};
 ghost use Rattle.gw_trunk.specs.Clients.{Looks, LooksAnew, LooksForOctets, MakesRoom, OnlyAt, ServesDoor};
-ghost use Rattle.gw_trunk.specs.Clients.{LetsIn, Waits, at, comes, is_quiet, rank};
+ghost use Rattle.gw_trunk.specs.Clients.{Accepts, Places, Waits, at, comes, is_quiet, rank};
 
 use crate::client::{Client, ClientPoll};
 use crate::client_stream::ClientStream;
 use crate::device_calls::DeviceReader;
+use crate::door::Door;
 use crate::logged_reader::LoggedReader;
 use crate::readiness::{open_poll, renew, wait_for_events, watch, watch_descriptor};
 use mio::event::Event;
@@ -59,7 +60,7 @@ pub struct Clients {
     is_drained: bool,
     // Whether it gave none, though octets had come: a device has an event that somebody else takes.
     is_refused: bool,
-    door: UnixListener,
+    door: Door,
     knocks: bool,
     // Whether the end is asked for.
     pub ends: bool,
@@ -218,18 +219,6 @@ fn place_for_one<S: ClientStream>(places: &[Option<Client<S>>; 8]) -> Option<usi
     found
 }
 
-/// Accepts a connection that waits at a door, if one does.
-#[tactic(auto, unfolding(crate::specs::System::SystemHasNobody, crate::specs::System::SystemAccepted))]
-pub fn accept(door: &UnixListener) -> Option<UnixStream>
-    ensures some { IfSome result (SystemAccepted door.now) }
-    ensures none { IfNone result (SystemHasNobody door.now) }
-{
-    match door.accept() {
-        Ok((stream, _)) => Some(stream),
-        Err(_) => None,
-    }
-}
-
 impl Clients {
     /// Clients who connect to `door`, with none yet, and what a descriptor waits with them. The answers to
     /// them come from `answers`, which never waits. The error is the system's.
@@ -253,7 +242,7 @@ impl Clients {
             octets: false,
             is_drained: false,
             is_refused: false,
-            door,
+            door: Door::new(door),
             knocks: true,
             ends: false,
             places: [None, None, None, None, None, None, None, None],
@@ -378,8 +367,7 @@ impl Clients {
 
     // Gives a connection that was accepted a place, if there is one and the system agrees to report it.
     fn place_one(&mut self, mut stream: UnixStream)
-        requires { SystemAccepted self.old.door stream }
-        ensures { LetsIn stream self.old self.new }
+        ensures { Places stream self.old self.new }
     {
         let Some(place) = place_for_one(&self.places) else {
             return;
@@ -392,10 +380,10 @@ impl Clients {
 
     // Accepts a connection, if one waits, and returns it.
     fn accept_one(&mut self) -> Option<UnixStream>
-        ensures some { IfSome result (λ stream. SystemAccepted self.new.door stream × (self.new ≡ self.old)) }
+        ensures some { IfSome result (λ stream. Accepts stream self.old self.new) }
         ensures none { IfNone result (FindsNobody self.old self.new) }
     {
-        let accepted = accept(&self.door);
+        let accepted = self.door.accept();
         if accepted.is_none() {
             self.knocks = false;
         }

@@ -1,7 +1,7 @@
 //! Whether the clients' Unix socket can be opened, and an old one at its path replaced.
 
-ghost use Rattle.std.specs.Prelude.{◌≡◌, ◌∷◌, [], true, List, Option, is_ok, IfOk, IfErr};
-ghost use Rattle.gw_trunk.specs.System.{SystemListens, SystemRefusesDoor};
+ghost use Rattle.std.specs.Prelude.{◌≡◌, ◌∷◌, [], true, List, Option, is_ok, IfOk, IfErr, IfSome, IfNone};
+ghost use Rattle.gw_trunk.specs.System.{SystemAccepted, SystemHasNobody, SystemListens, SystemRefusesDoor};
 ghost use Rattle.gw_trunk.specs.Door.{ClearsBy, HasMadeSuch, HasSocket, ListensBy, LooksBy, OpensBy};
 ghost use Rattle.gw_trunk.specs.Door.{is_refused};
 
@@ -14,6 +14,33 @@ use std::rt::Files;
 
 // The permissions of the socket: its owner and its group may connect.
 const MODE: u32 = 0o660;
+
+/// An open door. Connections are accepted by nothing else.
+#[derive(Drop)]
+pub struct Door {
+    listener: UnixListener,
+}
+
+impl Door {
+    /// The door at which this listens.
+    pub fn new(listener: UnixListener) -> Door
+        ensures { result.listener ≡ listener }
+    {
+        Door { listener }
+    }
+
+    /// Accepts a connection that waits, if one does.
+    #[tactic(auto, unfolding(crate::specs::System::SystemHasNobody, crate::specs::System::SystemAccepted))]
+    pub fn accept(&mut self) -> Option<UnixStream>
+        ensures some { IfSome result (SystemAccepted self.old self.new) }
+        ensures none { IfNone result (SystemHasNobody self.old self.new) }
+    {
+        match self.listener.accept() {
+            Ok((stream, _)) => Some(stream),
+            Err(_) => None,
+        }
+    }
+}
 
 /// Where doors are opened, by these calls and no others. The relation belongs to the type, so a generic
 /// caller has it only of calls that it made.

@@ -17,12 +17,11 @@ mod waiting;
 mod with_clients;
 
 pub use client_stream::ClientStream;
-pub use clients::accept;
 pub use device::{
     DeviceFault, DeviceRead, FromDevice, NoClients, ToDevice, TrunkInput, TrunkOutput,
 };
 pub use device_calls::{DeviceReader, DeviceWriter};
-pub use door::{Doors, LocalDoors, open_door};
+pub use door::{Door, Doors, LocalDoors, open_door};
 pub use held::drop_first;
 pub use multiframe_dropper::{MultiframeDropper, give_held};
 pub use sink::TrunkRecordSink;

@@ -59,10 +59,10 @@ pub fn renew(poll: &Poll, descriptor: i32, interest: Interest) -> bool
     registry.reregister(source, Token(0), interest).is_ok()
 }
 
-/// Waits for events, for this time at most. There are none if the system refuses.
+/// Waits once for events, for this time at most. There are none if the system refuses.
 #[tactic(auto, unfolding(crate::specs::System::SystemReports))]
 pub fn wait_for_events(poll: &mut Poll, events: &mut Events, limit: Option<Duration>)
-    ensures { SystemReports poll.new (option_map as_nanos limit) (items events.new) }
+    ensures { SystemReports poll.old poll.new (option_map as_nanos limit) (items events.new) }
 {
     let _ = poll.poll(events, limit);
 }

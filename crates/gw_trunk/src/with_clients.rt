@@ -7,6 +7,7 @@ ghost use Rattle.std.specs.List.{list_all};
 ghost use Rattle.gw_trunk.specs.Clients.{is_quiet};
 ghost use Rattle.gw_trunk.specs.Clients.{AreOpened};
 ghost use Rattle.gw_trunk.specs.Device.{HasFailed};
+ghost use Rattle.gw_trunk.specs.Door.{HasMadeSuch, TriesDoor};
 ghost use Rattle.gw_trunk.specs.System.{SystemListens, SystemPairs, SystemRefusesDoor, SystemRefusesStream};
 ghost use Rattle.gw_trunk.specs.System.{SystemWatches};
 ghost use Rattle.mio.specs.Net.{unix_stream_fd};
@@ -15,14 +16,13 @@ use crate::client::ClientPoll;
 use crate::clients::Clients;
 use crate::device::{DeviceFault, DeviceRead, ToDevice, TrunkInput};
 use crate::device_calls::{DeviceReader, is_for_later};
-use crate::door::{LocalDoors, open_door};
+use crate::door::{Doors, open_door};
 use crate::logged_reader::LoggedReader;
 use gw_records::Log;
 use mio::net::{UnixListener, UnixStream};
 use std::io;
 use std::net::Net;
 use std::os::fd::AsRawFd;
-use std::rt::Files;
 
 /// A reader of std over a descriptor, and the clients of a Unix socket. The reader is read only if octets
 /// have come, so one that waits for them keeps no client from being asked.
@@ -99,8 +99,10 @@ pub fn open_pair(rt: &impl Net) -> io::Result<(UnixStream, UnixStream)>
 /// What comes from the reader, whose descriptor this is, and from the clients of the Unix socket at a path;
 /// and what takes the answers to them. An old socket there at which nobody listens is replaced. The error is
 /// the system's.
-pub fn open_clients<R: DeviceReader + Drop>(
-    rt: &(impl Files + Net + AllocGlobal),
+#[tactic(auto, using(crate::proofs::Opening::tried))]
+pub fn open_clients<R: DeviceReader + Drop, D: Doors>(
+    rt: &(impl Net + AllocGlobal),
+    doors: &mut D,
     reader: R,
     descriptor: i32,
     path: &str,
@@ -108,15 +110,16 @@ pub fn open_clients<R: DeviceReader + Drop>(
     ensures incoming { IfOk result (λ both. (both.0.reader.log.octets ≡ []) × (both.0.asked.octets ≡ [])) }
     ensures answers { IfOk result (λ both. both.1.log.octets ≡ []) }
     ensures reader { IfOk result (λ both. both.0.reader.start.value ≡ reader) }
-    ensures door { IfOk result (λ both. SystemListens path.now both.0.clients.door) }
+    ensures door { IfOk result (λ both. SystemListens path.now both.0.clients.door.listener) }
     ensures joined { IfOk result (λ both. SystemPairs both.0.clients.answers.reader both.1.writer) }
     ensures goes { IfOk result (λ both. both.0.ended ≡ false) }
     ensures waiting { IfOk result (λ both. both.1.waiting.descriptor ≡ unix_stream_fd both.1.writer) }
-    ensures clients { IfOk result (λ both. AreOpened descriptor both.0.clients.door
+    ensures clients { IfOk result (λ both. AreOpened descriptor both.0.clients.door.listener
         both.0.clients.answers.reader both.0.clients) }
+    ensures calls { HasMadeSuch D.has_made doors.old doors.new (TriesDoor path.now) }
     ensures err { IfErr result (λ e. SystemRefusesDoor path.now e ⊎ SystemRefusesStream e) }
 {
-    let door = open_door(&mut LocalDoors::new(rt), path)?;
+    let door = open_door(doors, path)?;
     let (near, far) = open_pair(rt)?;
     let incoming = WithClients::open(rt, reader, descriptor, door, near)?;
     let end = far.as_raw_fd();

@@ -5,6 +5,7 @@ ghost use Rattle.clap.specs.Words.{subcommand_rows_of};
 ghost use Rattle.gw_command.specs.Command.{HasFlag, text_in};
 ghost use Rattle.gw_machine.specs.System.{LacksSession};
 ghost use Rattle.gw_machine.specs.CommandLine.{TakesAsked, files_in};
+ghost use Rattle.gw_trunk.specs.Door.{HasMadeSuch, OpensAt, TriesDoor};
 ghost use Rattle.run_trunk.specs.Filters.{AreAsked, EndIsTold, LiveIsTold};
 ghost use Rattle.run_trunk.specs.Trunks.{IsEndedBy, IsInputOf, IsOutput, IsReported, LacksControl};
 ghost use Rattle.run_trunk.specs.Trunks.{LacksServing, LacksStream, ServesBy, ServesTrunk, told_behind};
@@ -25,8 +26,8 @@ use gw_session::{RunFault, Totals};
 use gw_slots::DeviceSlots;
 use gw_switch::Gateway;
 use gw_trunk::{
-    DeviceFault, FromDevice, NoClients, ToDevice, TrunkInput, TrunkOutput, TrunkRecordSink,
-    TrunkRecordSource, WithClients, open_clients,
+    DeviceFault, Doors, FromDevice, LocalDoors, NoClients, ToDevice, TrunkInput, TrunkOutput,
+    TrunkRecordSink, TrunkRecordSource, WithClients, open_clients,
 };
 use mio::net::UnixStream;
 use std::marker::Brand;
@@ -63,8 +64,9 @@ fn open_stdout(rt: &impl Fileless, output: Stdout) -> Result<ToDevice<Stdout>, P
 
 // Opens the trunk at standard input with the clients of the Unix socket at a path, and what the answers to
 // them go to.
-fn open_control(
-    rt: &impl Machine,
+fn open_control<R: Fileless, D: Doors>(
+    rt: &R,
+    doors: &mut D,
     path: &str,
     input: Stdin,
 ) -> Result<(WithClients<Stdin>, ToDevice<UnixStream>), ProgramFault>
@@ -72,9 +74,10 @@ fn open_control(
     ensures asked { IfOk result (λ both. both.0.asked.octets ≡ []) }
     ensures told { IfOk result (λ both. both.1.log.octets ≡ []) }
     ensures reported { IfOk result (λ both. IsReported (pos 0) both.0.clients.poll) }
+    ensures calls { HasMadeSuch D.has_made doors.old doors.new (TriesDoor path.now) }
     ensures err { IfErr result (LacksControl path.now) }
 {
-    match open_clients(rt, input, STDIN, path) {
+    match open_clients(rt, doors, input, STDIN, path) {
         Ok(both) => Ok(both),
         Err(error) => Err(ProgramFault::of(&error, ProgramFault::Control)),
     }
@@ -319,6 +322,32 @@ fn serve_clients<R: Fileless, Y: System>(
     carry(rt, matches, system, ends)
 }
 
+// Serves the trunk, and the clients of a Unix socket that is opened at one of these doors if the matches name
+// a path for it.
+fn serve_at<R: Fileless, D: Doors, Y: System>(
+    rt: &R,
+    doors: &mut D,
+    matches: &ArgMatches<'_>,
+    system: &Y,
+    input: Stdin,
+    output: Stdout,
+) -> Result<Totals, ProgramFault>
+    requires takes { TakesAsked (subcommand_rows_of matches.now) (Y.files system.now) }
+    ensures served { ServesTrunk (subcommand_rows_of matches.now)
+        (LacksSession (files_in (subcommand_rows_of matches.now))
+        (λ config. LacksServing (Y.lacks_tape system.now) (Y.lacks_ports system.now config)
+        (Y.lacks_watch system.now))) result }
+    ensures calls { OpensAt D.has_made doors.old doors.new
+        (text_in (codes "control") (subcommand_rows_of matches.now)) }
+{
+    let Some(path) = control_of(matches) else {
+        return serve_alone(rt, matches, system, input, output);
+    };
+    let (incoming, answers) = open_control(rt, doors, path, input)?;
+    end_as_asked(matches, &incoming)?;
+    serve_clients(rt, matches, system, incoming, answers, output)
+}
+
 /// Serves the trunk whose octets come from standard input and go to standard output, with what the system
 /// takes for the command line, and the clients of a Unix socket if the matches name one. It ends with the
 /// trunk, or as the descriptor asks that they name.
@@ -342,10 +371,5 @@ pub fn serve<R: Machine, Y: System>(
         (λ config. LacksServing (Y.lacks_tape system.now) (Y.lacks_ports system.now config)
         (Y.lacks_watch system.now))) result }
 {
-    let Some(path) = control_of(matches) else {
-        return serve_alone(rt, matches, system, input, output);
-    };
-    let (incoming, answers) = open_control(rt, path, input)?;
-    end_as_asked(matches, &incoming)?;
-    serve_clients(rt, matches, system, incoming, answers, output)
+    serve_at(rt, &mut LocalDoors::new(rt), matches, system, input, output)
 }
