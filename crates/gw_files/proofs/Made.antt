@@ -1,12 +1,8 @@
 -- Calls that were made one behind the other.
 use Rattle.std.proofs.Common.{◌≡◌, ◌∷◌, ◌++◌, [], ℕ, List, Bool, true, false, inl, inr, refl, ap, sym}
-use Rattle.gw_files.specs.FileCalls.{Does, FileCall, IsOne, Makes, MakesSuch, Plan, UpTo, all_done, behind}
+pub use Rattle.gw_machine.proofs.Made.{behind_both, both, exactly, none, so}
+use Rattle.gw_files.specs.FileCalls.{Does, FileCall, IsOne, Makes, MakesSuch, Plan, UpTo, all_done}
 use Rattle.gw_files.specs.StateCalls.{ReplacesBy, writing}
-
--- what is behind the first of two lists, and behind that
-pub behind_both : (before xs ys : List FileCall) → behind before (xs ++ ys) ≡ behind (behind before xs) ys
-behind_both before [] ys = refl
-behind_both before (x ∷ xs) ys = behind_both (x ∷ before) xs ys
 
 -- plans that were done one behind the other
 done_both : (p q : Plan) → all_done (p ++ q) ≡ all_done p ++ all_done q
@@ -30,37 +26,11 @@ pub one_done : (call : Bool → FileCall) (ok : Bool) → IsOne call ok (call tr
 one_done call true = refl
 one_done call false = (true, refl)
 
--- just these calls were made
-pub exactly : {F : Type 0} {has_made : F → List FileCall → Type 0} {a b : F} (calls : List FileCall)
-    → Makes has_made a b calls → MakesSuch has_made a b (λ xs. xs ≡ calls)
-exactly calls made = record { calls = calls; are = refl; made = made }
-
--- .. none
-pub none : {F : Type 0} {has_made : F → List FileCall → Type 0} {a : F} {P : List FileCall → Type 0} → P []
-    → MakesSuch has_made a a P
-none is = record { calls = []; are = is; made = λ before made. made }
-
--- .. one, which is all of a plan
+-- one call was made, which is all of a plan
 pub one : {F : Type 0} {has_made : F → List FileCall → Type 0} {a b : F} (call : Bool → FileCall) (ok : Bool)
     → Makes has_made a b (call ok ∷ []) → MakesSuch has_made a b (Does (call ∷ []) ok)
 one call true made = record { calls = call true ∷ []; are = refl; made = made }
 one call false made = record { calls = call false ∷ []; are = inr (inl refl); made = made }
-
--- calls of one kind are of another
-pub so : {F : Type 0} {has_made : F → List FileCall → Type 0} {a b : F} {P Q : List FileCall → Type 0}
-    → ((xs : List FileCall) → P xs → Q xs) → MakesSuch has_made a b P → MakesSuch has_made a b Q
-so is first = record { calls = first.calls; are = is first.calls first.are; made = first.made }
-
--- calls of one kind were made, and of another behind them
-pub both : {F : Type 0} {has_made : F → List FileCall → Type 0} {a b c : F} {P Q R : List FileCall → Type 0}
-    → ((xs ys : List FileCall) → P xs → Q ys → R (xs ++ ys))
-    → MakesSuch has_made a b P → MakesSuch has_made b c Q → MakesSuch has_made a c R
-both is first then = record {
-  calls = first.calls ++ then.calls;
-  are = is first.calls then.calls first.are then.are;
-  made = λ before made.
-      rw (behind_both before first.calls then.calls) (then.made _ (first.made before made));
-}
 
 -- what was done behind a plan was done of both
 pub done_then : (p q : Plan) (ok : Bool) (xs ys : List FileCall) → xs ≡ all_done p → Does q ok ys

@@ -1,6 +1,7 @@
 -- The calls on files, and in which order they are made (module `file_system`).
 use Rattle.std.specs.Prelude.{◌≡◌, ◌⊎◌, ⊤, ℕ, Bool, true, false, List, [], ◌∷◌, Option, Some, None}
-use Rattle.std.specs.Prelude.{Result, Ok, Err, map}
+use Rattle.std.specs.Prelude.{Result, Ok, Err, is_ok, map}
+pub use Rattle.gw_machine.specs.Calls.{Makes, MakesSuch}
 
 -- A call on files, and whether the system did it. (A look has no such mark: it changes nothing. The mark of a
 -- write says whether all octets were taken.) Or a line on standard error.
@@ -27,8 +28,7 @@ pub data FileCall : Type 0 where
 
 -- the system did a call that had this result
 abbrev pub is_done : {T E : Type 0} → Result T E → Bool
-is_done (Ok value) = true
-is_done (Err error) = false
+is_done result = is_ok result
 
 -- .. that is asked for a number, or whether it did something
 abbrev pub shown : {T E : Type 0} → Result T E → Option T
@@ -38,16 +38,6 @@ shown (Err error) = None
 abbrev pub has_done : {E : Type 0} → Result Bool E → Bool
 has_done (Ok done) = done
 has_done (Err error) = false
-
--- calls behind those that were made before, of which the latest is the first
-abbrev pub behind : List FileCall → List FileCall → List FileCall
-behind before [] = before
-behind before (call ∷ calls) = behind (call ∷ before) calls
-
--- These calls were made between two values of a file system, in this order, and no other.
-abbrev pub Makes : {F : Type 0} → (F → List FileCall → Type 0) → F → F → List FileCall → Type 0
-Makes has_made old new calls =
-    (before : List FileCall) → has_made old before → has_made new (behind before calls)
 
 -- All calls that were made of a file system. Std says nothing of them, so this holds of all; but it is
 -- unfolded only where one call is made.
@@ -67,13 +57,6 @@ abbrev pub UpTo : Plan → List FileCall → Type 0
 UpTo [] calls = ⊥
 UpTo (call ∷ plan) calls = (calls ≡ []) ⊎ (calls ≡ call false ∷ [])
     ⊎ ((rest : List FileCall) × (calls ≡ call true ∷ rest) × UpTo plan rest)
-
--- Calls of a kind were made between two values of a file system, in their order, and no other.
-pub record MakesSuch {F : Type 0} (has_made : F → List FileCall → Type 0) (old new : F)
-    (Are : List FileCall → Type 0) : Type 0 where
-  pub calls : List FileCall
-  pub are : Are calls
-  pub made : Makes has_made old new calls
 
 -- there was one call, which was done if all went well
 abbrev pub IsOne : (Bool → FileCall) → Bool → List FileCall → Type 0

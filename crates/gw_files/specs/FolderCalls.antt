@@ -1,5 +1,5 @@
 -- Which calls take the folder of a trunk's log, and begin the log (modules `log_folder` and `log_tape`).
-use Rattle.std.specs.Prelude.{◌≡◌, ◌⊎◌, ℕ, Bool, true, false, List, [], ◌∷◌, ◌++◌, Option, Some, None, codes}
+use Rattle.std.specs.Prelude.{◌≡◌, ◌⊎◌, ℕ, Bool, true, false, List, [], ◌∷◌, ◌++◌, Some, None, codes}
 use Rattle.gw_machine.specs.Log.{in_folder}
 use Rattle.gw_files.specs.BeginCalls.{log_reads}
 use Rattle.gw_files.specs.FileCalls.{Does, FileCall, Plan, UpTo, all_done}

@@ -2,6 +2,7 @@
 
 ghost use Rattle.std.specs.Prelude.{◌≡◌, ◌++◌, ◌∷◌, [], ℕ, List, Option, IfOk, IfErr, IfSome, OnOk};
 ghost use Rattle.std.specs.Prelude.{OnErr, option_map, take, true, false, Some, None};
+ghost use Rattle.gw_files.specs.FileCalls.{SystemHasMade};
 
 use crate::files::{
     append_file, create_file, create_new_file, file_len, len_of, never_wait, open_both, open_file,
@@ -197,8 +198,11 @@ pub struct LocalFiles<'r, R> {
 }
 
 impl<'r, R> LocalFiles<'r, R> {
-    /// The files of a machine.
-    pub fn new(rt: &'r R) -> LocalFiles<'r, R> {
+    /// The files of a machine, of which nothing was asked since.
+    #[tactic(auto, unfolding(crate::specs::FileCalls::SystemHasMade))]
+    pub fn new(rt: &'r R) -> LocalFiles<'r, R>
+        ensures { SystemHasMade result [] }
+    {
         LocalFiles { rt }
     }
 }

@@ -14,9 +14,10 @@ ghost use Rattle.gw_files.specs.Recording.{SystemLetsWait, SystemNeverWaits};
 ghost use Rattle.gw_files.specs.ReportsFile.{SystemOpensBoth};
 ghost use Rattle.gw_files.specs.Files.{SystemAppends, SystemCreatesNew, SystemRenames};
 
-use gw_machine::Machine;
+use gw_machine::{ErrorLines, Machine, Printed, StandardError};
 use log_files::read_area;
 use std::alloc::Global;
+use std::fmt;
 use std::fs::{self, File, OpenOptions};
 use std::io::{self, Read, Write};
 use std::os::fd::OwnedFd;
@@ -209,10 +210,28 @@ pub(crate) fn remove_file(rt: &impl Machine, path: &str) -> io::Result<()> {
     fs::remove_file(rt, path)
 }
 
+// That a circuit begins as new. It prints as its line.
+#[derive(Clone, Copy, Debug)]
+struct BeginsAsNew {
+    circuit: usize,
+}
+
+impl fmt::Display for BeginsAsNew {
+    fn fmt<W: fmt::Write>(&self, f: &mut fmt::Formatter<W>) -> fmt::Result {
+        let circuit = self.circuit;
+        write!(f, "circuit {circuit} begins as new")
+    }
+}
+
+impl Printed for BeginsAsNew {
+    ghost use Rattle.gw_machine.specs.Lines.{Line};
+
+    ghost line = { λ new. Line.BeginsAsNew new.circuit };
+}
+
 /// Reports that a circuit begins as new.
-#[tactic(auto, unfolding(gw_machine::specs::Renewals::SystemTellsNew))]
 pub(crate) fn tell_new(rt: &impl Machine, circuit: usize)
     ensures { SystemTellsNew circuit }
 {
-    let _ = eprintln!(rt; "circuit {} begins as new", circuit);
+    StandardError::new(rt).write_line(&BeginsAsNew { circuit });
 }

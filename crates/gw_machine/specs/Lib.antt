@@ -1,4 +1,6 @@
 pub mod Status
+pub mod Calls
+pub mod Lines
 pub mod Report
 pub mod Files
 pub mod Renewals

@@ -1,12 +1,12 @@
 -- Which circuits are reported to begin as new (module `state`).
-use Rattle.std.specs.Prelude.{◌≢◌, ◌≤◌, ⊤, ℕ}
+use Rattle.std.specs.Prelude.{◌≢◌, ◌≤◌, ℕ, [], ◌∷◌}
 use Rattle.gw_switch.specs.declared.GatewayConfig.{GatewayConfig}
 use Rattle.gw_switch.specs.Whole.{config_of}
+use Rattle.gw_machine.specs.Lines.{Line, SystemWrites}
 
--- Standard error was given that a circuit begins as new. Std says nothing of that, so this holds of all; but
--- it is unfolded only where the line is printed.
-unfoldable pub SystemTellsNew : ℕ → Type 0
-SystemTellsNew circuit = ⊤
+-- that a circuit begins as new was written as a line, and nothing else
+abbrev pub SystemTellsNew : ℕ → Type 0
+SystemTellsNew circuit = SystemWrites (Line.BeginsAsNew circuit ∷ [])
 
 -- .. of each of this many circuits, from the first, that is configured otherwise
 abbrev pub AreTold : GatewayConfig → GatewayConfig → ℕ → Type 0

@@ -1,6 +1,6 @@
 -- What was done of what the command line asks for (module `requests`).
 use Rattle.std.specs.Prelude.{◌≡◌, ◌⊎◌, ℕ, List, [], Option, Some, None, Result, Err, IfOk, IfErr}
-use Rattle.std.specs.Prelude.{IsSomeAnd, MatchResult, codes}
+use Rattle.std.specs.Prelude.{IsSomeAnd, MatchResult, codes, is_some}
 use Rattle.gw_records.specs.declared.outcome.Totals.{Totals}
 use Rattle.gw_records.specs.Ports.{PortsState}
 use Rattle.gw_records.specs.Streams.{SourceState, SinkState}
@@ -17,6 +17,8 @@ use Rattle.gw_machine.specs.declared.program_fault.ProgramFault.{ProgramFault}
 use Rattle.gw_machine.specs.declared.program_fault.ProgramFault.TheVariants as program_faults
 use Rattle.gw_machine.specs.CommandLine.{ByGateway, CommandLine, save_in}
 use Rattle.gw_machine.specs.State.{IsSaved}
+use Rattle.gw_machine.specs.Lines.{SystemWrites}
+use Rattle.gw_machine.specs.Report.{job_lines}
 use Rattle.gw_machine.specs.System.{Ended, EndedSaved, NotBegun}
 use Rattle.gw_files.specs.ReportsFile.{LacksReportsAt}
 use Rattle.gw_program.specs.Filters.{DoesFilter, DoesFilterUntil, HasChecked, HasCheckedUntil}
@@ -60,6 +62,11 @@ abbrev pub DoesJob : SpeechJob → SourceState → SourceState → SinkState →
     → Result Totals ProgramFault → Type 0
 DoesJob job s s' k k' = Ended (λ end. MatchResult end (Does job s s' k k') (DoesUntil job s s' k k'))
 
+-- .. and all lines that were written for it are those of the datagrams that it skipped
+abbrev pub PerformsJob : SpeechJob → SourceState → SourceState → SinkState → SinkState
+    → Result Totals ProgramFault → Type 0
+PerformsJob job s s' k k' told = DoesJob job s s' k k' told × SystemWrites (job_lines job told)
+
 -- the file of reports that the command names
 abbrev pub reports_path_in : CommandLine → Option (List ℕ)
 reports_path_in command = text_in (codes "reports") command
@@ -88,7 +95,8 @@ RunsFilter named filter s s' k k' told = LacksReports named s s' k k' told
 abbrev pub ChecksCrc4 : Option (List ℕ) → SourceState → SourceState → SinkState → SinkState
     → Result Totals ProgramFault → Type 0
 ChecksCrc4 named s s' k k' told = LacksReports named s s' k k' told
-    ⊎ (IfOk told (HasChecked s s' k k') × IfErr told (HasCheckedUntil s s' k k'))
+    ⊎ (IfOk told (HasChecked (is_some named) SystemWrites s s' k k')
+    × IfErr told (HasCheckedUntil SystemWrites s s' k k'))
 
 -- this was done from the source to the sink of streams, with some ports and some tape
 pub record OnStreams (a a' : SessionStreams) (does : SessionStreams → SessionStreams → Type 0) : Type 0 where

@@ -3,6 +3,7 @@
 ghost use Rattle.std.specs.Prelude.{◌≡◌, [], IfOk, IfErr};
 ghost use Rattle.gw_records.specs.Streams.{CanBegin};
 ghost use Rattle.gw_filter.specs.Crc4.{HasSent};
+ghost use Rattle.gw_machine.specs.Calls.{Makes};
 ghost use Rattle.gw_program.specs.Filters.{DoesFilter, DoesFilterUntil, HasChecked, HasCheckedUntil};
 
 use crate::sealed::{StandardInput, StandardOutput};
@@ -10,7 +11,7 @@ use gw_command::Filter;
 use gw_filter::{
     ReportSink, ReportingChecker, ReportingSender, align_stream, crc4_check_stream, crc4_stream,
 };
-use gw_machine::{CheckTells, LiveCounts, ProgramFault, print_receiver_counts, print_unreported};
+use gw_machine::{CheckTells, ErrorLines, LiveCounts, ProgramFault, tell_check};
 use gw_session::{RunFault, Sink, Source, Totals};
 
 /// Runs a filter from standard input to standard output.
@@ -37,11 +38,13 @@ pub fn do_filter<R: Source, S: Source + StandardInput, K: Sink + StandardOutput>
 /// submultiframes. It prints what was counted at the end, and what else is asked for.
 #[inline(never)]
 pub fn perform_crc4_check<
+    E: ErrorLines,
     R: ReportSink + Drop,
     S: Source + StandardInput,
     K: Sink + StandardOutput,
 >(
     rt: &impl Eprint,
+    errors: &mut E,
     reports: R,
     tells: CheckTells,
     source: &mut S,
@@ -49,9 +52,11 @@ pub fn perform_crc4_check<
 ) -> Result<Totals, ProgramFault>
     requires unsent { R.sent reports ≡ [] }
     requires streams { CanBegin (S.tells source.old) (K.tells sink.old) }
-    ensures ok { IfOk result (HasChecked
+    ensures ok { IfOk result (HasChecked tells.unreported
+        (λ lines. Makes E.has_written errors.old errors.new lines)
         (S.tells source.old) (S.tells source.new) (K.tells sink.old) (K.tells sink.new)) }
     ensures fault { IfErr result (HasCheckedUntil
+        (λ lines. Makes E.has_written errors.old errors.new lines)
         (S.tells source.old) (S.tells source.new) (K.tells sink.old) (K.tells sink.new)) }
 {
     let mut checker = ReportingChecker::new(
@@ -63,10 +68,7 @@ pub fn perform_crc4_check<
     );
     match crc4_check_stream(&mut checker, source, sink) {
         Ok(checked) => {
-            print_receiver_counts(rt, &checked);
-            if tells.unreported {
-                print_unreported(rt, checked.unreported);
-            }
+            tell_check(errors, tells.unreported, &checked);
             Ok(checked.totals)
         }
         Err(fault) => Err(ProgramFault::Session(fault)),

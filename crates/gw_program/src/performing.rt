@@ -6,6 +6,8 @@ ghost use Rattle.gw_command.specs.declared.command.SessionKind.TheVariants.{Repl
 ghost use Rattle.gw_session.specs.PacketPorts.{no_ports};
 ghost use Rattle.gw_session.specs.Serve.{around};
 ghost use Rattle.gw_session.specs.Tape.{no_tape};
+ghost use Rattle.gw_machine.specs.Calls.{Makes};
+ghost use Rattle.gw_machine.specs.Report.{job_lines};
 ghost use Rattle.gw_machine.specs.System.{EndedSaved, HasServed, NotBegun, Performed};
 ghost use Rattle.gw_machine.specs.System.{LacksMore, LacksSession, LacksTapeOrPorts};
 ghost use Rattle.gw_program.specs.Performing.{IsWatched, RunsSession, WithEnds};
@@ -16,17 +18,10 @@ use crate::sealed::{StandardInput, StandardOutput};
 use crate::sessions::{check, replay_watched, serve_through};
 use gw_command::{SessionKind, SpeechJob};
 use gw_config::Config;
-use gw_machine::{Machine, ProgramFault, System, end_session, passed_over, told_as};
+use gw_machine::{ErrorLines, ProgramFault, System, end_session, tell_skipped};
 use gw_session::{Sink, Source, Totals};
 use gw_switch::Gateway;
 use std::alloc::Global;
-
-// Reports the datagrams that a job skipped, if any.
-fn tell_passed_over(rt: &impl Eprint, job: &SpeechJob, totals: &Totals) {
-    if let Some(passed) = passed_over(job, totals) {
-        let _ = eprintln!(rt; "{}", passed);
-    }
-}
 
 /// The source and the sink of a session.
 #[derive(Drop)]
@@ -39,20 +34,24 @@ pub struct SessionEnds<S: Source, K: Sink> {
 
 /// Encodes or decodes standard input to standard output, and reports skipped datagrams.
 #[inline(never)]
-pub fn perform_job<S: Source + StandardInput, K: Sink + StandardOutput>(
-    rt: &impl Machine,
+pub fn perform_job<E: ErrorLines, S: Source + StandardInput, K: Sink + StandardOutput>(
+    alloc: Global,
+    errors: &mut E,
     job: &SpeechJob,
     ends: &mut SessionEnds<S, K>,
 ) -> Result<Totals, ProgramFault>
     requires { CanBegin (S.tells ends.old.source) (K.tells ends.old.sink) }
-    ensures { DoesJob job.now (S.tells ends.old.source) (S.tells ends.new.source)
+    ensures done { DoesJob job.now (S.tells ends.old.source) (S.tells ends.new.source)
         (K.tells ends.old.sink) (K.tells ends.new.sink) result }
+    ensures told { Makes E.has_written errors.old errors.new (job_lines job.now result) }
 {
-    let ended = do_job(rt.alloc(), job, &mut ends.source, &mut ends.sink);
-    if let Ok(totals) = &ended {
-        tell_passed_over(rt, job, totals);
+    match do_job(alloc, job, &mut ends.source, &mut ends.sink) {
+        Ok(totals) => {
+            tell_skipped(errors, job, &totals);
+            Ok(totals)
+        }
+        Err(fault) => Err(ProgramFault::Session(fault)),
     }
-    told_as(ended)
 }
 
 // Replays with a gateway, and shows each record to a watch of the system.

@@ -1,7 +1,8 @@
 //! What runs for the command line from a source to a sink: a filter, or the check of CRC-4 multiframes.
 
-ghost use Rattle.std.specs.Prelude.{Some, None};
+ghost use Rattle.std.specs.Prelude.{◌≡◌, Some, None, true, false, codes};
 ghost use Rattle.clap.specs.Words.{subcommand_rows_of};
+ghost use Rattle.gw_command.specs.Command.{HasFlag};
 ghost use Rattle.gw_records.specs.Streams.{CanBegin};
 ghost use Rattle.gw_program.specs.Requests.{ChecksCrc4, RunsFilter, reports_path_in};
 
@@ -12,7 +13,7 @@ use clap::ArgMatches;
 use gw_command::{Filter, asks_live, reports_of};
 use gw_files::{LocalFiles, open_reports};
 use gw_filter::{NoReports, ReportingSender, ToReports};
-use gw_machine::{CheckTells, Machine, ProgramFault, told_as};
+use gw_machine::{CheckTells, Machine, ProgramFault, StandardError, told_as};
 use gw_session::{FromRead, Sink, Source, Totals};
 
 // Runs a filter of a trunk, without reports.
@@ -74,23 +75,33 @@ pub fn run_filter<S: Source + StandardInput, K: Sink + StandardOutput>(
     }
 }
 
+// What a check of CRC-4 multiframes prints beside its counts.
+fn tells_as_asked(matches: &ArgMatches<'_>, unreported: bool) -> CheckTells
+    ensures live { HasFlag (codes "live") (subcommand_rows_of matches.now) result.live }
+    ensures unreported { result.unreported ≡ unreported }
+{
+    CheckTells {
+        live: asks_live(matches),
+        unreported,
+    }
+}
+
 // Checks the CRC-4 multiframes of a trunk, without reports.
 fn check_alone<S: Source + StandardInput, K: Sink + StandardOutput>(
     rt: &impl Machine,
-    live: bool,
+    tells: CheckTells,
     ends: &mut SessionEnds<S, K>,
 ) -> Result<Totals, ProgramFault>
-    requires { CanBegin (S.tells ends.old.source) (K.tells ends.old.sink) }
+    requires begins { CanBegin (S.tells ends.old.source) (K.tells ends.old.sink) }
+    requires tells { tells.unreported ≡ false }
     ensures { ChecksCrc4 None
         (S.tells ends.old.source) (S.tells ends.new.source) (K.tells ends.old.sink) (K.tells ends.new.sink)
         result }
 {
-    let tells = CheckTells {
-        live,
-        unreported: false,
-    };
+    let errors = &mut StandardError::new(rt);
     perform_crc4_check(
         rt,
+        errors,
         NoReports::new(),
         tells,
         &mut ends.source,
@@ -102,10 +113,11 @@ fn check_alone<S: Source + StandardInput, K: Sink + StandardOutput>(
 fn check_reporting<S: Source + StandardInput, K: Sink + StandardOutput>(
     rt: &impl Machine,
     path: &str,
-    live: bool,
+    tells: CheckTells,
     ends: &mut SessionEnds<S, K>,
 ) -> Result<Totals, ProgramFault>
-    requires { CanBegin (S.tells ends.old.source) (K.tells ends.old.sink) }
+    requires begins { CanBegin (S.tells ends.old.source) (K.tells ends.old.sink) }
+    requires tells { tells.unreported ≡ true }
     ensures { ChecksCrc4 (Some path.now)
         (S.tells ends.old.source) (S.tells ends.new.source) (K.tells ends.old.sink) (K.tells ends.new.sink)
         result }
@@ -114,12 +126,10 @@ fn check_reporting<S: Source + StandardInput, K: Sink + StandardOutput>(
         Ok(file) => file,
         Err(fault) => return Err(fault),
     };
-    let tells = CheckTells {
-        live,
-        unreported: true,
-    };
+    let errors = &mut StandardError::new(rt);
     perform_crc4_check(
         rt,
+        errors,
         ToReports::new(file),
         tells,
         &mut ends.source,
@@ -144,9 +154,8 @@ pub fn run_crc4_check<S: Source + StandardInput, K: Sink + StandardOutput>(
         (S.tells ends.old.source) (S.tells ends.new.source) (K.tells ends.old.sink) (K.tells ends.new.sink)
         result }
 {
-    let live = asks_live(matches);
     match reports_of(matches) {
-        Some(path) => check_reporting(rt, path, live, ends),
-        None => check_alone(rt, live, ends),
+        Some(path) => check_reporting(rt, path, tells_as_asked(matches, true), ends),
+        None => check_alone(rt, tells_as_asked(matches, false), ends),
     }
 }

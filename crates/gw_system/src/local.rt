@@ -18,7 +18,7 @@ use gw_files::{
     keep_gateway, read_config,
 };
 use gw_log::TrunkLog;
-use gw_machine::{Machine, ProgramFault, System, print_fault};
+use gw_machine::{ErrorLines, Machine, ProgramFault, StandardError, System};
 use gw_repeat::{Repeating, packet_words};
 use gw_session::Recorder;
 use gw_switch::Gateway;
@@ -80,10 +80,10 @@ pub struct Local<'m, R> {
 }
 
 impl<R: Machine> System for Local<'_, R> {
-    ghost use Rattle.std.specs.Prelude.{IsSomeAnd, MatchOption, None, string_bytes, []};
+    ghost use Rattle.std.specs.Prelude.{IsSomeAnd, MatchOption, None, string_bytes, [], ◌∷◌};
     ghost use Rattle.gw_machine.specs.System.{IsBegun};
     ghost use Rattle.gw_files.specs.Recording.{IsOpenedFor, LacksRecording};
-    ghost use Rattle.gw_machine.specs.Report.{SystemTells};
+    ghost use Rattle.gw_machine.specs.Lines.{Line, SystemWrites};
     ghost use Rattle.gw_machine.specs.Setup.{IsMeant, LacksConfigAt, PathGives};
     ghost use Rattle.gw_machine.specs.Log.{BeginsFrom, LacksFirst};
     ghost use Rattle.gw_machine.specs.State.{BeginsWaiting, IsSaved};
@@ -143,7 +143,7 @@ impl<R: Machine> System for Local<'_, R> {
 
     ghost ends_watch = { AreToldEnd };
 
-    ghost reports = { λ _. SystemTells };
+    ghost reports = { λ _ program_fault. SystemWrites (Line.OfFault program_fault ∷ []) };
 
     fn read_config(&self) -> Result<Config, ProgramFault> {
         read_config(&mut LocalFiles::new(self.rt), self.path)
@@ -212,7 +212,7 @@ impl<R: Machine> System for Local<'_, R> {
     }
 
     fn tell(&self, program_fault: &ProgramFault) {
-        print_fault(self.rt, program_fault);
+        StandardError::new(self.rt).write_line(program_fault);
     }
 }
 

@@ -14,7 +14,7 @@ use Rattle.g704_bits.specs.Standing.{StandsAfter}
 use Rattle.g704_bits.specs.declared.bits.BitAligner.{BitAligner}
 use Rattle.g704_crc4.specs.declared.counting.TrunkChecker.{TrunkChecker}
 use Rattle.g704_framing.specs.Replies.{replies_after}
-use Rattle.gw_command.specs.Command.{HasText}
+use Rattle.gw_command.specs.Command.{HasFlag, HasText}
 use Rattle.gw_filter.specs.Align.{align_reply}
 use Rattle.gw_filter.specs.Check.{HasReported}
 use Rattle.gw_filter.specs.Crc4.{HasSent}
@@ -23,8 +23,13 @@ use Rattle.gw_filter.specs.declared.sending.Crc4Sender.{Crc4Sender}
 use Rattle.gw_filter.proofs.Sends.{is_sent}
 use Rattle.gw_filtered.specs.Filters.{ReturnsBehind}
 use Rattle.gw_filtered.proofs.Returned.{returned-if}
+use Rattle.gw_records.specs.declared.outcome.Totals.{Totals}
 use Rattle.gw_machine.specs.CommandLine.{CommandLine}
-use Rattle.run_trunk.specs.Filters.{Checks, FiltersBy, SendsFrom, SlotsIf, both_ended}
+use Rattle.gw_machine.specs.Lines.{Line}
+use Rattle.gw_machine.specs.Report.{discarded_lines}
+use Rattle.gw_machine.specs.declared.program_fault.ProgramFault.{ProgramFault}
+use Rattle.run_trunk.specs.Filters.{AreCounts, AreCountsIf, AreEndLines, AreIf, Checks, EndIsTold, FiltersBy}
+use Rattle.run_trunk.specs.Filters.{SendsFrom, SlotsIf, both_ended}
 
 -- What an aligner has returned for octets.
 abbrev pub Aligned : BitAligner → List ℕ → List ℕ → Type 0
@@ -86,12 +91,43 @@ pub told-by : {F : Type 0} (Has : F → Type 0) (None-is Told : Type 0) (filter 
     → filter ≡ Some f → ∥ MatchOption filter None-is Has ∥₁ → (Has f → Told) → ∥ Told ∥₁
 told-by Has None-is Told filter f is has tells = ∥∥₁_map has (λ h. tells (rw is at h))
 
--- The counts of a checker are told, if there is one.
-pub told-of : {F T : Type 0} (Has : F → Type 0) (None-is Told : Type 0) (totals : Option T) (filter : Option F) (f : F)
-    → filter ≡ Some f → ∥ MatchOption filter None-is Has ∥₁ → (Has f → IfSome totals (λ _. Told))
-    → IfSome totals (λ _. ∥ Told ∥₁)
-told-of Has None-is Told None filter f is has tells = tt
-told-of Has None-is Told (Some totals) filter f is has tells = told-by Has None-is Told filter f is has tells
+-- The lines of a checker, if there is one, are those of its counts.
+pub counts-if : {F : Type 0} (Has : F → Type 0) (None-is : Type 0) (Given : List Line → Type 0) (octets : List ℕ)
+    (is_on asked : Bool) (filter : Option F) (f : F) → filter ≡ Some f → is_some filter ≡ is_on
+    → ∥ MatchOption filter None-is Has ∥₁ → (lines : List Line) → (Has f → Given lines → AreCounts octets lines)
+    → AreIf asked Given lines → AreCountsIf is_on asked octets lines
+counts-if Has None-is Given octets true true filter f is on has lines gives are =
+    told-by Has None-is (AreCounts octets lines) filter f is has (λ h. gives h are)
+counts-if Has None-is Given octets true false filter f is on has lines gives are = are
+counts-if Has None-is Given octets false asked filter f is on has lines gives are = absurd (let e = rw is at on in cc)
+
+-- .. and there are none if there is no checker.
+pub no-counts : {F : Type 0} (is_on asked : Bool) (octets : List ℕ) (filter : Option F) → filter ≡ None
+    → is_some filter ≡ is_on → AreCountsIf is_on asked octets []
+no-counts true asked octets filter is on = absurd (let e = rw is at on in cc)
+no-counts false asked octets filter is on = refl
+
+-- The lines of the end of a trunk are those of the counts, and behind them that of what was discarded.
+pub end-lines : (command : CommandLine) (crc4 : Bool) (totals : Option Totals) (came : List ℕ) (discarded : ℕ)
+    (counts : List Line) → HasFlag (codes "crc4") command crc4 → AreCountsIf crc4 (is_some totals) came counts
+    → AreIf (is_some totals) (AreEndLines command came discarded)
+    (counts ++ discarded_lines (is_some totals) discarded)
+end-lines command crc4 (Some totals) came discarded counts asks are =
+    record { crc4 = crc4; asks_crc4 = asks; counts = counts; counts_are = are; lines_are = refl }
+end-lines command true None came discarded counts asks are = rw are refl
+end-lines command false None came discarded counts asks are = rw are refl
+
+-- What was written at the end in one way was written in another.
+pub end-so : {W V : List Line → Type 0} {command : CommandLine} {came : List ℕ} {discarded : ℕ}
+    {told : Result Totals ProgramFault} → ((lines : List Line) → W lines → V lines)
+    → EndIsTold W command came discarded told → EndIsTold V command came discarded told
+end-so is e = record {
+  asked = e.asked;
+  asks = e.asks;
+  lines = e.lines;
+  lines_are = e.lines_are;
+  wrote = is e.lines e.wrote;
+}
 
 -- A device that did not fail in the end took all, if no wait for it has ended without room.
 pub taken-whole : (A B : Type 0) (output rest : Result Bool DeviceFault) (before between behind : ℕ)

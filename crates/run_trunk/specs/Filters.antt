@@ -7,7 +7,6 @@ use Rattle.gw_switch.specs.declared.gateway.Gateway.{Gateway}
 use Rattle.gw_switch.specs.Events.{Event, octets}
 use Rattle.gw_switch.specs.Standing.{HasHistory}
 use Rattle.g704_crc4.specs.ReceiverCounts.{receiver_counts_of}
-use Rattle.g704_crc4.specs.declared.counting.ReceiverCounts.{ReceiverCounts}
 use Rattle.gw_command.specs.Command.{HasFlag, HasText, text_in}
 use Rattle.gw_filter.specs.Align.{align_reply}
 use Rattle.gw_filter.specs.Check.{AreReported, IsChecked}
@@ -18,9 +17,12 @@ use Rattle.gw_filtered.specs.Filters.{ReturnsBehind, ReturnsIf}
 use Rattle.gw_slots.specs.Frames.{device_frames, whole_trunk}
 use Rattle.gw_trunk.specs.Multiframes.{GoesInTime}
 use Rattle.gw_trunk.specs.declared.device.DeviceFault.{DeviceFault}
-use Rattle.std.specs.Prelude.{◌≤◌, ◌&&◌, ⊤, IfOk, Result, Ok, Err}
+use Rattle.std.specs.Prelude.{◌≤◌, ◌&&◌, ◌∷◌, true, false, None, IfOk, Result, Ok, Err}
 use Rattle.gw_trunk.specs.System.{SystemPairs}
-use Rattle.gw_machine.specs.Report.{CountsArePrinted, SystemPrints}
+use Rattle.gw_machine.specs.Lines.{Line, SystemWrites}
+use Rattle.gw_machine.specs.Report.{checked_lines, discarded_lines}
+use Rattle.gw_machine.specs.declared.program_fault.ProgramFault.{ProgramFault}
+use Rattle.gw_records.specs.declared.outcome.Totals.{Totals}
 use Rattle.gw_machine.specs.CommandLine.{CommandLine}
 use Rattle.run_trunk.specs.declared.filters.Crc4.{Crc4}
 use Rattle.run_trunk.specs.declared.filters.TrunkFilters.{TrunkFilters}
@@ -124,31 +126,49 @@ pub record Goes (command : CommandLine) (place : ℕ) (sent : List ℕ) (discard
 abbrev pub AsksFlag : List ℕ → CommandLine → Type 0
 AsksFlag flag command = text_in flag command ≡ Some (codes "true")
 
--- the counts of the multiframes of octets were printed, and how many errored ones are not reported
-pub record CountsAreTold (octets : List ℕ) : Type 0 where
+-- lines are such, or there is none
+abbrev pub AreIf : Bool → (List Line → Type 0) → List Line → Type 0
+AreIf true Are lines = Are lines
+AreIf false Are lines = lines ≡ []
+
+-- the lines of the counts of the multiframes of octets, and of how many errored ones are not reported
+pub record AreCounts (octets : List ℕ) (lines : List Line) : Type 0 where
   pub checked : Checked
   pub counts_are : checked.receiver_counts ≡ receiver_counts_of octets
   pub reports : List ℕ
   pub reported : AreReported octets reports checked.unreported
-  pub printed : CountsArePrinted checked
-  pub unreported : SystemPrints (codes "unreported") checked.unreported
+  pub lines_are : lines ≡ checked_lines true checked
 
--- .. if the command asks for CRC-4
-abbrev pub CountsAreToldIf : CommandLine → List ℕ → Type 0
-CountsAreToldIf command octets = AsksFlag (codes "crc4") command → ∥ CountsAreTold octets ∥₁
+-- .. if they are checked and asked for
+abbrev pub AreCountsIf : Bool → Bool → List ℕ → List Line → Type 0
+AreCountsIf crc4 asked octets = AreIf crc4 (AreIf asked (λ lines. ∥ AreCounts octets lines ∥₁))
 
--- Counts were given to standard error as a line. Std says nothing of that, so it holds of all; but it is
--- unfolded only where the line is printed.
-unfoldable pub SystemTellsLive : ReceiverCounts → Type 0
-SystemTellsLive counts = ⊤
+-- The lines of the end of a trunk of which octets came and multiframes were discarded: the counts, if the
+-- command asks for CRC-4, and how many were discarded.
+pub record AreEndLines (command : CommandLine) (came : List ℕ) (discarded : ℕ) (lines : List Line) : Type 0
+  where
+    pub crc4 : Bool
+    pub asks_crc4 : HasFlag (codes "crc4") command crc4
+    pub counts : List Line
+    pub counts_are : AreCountsIf crc4 true came counts
+    pub lines_are : lines ≡ counts ++ discarded_lines true discarded
 
--- the counts of octets were printed as a line, if the command asks for CRC-4 and for such lines
+-- the totals of a trunk that ended so, if they are asked for and it ended well
+abbrev pub totals_told : Bool → Result Totals ProgramFault → Option Totals
+totals_told true (Ok totals) = Some totals
+totals_told asked told = None
+
+-- What was written at the end of a trunk that ended so: these lines, if the command asks for totals and it
+-- ended well, and nothing else.
+pub record EndIsTold (Wrote : List Line → Type 0) (command : CommandLine) (came : List ℕ) (discarded : ℕ)
+    (told : Result Totals ProgramFault) : Type 0 where
+  pub asked : Bool
+  pub asks : HasFlag (codes "totals") command asked
+  pub lines : List Line
+  pub lines_are : AreIf (is_some (totals_told asked told)) (AreEndLines command came discarded) lines
+  pub wrote : Wrote lines
+
+-- the counts of octets were written as a line, if the command asks for CRC-4 and for such lines
 abbrev pub LiveIsTold : CommandLine → List ℕ → Type 0
 LiveIsTold command octets = AsksFlag (codes "crc4") command → AsksFlag (codes "live") command
-    → ∥ SystemTellsLive (receiver_counts_of octets) ∥₁
-
--- What the command asks to be told at the end of a trunk of which octets came and multiframes were discarded:
--- if it asks for totals, the counts, and how many were discarded.
-pub record EndIsTold (command : CommandLine) (came : List ℕ) (discarded : ℕ) : Type 0 where
-  pub counts : AsksFlag (codes "totals") command → CountsAreToldIf command came
-  pub dropped : AsksFlag (codes "totals") command → SystemPrints (codes "discarded_multiframes") discarded
+    → ∥ SystemWrites (Line.Live (receiver_counts_of octets) ∷ []) ∥₁

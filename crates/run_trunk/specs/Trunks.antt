@@ -1,5 +1,5 @@
 -- What it means that the trunk that the command line names is served.
-use Rattle.std.specs.Prelude.{◌≡◌, ◌⊎◌, ℕ, ℤ, Bool, pos, List, true, Some, None, Ok, Err, OnOk, Result, codes}
+use Rattle.std.specs.Prelude.{◌≡◌, ◌⊎◌, ℕ, ℤ, Bool, pos, List, true, Some, None, Ok, Err, Result, codes}
 use Rattle.mio.specs.declared.interest.TheConstants.Interest.{WRITABLE}
 use Rattle.mio.specs.declared.poll.Poll.{Poll}
 use Rattle.e1_g711.specs.declared.Law.{Law}
@@ -23,6 +23,7 @@ use Rattle.run_trunk.specs.Serving.{Carried, Traffic}
 use Rattle.gw_machine.specs.System.{EndedSaved, LacksTapeOrPorts, NotBegun, Serves}
 use Rattle.gw_machine.specs.CommandLine.{ByGateway, CommandLine, OnNewStreams, save_in}
 use Rattle.gw_machine.specs.State.{IsSaved}
+use Rattle.gw_machine.specs.Lines.{SystemWrites}
 use Rattle.gw_machine.specs.Status.{SaysRefused}
 use Rattle.gw_machine.specs.declared.program_fault.ProgramFault.{ProgramFault}
 use Rattle.gw_machine.specs.declared.program_fault.ProgramFault.TheVariants as program_faults
@@ -94,7 +95,7 @@ told_behind (Err fault) output = Err fault
 -- first. Octets came from it and were sent to it, clients asked and were answered, and this was done of it
 -- by the gateway. What came and what was sent passed the filters that the command asks for. The line of
 -- counts at the end was told if the command asks for such lines; and the rest of what it asks for then, if it
--- ended well.
+-- ended well, and nothing else.
 pub record HasTrunk (command : CommandLine) (law : Law) (gateway : Gateway)
     (does : Traffic → Result Totals ProgramFault → Type 0) (told : Result Totals ProgramFault) : Type 0 where
   pub poll : Poll
@@ -113,7 +114,7 @@ pub record HasTrunk (command : CommandLine) (law : Law) (gateway : Gateway)
   pub goes : ∥ Goes command place passed.went discarded output ∥₁
   pub told_is : told ≡ told_behind ended output
   pub live : LiveIsTold command passed.came
-  pub tells : OnOk told (EndIsTold command passed.came discarded)
+  pub tells : EndIsTold SystemWrites command passed.came discarded told
 
 -- the command names a descriptor for the end, and no socket of clients
 abbrev pub NamesEndAlone : CommandLine → Type 0

@@ -6,7 +6,8 @@ ghost use Rattle.gw_command.specs.Command.{HasFlag, text_in};
 ghost use Rattle.gw_machine.specs.System.{LacksSession};
 ghost use Rattle.gw_machine.specs.CommandLine.{TakesAsked, files_in};
 ghost use Rattle.gw_trunk.specs.Door.{HasMadeSuch, OpensAt, TriesDoor};
-ghost use Rattle.run_trunk.specs.Filters.{AreAsked, EndIsTold, LiveIsTold};
+ghost use Rattle.gw_machine.specs.Calls.{Makes};
+ghost use Rattle.run_trunk.specs.Filters.{AreAsked, EndIsTold, LiveIsTold, totals_told};
 ghost use Rattle.run_trunk.specs.Trunks.{IsEndedBy, IsInputOf, IsOutput, IsReported, LacksControl};
 ghost use Rattle.run_trunk.specs.Trunks.{LacksServing, LacksStream, ServesBy, ServesTrunk, told_behind};
 
@@ -21,7 +22,7 @@ use clap::ArgMatches;
 use gw_command::{control_of, end_of, wants_totals};
 use gw_config::Config;
 use gw_filtered::{Phase, Switch};
-use gw_machine::{Machine, ProgramFault, System, print_discarded};
+use gw_machine::{ErrorLines, Machine, ProgramFault, StandardError, System, tell_discarded};
 use gw_session::{RunFault, Totals};
 use gw_slots::DeviceSlots;
 use gw_switch::Gateway;
@@ -106,10 +107,21 @@ struct TrunkEnds<I: TrunkInput, O: TrunkOutput, A: TrunkOutput> {
     filters: TrunkFilters,
 }
 
+// The totals that are told of a trunk with this result, if they are asked for.
+fn totals_told(asked: bool, told: &Result<Totals, ProgramFault>) -> Option<Totals>
+    ensures { result ≡ totals_told asked told.now }
+{
+    match told {
+        Ok(totals) if asked => Some(*totals),
+        _ => None,
+    }
+}
+
 // Tells the end of a trunk: the counts of what came, and then how many multiframes were discarded.
 fn tell_end<
     't,
     'r,
+    E: ErrorLines,
     R: Fileless,
     I: TrunkInput + Drop,
     S: DeviceSlots,
@@ -117,7 +129,7 @@ fn tell_end<
     L: Switch,
     V: Switch,
 >(
-    rt: &'r R,
+    errors: &mut E,
     matches: &ArgMatches<'_>,
     told: &Result<Totals, ProgramFault>,
     incoming: Incoming<'t, 'r, R, I, S, K, L, V>,
@@ -126,17 +138,12 @@ fn tell_end<
     requires crc4 { HasFlag (codes "crc4") (subcommand_rows_of matches.now) L.is_on }
     requires live { HasFlag (codes "live") (subcommand_rows_of matches.now) V.is_on }
     ensures live { LiveIsTold (subcommand_rows_of matches.now) incoming.entry.log.octets }
-    ensures end { OnOk told.now (EndIsTold (subcommand_rows_of matches.now) incoming.entry.log.octets
-        discarded) }
+    ensures end { EndIsTold (λ lines. Makes E.has_written errors.old errors.new lines)
+        (subcommand_rows_of matches.now) incoming.entry.log.octets discarded told.now }
 {
-    let totals = match told {
-        Ok(totals) if wants_totals(matches) => Some(*totals),
-        _ => None,
-    };
-    finish_input(rt, incoming, totals);
-    if totals.is_some() {
-        print_discarded(rt, discarded);
-    }
+    let totals = totals_told(wants_totals(matches), told);
+    finish_input(errors, incoming, totals);
+    tell_discarded(errors, totals.is_some(), discarded);
 }
 
 // The result of a trunk whose session ended so, and its output so.
@@ -222,7 +229,13 @@ fn carry_from<
     let TrunkRecords { source, sink } = trunk;
     let (discarded, output) = finish_output(sink.into_outgoing());
     let told = told_behind(ended, &output);
-    tell_end(rt, matches, &told, source.into_incoming(), discarded);
+    tell_end(
+        &mut StandardError::new(rt),
+        matches,
+        &told,
+        source.into_incoming(),
+        discarded,
+    );
     told
 }
 

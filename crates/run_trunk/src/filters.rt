@@ -1,17 +1,18 @@
 //! What passes the filters that the command line asks for, at both ends of a trunk (`TrunkFilters`).
 
-ghost use Rattle.std.specs.Prelude.{◌≡◌, ◌<◌, ℕ, List, [], true, IfOk, IfErr, IfSome, is_some, option_map};
-ghost use Rattle.std.specs.Prelude.{codes};
+ghost use Rattle.std.specs.Prelude.{◌≡◌, ◌<◌, ◌∷◌, ℕ, List, [], true, IfOk, IfErr, IfSome, is_some};
+ghost use Rattle.std.specs.Prelude.{codes, option_map};
 ghost use Rattle.clap.specs.Words.{subcommand_rows_of};
 ghost use Rattle.g704_bits.specs.Standing.{StandsAfter};
 ghost use Rattle.g704_crc4.specs.ReceiverCounts.{receiver_counts_of};
 ghost use Rattle.gw_command.specs.Command.{HasFlag, HasText};
 ghost use Rattle.gw_filter.specs.Check.{HasReported};
-ghost use Rattle.gw_machine.specs.Report.{SlotsAreTold};
+ghost use Rattle.gw_machine.specs.Calls.{MakesSuch};
+ghost use Rattle.gw_machine.specs.Lines.{Line, SystemWrites};
 ghost use Rattle.gw_machine.specs.CommandLine.{CommandLine};
 ghost use Rattle.gw_slots.specs.Receiving.{HasMadeWhole};
-ghost use Rattle.run_trunk.specs.Filters.{AreAsked, AreJoined, CountsAreTold, Goes, GoesFramed, both_ended};
-ghost use Rattle.run_trunk.specs.Filters.{SystemTellsLive};
+ghost use Rattle.run_trunk.specs.Filters.{AreAsked, AreCounts, AreCountsIf, AreIf, AreJoined};
+ghost use Rattle.run_trunk.specs.Filters.{Goes, GoesFramed, both_ended};
 ghost use Rattle.run_trunk.specs.Trunks.{LacksStream};
 
 use crate::fileless::Fileless;
@@ -23,7 +24,7 @@ use gw_filter::{
     BufferFilter, CountsTeller, ReceiverCounts, ReportingChecker, ReportingSender, ToReports,
 };
 use gw_filtered::{FilteredInput, FilteredOutput, Phase, PhasedFilter, Switch, SwitchedFilter};
-use gw_machine::{LiveCounts, ProgramFault, print_receiver_counts, print_slots, print_unreported};
+use gw_machine::{ErrorLines, ProgramFault, StandardError, tell_check, tell_live, tell_slots};
 use gw_session::{FromRead, Totals};
 use gw_slots::{DeviceSlots, SlotDropper, SlotInput, SlotReceiver, SlotTeller};
 use gw_trunk::{DeviceFault, MultiframeDropper, TrunkInput, TrunkOutput, open_pair};
@@ -48,19 +49,15 @@ pub(crate) struct PrintedSlots<'r, R> {
 }
 
 impl<R: Fileless> SlotTeller for PrintedSlots<'_, R> {
-    ghost has_told = { λ _. SlotsAreTold };
+    ghost use Rattle.std.specs.Prelude.{◌∷◌, []};
+    ghost use Rattle.gw_machine.specs.Lines.{SystemWrites};
+    ghost use Rattle.gw_machine.specs.Report.{slots_line};
+
+    ghost has_told = { λ _ late. SystemWrites (slots_line late ∷ []) };
 
     fn tell(&mut self, late: Option<u8>) {
-        print_slots(self.rt, late);
+        tell_slots(&mut StandardError::new(self.rt), late);
     }
-}
-
-// Prints the counts of a checker up to now on standard error, as a line.
-#[tactic(auto, unfolding(crate::specs::Filters::SystemTellsLive))]
-fn print_live(rt: &impl Fileless, counts: &ReceiverCounts)
-    ensures { SystemTellsLive counts.now }
-{
-    LiveCounts { rt, live: true }.tell(counts);
 }
 
 /// Prints the counts of a checker on standard error, if that is asked for.
@@ -73,11 +70,14 @@ pub(crate) struct PrintedCounts<'r, R, V: Switch> {
 }
 
 impl<R: Fileless, V: Switch> CountsTeller for PrintedCounts<'_, R, V> {
-    ghost has_told = { λ _ counts. V.is_on ≡ true → SystemTellsLive counts };
+    ghost use Rattle.std.specs.Prelude.{◌∷◌, []};
+    ghost use Rattle.gw_machine.specs.Lines.{Line, SystemWrites};
+
+    ghost has_told = { λ _ counts. V.is_on ≡ true → SystemWrites (Line.Live counts ∷ []) };
 
     fn tell(&mut self, counts: &ReceiverCounts) {
         if self.is_live {
-            print_live(self.rt, counts);
+            tell_live(&mut StandardError::new(self.rt), counts);
         }
     }
 }
@@ -337,30 +337,35 @@ pub(crate) fn finish_output<O: TrunkOutput + Drop, S: DeviceSlots, L: Switch, P:
 }
 
 // Tells the counts of a checker, and how many errored submultiframes are not reported.
-fn tell_counts<R: Fileless, V: Switch>(rt: &R, checker: &Checker<'_, R, V>, totals: &Totals)
-    ensures { (octets returned : List ℕ) → HasReported checker.now.checker checker.now.reported
-        checker.now.reports.log.octets octets returned → CountsAreTold octets }
+fn tell_counts<E: ErrorLines, R: Fileless, V: Switch>(
+    errors: &mut E,
+    checker: &Checker<'_, R, V>,
+    totals: &Totals,
+)
+    ensures { MakesSuch E.has_written errors.old errors.new (λ lines. (octets returned : List ℕ)
+        → HasReported checker.now.checker checker.now.reported checker.now.reports.log.octets octets returned
+        → AreCounts octets lines) }
 {
     let checked = checker.checked(*totals);
-    print_receiver_counts(rt, &checked);
-    print_unreported(rt, checked.unreported);
+    tell_check(errors, true, &checked);
 }
 
 // Tells the counts of a checker as a line if that is asked for, and as those of the end if the totals are.
-fn tell_checked<R: Fileless, V: Switch>(
-    rt: &R,
+fn tell_checked<E: ErrorLines, R: Fileless, V: Switch>(
+    errors: &mut E,
     checker: &mut Checker<'_, R, V>,
     totals: Option<Totals>,
 )
     ensures live { (octets returned : List ℕ) → HasReported checker.old.checker checker.old.reported
         checker.old.reports.log.octets octets returned → V.is_on ≡ true
-        → SystemTellsLive (receiver_counts_of octets) }
-    ensures counts { (octets returned : List ℕ) → HasReported checker.old.checker checker.old.reported
-        checker.old.reports.log.octets octets returned → IfSome totals (λ _. CountsAreTold octets) }
+        → SystemWrites (Line.Live (receiver_counts_of octets) ∷ []) }
+    ensures counts { MakesSuch E.has_written errors.old errors.new (AreIf (is_some totals) (λ lines.
+        (octets returned : List ℕ) → HasReported checker.old.checker checker.old.reported
+        checker.old.reports.log.octets octets returned → AreCounts octets lines)) }
 {
     checker.tell_now();
     if let Some(totals) = totals {
-        tell_counts(rt, checker, &totals);
+        tell_counts(errors, checker, &totals);
     }
 }
 
@@ -369,19 +374,21 @@ fn tell_checked<R: Fileless, V: Switch>(
 pub(crate) fn finish_input<
     't,
     'r,
+    E: ErrorLines,
     R: Fileless,
     I: TrunkInput + Drop,
     S: DeviceSlots,
     K: Switch,
     L: Switch,
     V: Switch,
->(rt: &'r R, incoming: Incoming<'t, 'r, R, I, S, K, L, V>, totals: Option<Totals>)
+>(errors: &mut E, incoming: Incoming<'t, 'r, R, I, S, K, L, V>, totals: Option<Totals>)
     ensures live { L.is_on ≡ true → V.is_on ≡ true
-        → ∥ SystemTellsLive (receiver_counts_of incoming.entry.log.octets) ∥₁ }
-    ensures counts { L.is_on ≡ true → IfSome totals (λ _. ∥ CountsAreTold incoming.entry.log.octets ∥₁) }
+        → ∥ SystemWrites (Line.Live (receiver_counts_of incoming.entry.log.octets) ∷ []) ∥₁ }
+    ensures counts { MakesSuch E.has_written errors.old errors.new
+        (AreCountsIf L.is_on (is_some totals) incoming.entry.log.octets) }
 {
     if let Some(checker) = incoming.into_filter().into_filter() {
         let mut checker = checker;
-        tell_checked(rt, &mut checker, totals);
+        tell_checked(errors, &mut checker, totals);
     }
 }

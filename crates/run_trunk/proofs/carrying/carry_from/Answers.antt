@@ -1,11 +1,11 @@
-use Rattle.std.proofs.Common.{◌∙◌, ◌++◌, Some, refl, sym, ap}
+use Rattle.std.proofs.Common.{◌∙◌, ◌++◌, [], Some, refl, sym, ap}
 use Rattle.std.specs.Prelude.{codes}
 use Rattle.clap.specs.Words.{subcommand_rows_of}
 use Rattle.gw_command.specs.Command.{HasFlag, HasText}
 use Rattle.gw_filter.specs.Align.{align_reply}
 use Rattle.gw_filter.specs.Check.{HasReported}
 use Rattle.gw_filter.specs.Filter.{RepliesTo}
-use Rattle.run_trunk.proofs.Filtered.{Aligned, checked, filtered, made-if, of-three}
+use Rattle.run_trunk.proofs.Filtered.{Aligned, checked, end-so, filtered, made-if, of-three}
 use Rattle.run_trunk.proofs.Served.{served_by}
 use Rattle.run_trunk.specs.Filters.{Checks}
 use Rattle.run_trunk.proofs.carrying.carry_from.Goals as goal
@@ -53,7 +53,7 @@ returns g c =
       goes = rw c.into_outgoing.ensures at (c.finish_output-discarded.ensures command has_slots crc4);
       told_is = c.told_behind-told.ensures;
       live = rw c.into_incoming.ensures at c.tell_end.ensures.live;
-      tells = rw c.into_incoming.ensures at c.tell_end.ensures.end;
+      tells = rw c.into_incoming.ensures at (end-so (λ lines wrote. wrote [] c.new-3.ensures) c.tell_end.ensures.end);
     })
     c.told_behind-told.ensures (λ e. rw e refl) c.new.ensures.reads (ap Some c.new.ensures.log)
     c.new.ensures.failed c.new-2.ensures.failed
