@@ -31,7 +31,7 @@ sys.dont_write_bytecode = True
 
 __all__ = ['Exchange', 'FolderCase', 'SECONDS', 'Service', 'TOP', 'all_read', 'chance_of',
            'config_text', 'connected', 'in_memory', 'launcher', 'listening', 'octets_of', 'program', 'read_from',
-           'ran', 'run', 'said_by', 'state_of', 'stopped', 'text_of', 'until', 'without']
+           'ran', 'run', 'said_by', 'state_of', 'stopped', 'text_of', 'until', 'whole_lines', 'without']
 
 T = TypeVar('T')
 
@@ -52,6 +52,11 @@ def octets_of(path: str) -> bytes:
 def text_of(path: str) -> str:
     """The same as text."""
     return octets_of(path).decode(errors='replace')
+
+
+def whole_lines(path: str) -> list[str]:
+    """The whole lines of a file to which another process writes."""
+    return text_of(path).rpartition('\n')[0].splitlines()
 
 
 def said_by(process: subprocess.Popen[bytes], path: str, pattern: str | re.Pattern[str], since: int) -> re.Match[str]:

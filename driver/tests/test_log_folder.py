@@ -375,14 +375,13 @@ class OvertakenTests(support.FolderCase, unittest.IsolatedAsyncioTestCase):
             await asyncio.sleep(0)
             with listener.accept()[0] as line:
                 line.sendall('\n'.join([*BEGIN, 'now', '']).encode())
-                async with asyncio.timeout(30):
-                    while not its.lines.live:
+                while not its.lines.live:
+                    await asyncio.sleep(0.001)
+                self.reader.has_missed = True
+                for state in 'seized', 'acked':
+                    line.sendall(f'{row(1, state)}\n'.encode())
+                    while its.lines.lines[1].state != state:
                         await asyncio.sleep(0.001)
-                    self.reader.has_missed = True
-                    for state in 'seized', 'acked':
-                        line.sendall(f'{row(1, state)}\n'.encode())
-                        while its.lines.lines[1].state != state:
-                            await asyncio.sleep(0.001)
                 self.assertTrue(self.reader.has_missed)
             follows.cancel()
             await asyncio.wait([follows])
