@@ -27,7 +27,7 @@ from e1gw.testing.limited import SECONDS
 from e1gw.testing.service import Service
 
 TOP = os.path.dirname(os.path.dirname(os.path.dirname(os.path.abspath(__file__))))
-sys.dont_write_bytecode = True
+sys.dont_write_bytecode = not sys.pycache_prefix
 
 __all__ = ['Exchange', 'FolderCase', 'SECONDS', 'Service', 'TOP', 'all_read', 'chance_of',
            'config_text', 'connected', 'in_memory', 'launcher', 'listening', 'octets_of', 'program', 'read_from',
