@@ -54,7 +54,8 @@ def main(driver: str, *words: str) -> None:
         os.dup2(other, file)
     tests = Tests([*words])
     for order in map(str.strip, orders):
-        print(json.dumps(tests.run(order) if order.count('.') > 1 else tests.of_module(order)), file=answers, flush=True)
+        answer = tests.run(order) if order.count('.') > 1 else tests.of_module(order)
+        print(json.dumps(answer), file=answers, flush=True)
 
 
 if __name__ == '__main__':

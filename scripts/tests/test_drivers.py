@@ -44,14 +44,14 @@ FATES = {'good': 'ok', 'bad': 'FAILED', 'skipped': 'skipped', 'unexpected': 'FAI
 
 class DriversTests(FolderCase):
     def ran(self, jobs: int, words: list[str]) -> tuple[list[str], str]:
-        """The fate and the name of each test, in the order of names, and what is told of all."""
+        """The fate and the name of each test, sorted, and what is told of those that failed."""
         told = io.StringIO()
         with contextlib.redirect_stdout(told):
             found = drivers.run(os.path.join(self.top, 'driver'), words, jobs)
         lines = [f'{each.line().split()[0]} {each.name}' for each in found]
         self.assertEqual(sorted(lines), sorted(' '.join((line.split()[0], line.split()[-1]))
                                                for line in told.getvalue().splitlines()))
-        return sorted(lines, key=lambda line: line.split()[1]), '\n'.join(text for each in found for text in each.failed)
+        return sorted(lines), '\n'.join(text for each in found for text in each.failed)
 
     def test_each_once(self) -> None:
         self.write('driver/tests/__init__.py', '')
@@ -64,12 +64,12 @@ class DriversTests(FolderCase):
         for jobs in 1, 2, 5:
             with self.subTest(jobs=jobs):
                 lines, failed = self.ran(jobs, [])
-                self.assertEqual(sorted(lines), sorted([*wanted, broken]))
-                for words in "No module named 'no_such_module'", '(n=2)', 'it has ended the process', 'expected to fail':
+                self.assertEqual(lines, sorted([*wanted, broken]))
+                for words in 'no_such_module', '(n=2)', 'it has ended the process', 'expected to fail':
                     self.assertIn(words, failed)
         lines, _ = self.ran(2, ['Two', 'three.ThreeTests.test_good'])
-        self.assertEqual(sorted(lines), sorted([*(line for line in wanted if 'Two' in line), broken,
-                                                'ok tests.test_three.ThreeTests.test_good']))
+        self.assertEqual(lines, sorted([*(line for line in wanted if 'Two' in line), broken,
+                                        'ok tests.test_three.ThreeTests.test_good']))
 
     def test_one_that_does_not_end(self) -> None:
         """What a test leaves that goes on is ended with its process."""
