@@ -111,6 +111,14 @@ class FolderCase(unittest.TestCase):
     def path(self, name: str) -> str:
         return os.path.join(self.folder, name)
 
+    def held(self) -> list[str]:
+        """The files of the folder that this process has open."""
+        found = list[str]()
+        for name in os.listdir('/proc/self/fd'):
+            with contextlib.suppress(OSError):
+                found.append(os.readlink(f'/proc/self/fd/{name}'))
+        return sorted(path for path in found if path.startswith(f'{self.folder}/'))
+
     def write(self, name: str, octets: bytes | str) -> str:
         """Writes a file of the folder, and returns its path."""
         with open(self.path(name), 'wb') as file:

@@ -277,7 +277,8 @@ class ControlSocketTests(support.FolderCase):
             found.append(os.path.lexists(path))
             listen(line, most)
         with mock.patch.object(socket.socket, 'listen', listens):
-            for _ in range(2):                          # (of one that is left nobody listens)
+            for _ in range(2):                          # (of one that is left nobody listens, nor of one half made)
+                self.write('control~', b'')
                 with unix_listener(path, 0o600, None), socket.socket(socket.AF_UNIX) as client:
                     client.connect(path)
                     self.assertEqual(os.stat(path).st_mode & 0o777, 0o600)
@@ -400,6 +401,31 @@ class TrunkEndTests(support.FolderCase, unittest.IsolatedAsyncioTestCase):
         goes.set()
         while not stream.close.called:
             await asyncio.sleep(0.001)
+
+    async def test_either(self) -> None:
+        """One event is enough, or the time; what has waited for them waits no more."""
+        one, other = asyncio.Event(), asyncio.Event()
+        await trunk.either(0.0, one, other)
+        other.set()
+        await trunk.either(900.0, one, other)
+        await asyncio.sleep(0)
+        self.assertEqual(asyncio.all_tasks(), {asyncio.current_task()})
+
+    async def test_opened_again(self) -> None:
+        """What has ended soon is opened a little later, and what cannot be opened is tried again."""
+        pause, tries = mock.Mock(**{'ends.side_effect': (7.0, 8.0)}), [FileNotFoundError(2, 'no', 'x'), None]
+        its = trunk.TrunkFiles(trunk.LineOptions(lambda: mock.Mock()))
+        its._pause = pause
+
+        async def opens(ending: asyncio.Event) -> None:
+            if fault := tries.pop(0):
+                raise fault
+            its.both = 7, 7
+        with mock.patch.object(trunk, 'either', mock.AsyncMock()) as waits, mock.patch.object(its, 'open_until', opens), \
+                self.assertLogs('e1gw.service.trunk'):
+            await its.reopen(ending := asyncio.Event())
+        self.assertEqual([each.args for each in waits.call_args_list], [(7.0, ending), (8.0, ending)])
+        self.assertEqual((pause.begins.call_count, tries, its.fault), (1, [], 'the trunk cannot be opened: x: no'))
 
     async def test_ends(self) -> None:
         """A socket, a FIFO and a file tell that they have ended; a device has if nothing was taken of it."""

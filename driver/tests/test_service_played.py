@@ -422,6 +422,7 @@ class PlayedTakeoverTests(ServiceCase):
             found = await version_for(wants, places, left, Takeover.START)
         self.addCleanup(found.close)
         self.assertEqual(found.config_octets(), before)
+        self.assertTrue(self.records[-1].getMessage().endswith(': the configuration of the program before goes on'))
 
     async def test_what_systemd_is_told(self) -> None:
         self.begins()

@@ -292,6 +292,15 @@ class PairTests(PairCase):
 class FedLogTests(support.FolderCase):
     """When octets came at the other machine, by its clock and what comes of them here."""
 
+    def test_closed(self) -> None:
+        """Nothing is open then, and its folder is gone, unless a program has it."""
+        for is_kept in True, False:
+            fed = FedLog(self.folder, 0, 0, 0)
+            fed.begin(b'')
+            self.assertEqual(len(self.held()), 4)
+            fed.close(is_kept)
+            self.assertEqual((self.held(), os.path.exists(fed.folder)), ([], is_kept))
+
     def test_when_they_came_last(self) -> None:
         """The last ones wait for the word that all was sent, which may wait here. Ones for less than the time without
         octets put the trunk behind by 5 ms a move. Behind a gap, whose octets are lost, it is not known so well."""
