@@ -9,6 +9,7 @@ import json
 import os
 import random
 import re
+import shutil
 import signal
 import socket
 import subprocess
@@ -31,7 +32,7 @@ sys.dont_write_bytecode = not sys.pycache_prefix
 
 __all__ = ['Exchange', 'FolderCase', 'SECONDS', 'Service', 'TOP', 'all_read', 'chance_of',
            'config_text', 'connected', 'in_memory', 'launcher', 'listening', 'octets_of', 'program', 'read_from',
-           'ran', 'run', 'said_by', 'state_of', 'stopped', 'text_of', 'until', 'whole_lines', 'without']
+           'ran', 'remove', 'run', 'said_by', 'state_of', 'stopped', 'text_of', 'until', 'whole_lines', 'without']
 
 T = TypeVar('T')
 
@@ -75,6 +76,11 @@ def config_text(circuits: Mapping[int, Mapping[str, object]], law: str = 'A') ->
         f'{key} = {json.dumps(value)}\n' for key, value in keys.items()) for circuit, keys in circuits.items())
 
 
+def remove(folder: str) -> None:
+    """Removes a folder. (Who packs a file of a ring may go on for a moment behind its service.)"""
+    until(lambda: shutil.rmtree(folder, ignore_errors=True) or not os.path.lexists(folder))
+
+
 def in_memory() -> tempfile.TemporaryDirectory[str]:
     """A folder in memory, where there is one. (What tests of a mutant leave is found where they have all else.)"""
     has_memory = os.path.isdir('/dev/shm') and 'E1GW_MUTANT' not in os.environ
@@ -104,9 +110,8 @@ class FolderCase(unittest.TestCase):
     """Tests with a folder of their own."""
 
     def setUp(self) -> None:
-        folder = tempfile.TemporaryDirectory()
-        self.addCleanup(folder.cleanup)
-        self.folder = folder.name
+        self.folder = tempfile.mkdtemp()
+        self.addCleanup(remove, self.folder)
 
     def path(self, name: str) -> str:
         return os.path.join(self.folder, name)

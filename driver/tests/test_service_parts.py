@@ -421,8 +421,8 @@ class TrunkEndTests(support.FolderCase, unittest.IsolatedAsyncioTestCase):
             if fault := tries.pop(0):
                 raise fault
             its.both = 7, 7
-        with mock.patch.object(trunk, 'either', mock.AsyncMock()) as waits, mock.patch.object(its, 'open_until', opens), \
-                self.assertLogs('e1gw.service.trunk'):
+        with mock.patch.object(trunk, 'either', mock.AsyncMock()) as waits, \
+                mock.patch.object(its, 'open_until', opens), self.assertLogs('e1gw.service.trunk'):
             await its.reopen(ending := asyncio.Event())
         self.assertEqual([each.args for each in waits.call_args_list], [(7.0, ending), (8.0, ending)])
         self.assertEqual((pause.begins.call_count, tries, its.fault), (1, [], 'the trunk cannot be opened: x: no'))
