@@ -21,7 +21,7 @@ from e1gw.tie.events import SiteCame
 from e1gw.tie.main import ANYBODY, parser
 from e1gw.tie.messages import BadMessage, Greeting, Message, SiteState, encode_message, message_of
 from e1gw.tie.pairs import agreed, pairs_of
-from e1gw.tie.site import Reasons, Site, has_name, one_too_many
+from e1gw.tie.site import Reasons, Site, has_name, one_too_many, read_one
 from e1gw.tie.status import serve_status, texts_of
 from e1gw.tie.tie import AGAIN, Tie, TieOptions
 from e1gw.tie.trunk import LOOK
@@ -66,6 +66,19 @@ class TieMessageTests(unittest.TestCase):
                      b'{"tie": 1, "run": "' + b'a' * 101 + b'", "pairs": null}'):
             with self.subTest(line=line[:60]), self.assertRaises(BadMessage):
                 message_of(line)
+
+
+class TieReadingTests(unittest.IsolatedAsyncioTestCase):
+    async def test_lines(self) -> None:
+        """One after another, up to the end."""
+        reader = asyncio.StreamReader(limit=200)
+        reader.feed_data(encode_message(Greeting('a', None)) + b'x' * 300 + b'\n')
+        reader.feed_eof()
+        self.assertEqual(await read_one(reader), Greeting('a', None))
+        with self.assertRaisesRegex(BadMessage, 'a line is too long'):
+            await read_one(reader)
+        with self.assertRaises(EOFError):
+            await read_one(reader)
 
 
 class TiePropertyTests(PropertyCase):
@@ -306,6 +319,15 @@ class TieCallTests(TieCase):
         self.assertRegex(self.told('west', 'trunk gone')[0]['why'], '/west.ctl: the trunk does not answer$')
         self.west.silent = False
         await self.until(lambda: len(self.told('west', 'trunk')) == 2)
+
+    async def test_trunk_that_clears_no_calls(self) -> None:
+        """It is told, and the tie goes on."""
+        obeys = self.west.obey
+        setattr(self.west, 'obey', lambda words: 'on-loss: no' if words[0] == 'on-loss' else obeys(words))
+        await self.both()
+        self.assertEqual([[(each['about'], each.get('answer')) for each in self.told(name, 'warning')]
+                          for name in ('west', 'east')],
+                         [[('the trunk clears no calls if this program dies', 'on-loss: no')], []])
 
     async def test_same_role(self) -> None:
         """Two incoming ends cannot be joined: they are blocked, and it is reported."""
