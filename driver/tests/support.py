@@ -28,7 +28,7 @@ from e1gw.testing.limited import SECONDS
 from e1gw.testing.service import Service
 
 TOP = os.path.dirname(os.path.dirname(os.path.dirname(os.path.abspath(__file__))))
-sys.dont_write_bytecode = not sys.pycache_prefix
+sys.dont_write_bytecode = not sys.pycache_prefix or 'E1GW_MUTANT' in os.environ
 
 __all__ = ['Exchange', 'FolderCase', 'SECONDS', 'Service', 'TOP', 'all_read', 'chance_of',
            'config_text', 'connected', 'in_memory', 'launcher', 'listening', 'octets_of', 'program', 'read_from',

@@ -150,7 +150,8 @@ class PageServerTests(unittest.IsolatedAsyncioTestCase):
             self.assertEqual(await self.answered('GET', path), ('200 OK', kind, pages.NOTHING, body))
             self.assertEqual(await self.answered('HEAD', path), ('200 OK', kind, pages.NOTHING, ''))
         status, _, _, body = await self.answered('GET', '/none')
-        self.assertEqual((status, body), ('404 Not Found', 'there are /, /table, /metrics, /status, /trunks, /events\n'))
+        self.assertEqual((status, body.strip()), ('404 Not Found', 'there are /, /table, /metrics, /status, /trunks, '
+                                                  '/events'))
         self.assertEqual((await self.answered('POST', '/'))[0], '405 Method Not Allowed')
 
     async def test_pages(self) -> None:
