@@ -23,8 +23,8 @@ from typing import Any, Iterator
 
 from mutant_trace import lines_of
 
-LONGEST, WAITED = 4, 180    # seconds of processor of a test, and of waiting
-CALLS = 100_000             # calls in a test that are looked at; those behind them reach nothing new
+LONGEST, WAITED = 6, 180    # seconds of processor of a test, and of waiting
+CALLS = 400_000             # calls in a test that are looked at; those behind them reach nothing new
 SUBREAPER = 36              # of prctl(2): what is left of a test becomes a child of this process
 REACHED = 'E1GW_REACHED'    # where processes that a test starts note what they reach
 # What each of them runs first.

@@ -191,8 +191,7 @@ class ServiceCase(support.FolderCase, unittest.IsolatedAsyncioTestCase):
     def starts(self, what: str = 'trunk') -> list[list[Any]]:
         """What was started of this subcommand: its words, behind the subcommand and the number of the process."""
         with suppress(FileNotFoundError):
-            rows = [json.loads(line) for line in support.text_of(self.path('starts')).splitlines()]
-            return [row for row in rows if row[0] == what]
+            return [row for row in map(json.loads, support.whole_lines(self.path('starts'))) if row[0] == what]
         return []
 
 

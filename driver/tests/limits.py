@@ -31,7 +31,7 @@ LIMITS: dict[str, Any] = {
     'service.pages.EVERY': 0.0,
     'programs.PATIENCE': LONG, 'writers.OPENS': LONG,
     'service.pair.GRACE': LONG, 'service.service.GRACE': LONG, 'service.handover.GRACE': LONG,
-    'service.events.FLUSH': LONG, 'service.journal.FLUSH': LONG,
+    'service.events.FLUSH': LONG, 'service.journal.FLUSH': LONG, 'service.drains.PATIENCE': LONG,
     # (A process that gets what others leave gets next to nothing on a loaded machine.)
     'priority.put_last': lambda process: None}
 

@@ -1,13 +1,11 @@
 """Two machines of one trunk for tests, on this one, which has all of 127.0.0.0/8: the addresses that move, too."""
 from __future__ import annotations
 
-import functools
 import glob
 import os
 import re
 import signal
 import subprocess
-from concurrent.futures import ThreadPoolExecutor
 from typing import Any, Callable
 
 from . import support
@@ -17,7 +15,7 @@ from .support import SECONDS
 from .test_program_killed import KeeperCase
 from .world import children, trunk_command, words_of
 from e1gw.testing.ports import free_port
-from e1gw.testing.service import ask
+from e1gw.testing.service import answer_of, ask
 
 ADDRESSES = {'a': '127.0.0.11', 'b': '127.0.0.12'}      # of the machines
 TRUNK, SPEECH = '127.0.0.100', '127.0.0.101'            # of the trunk, wherever it is: SAToP and RTP
@@ -67,7 +65,10 @@ class Machine:
 
     def asks(self, word: str) -> Callable[[], str]:
         """Asks it, and goes on; returns what waits for the answer."""
-        return functools.partial(ThreadPoolExecutor(1).submit(self.ask, word).result, SECONDS)
+        line = support.connected(self.control)
+        self._case.addCleanup(line.close)
+        line.sendall(f'{word}\n'.encode())
+        return lambda: answer_of(line)
 
     def process_of(self, word: str) -> int:
         """The process of it that has this subcommand, if need be waited for."""

@@ -7,6 +7,7 @@ import functools
 import math
 import os
 import random
+import re
 import struct
 import subprocess
 import tempfile
@@ -25,6 +26,7 @@ from e1gw.session import (OCTETS_A_SECOND, Command, Kind, Packet, command_record
                           trunk_record)
 
 COMMAND = os.path.join(TOP, 'driver', 'e1gw-picture')
+PROGRESS = re.compile('.* of the trunk read.*; it goes on\n')    # (on a slow machine)
 SECOND = OCTETS_A_SECOND
 TONE = TONES['A']
 PACKET = 160
@@ -51,7 +53,7 @@ def page_of(*words: str, status: int = 0, given: bytes = b'') -> tuple[str, str]
     done = subprocess.run([COMMAND, '--program', program(), *words], input=given, stdout=subprocess.PIPE,
                           stderr=subprocess.PIPE, check=False, timeout=SECONDS)
     assert done.returncode == status, done.stderr.decode()
-    return done.stdout.decode(), done.stderr.decode()
+    return done.stdout.decode(), PROGRESS.sub('', done.stderr.decode())
 
 
 def read_session(config: str, given: bytes, last: int | None = None) -> Facts:

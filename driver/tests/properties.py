@@ -38,10 +38,12 @@ class PropertyCase(unittest.TestCase):
             raise unittest.SkipTest('no python3-hypothesis')
 
     def holds(self, check: Callable[..., None], *given: Any, examples: int = EXAMPLES) -> None:
-        """Whether this ends well for whatever it is given. What fails is made small, unless nobody reads it."""
+        """Whether this ends well for whatever it is given. What fails is made small, unless nobody reads it: then fewer
+        examples do."""
         seed, phases = os.environ.get('E1GW_SEED', '1'), [hypothesis.Phase.generate, hypothesis.Phase.shrink]
-        wanted = hypothesis.settings(max_examples=examples, deadline=None, database=None, derandomize=seed == '1',
-                                     phases=phases[:1 if 'E1GW_MUTANT' in os.environ else 2],
+        few = 3 if 'E1GW_MUTANT' in os.environ else 1
+        wanted = hypothesis.settings(max_examples=examples // few, deadline=None, database=None,
+                                     derandomize=seed == '1', phases=phases[:1 if few > 1 else 2],
                                      suppress_health_check=list(hypothesis.HealthCheck))
         chosen = wanted(hypothesis.given(*given)(check))
         (chosen if seed == '1' else hypothesis.seed(int(seed))(chosen))()

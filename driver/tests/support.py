@@ -9,6 +9,7 @@ import json
 import os
 import random
 import re
+import shutil
 import signal
 import socket
 import subprocess
@@ -27,11 +28,11 @@ from e1gw.testing.limited import SECONDS
 from e1gw.testing.service import Service
 
 TOP = os.path.dirname(os.path.dirname(os.path.dirname(os.path.abspath(__file__))))
-sys.dont_write_bytecode = True
+sys.dont_write_bytecode = not sys.pycache_prefix or 'E1GW_MUTANT' in os.environ
 
 __all__ = ['Exchange', 'FolderCase', 'SECONDS', 'Service', 'TOP', 'all_read', 'chance_of',
            'config_text', 'connected', 'in_memory', 'launcher', 'listening', 'octets_of', 'program', 'read_from',
-           'ran', 'run', 'said_by', 'state_of', 'stopped', 'text_of', 'until', 'without']
+           'ran', 'remove', 'run', 'said_by', 'state_of', 'stopped', 'text_of', 'until', 'whole_lines', 'without']
 
 T = TypeVar('T')
 
@@ -54,6 +55,11 @@ def text_of(path: str) -> str:
     return octets_of(path).decode(errors='replace')
 
 
+def whole_lines(path: str) -> list[str]:
+    """The whole lines of a file to which another process writes."""
+    return text_of(path).rpartition('\n')[0].splitlines()
+
+
 def said_by(process: subprocess.Popen[bytes], path: str, pattern: str | re.Pattern[str], since: int) -> re.Match[str]:
     """What a process prints to a file behind this place, in whole lines, once it is so. (It may end behind it.)"""
     while True:
@@ -68,6 +74,11 @@ def config_text(circuits: Mapping[int, Mapping[str, object]], law: str = 'A') ->
     """A configuration in which circuits have these keys."""
     return f'law = "{law}"\n' + ''.join(f'[[circuit]]\nnumber = {circuit}\n' + ''.join(
         f'{key} = {json.dumps(value)}\n' for key, value in keys.items()) for circuit, keys in circuits.items())
+
+
+def remove(folder: str) -> None:
+    """Removes a folder. (Who packs a file of a ring may go on for a moment behind its service.)"""
+    until(lambda: shutil.rmtree(folder, ignore_errors=True) or not os.path.lexists(folder))
 
 
 def in_memory() -> tempfile.TemporaryDirectory[str]:
@@ -99,12 +110,19 @@ class FolderCase(unittest.TestCase):
     """Tests with a folder of their own."""
 
     def setUp(self) -> None:
-        folder = tempfile.TemporaryDirectory()
-        self.addCleanup(folder.cleanup)
-        self.folder = folder.name
+        self.folder = tempfile.mkdtemp()
+        self.addCleanup(remove, self.folder)
 
     def path(self, name: str) -> str:
         return os.path.join(self.folder, name)
+
+    def held(self) -> list[str]:
+        """The files of the folder that this process has open."""
+        found = list[str]()
+        for name in os.listdir('/proc/self/fd'):
+            with contextlib.suppress(OSError):
+                found.append(os.readlink(f'/proc/self/fd/{name}'))
+        return sorted(path for path in found if path.startswith(f'{self.folder}/'))
 
     def write(self, name: str, octets: bytes | str) -> str:
         """Writes a file of the folder, and returns its path."""

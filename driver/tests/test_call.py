@@ -8,7 +8,7 @@ import shutil
 import unittest
 
 from . import support
-from .picture_made import GATEWAY, MadeSession, PictureSender, packets
+from .picture_made import GATEWAY, PROGRESS, MadeSession, PictureSender, packets
 from .properties import PropertyCase
 from .test_picture_beginning import BEGIN, divided, keep, octets_in
 from e1gw.calls import FIELDS, CallLine, csv_line, moment, read_calls
@@ -53,7 +53,7 @@ class RingCallTests(support.FolderCase):
         done, told, said = support.ran(COMMAND, name, self.ring, '-o', self.path('out'), '--program', support.program())
         self.assertEqual(done, status, said)
         self.assertTrue(all(os.stat(path).st_mode & 0o777 == 0o640 for path in told.split()))
-        return re.sub('.*; it goes on\n', '', said)       # (on a slow machine)
+        return PROGRESS.sub('', said)
 
     def test_a_call(self) -> None:
         """Of each call the speech, packets and signals are those of the whole session, octet for octet."""

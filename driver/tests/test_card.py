@@ -19,7 +19,7 @@ from e1gw import card_opening, dahdi
 from e1gw.dahdi import (BUFFERS, NUMBER, PARAMETERS, SPAN, Alarm, Blocks, CardFault, DahdiChannel, Request,
                         channel_facts, span_facts)
 from e1gw.events import CardAlarm, CardAlarmChanged, Event
-from e1gw.service.card import GONE, CardWatch
+from e1gw.service.card import GONE, CardWatch, watch_of
 
 
 
@@ -224,6 +224,11 @@ class CardWatchTests(unittest.TestCase):
         watch.look()
         self.assertEqual(watch.failure(), GONE)
 
+    def test_of_which_descriptors(self) -> None:
+        for is_card in True, False:
+            with mock.patch.multiple('e1gw.service.card', is_channel=lambda file: is_card, DahdiChannel=FakeChannel):
+                self.assertEqual(bool(watch_of(7, self.told.append)), is_card)
+
     def test_gone(self) -> None:
         watch = self.watch()
         self.channel.is_away = True
@@ -251,6 +256,7 @@ class CardWatchTests(unittest.TestCase):
                         await asyncio.sleep(0.01)
                 for _ in range(2):
                     watch.end()
+                self.assertTrue(watch._later.cancelled())
                 near.getsockname()
         asyncio.run(run())
         self.assertEqual(self.told, [CardAlarmChanged(CardAlarm.RED, True)])

@@ -44,6 +44,21 @@ class OutageWatchTests(unittest.TestCase):
         self.assertEqual(cleared[1:], ['the trunk has been dark for 0.5 s'])
 
 
+class SilentClientTests(unittest.TestCase):
+    def test_once(self) -> None:
+        """Three seconds behind the one of silence by which it counts as gone calls are cleared, and not again."""
+        cleared, now = list[float](), 100.0
+        watch = DisconnectWatch(DisconnectPolicy(), lambda why, blocks: cleared.append(now))
+        watch.look(now)
+        watch.asked('one', ['clear', '3', 'alive', '1'], now)
+        watch.asked('other', ['clear', '9', 'alive', '7'], now)
+        watch.left('other', now)
+        for _ in range(80):
+            now += LOOK
+            watch.look(now)
+        self.assertEqual(cleared, [103.0])
+
+
 class HeardClient(NamedTuple):
     """A client that asked, and when it was heard last."""
 

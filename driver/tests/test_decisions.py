@@ -29,14 +29,13 @@ class AfterEndTests(unittest.TestCase):
 
     def test_each_end(self) -> None:
         for end in ends():
-            with self.subTest(end):
-                step = after_end(end)
-                self.assertEqual(step.act, self.wanted(end))
-                is_death = step.act is Act.START and not (end.is_well and end.wish is not Wish.NONE and end.was_up)
-                self.assertEqual(step.pause, FIRST_PAUSE if is_death else 0.0)
-                is_counted = is_death or step.act is Act.GO_BACK and end.was_up or \
-                    step.act is Act.NEW_LOG and end.fault is not ProgramFault.LOG_LOST
-                self.assertEqual(step.deaths != OFTEN, is_counted)
+            step = after_end(end)
+            self.assertEqual(step.act, self.wanted(end), end)
+            is_death = step.act is Act.START and not (end.is_well and end.wish is not Wish.NONE and end.was_up)
+            self.assertEqual(step.pause, FIRST_PAUSE if is_death else 0.0, end)
+            is_counted = is_death or step.act is Act.GO_BACK and end.was_up or \
+                step.act is Act.NEW_LOG and end.fault is not ProgramFault.LOG_LOST
+            self.assertEqual(step.deaths != OFTEN, is_counted, end)
 
     def wanted(self, end: ProgramEnd) -> Act:
         """The same by a list of rules, the first that holds."""

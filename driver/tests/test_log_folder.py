@@ -19,6 +19,7 @@ from e1gw.service import log_folder, reader, status
 from e1gw.service.log_folder import (HEAD_LEN, RECORDS, STATES, FolderReader, LogBegun, LogFiles, LogNews, LogPair,
                                      LogPiece, LogState, LogTurn, LogWriter, NoRoom, head_of, holder_of)
 from e1gw.service.reader import LogReader
+from e1gw.service.recordings import RecordingWants
 from e1gw.session import MULTIFRAME, OCTETS_A_SECOND
 
 ROOM = 1 << 12              # octets of the files
@@ -188,6 +189,10 @@ class FolderReaderTests(LogFolderCase):
         (first, _) = FolderReader(self.files(), len(self.written) + 1).look()
         assert isinstance(first, LogBegun)
         self.assertTrue(first.is_anew)
+        self.turns()
+        first, *_ = FolderReader(self.files(), 0).look()
+        assert isinstance(first, LogBegun)
+        self.assertEqual((first.missed, first.is_anew), (first.state.place, False))
 
     def test_room(self) -> None:
         """To the last octet of a file."""
@@ -209,8 +214,11 @@ class FolderReaderTests(LogFolderCase):
             os.unlink(self.path(name))
         self.assertFalse(files.are_in(self.folder))
         self.assertEqual(files.last(), LogPair(1, 0, self.states[0], self.written))
+        self.write(STATES[0], b'')
+        before = self.held()
         with self.assertRaises(FileNotFoundError):
             LogFiles(self.folder)
+        self.assertEqual(self.held(), before)       # (nothing stays open)
 
 
 class KilledWriterTests(LogFolderCase):
@@ -340,6 +348,20 @@ class OvertakenTests(support.FolderCase, unittest.IsolatedAsyncioTestCase):
             await self.reader.copied()
         self.assertEqual(self.reader.octets, before + octets + (self.log.place - place - octets) - 4)
 
+    async def test_it_ends(self) -> None:
+        """And with it what tries a ring again."""
+        wants = RecordingWants(self.path('ring'), 60, 'west', 'c', 200)
+        reader = LogReader(self.path('log'), 0.1, wants, lambda: None, bytes)
+        runs = asyncio.create_task(reader.run())
+        for _ in range(3):
+            await asyncio.sleep(0)
+        self.assertEqual(len(asyncio.all_tasks()), 3)
+        runs.cancel()
+        await asyncio.wait([runs])
+        for _ in range(3):
+            await asyncio.sleep(0)
+        self.assertEqual(asyncio.all_tasks(), {asyncio.current_task()})
+
     async def test_what_is_not_read_is_no_gap(self) -> None:
         """It was found as one, told as a slip, and all calls were resynchronised; then octets came too early."""
         found, now, due = list[ClockFinding](), 5000.0, 0.0
@@ -375,14 +397,13 @@ class OvertakenTests(support.FolderCase, unittest.IsolatedAsyncioTestCase):
             await asyncio.sleep(0)
             with listener.accept()[0] as line:
                 line.sendall('\n'.join([*BEGIN, 'now', '']).encode())
-                async with asyncio.timeout(30):
-                    while not its.lines.live:
+                while not its.lines.live:
+                    await asyncio.sleep(0.001)
+                self.reader.has_missed = True
+                for state in 'seized', 'acked':
+                    line.sendall(f'{row(1, state)}\n'.encode())
+                    while its.lines.lines[1].state != state:
                         await asyncio.sleep(0.001)
-                    self.reader.has_missed = True
-                    for state in 'seized', 'acked':
-                        line.sendall(f'{row(1, state)}\n'.encode())
-                        while its.lines.lines[1].state != state:
-                            await asyncio.sleep(0.001)
                 self.assertTrue(self.reader.has_missed)
             follows.cancel()
             await asyncio.wait([follows])

@@ -9,6 +9,7 @@ import unittest
 from typing import Any
 from unittest import mock
 
+from .limits import LONG
 from .shown import ShownTables
 from e1gw.ctl_all import TrunkHere, TrunkLine
 from e1gw.events import (AlarmChanged, CardAlarm, CardAlarmChanged, Connected, Crc4Change, Crc4Changed, Disconnected,
@@ -119,6 +120,51 @@ class KeptCallTests(unittest.TestCase):
             self.assertEqual(kept_of(asked), kept)
 
 
+class PageServerTests(unittest.IsolatedAsyncioTestCase):
+    """Requests, and what is answered."""
+
+    async def asyncSetUp(self) -> None:
+        texts = mock.Mock(parts={'c1': [['1', 'idle']]}, table='rows', metrics='samples', json='{}',
+                          status={'name': 'west'})
+        server = await asyncio.start_server(pages.WebServer(mock.AsyncMock(return_value=texts), '127.0.0.1').came,
+                                            '127.0.0.1', 0)
+        self.addCleanup(server.close)
+        self.place = server.sockets[0].getsockname()
+
+    async def answered(self, method: str, path: str, *lines: str) -> tuple[str, str, str, str]:
+        """The status, the kind, what it may load, and the body, whose length is told."""
+        reader, writer = await asyncio.open_connection(*self.place)
+        self.addCleanup(writer.close)
+        writer.write('\r\n'.join([f'{method} {path} HTTP/1.1', *lines, '', '']).encode())
+        head, _, body = (await reader.read()).decode().partition('\r\n\r\n')
+        first, *others = head.split('\r\n')
+        fields = dict(each.split(': ', 1) for each in others)
+        if method != 'HEAD':
+            self.assertEqual(int(fields['Content-Length']), len(body))
+        return (first.removeprefix('HTTP/1.0 '), fields['Content-Type'].removesuffix('; charset=utf-8'),
+                fields['Content-Security-Policy'], body)
+
+    async def test_texts(self) -> None:
+        for path, kind, body in (('/', 'text/plain', 'rows'), ('/table', 'text/plain', 'rows'), (
+                '/metrics', 'text/plain; version=0.0.4', 'samples'), ('/status', 'application/json', '{}\n')):
+            self.assertEqual(await self.answered('GET', path), ('200 OK', kind, pages.NOTHING, body))
+            self.assertEqual(await self.answered('HEAD', path), ('200 OK', kind, pages.NOTHING, ''))
+        status, _, _, body = await self.answered('GET', '/none')
+        self.assertEqual((status, body.strip()), ('404 Not Found', 'there are /, /table, /metrics, /status, /trunks, '
+                                                  '/events'))
+        self.assertEqual((await self.answered('POST', '/'))[0], '405 Method Not Allowed')
+
+    async def test_pages(self) -> None:
+        """For a browser; the other trunks are those that it is told of, at the host by which it has come."""
+        status, kind, policy, body = await self.answered('GET', '/', 'Accept: text/html')
+        self.assertEqual((status, kind, policy, '<title>trunk west' in body, '"c1"' in body),
+                         ('200 OK', 'text/html', pages.POLICY, True, True))
+        with mock.patch.object(pages, 'asked_trunks', lambda patience: ['north', patience]), \
+                mock.patch.object(pages, 'trunks_page', lambda trunks, host: f'{trunks} {host} \0</html>\n'.encode()):
+            self.assertEqual((await self.answered('GET', '/trunks', 'Host: west.example:9'))[1:], (
+                'text/html', pages.DRAWING, f"['north', {pages.PATIENCE}] 127.0.0.1 west.example</html>\n"))
+
+
 class EventReaderTests(unittest.IsolatedAsyncioTestCase):
     """Who reads events. The page changes at each look, and one has no time in between."""
 
@@ -165,9 +211,11 @@ class EventReaderTests(unittest.IsolatedAsyncioTestCase):
         self.assertEqual([*await self.told(quick)], ['c1'])
 
     async def test_one_too_many(self) -> None:
-        """The oldest goes, and whoever comes is told."""
-        for name in ('first', 'second', 'third'):
-            reader = await self.connect(name)
-        while not self.closed and self.looks < 12:      # (who is slow stays for longer)
-            await self.told(reader)
+        """The oldest goes, though nobody was told anything behind the whole page, as whoever comes is."""
+        with mock.patch.object(pages, 'TOLD', LONG):
+            for name in ('first', 'second', 'third'):
+                reader = await self.connect(name)
+            self.assertEqual([*await self.told(reader)], ['c1', 'c2'])
+            while not self.closed:
+                await asyncio.sleep(0.001)
         self.assertEqual(self.closed, ['first'])

@@ -1,7 +1,6 @@
 """The picture of a session: what is gathered, what is found, and what the page says."""
 from __future__ import annotations
 
-import functools
 import html.parser
 import os
 import random
@@ -9,11 +8,11 @@ import re
 import subprocess
 import sys
 import unittest
+from unittest import mock
 
-from .support import TOP, run
+from .support import TOP
 
-from .picture_made import (TROUBLES, MadeSession, PictureSender, configured, made_of, one_call, read_session, recorded,
-                           rtp)
+from .picture_made import MadeSession, PictureSender, made_of, one_call, read_session, recorded, rtp
 
 from e1gw.picture.facts import MOST, RANK, Facts, Row, Spans
 from e1gw.picture.findings import findings
@@ -86,25 +85,8 @@ class FactsTests(unittest.TestCase):
         self.assertEqual(places, sorted(set(places)))
 
 
-class FactsBesideCheckTests(unittest.TestCase):
-    """The figures are those of `e1gw check`."""
-
-    def test_figures(self) -> None:
-        for name in TROUBLES:
-            config, given = recorded(name)
-            facts = made_of(name)
-            with self.subTest(name), configured(config) as path:
-                for line in run('check', '--config', path, given=given).decode().splitlines():
-                    number, _, state, _, _, *counts, _, _ = line.split()
-                    row = facts.rows[int(number)]
-                    cell = row.count()
-                    refused = sum(seen[0] for seen in cell.refused.values()) + cell.counts.get('repetitions', 0)
-                    self.assertEqual([row.states.value, cell.sent, cell.admitted, refused],
-                                     [state, *map(int, counts)], line)
-
-    def test_nothing_is_found_where_all_is_well(self) -> None:
-        """What is found in a session with a trouble, the documents quote."""
-        self.assertEqual(findings(made_of('sound')), [])
+class SessionFactsTests(unittest.TestCase):
+    """What is gathered of sessions with a trouble."""
 
     def test_records_of_any_length(self) -> None:
         """Long ones are given in pieces of a millisecond, so nothing is drawn later."""
@@ -157,18 +139,18 @@ class PageChecker(html.parser.HTMLParser):
         self.words.append(data)
 
 
-@functools.cache
-def busy_page() -> str:
-    """The page of a day of thirty circuits with calls, datagrams and refused ones all the time."""
+def busy_page(count: int) -> str:
+    """The page of a day of so many circuits with calls, datagrams and refused ones all the time."""
     facts, rng = Facts(), random.Random(4)
-    for row in facts.rows.values():
+    rows = [*facts.rows.values()][:count]
+    for row in rows:
         row.codec, row.payload, row.prefill = 'g726-32', 96, 320
         row.local, row.peer = '192.0.2.110:24002', '198.51.100.120:34002'
     states = ('idle', 'seized', 'acked', 'answered', 'releasing')
     for column, second in enumerate(range(0, 86_400, 66)):      # (a column is 65.5 s)
         place = second * OCTETS_A_SECOND
         facts.turn(place)
-        for row in facts.rows.values():
+        for row in rows:
             row.state(place, states[(column + row.number) % 5])
             row.cell.sent += 500
             for _ in range(3):
@@ -189,8 +171,10 @@ class PicturePageTests(unittest.TestCase):
         return ' '.join(checker.words)
 
     def test_under_two_megabytes_however_long(self) -> None:
-        text = busy_page()
-        self.assertLess(len(text.encode()), 2_000_000)
+        """As ten circuits are within a third of that."""
+        with mock.patch('e1gw.picture.page.MOST', MOST_OCTETS // 3):
+            text = busy_page(10)
+        self.assertLess(len(text.encode()), MOST_OCTETS // 3)
         self.checked(text)
         self.assertLess(MOST_OCTETS, 2_000_000)
 

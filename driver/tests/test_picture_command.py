@@ -10,14 +10,13 @@ import shutil
 import struct
 import subprocess
 
-from .support import TOP, FolderCase, program, text_of
+from .support import FolderCase, program, text_of
 
-from .picture_made import (BEGIN, CAPTURED, COMMAND, PEER, TROUBLES, MadeSession, PictureSender, apart, captured, icmp,
-                           made_of, page_of, pcap, recorded, udp)
+from .picture_made import (BEGIN, COMMAND, PEER, MadeSession, PictureSender, apart, icmp, page_of, pcap, recorded,
+                           udp)
 
 from e1gw.picture.main import Progress
 from e1gw.packets import BadCapture, Datagram, datagrams
-from e1gw.picture.page import draw
 from e1gw.session import OCTETS_A_SECOND, Kind, records_in, trunk_record
 from e1gw.session_files import RecordedSession
 
@@ -216,27 +215,6 @@ class PictureAnswersTests(FolderCase):
         for text in (page, said):
             self.assertIn('the session failed: fault 1 BadKind', text)
             self.assertIn(f'e1gw-records --from-raw {raw}', text)
-
-    def test_what_the_documents_quote(self) -> None:
-        quotes = re.findall(r'!\[\]\(pictures/([a-z-]+)\.svg\)\n\n> ([^:]+): (.*)\n',
-                            text_of(os.path.join(TOP, 'docs', 'SYMPTOMS.md')))
-        self.assertEqual({name for name, _, _ in quotes}, set(TROUBLES) - {'sound'} | set(CAPTURED))
-        for name, who, words in quotes:
-            with self.subTest(name):
-                if name in CAPTURED:
-                    config, given, capture = captured(name)
-                    page, _ = page_of('--config', self.write('trunk.toml', config), '--capture',
-                                      self.write('call.pcap', capture), '-', given=given)
-                else:
-                    page = draw(made_of(name), name)
-                entries = [re.sub('<.*?>', '', entry) for entry in re.findall('<li.*?</li>', page, re.S)]
-                wanted = who + words.replace("'", '&#x27;')
-                self.assertTrue(any(entry.startswith(wanted) for entry in entries), (wanted, entries))
-
-    def test_no_two_pictures_of_the_documents_are_the_same(self) -> None:
-        folder = os.path.join(TOP, 'docs', 'pictures')
-        drawn = [text_of(os.path.join(folder, name)) for name in os.listdir(folder) if name.endswith('.svg')]
-        self.assertEqual((len(drawn), len({*drawn})), (len(TROUBLES) - 1 + len(CAPTURED),) * 2)
 
 
 class PictureCaptureTests(FolderCase):

@@ -76,7 +76,7 @@ class ServiceEventsCase(RestartedKeeperCase, RecorderCase):
 
     def events(self, name: str = '') -> list[dict[str, Any]]:
         """The events of this name, or all, that were told."""
-        told = map(json.loads, support.text_of(self.path('its-json')).splitlines())
+        told = map(json.loads, support.whole_lines(self.path('its-json')))
         return [event for event in told if event['event'] == name or not name]
 
     def program_dies(self) -> None:

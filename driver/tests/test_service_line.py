@@ -9,6 +9,7 @@ import socket
 import stat
 import sys
 import unittest
+from dataclasses import replace
 from typing import Callable
 from unittest import mock
 
@@ -21,7 +22,7 @@ from .world import words_of
 from e1gw.events import Event, TrunkLost
 from e1gw.service import satop_trunk, trunk
 from e1gw.service.satop_trunk import BROKEN, ONES, SatopTrunk
-from e1gw.service.trunk import LineOptions, waiting
+from e1gw.service.trunk import LineOptions, SatopNote, waiting
 from e1gw.session import OCTETS_A_SECOND
 from e1gw.testing.ports import free_port
 from e1gw.udp_tables import has_socket
@@ -147,6 +148,25 @@ class LineProcessTests(support.FolderCase, unittest.IsolatedAsyncioTestCase):
         os.kill(self.process(trunk), signal.SIGKILL)
         await self.until(lambda: waiting(trunk.both[0]) >= 2 * len(ONES))
         self.assertEqual(os.read(trunk.both[0], 10_000), ONES + bytes(len(ONES)))
+
+    async def test_one_that_cannot_be_started(self) -> None:
+        """Nothing stays open of it."""
+        line = SatopTrunk(LineOptions(satop=lambda: ['127.0.0.1:5000', '127.0.0.1:5001', '--size', '256'],
+                                      program=self.path('none')))
+        with self.assertRaises(FileNotFoundError):
+            await line.open()
+        self.assertEqual((line.files, line.is_open()), ({}, False))
+
+    async def test_one_whose_process_was_gone(self) -> None:
+        """The next service has its descriptors, and looks for no process."""
+        before = SatopTrunk(LineOptions(satop=lambda: [], program='none'))
+        near, far = socket.socketpair()
+        files = {'near': near.detach(), 'far': far.detach()}
+        note = replace(before.note(), names=('near', 'far'), satop=SatopNote(('a', 'b'), 7, '', 0, 0))
+        its = SatopTrunk(LineOptions(satop=lambda: [], program='none'))
+        its.take_up(files, note)
+        self.assertEqual((its.child, its.is_open(), its.zero), (None, True, 7))
+        await its.finish()
 
     async def test_more_ones_than_there_is_room_for(self) -> None:
         """A minute of them: as many as fit come, and nobody waits."""

@@ -21,7 +21,7 @@ from e1gw.calls import CallRecord, CallsNote
 from e1gw.crc4 import Crc4Note
 from e1gw.events import AlarmChanged, AlignmentLost
 from e1gw.lines import Alignment
-from e1gw.service import connection, events, lifecycle, trunk
+from e1gw.service import connection, events, lifecycle, reload, trunk
 from e1gw.service.commands import unix_listener
 from e1gw.service.connection import NoAnswer, ProgramConnection
 from e1gw.service.decisions import TRIED, Wish
@@ -76,6 +76,29 @@ class VersionHistoryTests(unittest.TestCase):
                          'for 1.3 s: 2 calls (circuits 4, 7)')
         self.assertEqual(outcome('', history.silent, frozenset((4, 7))), 'reload: done')
         history.now.close()
+
+
+class ReloadRequestTests(unittest.IsolatedAsyncioTestCase):
+    """A reload of a carrier that is played."""
+
+    def setUp(self) -> None:
+        self.carrier, self.told = mock.Mock(pair=None), mock.Mock()
+        self.requests = reload.ReloadRequests(self.carrier, mock.Mock(), self.told)
+
+    def test_which_log(self) -> None:
+        """That of the program of now, also of one of two machines; of a standby what it is fed."""
+        last, fed = self.carrier.reader.last.return_value, mock.Mock()
+        for pair, program, log in ((None, None, last), (mock.Mock(), mock.Mock(), last), (fed, None, None)):
+            self.carrier.pair, self.carrier.program = pair, program
+            self.assertIs(self.requests._log(), log or fed.standby.last.return_value)
+
+    async def test_no_program_follows(self) -> None:
+        """That is said after a while; of a trunk that is not open at once that it is done."""
+        self.carrier.versions = mock.Mock(settled=asyncio.Event(), refused='', silent=0.0)
+        for is_open, words in (True, 'no program carries the trunk within 0.01 s'), (False, 'done'):
+            self.carrier.trunk.is_open.return_value = is_open
+            with mock.patch.object(reload, 'PATIENCE', 0.01):
+                self.assertEqual(await self.requests._outcome(frozenset()), f'reload: {words}')
 
 
 class LineLimitTests(unittest.TestCase):
@@ -277,7 +300,8 @@ class ControlSocketTests(support.FolderCase):
             found.append(os.path.lexists(path))
             listen(line, most)
         with mock.patch.object(socket.socket, 'listen', listens):
-            for _ in range(2):                          # (of one that is left nobody listens)
+            for _ in range(2):                          # (of one that is left nobody listens, nor of one half made)
+                self.write('control~', b'')
                 with unix_listener(path, 0o600, None), socket.socket(socket.AF_UNIX) as client:
                     client.connect(path)
                     self.assertEqual(os.stat(path).st_mode & 0o777, 0o600)
@@ -400,6 +424,38 @@ class TrunkEndTests(support.FolderCase, unittest.IsolatedAsyncioTestCase):
         goes.set()
         while not stream.close.called:
             await asyncio.sleep(0.001)
+
+    async def test_a_card(self) -> None:
+        """It is watched no more at the end."""
+        its = trunk.TrunkFiles(trunk.LineOptions())
+        its.card = card = mock.Mock()
+        await its.finish()
+        self.assertEqual((card.mock_calls, its.card, its.both), ([mock.call.end()], None, (-1, -1)))
+
+    async def test_either(self) -> None:
+        """One event is enough, or the time; what has waited for them waits no more."""
+        one, other = asyncio.Event(), asyncio.Event()
+        await trunk.either(0.0, one, other)
+        other.set()
+        await trunk.either(900.0, one, other)
+        await asyncio.sleep(0)
+        self.assertEqual(asyncio.all_tasks(), {asyncio.current_task()})
+
+    async def test_opened_again(self) -> None:
+        """What has ended soon is opened a little later, and what cannot be opened is tried again."""
+        pause, tries = mock.Mock(**{'ends.side_effect': (7.0, 8.0)}), [FileNotFoundError(2, 'no', 'x'), None]
+        its = trunk.TrunkFiles(trunk.LineOptions(lambda: mock.Mock()))
+        its._pause = pause
+
+        async def opens(ending: asyncio.Event) -> None:
+            if fault := tries.pop(0):
+                raise fault
+            its.both = 7, 7
+        with mock.patch.object(trunk, 'either', mock.AsyncMock()) as waits, \
+                mock.patch.object(its, 'open_until', opens), self.assertLogs('e1gw.service.trunk'):
+            await its.reopen(ending := asyncio.Event())
+        self.assertEqual([each.args for each in waits.call_args_list], [(7.0, ending), (8.0, ending)])
+        self.assertEqual((pause.begins.call_count, tries, its.fault), (1, [], 'the trunk cannot be opened: x: no'))
 
     async def test_ends(self) -> None:
         """A socket, a FIFO and a file tell that they have ended; a device has if nothing was taken of it."""

@@ -9,6 +9,7 @@ import re
 import signal
 import socket
 import tomllib
+from functools import partialmethod
 from typing import Any
 from unittest import mock
 
@@ -20,6 +21,7 @@ from e1gw.service import decisions, lifecycle, service, version
 from e1gw.service.decisions import Takeover
 from e1gw.service.handover import Left, version_for
 from e1gw.service.log_folder import LogPair
+from e1gw.service.note import NoteFiles, note_in
 from e1gw.service.options import wants_of
 from e1gw.service.program import ProgramPlaces
 from e1gw.service.version import ProgramVersion, version_of_now
@@ -72,21 +74,19 @@ ENDS: dict[str, tuple[str, list[dict[str, Any]], list[str], int]] = {
 
 
 class PlayedEndTests(ServiceCase):
-    async def test_what_follows(self) -> None:
-        for name, (options, plans, lines, status) in ENDS.items():
-            with self.subTest(name), mock.patch.object(decisions, 'WITHIN', SECONDS):       # (deaths go by no clock)
-                self.write('starts', '')
-                self.records.clear()
-                self.plan(*plans)
-                task = self.begins(*options.split())
-                while not (task.done() or plans[-1] == WAITS and len(self.starts()) == len(plans)
-                           and f'program {self.starts()[-1][1]}' in ''.join(self.said()[-1:])):
-                    await asyncio.sleep(0.002)
-                if not task.done():
-                    self.assertEqual(await self.ask('quit'), 'quit: done')
-                self.assertEqual(await task, status)
-                self.assertEqual(plain(self.said()), lines)
-                self.assertEqual((os.listdir(self.path('run')), os.path.lexists(self.control)), ([], False))
+    async def follows(self, options: str, plans: list[dict[str, Any]], lines: list[str], status: int) -> None:
+        """What a row of the table says, of which there is a test each."""
+        with mock.patch.object(decisions, 'WITHIN', SECONDS):       # (deaths go by no clock)
+            self.plan(*plans)
+            task = self.begins(*options.split())
+            while not (task.done() or plans[-1] == WAITS and len(self.starts()) == len(plans)
+                       and f'program {self.starts()[-1][1]}' in ''.join(self.said()[-1:])):
+                await asyncio.sleep(0.002)
+            if not task.done():
+                self.assertEqual(await self.ask('quit'), 'quit: done')
+            self.assertEqual(await task, status)
+            self.assertEqual(plain(self.said()), lines)
+            self.assertEqual((os.listdir(self.path('run')), os.path.lexists(self.control)), ([], False))
 
     async def test_one_that_hangs(self) -> None:
         """At its start; a new version, and then the one before comes back."""
@@ -136,6 +136,9 @@ class PlayedEndTests(ServiceCase):
                              'does not check the configuration within 0.1 s')
         await self.ends()
 
+
+for its_name, its_row in ENDS.items():
+    setattr(PlayedEndTests, f'test_{its_name}', partialmethod(PlayedEndTests.follows, *its_row))
 
 ROWS = [f'{n} outgoing {state} 10 10 0 0 0' for n, state in ((3, 'answered'), (4, 'acked'), (5, 'answered'),
                                                              (6, 'idle'), (7, 'seized'), (8, 'clearedback'))]
@@ -345,6 +348,15 @@ class PlayedWatchTests(ServiceCase):
                                               {'command': 'seize', 'answer': 'done', 'count': 2}])
         await self.ends()
 
+    async def test_what_is_noted(self) -> None:
+        """That a program was up, at once."""
+        self.begins()
+        await self.says('carries')
+        (folder,) = glob.glob(self.path('run/*'))
+        note = note_in(NoteFiles(folder).read())
+        self.assertEqual(note and (note.was_up, note.begun, note.program, note.is_active), (True, 0, '7.7', True))
+        await self.ends()
+
     async def test_names_of_sockets(self) -> None:
         """A control socket that somebody removes is there again; the names of the program's sockets go at the end."""
         names = self.path('p'), self.path('t')
@@ -422,6 +434,7 @@ class PlayedTakeoverTests(ServiceCase):
             found = await version_for(wants, places, left, Takeover.START)
         self.addCleanup(found.close)
         self.assertEqual(found.config_octets(), before)
+        self.assertTrue(self.records[-1].getMessage().endswith(': the configuration of the program before goes on'))
 
     async def test_what_systemd_is_told(self) -> None:
         self.begins()

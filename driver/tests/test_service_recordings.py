@@ -3,6 +3,7 @@ from __future__ import annotations
 
 import asyncio
 import glob
+import itertools
 import json
 import os
 import tempfile
@@ -32,6 +33,17 @@ class RoomTests(support.FolderCase):
             self.assertFalse(recordings.has_room(ring))
         self.assertTrue(recordings.has_room(ring))
         self.assertEqual(os.listdir(ring), [])
+
+
+class RingAgainTests(unittest.IsolatedAsyncioTestCase):
+    async def test_when_it_can_begin(self) -> None:
+        """Once nothing is written any more, and there is room."""
+        its = reader.LogReader('none', 0.1, None, lambda: None, bytes)
+        for is_over, room in itertools.product((False, True), repeat=2):
+            ended = mock.Mock(**{'is_over.return_value': is_over, 'wants.session': 'ring'})
+            with mock.patch.object(reader, 'has_room', return_value=room) as looked:
+                self.assertEqual(await its._can_begin(ended), is_over and room)
+            self.assertEqual((ended.close.call_count, looked.mock_calls), (1, [mock.call('ring')] * is_over))
 
 
 class ServiceFlowTests(support.FolderCase, unittest.IsolatedAsyncioTestCase):
@@ -96,6 +108,17 @@ class ServiceFlowTests(support.FolderCase, unittest.IsolatedAsyncioTestCase):
         self.log.multiframe()
         self.reader.look()
         self.assertEqual(self.reader.octets, told + MULTIFRAME)
+
+    async def test_a_log_that_has_gone_on(self) -> None:
+        """Who has read nothing of it yet counts from where the program says that the trunk is."""
+        for _ in range(3):
+            self.log.multiframe()
+        for _ in range(2):
+            self.log.turns()
+            self.log.multiframe()
+        self.reader.told = lambda: 9 * MULTIFRAME
+        self.reader.look()
+        self.assertEqual((self.reader.octets, self.reader.has_missed), (9 * MULTIFRAME, True))
 
     async def test_what_was_written_over(self) -> None:
         """It is not read as what was there before."""

@@ -15,7 +15,7 @@ from . import support
 from e1gw.service import recordings
 from e1gw.service.decisions import ProgramFault
 from e1gw.service.feed import FeedHead, configured
-from e1gw.service.memory import in_memory, octets_in
+from e1gw.service.memory import give_back, given_back, in_memory, octets_in
 from e1gw.service.options import folder_of, opens_of, recording_of, wants_of, watched_of
 from e1gw.service.ports import AGAIN, TakenPorts
 from e1gw.service.process import UNKNOWN, Child, ran, signal_words
@@ -158,6 +158,13 @@ class ChildEndTests(unittest.IsolatedAsyncioTestCase):
         os.write(said, b'fault 5 Read\n')
         self.assertEqual(later.news(), ['fault 5 Read'])
         self.assertLess(512 * os.fstat(said).st_blocks, 5000)
+
+    def test_all_was_given_back(self) -> None:
+        said = in_memory(bytes(range(1, 129)) * 64)
+        self.addCleanup(os.close, said)
+        for place in 0, 4100, 8192:
+            give_back(said, 0, place)
+            self.assertEqual(given_back(said), place)
 
     async def test_ran(self) -> None:
         async def of(script: str, given: bytes = b'', seconds: float = 900.0) -> tuple[int | None, str, bytes]:

@@ -17,12 +17,13 @@ from e1gw.session import CIRCUITS
 from e1gw.testing.ports import free_port
 from e1gw.tie.circuit import CircuitEnd
 from e1gw.tie.coding import Coding
+from e1gw.tie.events import SiteCame
 from e1gw.tie.main import ANYBODY, parser
 from e1gw.tie.messages import BadMessage, Greeting, Message, SiteState, encode_message, message_of
 from e1gw.tie.pairs import agreed, pairs_of
-from e1gw.tie.site import Reasons, Site, has_name, one_too_many
+from e1gw.tie.site import Reasons, Site, has_name, one_too_many, read_one
 from e1gw.tie.status import serve_status, texts_of
-from e1gw.tie.tie import AGAIN, Tie
+from e1gw.tie.tie import AGAIN, Tie, TieOptions
 from e1gw.tie.trunk import LOOK
 from e1gw.tls import context_of, is_exposed, is_loopback
 from tests import support
@@ -65,6 +66,19 @@ class TieMessageTests(unittest.TestCase):
                      b'{"tie": 1, "run": "' + b'a' * 101 + b'", "pairs": null}'):
             with self.subTest(line=line[:60]), self.assertRaises(BadMessage):
                 message_of(line)
+
+
+class TieReadingTests(unittest.IsolatedAsyncioTestCase):
+    async def test_lines(self) -> None:
+        """One after another, up to the end."""
+        reader = asyncio.StreamReader(limit=200)
+        reader.feed_data(encode_message(Greeting('a', None)) + b'x' * 300 + b'\n')
+        reader.feed_eof()
+        self.assertEqual(await read_one(reader), Greeting('a', None))
+        with self.assertRaisesRegex(BadMessage, 'a line is too long'):
+            await read_one(reader)
+        with self.assertRaises(EOFError):
+            await read_one(reader)
 
 
 class TiePropertyTests(PropertyCase):
@@ -113,6 +127,19 @@ class TieSiteTests(unittest.TestCase):
         names: Any = {'subjectAltName': (('DNS', 'West.example'), ('IP Address', '0:0:0:0:0:0:0:1'))}
         self.assertTrue(has_name(names, 'west.example') and has_name(names, '::1'))
         self.assertFalse(has_name(names, 'east.example') or has_name(names, '127.0.0.1') or has_name(None, 'west'))
+
+
+class TieGreetingTests(unittest.TestCase):
+    def test_which_circuits_are_joined(self) -> None:
+        """Those of the map here that the other site does not join are told."""
+        for own, far, joined, left in (({1: 2, 3: 4}, {2: 1}, {1: 2}, (3,)), ({1: 2}, None, {1: 2}, ()),
+                                       (None, {29: 30}, {30: 29}, (*range(1, 30),)), (None, None, None, ())):
+            told = list[Any]()
+            tie = Tie(TieOptions('', own, 0.0, False), 'run', told.append)
+            tie.site = mock.Mock()
+            tie.came(Greeting('other', far))
+            self.assertEqual(tie.there, joined or agreed(None, None))
+            self.assertEqual(told, [SiteCame(len(tie.there), left)])
 
 
 class TieOptionTests(unittest.TestCase):
@@ -293,6 +320,15 @@ class TieCallTests(TieCase):
         self.west.silent = False
         await self.until(lambda: len(self.told('west', 'trunk')) == 2)
 
+    async def test_trunk_that_clears_no_calls(self) -> None:
+        """It is told, and the tie goes on."""
+        obeys = self.west.obey
+        setattr(self.west, 'obey', lambda words: 'on-loss: no' if words[0] == 'on-loss' else obeys(words))
+        await self.both()
+        self.assertEqual([[(each['about'], each.get('answer')) for each in self.told(name, 'warning')]
+                          for name in ('west', 'east')],
+                         [[('the trunk clears no calls if this program dies', 'on-loss: no')], []])
+
     async def test_same_role(self) -> None:
         """Two incoming ends cannot be joined: they are blocked, and it is reported."""
         self.east.roles[1] = Role.INCOMING
@@ -346,7 +382,9 @@ class TieConnectionTests(TieCase):
         await self.until(self.listens)
         clock = asyncio.get_running_loop().time
         began = clock()
-        lines = [await asyncio.open_connection('127.0.0.1', self.port) for _ in range(20)]
+        lines = list[tuple[asyncio.StreamReader, asyncio.StreamWriter]]()
+        for _ in range(4):              # (five come at once: more might find no place in the queue of those who come)
+            lines += await asyncio.gather(*(asyncio.open_connection('127.0.0.1', self.port) for _ in range(5)))
         reads = [asyncio.create_task(reader.read()) for reader, _ in lines]
         await self.until(lambda: sum(each.done() for each in reads) >= 12)
         self.assertLess(clock() - began, 4.5)

@@ -305,6 +305,15 @@ class TieCommandTests(unittest.TestCase):
             end = CircuitEnd(outgoing if role is incoming else incoming, far, 'call 2')
             self.assertIs(TieCircuit(role, state, call, far=end).wants(link, waits), command, (role, state))
 
+    def test_why_an_end_clears(self) -> None:
+        gone, over, none = 'the other site is gone, or a trunk is out of service', \
+            'the other end has given the call up', 'the other end has no such call: it is idle'
+        for far, link, why in ((None, GOOD, gone), (CircuitEnd(Role.INCOMING, ACKED, 'call 1', True), GOOD, over),
+                               (CircuitEnd(Role.INCOMING, IDLE, 'call 1'), GOOD, none),
+                               (CircuitEnd(Role.INCOMING, IDLE, 'call 1'), GIVEN_UP, gone)):
+            circuit = TieCircuit(Role.OUTGOING, ANSWERED, 'call 1', far=far)
+            self.assertEqual([circuit.reason(each, link) for each in (Command.CLEAR, Command.SEIZE)], [why, None])
+
     def test_given_up_stays_so(self) -> None:
         """A call that was given up is not passed on when the other end comes back; the next one is."""
         circuit = TieCircuit(Role.INCOMING, ACKED, 'call 2', far=CircuitEnd(Role.OUTGOING, IDLE, 'call 1'))

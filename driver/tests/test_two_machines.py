@@ -19,6 +19,7 @@ from typing import Callable
 from unittest import mock
 
 from . import support
+from .logs import LogCopy
 from .machines import ADDRESSES, TRUNK, Machine, PairCase
 from .support import SECONDS
 from .test_program_killed import CIRCUITS
@@ -87,13 +88,19 @@ class DeathTests(PairCase):
             time = last.timestamp + 160 * (first.sequence - last.sequence & 0xffff) & 0xffffffff
             self.assertEqual((first.ssrc, first.timestamp), (last.ssrc, time))
 
+    def is_fed(self, log: LogCopy, *pids: int) -> None:
+        """Octets come at the time at which the clock stands, and are fed."""
+        self.step(4)
+        self.clock.steps(lambda: self.copy.look() == log.look(), *pids)
+
     def test_a_machine_dies_and_comes_back(self) -> None:
-        """What came last has waited for a standby that stood still, and is as old as it is."""
+        """What came last has waited for a standby that stood still, and is as old as it is. (It came behind the word
+        that was said of octets before it, which are of no time before the clock stood.)"""
         a, b = self.calls_with_standby()
         self.copy, log = b.fed_log(), a.log()
         self.step(60)
         since, pids = self.clock.stops(), [each.process.pid for each in (a, b)]
-        self.clock.steps(lambda: self.copy.look() == log.look(), *pids)
+        self.is_fed(log, *pids)
         b.process.send_signal(signal.SIGSTOP)
         self.step(4)
         fed, until = log.look(), self.clock.now() + 3 * TICK
@@ -114,8 +121,8 @@ class DeathTests(PairCase):
         self.assertTrue(self.copy.state)
         support.until(lambda: b.ask('role') == 'active, fed')       # (it hears of that later than the standby)
         since = self.clock.stops()
-        self.step(4)
-        self.clock.steps(lambda: self.copy.look() == log.look(), a.process.pid, b.process.pid)
+        for _ in range(2):
+            self.is_fed(log, a.process.pid, b.process.pid)
         self.takes_over(a, since, self.clock.now(), by=b)
         log.look()
         self.assertIn(log.records[-20_000:], self.copy.records)
@@ -284,6 +291,15 @@ class PairTests(PairCase):
 
 class FedLogTests(support.FolderCase):
     """When octets came at the other machine, by its clock and what comes of them here."""
+
+    def test_closed(self) -> None:
+        """Nothing is open then, and its folder is gone, unless a program has it."""
+        for is_kept in True, False:
+            fed = FedLog(self.folder, 0, 0, 0)
+            fed.begin(b'')
+            self.assertEqual(len(self.held()), 4)
+            fed.close(is_kept)
+            self.assertEqual((self.held(), os.path.exists(fed.folder)), ([], is_kept))
 
     def test_when_they_came_last(self) -> None:
         """The last ones wait for the word that all was sent, which may wait here. Ones for less than the time without

@@ -70,8 +70,7 @@ class World:
 
     def __init__(self, config: str, *options: str, answers: bool = True, front: tuple[str, ...] = (),
                  within: Mapping[str, Any] = {}, **streams: Any) -> None:
-        self._folder = tempfile.TemporaryDirectory()
-        self.folder = self._folder.name
+        self.folder = tempfile.mkdtemp()
         self.config = self.path('trunk.toml')
         self.configure(config)
         self.exchange = support.Exchange()
@@ -115,7 +114,7 @@ class World:
         self.process.wait(SECONDS)
         if self.process.stderr:
             self.process.stderr.close()
-        self._folder.cleanup()
+        support.remove(self.folder)
 
     def path(self, name: str) -> str:
         return os.path.join(self.folder, name)

@@ -22,10 +22,10 @@ def ask(path: str, command: bytes) -> str:
         return answer_of(line, command)
 
 
-def answer_of(line: socket.socket, command: bytes) -> str:
-    """The same over a connection that goes on."""
+def answer_of(line: socket.socket, command: bytes = b'') -> str:
+    """The same over a connection that goes on; without a command to one that was given there before."""
     with contextlib.suppress(BrokenPipeError):          # (there is no answer then)
-        line.sendall(command + b'\n')
+        line.sendall(command and command + b'\n')
     answer = b''
     while not answer.endswith(b'\n\n'):
         piece = line.recv(65536)
