@@ -25,8 +25,8 @@ from .support import SECONDS
 from .test_program_killed import CIRCUITS
 from e1gw.ctl_all import TrunkLine
 from e1gw.metrics import exposition
-from e1gw.service import standby
-from e1gw.service.feed import BACK, CARRIES, MARK, MOST_PIECE, PIECE, TAKES, TICK
+from e1gw.service import feed, standby
+from e1gw.service.feed import BACK, CARRIES, MARK, MOST_PIECE, PIECE, TAKES, TICK, FeedServer
 from e1gw.service.standby import IN_TIME, FedLog, TrunkStandby
 from e1gw.session import MULTIFRAME, OCTETS_A_SECOND, packet_of, trunk_record
 from e1gw.testing.ports import free_port
@@ -346,6 +346,23 @@ class HandedTests(support.FolderCase, unittest.IsolatedAsyncioTestCase):
         """One that stood still would carry it beside the machine that had taken it back. One that dies takes nothing
         back."""
         self.assertEqual([await self.said(BACK), await self.said()], [(TAKES, [False]), (CARRIES, [])])
+
+    async def told(self, carried: bool, leaves: bool) -> list[bytes]:
+        """What a machine says to the standby to which it hands the trunk over, if that carries it, or leaves, or is
+        silent."""
+        its, left = FeedServer('', mock.Mock(), mock.Mock(), mock.Mock(), mock.Mock()), asyncio.Future[None]()
+        its._writer, its.is_carried = mock.Mock(), carried
+        if leaves:
+            left.set_result(None)
+        with mock.patch.object(feed, 'TICK', 0.0):
+            await its._handed(left)
+        return [call.args[0] for call in its._writer.write.call_args_list]
+
+    async def test_what_is_taken_back(self) -> None:
+        """It says so, if the standby does not say that it carries the trunk."""
+        for carried, leaves in (False, False), (False, True), (True, False):
+            with self.subTest(carried=carried, leaves=leaves):
+                self.assertEqual(await self.told(carried, leaves), [] if carried else [PIECE.pack(0.0, BACK)])
 
 
 class SatopNumberTests(PairCase):
