@@ -24,7 +24,7 @@ _e1gw_options() {
       echo '--config --load --save --record --record-over --repeat --seizure-wait --senders --totals --help' ;;
     trunk)
       echo '--config --load --save --align --control --crc4 --end --live --log --record --record-over' \
-        '--repeat --seizure-wait --senders --slots --tell --totals --help' ;;
+        '--repeat --seizure-wait --senders --slots --sockets --tell --totals --help' ;;
     satop) echo '--size --jitter --rtp --sequence --fill --clock --help' ;;
     '') echo '--help --version' ;;
   esac
@@ -45,7 +45,8 @@ _e1gw() {
     --law | --codec | --ptime | --senders | --fill | --clock)
       mapfile -t COMPREPLY < <(compgen -W "$(_e1gw_values "$prev")" -- "$cur")
       return ;;
-    --payload | --ssrc | --sequence | --timestamp | --repeat | --seizure-wait | --size | --jitter | --rtp | --end)
+    --payload | --ssrc | --sequence | --timestamp | --repeat | --seizure-wait | --size | --jitter | --rtp | --end | \
+      --sockets)
       return ;;
     --config | --load | --save | --control | --log | --record | --reports | --tell)
       compopt -o filenames 2> /dev/null

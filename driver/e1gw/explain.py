@@ -234,23 +234,31 @@ def address(host: str, port: int, name: str) -> tuple[int, Any]:
     return family, where
 
 
-def socket_fault(host: str, circuit: dict[str, Any]) -> str | None:
-    """Why a circuit's socket cannot be opened, or None."""
-    port = circuit['local_port']
+def bound(host: str, port: int) -> socket.socket:
+    """A circuit's socket. ValueError says why there is none."""
+    family, where = address(host, port, 'host')
+    line = socket.socket(family, socket.SOCK_DGRAM)
     try:
-        family, where = address(host, port, 'host')
-        peer, _ = address(circuit.get('peer_host', '127.0.0.1'), circuit['peer_port'], 'peer_host')
-        with socket.socket(family, socket.SOCK_DGRAM) as line:
-            line.bind(where)
-    except ValueError as error:
-        return str(error)
+        line.bind(where)
+        return line
     except OSError as error:
+        line.close()
         why = {errno.EADDRINUSE: f'port {port} is in use (ss -ulpn shows by whom)',
                errno.EADDRNOTAVAIL: f'host "{host}" is not an address of this machine (ip addr lists them)',
                errno.EACCES: f'port {port} is below 1024, and needs a privilege'}
-        return why.get(error.errno or 0, str(error))
-    if family != peer:
-        return f'host "{host}" and peer_host "{circuit["peer_host"]}" are of different address families'
+        raise ValueError(why.get(error.errno or 0, str(error))) from error
+
+
+def socket_fault(host: str, circuit: dict[str, Any]) -> str | None:
+    """Why a circuit's socket cannot be opened, or None."""
+    try:
+        family, _ = address(host, circuit['local_port'], 'host')
+        peer, _ = address(circuit.get('peer_host', '127.0.0.1'), circuit['peer_port'], 'peer_host')
+        if family != peer:
+            return f'host "{host}" and peer_host "{circuit["peer_host"]}" are of different address families'
+        bound(host, circuit['local_port']).close()
+    except ValueError as error:
+        return str(error)
     return None
 
 

@@ -20,6 +20,7 @@ TELLS = {'service.connection.PATIENCE': LONG}
 STARTED = {'clock.STEADY': 0.0, 'service.decisions.TRIED': LONG, 'recording_ring.MOST_OWN': 1000}
 LIMITS: dict[str, Any] = {
     'service.lifecycle.START': LONG, 'service.lifecycle.GRACE': LONG, 'service.lifecycle.RELOADED': LONG,
+    'service.lifecycle.OLD': LONG,
     'service.version.CHECK': LONG, 'service.version.LOOK_UP': LONG, 'service.version.URGENT': LONG,
     'service.status.FIRST': LONG,
     'service.decisions.QUIET': LONG, 'service.pages.DRAWN': LONG,

@@ -19,6 +19,7 @@ from e1gw.testing.service import answer_of, ask
 
 ADDRESSES = {'a': '127.0.0.11', 'b': '127.0.0.12'}      # of the machines
 TRUNK, SPEECH = '127.0.0.100', '127.0.0.101'            # of the trunk, wherever it is: SAToP and RTP
+OTHER_SPEECH = '127.0.0.102'                            # RTP, of a machine that has another one
 
 
 class Machine:
@@ -95,6 +96,8 @@ class PairCase(KeeperCase):
         self.device.listener.listen(8)
         self.text = f'host = "{SPEECH}"\n' + self.peers.config().replace(']]\n', ']]\nprefill = 1200\n')
         self.config, self.speech_to = self.write('trunk.toml', self.text), SPEECH
+        # Where the link of a machine is down its service stands still here, and has its sockets.
+        self.other_config = self.write('other.toml', self.text.replace(SPEECH, OTHER_SPEECH))
         self.ports = {name: free_port(address) for name, address in ADDRESSES.items()}
         self.clock, self.trunk = HandClock(self.path('clock')), ['--unix', self.device.path]
 

@@ -82,6 +82,10 @@ class Manager:
             for file in held:
                 os.close(file)
 
+    def drop(self, name: str) -> None:
+        """One of them is not kept."""
+        os.close(self.files.pop(name))
+
     def forget(self) -> None:
         """Nothing is kept of what was told before."""
         self.take_all()

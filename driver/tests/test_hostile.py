@@ -42,30 +42,6 @@ def octets_in(records: Iterable[bytes]) -> Iterator[bytes]:
     return (record.body for each in records for record in records_in(each) if record.kind is Kind.TRUNK)
 
 
-class TakenPortTests(KeeperCase):
-    def test_while_no_program_has_it(self) -> None:
-        """The circuit alone has none until it is free, and its call stays. All thirty were silent for that."""
-        self.starts()
-        self.calls()
-        port = next(port for port, circuit in self.peers.circuits.items() if circuit == 3)
-        with socket.socket(socket.AF_INET, socket.SOCK_DGRAM) as other:
-            with support.stopped(self.keeper.pid):
-                os.kill(self.program, signal.SIGKILL)
-                support.until(lambda: support.state_of(self.program) == 'Z')
-                other.bind(('127.0.0.1', port))
-            self.awaits(f'circuit 3 has no port: port {port} is in use')
-            self.goes_on_behind()
-            self.step(20)
-            self.as_uncut(but=3)
-            count = len(self.peers.packets[3])
-        self.awaits('a socket, a port or the log is to be had again: (?=program)')
-        self.goes_on_behind()
-        self.step(20)
-        self.as_uncut(but=3)
-        self.assertGreater(len(self.peers.packets[3]), count)
-        self.ends()
-
-
 class FloodTests(KeeperCase):
     def test_long_datagrams_at_many_ports(self) -> None:
         """Those of one read of the trunk filled the log before its next state. It ended, untold, and whatever came

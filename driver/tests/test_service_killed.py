@@ -18,6 +18,7 @@ from .test_program_killed import KeeperCase
 from .world import LAUNCHER
 from e1gw.service.note import NoteFiles, ServiceNote, note_in
 from e1gw.service.process import UNKNOWN, Child, start_of
+from e1gw.service.sockets import name_of
 from e1gw.testing.service import ask
 
 
@@ -51,8 +52,9 @@ class RestartedKeeperCase(KeeperCase):
         self.addCleanup(self._end)
 
     def settles(self) -> None:
-        """Until systemd has the descriptors of the trunk, and no others, and what is noted is of now."""
-        support.until(lambda: (note := self.noted()) and {*note.trunk.names} == {*self.manager.files})
+        """Until systemd has the descriptors of the trunk and of thirty sockets, and what is noted is of now."""
+        sockets = {name_of(('127.0.0.1', port)) for port in self.peers.circuits}
+        support.until(lambda: (note := self.noted()) and {*note.trunk.names} | sockets == {*self.manager.files})
 
     def noted(self) -> ServiceNote | None:
         """What the service of now has noted, with a program that was up; None before that."""

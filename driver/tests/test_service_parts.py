@@ -31,12 +31,12 @@ from e1gw.service.lifecycle import TrunkCarrier, point
 from e1gw.service.log_folder import LogPair
 from e1gw.service.memory import in_memory
 from e1gw.service.note import NoteFiles, ServiceNote
-from e1gw.service.ports import TakenPorts
 from e1gw.service.process import start_of
 from e1gw.service.program import ProgramPlaces
 from e1gw.service.reader import ReadingNote
 from e1gw.service.recordings import RecordingNote
 from e1gw.service.reload import outcome
+from e1gw.service.sockets import CircuitSockets
 from e1gw.service.trunk import SatopNote
 from e1gw.service.version import ProgramVersion, VersionHistory
 from e1gw.session import Command, CommandRefusal, Kind, Record, command_record
@@ -146,7 +146,7 @@ class HandoverTests(support.FolderCase):
     def note(self, **other: Any) -> ServiceNote:
         return replace(ServiceNote(
             opens=('x', None), pid=os.getpid(), started=start_of(os.getpid()), senders='any', program='0.1.0',
-            is_active=True, was_up=True, begun=3, read=ReadingNote(7, 5, 0, ((5, 1.5),)), taken=(3,),
+            is_active=True, was_up=True, begun=3, read=ReadingNote(7, 5, 0, ((5, 1.5),)), lacking=(3,),
             trunk=trunk.TrunkFiles(trunk.LineOptions()).note(), recording=None, calls=None), **other)
 
     def test_descriptors(self) -> None:
@@ -209,15 +209,17 @@ class HandoverTests(support.FolderCase):
         """It is noted before that begins: its service may be killed behind that. So are the ports that it lacks."""
         noted, reader, (free,) = list[ServiceNote](), mock.Mock(octets=77), free_ports(1)
         reader.noted.return_value, reader.recording_note.return_value = ReadingNote(), None
-        carrier = mock.Mock(status=None, program=None, reader=reader, pair=None, taken=TakenPorts(), trunk=mock.Mock(),
+        carrier = mock.Mock(status=None, program=None, reader=reader, pair=None, sockets=CircuitSockets(),
+                            trunk=mock.Mock(files={}),
                             _handover=SimpleNamespace(put=lambda note, files: noted.append(note)))
         config = in_memory(config_text({3: {'local_port': free, 'peer_port': free}}).encode())
         version = ProgramVersion('e1gw', self.files[0], config, 'any')
         self.addCleanup(os.close, config)
-        carrier.taken.take_up(version, (3,))
+        self.addCleanup(carrier.sockets.close)
+        carrier.sockets.adopts(version, (3,))
         TrunkCarrier.note(carrier)
-        self.assertEqual((noted[0].begun, noted[0].taken), (77, (3,)))
-        self.assertEqual([carrier.taken.are_free(version, now) for now in (1.0, 1.5, 2.5)], [True, False, False])
+        self.assertEqual((noted[0].begun, noted[0].lacking), (77, (3,)))
+        self.assertEqual([carrier.sockets.look(version, now, True) for now in (1.0, 1.5, 2.5)], [True, False, False])
 
     def test_silence_of_what_was_left(self) -> None:
         """A trunk whose service died with its program is silent since that wrote its log last, and not since the next
@@ -271,9 +273,9 @@ class HandoverTests(support.FolderCase):
     def test_another_program_for_what_is_gone(self) -> None:
         """Once a minute at most; at once for a port that is free again."""
         carrier, program, wishes = mock.Mock(_due=0.0, _noted=(200.0, None)), mock.Mock(), list[Wish]()
-        carrier.trunk.note.return_value, carrier.taken.are_free.return_value = None, False
+        carrier.trunk.note.return_value, carrier.sockets.look.return_value = None, False
         for now in 100.0, 130.0, 159.0, 160.0, 161.0:
-            carrier.wish, carrier.taken.are_free.return_value = Wish.NONE, now > 160
+            carrier.wish, carrier.sockets.look.return_value = Wish.NONE, now > 160
             with mock.patch.object(lifecycle, 'time', SimpleNamespace(monotonic=lambda: now)):
                 TrunkCarrier._look(carrier, program)
             wishes.append(carrier.wish)

@@ -4,7 +4,6 @@ from __future__ import annotations
 import asyncio
 import io
 import os
-import socket
 import unittest
 from contextlib import closing
 from dataclasses import replace
@@ -17,7 +16,6 @@ from e1gw.service.decisions import ProgramFault
 from e1gw.service.feed import FeedHead, configured
 from e1gw.service.memory import give_back, given_back, in_memory, octets_in
 from e1gw.service.options import folder_of, opens_of, recording_of, wants_of, watched_of
-from e1gw.service.ports import AGAIN, TakenPorts
 from e1gw.service.process import UNKNOWN, Child, ran, signal_words
 from e1gw.service.program import MOST_PATH, ProgramPlaces, TrunkProgram
 from e1gw.service.recordings import RecordingNote, RecordingWants, TrunkRecording
@@ -25,7 +23,6 @@ from e1gw.service.service import parser
 from e1gw.service.standby import TrunkStandby
 from e1gw.service.version import ProgramVersion, is_address, with_addresses
 from e1gw.service.watch import WatchWants
-from e1gw.testing.ports import free_port
 
 HERE = os.path.abspath('.')
 PLAIN: dict[str, Any] = {'control': None, 'tell': None, 'state': None, 'words': [], 'wait': 200, 'totals': False,
@@ -187,7 +184,7 @@ class ChildEndTests(unittest.IsolatedAsyncioTestCase):
 class ProgramFaultTests(support.FolderCase, unittest.IsolatedAsyncioTestCase):
     LINES = (('fault 5 Read at 3', ProgramFault.TRUNK), ('fault 6 Write at 3', ProgramFault.TRUNK),
              ('fault 2 BadKind at 3', ProgramFault.NONE), ('config 2 Odd at 3', ProgramFault.CONFIG),
-             ('socket 3', ProgramFault.SOCKET), ('no socket 3', ProgramFault.NONE), ('', ProgramFault.NONE),
+             ('socket 3', ProgramFault.NONE), ('', ProgramFault.NONE),
              ('e1gw: the log x is in use by 7', ProgramFault.LOG_IN_USE), ('state 4 Sum at 0', ProgramFault.LOG_LOST),
              ('e1gw: the log x has no state', ProgramFault.LOG_LOST), ('state x', ProgramFault.NONE),
              ('e1gw: the log x wants 8 octets', ProgramFault.NO_ROOM), ('blog wants', ProgramFault.NONE))
@@ -217,32 +214,6 @@ class ProgramFaultTests(support.FolderCase, unittest.IsolatedAsyncioTestCase):
             os.unlink(self.path(name))
             self.assertTrue(program.lacks())
             self.write(name, '')
-
-
-class PortsLeftOutTests(support.FolderCase):
-    def test_until_it_is_free(self) -> None:
-        """It is named once, left out of the configuration, and looked at again each second."""
-        with socket.socket(socket.AF_INET, socket.SOCK_DGRAM) as other:
-            other.bind(('127.0.0.1', 0))
-            port, free = other.getsockname()[1], free_port(kind=socket.SOCK_DGRAM)
-            config = in_memory(support.config_text({
-                3: {'local_port': port, 'peer_port': 9}, 4: {'local_port': free, 'peer_port': 9}}).encode())
-            version, taken = ProgramVersion('e1gw', 0, config, 'any'), TakenPorts()
-            with self.assertLogs('e1gw.service.ports') as told:
-                taken.look(version, 100.0)
-                taken.look(version, 100.5)
-            self.assertEqual(len(told.records), 1)
-            self.assertIn(f'circuit 3 has no port: port {port} is in use', told.records[0].getMessage())
-            with taken.left_out(version) as without:
-                text = octets_in(without.config).decode()
-                self.assertEqual((str(port) in text, str(free) in text, text.count('number')), (False, True, 2))
-            with taken.left_out(replace(version, senders='host')) as without:
-                self.assertEqual(without.config, config)
-            self.assertFalse(taken.are_free(version, 100.5 + AGAIN))
-        self.assertFalse(taken.are_free(version, 100.5 + 1.9 * AGAIN))
-        self.assertTrue(taken.are_free(version, 100.5 + 2 * AGAIN))
-        self.assertFalse(taken.are_free(version, 200.0))
-        os.close(config)
 
 
 class VersionTests(support.FolderCase):

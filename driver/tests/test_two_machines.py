@@ -20,7 +20,7 @@ from unittest import mock
 
 from . import support
 from .logs import LogCopy
-from .machines import ADDRESSES, TRUNK, Machine, PairCase
+from .machines import ADDRESSES, OTHER_SPEECH, SPEECH, TRUNK, Machine, PairCase
 from .support import SECONDS
 from .test_program_killed import CIRCUITS
 from e1gw.ctl_all import TrunkLine
@@ -96,7 +96,7 @@ class DeathTests(PairCase):
     def test_a_machine_dies_and_comes_back(self) -> None:
         """What came last has waited for a standby that stood still, and is as old as it is. (It came behind the word
         that was said of octets before it, which are of no time before the clock stood.)"""
-        a, b = self.calls_with_standby()
+        a, b = self.calls_with_standby(b=self.machine('b', self.other_config))
         self.copy, log = b.fed_log(), a.log()
         self.step(60)
         since, pids = self.clock.stops(), [each.process.pid for each in (a, b)]
@@ -112,6 +112,7 @@ class DeathTests(PairCase):
         self.clock.stops(SILENCE)
         b.process.send_signal(signal.SIGCONT)
         support.until(lambda: self.copy.look() == fed)
+        self.speech_to = OTHER_SPEECH
         self.takes_over(b, since, until)
         # it comes back, is fed behind a state, and the trunk is moved back in order
         a.power_off()
@@ -123,6 +124,7 @@ class DeathTests(PairCase):
         since = self.clock.stops()
         for _ in range(2):
             self.is_fed(log, a.process.pid, b.process.pid)
+        self.speech_to = SPEECH
         self.takes_over(a, since, self.clock.now(), by=b)
         log.look()
         self.assertIn(log.records[-20_000:], self.copy.records)
@@ -417,7 +419,8 @@ class SatopNumberTests(PairCase):
         self.assertEqual({*b''.join(packet[4:] for packet in packets)[ones + -octets % SIGNALS::SIGNALS]}, {SIGNAL})
 
     def test_packets_go_on(self) -> None:
-        a, b = (self.machine(name, process_LOOK=1000.0) for name in 'ab')     # (what is stopped is not killed)
+        configs = {'a': self.config, 'b': self.other_config}
+        a, b = (self.machine(*each, process_LOOK=1e3) for each in configs.items())  # (what is stopped is not killed)
         pids, promotes = [each.process.pid for each in (a, b)], a.asks('promote')
         self.goes(lambda: len(self.packets) > MANY and b.ask('role') == 'standby, fed')
         self.assertEqual(promotes(), 'promote: done')

@@ -1,6 +1,7 @@
 -- The words of the command line: what each names, and the default if one is left out.
-use Rattle.std.specs.Prelude.{◌≡◌, ◌^◌, ◌<◌, ◌≤◌, ◌+◌, ◌/◌, ℕ, List, Option, Some, None, codes}
+use Rattle.std.specs.Prelude.{◌≡◌, ◌==◌, ◌^◌, ◌<◌, ◌≤◌, ◌+◌, ◌/◌, ℕ, List, Option, Some, None, codes, ⊤}
 use Rattle.std.specs.Prelude.{Bool, true, IsSomeAnd, MatchOption}
+use Rattle.std.specs.List.{before_first, after_first}
 use Rattle.std.specs.Str.Parse.{IsNumeral, digits_value, without_leading_plus}
 use Rattle.clap.specs.Words.{Row, first_of, one_of}
 use Rattle.e1_g711.specs.declared.Law.{Law}
@@ -146,3 +147,21 @@ pub record SaysWait (command : Option (List ℕ × List Row)) (signals : ℕ) : 
   pub ms : ℕ
   pub says : SaysNumberIn 16 (codes "seizure-wait") command ms
   pub wait : IsWaitOf ms signals
+
+-- The text is a first and a last descriptor, before and behind its first hyphen. The first is 3 at least:
+-- those before it are the standard streams.
+pub record AreDescriptors (text : List ℕ) (first last : ℕ) : Type 0 where
+  pub first_is : IsNumber 16 (before_first (λ b. b == 45) text) first
+  pub last_is : IsNumber 16 (after_first (λ b. b == 45) text) last
+  pub from_3 : 3 ≤ first
+  pub in_order : first ≤ last
+
+-- the first `--sockets` of a subcommand names these
+abbrev pub SaysDescriptors : Option (List ℕ × List Row) → ℕ → ℕ → Type 0
+SaysDescriptors command first last =
+    IsSomeAnd (text_in (codes "sockets") command) (λ text. AreDescriptors text first last)
+
+-- a subcommand has no `--sockets`, or it names descriptors
+abbrev pub NamesDescriptors : Option (List ℕ × List Row) → Type 0
+NamesDescriptors command = MatchOption (text_in (codes "sockets") command) ⊤
+    (λ text. (first : ℕ) × (last : ℕ) × AreDescriptors text first last)

@@ -1,5 +1,6 @@
 //! Which subcommand the command line asks for (`request_of`), and the values of its options.
-ghost use Rattle.std.specs.Prelude.{◌≡◌, ◌≢◌, ℕ, true, Some, IfOk, IfSome, IfNone, option_map, codes};
+ghost use Rattle.std.specs.Prelude.{◌≡◌, ◌≢◌, ◌↔◌, ℕ, true, Some, IfOk, IfSome, IfNone, IsTrue, option_map};
+ghost use Rattle.std.specs.Prelude.{codes};
 ghost use Rattle.e1_g711.specs.declared.Law.{Law};
 ghost use Rattle.g726_codec.specs.declared.CodecKind.{CodecKind};
 ghost use Rattle.clap.specs.Words.{found_of, rows_of, subcommand_rows_of};
@@ -8,6 +9,7 @@ ghost use Rattle.gw_command.specs.Command.{law_name, codec_name, job_name, job_s
 ghost use Rattle.gw_command.specs.Command.{IsStream, IsJob, IsSession, session_name};
 ghost use Rattle.gw_command.specs.Command.{IsFilter, filter_name, IsTrunk, IsSatop, IsRequest, text_in};
 ghost use Rattle.gw_command.specs.Command.{HasFlag, HasText, SaysNumberIn, IsWaitOf, SaysWait};
+ghost use Rattle.gw_command.specs.Command.{AreDescriptors, NamesDescriptors, SaysDescriptors};
 ghost use Rattle.gw_command.specs.Arguments.{AreArguments, SystemHas};
 ghost use Rattle.gw_command.specs.declared.command.Filter.{Filter};
 ghost use Rattle.gw_command.specs.declared.command.SpeechJob.{SpeechJob};
@@ -366,6 +368,40 @@ pub fn end_of(matches: &ArgMatches<'_>) -> Option<u16>
         → ¬ SaysNumberIn 16 (codes "end") (subcommand_rows_of matches.now) n) }
 {
     u16_of(matches, "end")
+}
+
+// The first and the last descriptor that a text names, as `3-32`: the first is 3 at least.
+fn descriptors_in(text: &str) -> Option<(u16, u16)>
+    ensures found { IfSome result (λ ends. AreDescriptors text.now ends.0 ends.1) }
+    ensures none { IfNone result ((first last : ℕ) → ¬ AreDescriptors text.now first last) }
+{
+    let (first, last) = text.split_once('-')?;
+    let first = first.parse::<u16>().ok()?;
+    let last = last.parse::<u16>().ok()?;
+    if first < 3 || last < first {
+        return None;
+    }
+    Some((first, last))
+}
+
+// Whether `--sockets` is not there, or names descriptors.
+pub(crate) fn names_descriptors(matches: &ArgMatches<'_>) -> bool
+    ensures { IsTrue result ↔ NamesDescriptors (subcommand_rows_of matches.now) }
+{
+    match text_of(matches, "sockets") {
+        Some(text) => descriptors_in(text).is_some(),
+        None => true,
+    }
+}
+
+/// The first and the last descriptor of `--sockets`, the first one, if the matches name some.
+pub fn sockets_of(matches: &ArgMatches<'_>) -> Option<(u16, u16)>
+    ensures found { IfSome result (λ ends.
+        SaysDescriptors (subcommand_rows_of matches.now) ends.0 ends.1) }
+    ensures none { IfNone result ((first last : ℕ)
+        → ¬ SaysDescriptors (subcommand_rows_of matches.now) first last) }
+{
+    descriptors_in(text_of(matches, "sockets")?)
 }
 
 /// The path of the socket whose clients are sent the state of the trunk, the first one, if the matches name

@@ -1,10 +1,13 @@
 //! The options as declared to `clap` (names, help, defaults, allowed values), and matched by it.
 
-ghost use Rattle.std.specs.Prelude.{IfErr, IfOk};
+ghost use Rattle.std.specs.Prelude.{◌≡◌, IfErr, IfOk};
 ghost use Rattle.clap.specs.Words.{kind_of, subcommand_rows_of};
 ghost use Rattle.gw_command.specs.Arguments.{ClapFinds, ClapRefuses};
+ghost use Rattle.gw_command.specs.Command.{NamesDescriptors};
 
+use crate::command::names_descriptors;
 use clap::builder::ValueParser;
+use clap::error::ErrorKind;
 use clap::{Arg, ArgAction, ArgMatches, Command, Error};
 use g726_codec::names::{G726_16, G726_24, G726_32, G726_40};
 use std::alloc::{AllocError, Global};
@@ -95,6 +98,9 @@ Example: e1gw satop 0.0.0.0:5000 192.0.2.2:5000 < trunk.in > trunk.out";
 
 /// G.711 in the law of `--law`.
 pub const G711: &str = "g711";
+
+// What clap says where `--sockets` names no descriptors.
+const NO_DESCRIPTORS: &str = "--sockets wants descriptors from 3 on, as 3-32";
 
 // What an option is given.
 #[derive(Clone, Copy)]
@@ -283,6 +289,15 @@ const END: OptionRow = OptionRow {
     ..OPTION
 };
 
+const SOCKETS: OptionRow = OptionRow {
+    name: "sockets",
+    value_names: &["FIRST-LAST"],
+    kind: Kind::Text,
+    help: "Descriptors, as 3-32, of UDP sockets that the program is given: a\n\
+           circuit takes the first at its address, and binds none",
+    ..OPTION
+};
+
 const LOG: OptionRow = OptionRow {
     name: "log",
     value_names: &["FOLDER"],
@@ -456,6 +471,7 @@ const OF_TRUNK: &[OptionRow] = &[
     TELL,
     CONTROL,
     END,
+    SOCKETS,
     ALIGN,
     CRC4,
     LIVE,
@@ -616,12 +632,25 @@ fn matched<'a>(command: Command<'a>, arguments: &'a [String]) -> Result<ArgMatch
     command.try_get_matches_from(arguments)
 }
 
-/// The arguments matched against the declared subcommands and options.
+// Why `--sockets` is refused, in clap's form.
+fn no_descriptors(alloc: Global) -> Result<Error, AllocError>
+    ensures { IfOk result (λ error. kind_of error ≡ ErrorKind.ValueValidation) }
+{
+    whole(alloc)?.error(ErrorKind::ValueValidation, NO_DESCRIPTORS)
+}
+
+/// The arguments matched against the declared subcommands and options. A `--sockets` that names no range of
+/// descriptors from 3 on is refused.
 #[inline(never)]
 #[tactic(auto, unfolding(crate::specs::Arguments::ClapRefuses))]
 pub fn matches<'a>(alloc: Global, arguments: &'a [String]) -> Result<ArgMatches<'a>, Error>
     ensures ok { IfOk result (λ found. ClapFinds arguments.now (subcommand_rows_of found)) }
+    ensures sockets { IfOk result (λ found. NamesDescriptors (subcommand_rows_of found)) }
     ensures err { IfErr result (λ error. ClapRefuses arguments.now (kind_of error)) }
 {
-    matched(whole(alloc)?, arguments)
+    let found = matched(whole(alloc)?, arguments)?;
+    if !names_descriptors(&found) {
+        return Err(no_descriptors(alloc)?);
+    }
+    Ok(found)
 }

@@ -5,6 +5,7 @@ use Rattle.gw_config.specs.declared.config.Config.{Config}
 use Rattle.gw_command.specs.declared.command.SessionKind.{SessionKind}
 use Rattle.gw_command.specs.declared.command.SessionKind.TheVariants.{Replay, Check, Serve}
 use Rattle.gw_command.specs.Command.{text_in}
+use Rattle.gw_udp.specs.declared.inherited.Descriptors.{Descriptors}
 use Rattle.gw_udp.specs.declared.source_filter.SourceFilter.{SourceFilter}
 use Rattle.gw_udp.specs.Names.{SystemLooksUp}
 use Rattle.gw_udp.specs.Opening.{LacksPorts}
@@ -12,7 +13,7 @@ use Rattle.gw_machine.specs.System.{LacksMore, LacksTapeOrPorts}
 use Rattle.gw_files.specs.declared.recording.Recording.{Recording}
 use Rattle.gw_machine.specs.CommandLine.{CommandLine, log_in}
 use Rattle.gw_machine.specs.declared.program_fault.ProgramFault.{ProgramFault}
-use Rattle.gw_system.specs.Asked.{AreSenders}
+use Rattle.gw_system.specs.Asked.{AreSenders, AreSockets}
 use Rattle.gw_system.specs.Lacking.{LacksEndsIn, LacksTapeAt}
 use Rattle.gw_system.specs.Opening.{IsOfOpening}
 use Rattle.gw_system.specs.Tapes.{LacksTape}
@@ -55,13 +56,14 @@ tape_at (Some folder) path recording named fault (inr why) = inr why
 -- the tape and the ports that a system lacks are those of the command
 pub ends_in : (command : CommandLine) (log : Option (List ℕ)) (recording : Option Recording) → log ≡ log_in command
     → option_map (λ asked. asked.path.now) recording ≡ text_in (codes "record") command → (senders : SourceFilter)
-    → AreSenders command senders → (config : Config) (fault : ProgramFault)
+    → AreSenders command senders → (among : Descriptors) → AreSockets command among
+    → (config : Config) (fault : ProgramFault)
     → LacksTapeOrPorts (LacksTape log recording)
-    (IsOfOpening (LacksPorts SystemLooksUp (string_bytes config.host) senders config.ports)) fault
+    (IsOfOpening (LacksPorts among SystemLooksUp (string_bytes config.host) senders config.ports)) fault
     → LacksEndsIn command config fault
-ends_in command log recording logs named senders are config fault lacks = elim lacks [
+ends_in command log recording logs named senders are among handed config fault lacks = elim lacks [
   | inl tape ↦ inl (rw (← logs) (tape_at log _ recording named fault tape))
-  | inr ports ↦ inr (senders, are, ports)
+  | inr ports ↦ inr (senders, are, among, handed, ports)
 ]
 
 -- what a system lacks for a trunk, the command lacks

@@ -1,8 +1,9 @@
 -- What the command line asks of a session's ports.
-use Rattle.std.specs.Prelude.{◌≡◌, ◌≢◌, ◌⊎◌, ℕ, MatchOption, codes}
-use Rattle.gw_command.specs.Command.{SaysNumberIn, text_in}
+use Rattle.std.specs.Prelude.{◌≡◌, ◌≢◌, ◌⊎◌, ◌<◌, ℕ, MatchOption, codes}
+use Rattle.gw_command.specs.Command.{SaysDescriptors, SaysNumberIn, text_in}
 use Rattle.gw_machine.specs.CommandLine.{CommandLine}
 use Rattle.gw_udp.specs.SourceFilter.{senders_name}
+use Rattle.gw_udp.specs.declared.inherited.Descriptors.{Descriptors}
 use Rattle.gw_udp.specs.declared.source_filter.SourceFilter.{SourceFilter}
 use Rattle.gw_udp.specs.declared.source_filter.SourceFilter.TheVariants as filters
 
@@ -16,3 +17,8 @@ AreSenders command senders = MatchOption (text_in (codes "senders") command) (se
 abbrev pub IsRepeat : CommandLine → ℕ → Type 0
 IsRepeat command count = SaysNumberIn 8 (codes "repeat") command count
     ⊎ (((n : ℕ) → ¬ SaysNumberIn 8 (codes "repeat") command n) × (count ≡ 0))
+
+-- these are the descriptors of sockets that the command names; none if it names none
+abbrev pub AreSockets : CommandLine → Descriptors → Type 0
+AreSockets command among = SaysDescriptors command among.first among.last
+    ⊎ (((first last : ℕ) → ¬ SaysDescriptors command first last) × (among.last < among.first))

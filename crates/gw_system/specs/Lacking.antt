@@ -5,6 +5,7 @@ use Rattle.std.specs.declared.io.Error.{Error}
 use Rattle.gw_config.specs.declared.config.Config.{Config}
 use Rattle.gw_command.specs.Command.{text_in}
 use Rattle.gw_command.specs.declared.command.SessionKind.{SessionKind}
+use Rattle.gw_udp.specs.declared.inherited.Descriptors.{Descriptors}
 use Rattle.gw_udp.specs.declared.source_filter.SourceFilter.{SourceFilter}
 use Rattle.gw_udp.specs.Names.{SystemLooksUp}
 use Rattle.gw_udp.specs.Opening.{LacksPorts}
@@ -17,7 +18,7 @@ use Rattle.gw_machine.specs.CommandLine.{CommandLine, TakesAsked, files_in, log_
 use Rattle.gw_machine.specs.Status.{SaysRefused}
 use Rattle.gw_machine.specs.declared.program_fault.ProgramFault.{ProgramFault}
 use Rattle.gw_machine.specs.declared.program_fault.ProgramFault.TheVariants as program_faults
-use Rattle.gw_system.specs.Asked.{AreSenders}
+use Rattle.gw_system.specs.Asked.{AreSenders, AreSockets}
 use Rattle.gw_system.specs.Opening.{IsOfOpening}
 
 -- The system refused the socket of `--tell` at this path, or memory for its clients, with this error. It
@@ -47,10 +48,11 @@ LacksTapeAt (Some folder) path fault = ((fault ≡ program_faults.TwoRecordings)
 abbrev pub LacksTapeIn : CommandLine → ProgramFault → Type 0
 LacksTapeIn command = LacksTapeAt (log_in command) (text_in (codes "record") command)
 
--- why the ports of a configuration are not opened for the senders that the command names
+-- why the ports of a configuration are not opened for the senders and with the sockets that the command names
 abbrev pub LacksPortsIn : CommandLine → Config → ProgramFault → Type 0
 LacksPortsIn command config fault = (senders : SourceFilter) × AreSenders command senders
-    × IsOfOpening (LacksPorts SystemLooksUp (string_bytes config.host) senders config.ports) fault
+    × (among : Descriptors) × AreSockets command among
+    × IsOfOpening (LacksPorts among SystemLooksUp (string_bytes config.host) senders config.ports) fault
 
 -- why no tape is begun, or no ports are opened
 abbrev pub LacksEndsIn : CommandLine → Config → ProgramFault → Type 0

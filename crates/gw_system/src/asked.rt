@@ -7,13 +7,13 @@ ghost use Rattle.gw_command.specs.Command.{HasFlag, text_in};
 ghost use Rattle.gw_machine.specs.CommandLine.{log_in};
 ghost use Rattle.gw_files.specs.LogFolder.{HasLocked};
 ghost use Rattle.gw_system.specs.Lacking.{FailsToLockIn};
-ghost use Rattle.gw_system.specs.Asked.{AreSenders, IsRepeat};
+ghost use Rattle.gw_system.specs.Asked.{AreSenders, AreSockets, IsRepeat};
 
 use clap::ArgMatches;
-use gw_command::{log_of, recording_of, records_over, repeat_of, senders_of};
+use gw_command::{log_of, recording_of, records_over, repeat_of, senders_of, sockets_of};
 use gw_files::{LocalFiles, LogLock, Recording, lock_log};
 use gw_machine::{Machine, ProgramFault};
-use gw_udp::SourceFilter;
+use gw_udp::{Descriptors, SourceFilter};
 
 // Which senders are accepted: any, if the matches name none.
 pub(crate) fn senders_asked(matches: &ArgMatches<'_>) -> SourceFilter
@@ -32,6 +32,16 @@ pub(crate) fn repeat_asked(matches: &ArgMatches<'_>) -> u8
     match repeat_of(matches) {
         Some(count) => count,
         None => 0,
+    }
+}
+
+// The descriptors of sockets that the matches name; none if they name none.
+pub(crate) fn sockets_asked(matches: &ArgMatches<'_>) -> Descriptors
+    ensures { AreSockets (subcommand_rows_of matches.now) result }
+{
+    match sockets_of(matches) {
+        Some((first, last)) => Descriptors { first, last },
+        None => Descriptors::none(),
     }
 }
 

@@ -4,12 +4,12 @@ ghost use Rattle.std.specs.Prelude.{◌≡◌, IfErr, IfOk, IfSome, option_map, 
 ghost use Rattle.clap.specs.Words.{subcommand_rows_of};
 ghost use Rattle.gw_command.specs.Command.{HasFlag, text_in};
 ghost use Rattle.gw_machine.specs.CommandLine.{load_in, log_in, save_in, AsksWait};
-ghost use Rattle.gw_system.specs.Asked.{AreSenders, IsRepeat};
+ghost use Rattle.gw_system.specs.Asked.{AreSenders, AreSockets, IsRepeat};
 ghost use Rattle.gw_system.specs.Lacking.{SystemRefusesTeller};
 ghost use Rattle.gw_system.specs.Opening.{trouble_of_opening};
 ghost use Rattle.gw_system.specs.Telling.{TellsFrom};
 
-use crate::asked::{recording_asked, repeat_asked, senders_asked};
+use crate::asked::{recording_asked, repeat_asked, senders_asked, sockets_asked};
 use clap::ArgMatches;
 use gw_command::{load_of, log_of, save_of, seizure_wait_of, tell_of};
 use gw_config::Config;
@@ -24,7 +24,9 @@ use gw_session::Recorder;
 use gw_switch::Gateway;
 use gw_tell::Teller;
 use gw_trunk::LocalDoors;
-use gw_udp::{OpenFault, Resting, Socket, SourceFilter, SystemSocket, UdpPorts, open_sockets};
+use gw_udp::{
+    Descriptors, OpenFault, Resting, Socket, SourceFilter, SystemSocket, UdpPorts, open_sockets,
+};
 use log_files::FileStore;
 use std::fs::File;
 use std::io;
@@ -63,6 +65,8 @@ pub struct Local<'m, R> {
     path: &'m str,
     // Who may send to the circuits.
     senders: SourceFilter,
+    // The descriptors of sockets that it was given.
+    among: Descriptors,
     // After how many datagrams of a circuit each is sent again, or 0.
     repeat: u8,
     // The path of the state to load.
@@ -87,6 +91,7 @@ impl<R: Machine> System for Local<'_, R> {
     ghost use Rattle.gw_machine.specs.Setup.{IsMeant, LacksConfigAt, PathGives};
     ghost use Rattle.gw_machine.specs.Log.{BeginsFrom, LacksFirst};
     ghost use Rattle.gw_machine.specs.State.{BeginsWaiting, IsSaved};
+    ghost use Rattle.gw_udp.specs.Inheriting.{IsAt, IsRefusedAt};
     ghost use Rattle.gw_udp.specs.Names.{SystemLooksUp};
     ghost use Rattle.gw_udp.specs.Udp.{HasEndpoints, TakesFrom};
     ghost use Rattle.gw_udp.specs.Opening.{FailsToOpen as FailsToOpenPorts};
@@ -127,7 +132,9 @@ impl<R: Machine> System for Local<'_, R> {
         (IsOpenedFor asked.path.now asked.over asked.waits))))
         (HasBegunLog config.gateway gateway) tape };
 
-    ghost opens = { λ s config ports. HasEndpoints (TakesFrom ⟦<Resting<SystemSocket> as Socket>⟧.is_bound
+    ghost opens = { λ s config ports. HasEndpoints
+        (TakesFrom (IsAt ⟦<Resting<SystemSocket> as Socket>⟧.is_bound
+        ⟦<Resting<SystemSocket> as Socket>⟧.inherits ⟦<Resting<SystemSocket> as Socket>⟧.lacks s.among)
         ⟦<Resting<SystemSocket> as Socket>⟧.is_open s.senders) SystemLooksUp
         (string_bytes config.host) s.senders config.ports ports.ports.endpoints.items 30
         × IsFresh ports.ports.endpoints.items ports.ports.opened.value.items ports.ports.log.calls
@@ -135,9 +142,11 @@ impl<R: Machine> System for Local<'_, R> {
         × HasPacketWords config.gateway.circuits ports.words × (ports.log.calls ≡ []) };
 
     ghost lacks_ports = { λ s config. IsOfOpening
-        (FailsToOpenPorts (TakesFrom ⟦<Resting<SystemSocket> as Socket>⟧.is_bound
-        ⟦<Resting<SystemSocket> as Socket>⟧.is_open s.senders) ⟦<Resting<SystemSocket> as Socket>⟧.refuses
-        SystemLooksUp (string_bytes config.host) s.senders config.ports) };
+        (FailsToOpenPorts (TakesFrom (IsAt ⟦<Resting<SystemSocket> as Socket>⟧.is_bound
+        ⟦<Resting<SystemSocket> as Socket>⟧.inherits ⟦<Resting<SystemSocket> as Socket>⟧.lacks s.among)
+        ⟦<Resting<SystemSocket> as Socket>⟧.is_open s.senders)
+        (IsRefusedAt ⟦<Resting<SystemSocket> as Socket>⟧.lacks ⟦<Resting<SystemSocket> as Socket>⟧.refuses
+        s.among) SystemLooksUp (string_bytes config.host) s.senders config.ports) };
 
     ghost watches = { λ s. TellsAsked (option_map (λ path. path.now) s.tell) };
 
@@ -180,7 +189,8 @@ impl<R: Machine> System for Local<'_, R> {
     }
 
     fn open_ports(&self, config: &Config) -> Result<Self::Ports, ProgramFault> {
-        let ports = match open_sockets(self.rt, self.rt.alloc(), config, self.senders) {
+        let alloc = self.rt.alloc();
+        let ports = match open_sockets(self.rt, alloc, config, self.senders, self.among) {
             Ok(ports) => ports,
             Err(fault) => return Err(of_opening(fault)),
         };
@@ -226,6 +236,7 @@ pub fn local_of<'m, R: Machine>(
 ) -> Local<'m, R>
     ensures path { result.path.now ≡ path.now }
     ensures senders { AreSenders (subcommand_rows_of matches.now) result.senders }
+    ensures among { AreSockets (subcommand_rows_of matches.now) result.among }
     ensures repeat { IsRepeat (subcommand_rows_of matches.now) result.repeat }
     ensures recording { option_map (λ recording. recording.path.now) result.recording
         ≡ text_in (codes "record") (subcommand_rows_of matches.now) }
@@ -243,6 +254,7 @@ pub fn local_of<'m, R: Machine>(
         rt,
         path,
         senders: senders_asked(matches),
+        among: sockets_asked(matches),
         repeat: repeat_asked(matches),
         load: load_of(matches),
         save: save_of(matches),

@@ -9,10 +9,12 @@ use Rattle.gw_config.specs.declared.config.Port.{Port}
 use Rattle.gw_records.specs.declared.ports.PortFault.{PortFault}
 use Rattle.gw_records.specs.Ports.{PortCall, receive_call, send_call}
 use Rattle.gw_udp.specs.Names.{LookUp}
-use Rattle.gw_udp.specs.Socket.{Bound, Received, Sent}
+use Rattle.gw_udp.specs.Inheriting.{IsAt, IsHere}
+use Rattle.gw_udp.specs.Socket.{Bound, Inherited, Lacking, Received, Sent}
 use Rattle.gw_udp.specs.Udp.{IsEndpoint, HasEndpoints, KeepsOthers, EndpointReceives, EndpointSends, TakesFrom}
 use Rattle.gw_udp.specs.Calls.{circuit_of, HasCalledOne, HasCalled, HasMadeAll, calls_for, IsBoundTo, AreBound}
 use Rattle.gw_udp.specs.Calls.{EachHasItsSocket}
+use Rattle.gw_udp.specs.declared.inherited.Descriptors.{Descriptors}
 use Rattle.gw_udp.specs.declared.source_filter.SourceFilter.{SourceFilter}
 use Rattle.gw_udp.specs.declared.udp.Endpoint.{Endpoint}
 
@@ -82,6 +84,21 @@ are_bound is_bound is_open looks_up host senders ports endpoints n len has = λ 
         let none : slice_index_or endpoints i None ≡ None =
         get_or-eq_default endpoints None (omega (arith, len, ltb-false i n past)) in
         rw none tt
+
+-- a socket that was taken at a descriptor or bound anew is at its address
+at_is_here : {S : Type 0} (is_bound : Bound S) (inherits : Inherited S) (lacks : Lacking) (among : Descriptors)
+    (e : Option (Endpoint S)) → IsBoundTo (IsAt is_bound inherits lacks among) e
+    → IsBoundTo (IsHere is_bound inherits) e
+at_is_here is_bound inherits lacks among None is = tt
+at_is_here is_bound inherits lacks among (Some e) (inl first) = inr (first.descriptor, first.taken)
+at_is_here is_bound inherits lacks among (Some e) (inr new) = inl new.1
+
+-- .. so all are
+pub are_here : {S : Type 0} (is_bound : Bound S) (inherits : Inherited S) (lacks : Lacking) (among : Descriptors)
+    (endpoints : List (Option (Endpoint S))) → AreBound (IsAt is_bound inherits lacks among) endpoints
+    → AreBound (IsHere is_bound inherits) endpoints
+are_here is_bound inherits lacks among endpoints are =
+    λ i. at_is_here is_bound inherits lacks among (slice_index_or endpoints i None) (are i)
 
 -- what the socket of a circuit is came of the calls for this circuit
 made_all : {S : Type 0} (receives : Received S) (sends : Sent S) (calls : List PortCall)

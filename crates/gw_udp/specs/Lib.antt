@@ -1,5 +1,6 @@
 pub mod SourceFilter
 pub mod Socket
+pub mod Inheriting
 pub mod Names
 pub mod Udp
 pub mod Calls

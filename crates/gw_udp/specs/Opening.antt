@@ -13,8 +13,10 @@ use Rattle.gw_udp.specs.declared.source_filter.SourceFilter.{SourceFilter}
 use Rattle.gw_udp.specs.Names.{LookUp, IsAddressOf, LacksAddress}
 use Rattle.gw_udp.specs.Resting.{RestingIsBound}
 use Rattle.gw_udp.specs.Socket.{Bound, BindRefused}
-use Rattle.gw_udp.specs.System.{IsBoundAt, LacksBound, SystemTakesAll}
+use Rattle.gw_udp.specs.Inheriting.{IsAt, IsRefusedAt}
+use Rattle.gw_udp.specs.System.{IsBoundAt, IsInherited, LacksBound, LacksInherited, SystemTakesAll}
 use Rattle.gw_udp.specs.Udp.{HasEndpoints, TakesFrom}
+use Rattle.gw_udp.specs.declared.inherited.Descriptors.{Descriptors}
 use Rattle.gw_udp.specs.declared.udp.Endpoint.{Endpoint}
 use Rattle.gw_udp.specs.declared.udp.OpenFault.{OpenFault}
 use Rattle.gw_udp.specs.declared.udp.OpenFault.TheVariants as faults
@@ -71,8 +73,9 @@ FailsToOpen is_bound refuses looks_up host senders ports faults.OutOfMemory = Me
 FailsToOpen is_bound refuses looks_up host senders ports (faults.Socket circuit) =
     IsFirstWithout is_bound refuses looks_up host senders ports circuit
 
--- .. the system's, of which each rests while nothing comes
-abbrev pub LacksPorts : LookUp → List ℕ → SourceFilter → List (Option Port) → OpenFault → Type 0
-LacksPorts looks_up host senders ports fault =
-    FailsToOpen (TakesFrom (RestingIsBound IsBoundAt) (λ s. SystemTakesAll s.socket) senders) LacksBound
-    looks_up host senders ports fault
+-- .. the system's, of which each rests while nothing comes; some may be at these descriptors
+abbrev pub LacksPorts : Descriptors → LookUp → List ℕ → SourceFilter → List (Option Port) → OpenFault → Type 0
+LacksPorts among looks_up host senders ports fault =
+    FailsToOpen (TakesFrom (IsAt (RestingIsBound IsBoundAt) (λ d. RestingIsBound (IsInherited d))
+    LacksInherited among) (λ s. SystemTakesAll s.socket) senders)
+    (IsRefusedAt LacksInherited LacksBound among) looks_up host senders ports fault

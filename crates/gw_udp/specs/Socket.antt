@@ -21,6 +21,14 @@ Watched S = S → Poll → ℕ → Bool → Type 0
 abbrev pub BindRefused : Type 1
 BindRefused = SocketAddr → Error → Type 0
 
+-- relates a descriptor that this process was given, the socket there, and its own address
+abbrev pub Inherited : Type 0 → Type 1
+Inherited S = ℕ → Bound S
+
+-- of a descriptor at which no socket of this address can be taken
+abbrev pub Lacking : Type 1
+Lacking = ℕ → SocketAddr → Type 0
+
 -- relates a socket before and after a receive, the answer, and the room afterwards
 abbrev pub Received : Type 0 → Type 1
 Received S = S → S → Result (Option (ℕ × SocketAddr)) PortFault → List ℕ → Type 0

@@ -1,6 +1,6 @@
 //! How many receives of a socket rest after one that found none.
 
-ghost use Rattle.std.specs.Prelude.{◌≡◌, ◌≤◌, ℕ, List, length, Ok, None, IfOk, IfErr, IfSome, IsTrue};
+ghost use Rattle.std.specs.Prelude.{◌≡◌, ◌≤◌, ℕ, List, length, Ok, None, IfNone, IfOk, IfErr, IfSome, IsTrue};
 ghost use Rattle.std.specs.Prelude.{IsFalse};
 ghost use Rattle.std.specs.Prelude.{if◌then◌else◌};
 ghost use Rattle.gw_udp.specs.Resting.{Asks, HasRested, RestingIsBound, RestingReceives, RestingSends};
@@ -35,6 +35,10 @@ fn rests_after<X>(most: u16, answer: &Result<Option<X>, PortFault>) -> u16
 impl<S: Socket> Socket for Resting<S> {
     ghost is_bound = { RestingIsBound S.is_bound };
 
+    ghost inherits = { λ descriptor. RestingIsBound (S.inherits descriptor) };
+
+    ghost lacks = { S.lacks };
+
     ghost is_joined = { λ s peer. S.is_joined s.socket peer };
 
     ghost is_open = { λ s. S.is_open s.socket };
@@ -66,6 +70,19 @@ impl<S: Socket> Socket for Resting<S> {
         })
     }
 
+    fn inherit(descriptor: u16, address: SocketAddr) -> Option<Resting<S>>
+        ensures some { IfSome result (λ s. RestingIsBound (S.inherits descriptor) s address) }
+        ensures open { IfSome result (λ s. S.is_open s.socket) }
+        ensures most { IfSome result (λ s. s.most ≡ 7) }
+        ensures none { IfNone result (S.lacks descriptor address) }
+    {
+        Some(Resting {
+            socket: S::inherit(descriptor, address)?,
+            rests: 0,
+            most: RESTS,
+        })
+    }
+
     fn connect(&mut self, peer: SocketAddr) -> io::Result<()> {
         self.socket.connect(peer)
     }
@@ -76,6 +93,8 @@ impl<S: Socket> Socket for Resting<S> {
 
     fn watch(&mut self, poll: &Poll, token: Token) -> bool
         ensures bound { KeepsBound (RestingIsBound S.is_bound) self.old self.new }
+        ensures inherited { (descriptor : ℕ)
+            → KeepsBound (RestingIsBound (S.inherits descriptor)) self.old self.new }
         ensures joined { KeepsBound S.is_joined self.old.socket self.new.socket }
         ensures open { S.is_open self.old.socket → S.is_open self.new.socket }
         ensures watched { S.watches self.new.socket poll.now token.0 result }

@@ -3,6 +3,7 @@
 
 mod asking;
 mod given;
+mod inherited;
 pub mod laws;
 mod names;
 mod outcome;
@@ -14,6 +15,7 @@ mod source_filter;
 mod system_socket;
 mod udp;
 
+pub use inherited::Descriptors;
 pub use names::NameLookup;
 pub use resting::Resting;
 pub use socket::Socket;

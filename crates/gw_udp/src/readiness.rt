@@ -92,6 +92,7 @@ impl Readiness {
     /// Has the system say what comes to the socket of the circuit of this number.
     pub(crate) fn watch<S: Socket>(&self, circuit: u8, socket: &mut S)
         ensures bound { KeepsBound S.is_bound socket.old socket.new }
+        ensures inherited { (descriptor : ℕ) → KeepsBound (S.inherits descriptor) socket.old socket.new }
         ensures joined { KeepsBound S.is_joined socket.old socket.new }
         ensures open { S.is_open socket.old → S.is_open socket.new }
         ensures watched { MatchOption self.now.poller ⊤

@@ -1,14 +1,16 @@
 //! The system's datagram socket, each call of it in a function of its own (`SystemSocket`).
 
-ghost use Rattle.std.specs.Prelude.{◌≤◌, length, IfErr, IfOk, OnOk};
+ghost use Rattle.std.specs.Prelude.{◌≤◌, ℕ, length, IfErr, IfOk, IsTrue, OnOk};
 ghost use Rattle.gw_udp.specs.Socket.{KeepsBound};
 ghost use Rattle.gw_udp.specs.System.{IsBoundAt, SystemBinds, SystemNeverWaits, SystemTakesAll};
 ghost use Rattle.gw_udp.specs.System.{SystemJoins, SystemRegisters, SystemReceives, SystemReceivesAny};
 ghost use Rattle.gw_udp.specs.System.{SystemMakesRoom, SystemSends};
+ghost use Rattle.gw_udp.specs.System.{IsInherited, SystemHas, SystemParts, SystemShows};
 
 use libc::net;
 use mio::unix::SourceFd;
 use mio::{Interest, Poll, Token};
+use os::{FromRawFd, duplicate};
 use std::io;
 use std::net::{Net, SocketAddr, UdpSocket};
 use std::os::fd::AsRawFd;
@@ -31,6 +33,39 @@ impl SystemSocket {
         })
     }
 
+    // Another descriptor of what is at this one, which stays open. None if that is nothing.
+    #[tactic(auto, unfolding(crate::specs::System::SystemHas))]
+    pub(crate) fn at(descriptor: u16) -> Option<SystemSocket>
+        ensures { SystemHas descriptor result }
+    {
+        let copy = duplicate(i32::from(descriptor));
+        if copy < 0 {
+            return None;
+        }
+        Some(SystemSocket {
+            socket: unsafe { UdpSocket::from_raw_fd(copy) },
+        })
+    }
+
+    // Its own address.
+    #[tactic(auto, unfolding(crate::specs::System::SystemShows))]
+    pub(crate) fn own_address(&self) -> io::Result<SocketAddr>
+        ensures { SystemShows self.now result }
+    {
+        self.socket.local_addr()
+    }
+
+    // Parts it from the sender that it was joined to (connect(2), AF_UNSPEC). False if that is refused.
+    #[tactic(auto, unfolding(crate::specs::System::SystemParts, crate::specs::System::SystemTakesAll))]
+    pub(crate) fn part(&mut self) -> bool
+        ensures parts { SystemParts self.old self.new result }
+        ensures open { IsTrue result → SystemTakesAll self.new }
+    {
+        let unspecified = [0u8; net::_SS_SIZE];
+        let fd = self.socket.as_raw_fd();
+        unsafe { net::connect(fd, &unspecified, 16) == 0 }
+    }
+
     // Has no later call wait.
     #[tactic(auto, unfolding(crate::specs::System::SystemNeverWaits))]
     pub(crate) fn never_wait(&self) -> io::Result<()>
@@ -44,6 +79,7 @@ impl SystemSocket {
     pub(crate) fn join(&mut self, peer: SocketAddr) -> io::Result<()>
         ensures joined { OnOk result (SystemJoins self.new peer) }
         ensures bound { KeepsBound IsBoundAt self.old self.new }
+        ensures inherited { (descriptor : ℕ) → KeepsBound (IsInherited descriptor) self.old self.new }
         ensures open { IfErr result (λ _. SystemTakesAll self.old → SystemTakesAll self.new) }
     {
         self.socket.connect(peer)

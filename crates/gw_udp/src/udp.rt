@@ -9,6 +9,7 @@ ghost use Rattle.gw_records.specs.Ports.{Receives, Sends, CountsFault, KeepsSend
 ghost use Rattle.gw_state.specs.Memory.{MemoryIsRefused};
 ghost use Rattle.gw_udp.specs.Names.{IsAddressOf, LacksAddress, SystemLooksUp};
 ghost use Rattle.gw_udp.specs.Given.{GivesFew, HasGivenEnough, given_after};
+ghost use Rattle.gw_udp.specs.Inheriting.{IsAt, IsHere, IsRefusedAt};
 ghost use Rattle.gw_udp.specs.Ready.{Clears, IsAsked, IsCounted};
 ghost use Rattle.gw_udp.specs.Udp.{EachHears, Hears, IsEndpointOf, IsEndpoint, HasEndpoints, KeepsOthers};
 ghost use Rattle.gw_udp.specs.Opening.{Blames, LacksSocket, IsFaultOf, FailsToOpen};
@@ -17,6 +18,7 @@ ghost use Rattle.gw_udp.specs.Udp.{ReceivesFrom, EndpointReceives, EndpointRests
 ghost use Rattle.gw_udp.specs.Calls.{HasCalled, AreBound, IsFresh};
 
 use crate::given::GivenOctets;
+use crate::inherited::{Descriptors, socket_at};
 use crate::names::NameLookup;
 use crate::readiness::Readiness;
 use crate::socket::Socket;
@@ -43,12 +45,13 @@ pub enum OpenFault {
     Socket(u8),
 }
 
-// Sockets that are asked for: at this host, by these lookups, for these senders.
+// Sockets that are asked for: at this host, by these lookups, for these senders, some at these descriptors.
 #[derive(Drop)]
 struct SocketsAsked<'a, L> {
     names: &'a L,
     host: &'a str,
     senders: SourceFilter,
+    among: Descriptors,
 }
 
 /// A circuit's socket, its own address, its peer's, and the senders it accepts.
@@ -76,7 +79,7 @@ pub struct UdpPorts<S: Socket> {
     pub(crate) at_look: AtStart<Log>,
     ghost thirty: { vec_len endpoints ≡ 30 },
     ghost memory: { vec_capacity endpoints ≡ 30 },
-    ghost bound: { ∥ AreBound S.is_bound opened.value.items ∥₁ },
+    ghost bound: { ∥ AreBound (IsHere S.is_bound S.inherits) opened.value.items ∥₁ },
     ghost called: { ∥ HasCalled S.receives S.sends log.calls opened.value.items endpoints.items ∥₁ },
     ghost few: { ∥ GivesFew at_look.value.calls log.calls given.counts ∥₁ },
 }
@@ -119,6 +122,7 @@ fn address_of<L: NameLookup>(
 // does not, each receive does.
 fn restrict<S: Socket>(socket: &mut S, senders: SourceFilter, peer: SocketAddr)
     ensures bound { KeepsBound S.is_bound socket.old socket.new }
+    ensures inherited { (descriptor : ℕ) → KeepsBound (S.inherits descriptor) socket.old socket.new }
     ensures open { senders ≢ SourceFilter.Peer → S.is_open socket.old → S.is_open socket.new }
     ensures takes { S.is_open socket.old → S.is_joined socket.new peer ⊎ S.is_open socket.new }
 {
@@ -135,12 +139,14 @@ fn open_endpoint<S: Socket, L: NameLookup>(
     port: &Port,
     asked: &SocketsAsked<L>,
 ) -> Result<Endpoint<S>, OpenFault>
-    ensures ok { IfOk result (IsEndpointOf (TakesFrom S.is_bound S.is_open asked.now.senders)
+    ensures ok { IfOk result (IsEndpointOf
+        (TakesFrom (IsAt S.is_bound S.inherits S.lacks asked.now.among) S.is_open asked.now.senders)
         (L.looks_up asked.now.names.now) asked.now.host.now asked.now.senders port.now) }
     ensures hears { IfOk result
         (Hears S.watches S.is_joined S.is_open readiness.now.poller (circuit - 1)) }
     ensures err { IfErr result (IsFaultOf circuit
-        (LacksSocket S.refuses (L.looks_up asked.now.names.now) asked.now.host.now port.now)) }
+        (LacksSocket (IsRefusedAt S.lacks S.refuses asked.now.among) (L.looks_up asked.now.names.now)
+        asked.now.host.now port.now)) }
 {
     let names = asked.names;
     let here = address_of(names, circuit, asked.host, port.local_port)?;
@@ -149,7 +155,7 @@ fn open_endpoint<S: Socket, L: NameLookup>(
     if here.is_ipv4() != peer.is_ipv4() {
         return Err(OpenFault::Socket(circuit));
     }
-    let mut socket = match S::bind(net, here) {
+    let mut socket = match socket_at::<S>(net, asked.among, here) {
         Ok(socket) => socket,
         Err(error) => return Err(fault_of(circuit, &error)),
     };
@@ -172,12 +178,14 @@ fn endpoint_of<S: Socket, L: NameLookup>(
     port: &Option<Port>,
     asked: &SocketsAsked<L>,
 ) -> Result<Option<Endpoint<S>>, OpenFault>
-    ensures ok { IfOk result (IsEndpoint (TakesFrom S.is_bound S.is_open asked.now.senders)
+    ensures ok { IfOk result (IsEndpoint
+        (TakesFrom (IsAt S.is_bound S.inherits S.lacks asked.now.among) S.is_open asked.now.senders)
         (L.looks_up asked.now.names.now) asked.now.host.now asked.now.senders port.now) }
     ensures hears { IfOk result (λ e. MatchOption e ⊤
         (Hears S.watches S.is_joined S.is_open readiness.now.poller (circuit - 1))) }
     ensures err { IfErr result (IsFaultOf circuit
-        (IsSomeAnd port.now (LacksSocket S.refuses (L.looks_up asked.now.names.now) asked.now.host.now))) }
+        (IsSomeAnd port.now (LacksSocket (IsRefusedAt S.lacks S.refuses asked.now.among)
+        (L.looks_up asked.now.names.now) asked.now.host.now))) }
 {
     match port {
         Some(port) => Ok(Some(open_endpoint(net, readiness, circuit, port, asked)?)),
@@ -381,23 +389,25 @@ fn open_room<S>(alloc: Global) -> Result<Vec<Option<Endpoint<S>>>, AllocError>
 impl<S: Socket> UdpPorts<S> {
     /// Opens the sockets of the circuits that have ports.
     ///
-    /// In rising order, each at `host` and its local port.
+    /// In rising order, each at `host` and its local port: the one at the first descriptor `among` these that
+    /// has this address, else a new one.
     pub fn open(
         net: &impl Net,
         alloc: Global,
         host: &str,
         ports: &[Option<Port>; 30],
         senders: SourceFilter,
+        among: Descriptors,
     ) -> Result<UdpPorts<S>, OpenFault>
-        ensures ok { IfOk result (λ opened.
-            HasEndpoints (TakesFrom S.is_bound S.is_open senders) SystemLooksUp host.now senders ports.now
-            opened.endpoints.items 30) }
+        ensures ok { IfOk result (λ opened. HasEndpoints
+            (TakesFrom (IsAt S.is_bound S.inherits S.lacks among) S.is_open senders) SystemLooksUp host.now
+            senders ports.now opened.endpoints.items 30) }
         ensures hears { IfOk result (λ p. EachHears (Hears S.watches S.is_joined S.is_open p.readiness.poller)
             p.endpoints.items 30) }
         ensures fresh { IfOk result (λ p. IsFresh p.endpoints.items p.opened.value.items p.log.calls) }
-        ensures err { IfErr result
-            (FailsToOpen (TakesFrom S.is_bound S.is_open senders) S.refuses SystemLooksUp host.now senders
-            ports.now) }
+        ensures err { IfErr result (FailsToOpen
+            (TakesFrom (IsAt S.is_bound S.inherits S.lacks among) S.is_open senders)
+            (IsRefusedAt S.lacks S.refuses among) SystemLooksUp host.now senders ports.now) }
     {
         let Ok(mut endpoints) = open_room(alloc) else {
             return Err(OpenFault::OutOfMemory);
@@ -407,6 +417,7 @@ impl<S: Socket> UdpPorts<S> {
             names: net,
             host,
             senders,
+            among,
         };
         for number in 1..=30u8 {
             let port = &ports[usize::from(number) - 1];

@@ -7,7 +7,7 @@ use g704_cas::CircuitNo;
 use gw_config::Port;
 use gw_repeat::Repeating;
 use gw_session::{FromRead, Ports, ToWrite, serve};
-use gw_udp::{Socket, SourceFilter, SystemSocket, UdpPorts};
+use gw_udp::{Descriptors, Socket, SourceFilter, SystemSocket, UdpPorts};
 use std::net::UdpSocket;
 use std::test::Fail;
 
@@ -20,7 +20,14 @@ fn ports_to<S: Socket>(rt: &HostRuntime, peer: &UdpSocket) -> Result<UdpPorts<S>
         peer_host: String::from_str(rt.alloc(), "127.0.0.1")?,
         peer_port: peer.local_addr()?.port(),
     });
-    let opened = UdpPorts::<S>::open(rt, rt.alloc(), "127.0.0.1", &circuits, SourceFilter::Any);
+    let opened = UdpPorts::<S>::open(
+        rt,
+        rt.alloc(),
+        "127.0.0.1",
+        &circuits,
+        SourceFilter::Any,
+        Descriptors::none(),
+    );
     Ok(opened.ok().ok_or("sockets")?)
 }
 

@@ -29,7 +29,6 @@ class ProgramFault(Enum):
     NONE = 'nothing that is known here'
     TRUNK = 'the trunk cannot be read or written'
     CONFIG = 'the configuration'
-    SOCKET = 'a socket of a circuit'
     LOG_IN_USE = 'another program has the log'
     LOG_LOST = 'the log has nothing that can be loaded'
     NO_ROOM = 'the log has no room'

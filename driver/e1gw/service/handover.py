@@ -1,6 +1,7 @@
 """How a service begins: with a trunk of its own, or where the service before this one has left. However that ended, its
-program has the log and may go on. systemd keeps the descriptors of the trunk (sd_pid_notify_with_fds(3)), and nothing
-else, or a service gives them to the one that it becomes; a note has what else is good to know."""
+program has the log and may go on. systemd keeps the descriptors of the trunk and of the circuits' sockets
+(sd_pid_notify_with_fds(3)), and nothing else, or a service gives them to the one that it becomes; a note has what else
+is good to know."""
 from __future__ import annotations
 
 import array
@@ -25,6 +26,7 @@ from .log_folder import LogFiles, LogPair, holder_of
 from .note import NoteFiles, ServiceNote, is_of, note_in
 from .program import ProgramPlaces, TrunkProgram, config_in, connected, end_left
 from .satop_trunk import trunk_of
+from .sockets import NAME as SOCKETS
 from .version import ProgramVersion, VersionRefused, version_left, version_of_now
 
 FIRST, APART = 3, 100       # the first descriptor that is given, and where they are put out of the way
@@ -167,7 +169,9 @@ async def carrier_of(wants: TrunkWants, places: ProgramPlaces, left: Left, hando
                      notifier: Notifier, has_pair: bool) -> TrunkCarrier:
     """Carries the trunk from what is left, or from its beginning. VersionRefused or CannotBegin if it cannot be."""
     note = left.note
-    trunk = trunk_of(wants.line, places, left.files, note.trunk if note else None)
+    sockets = {name: file for name, file in left.files.items() if name.startswith(SOCKETS)}
+    its = {name: file for name, file in left.files.items() if name not in sockets}
+    trunk = trunk_of(wants.line, places, its, note.trunk if note else None)
     is_active = note.is_active if note else not has_pair
     how = takeover_of(Found(left.pid > 0, trunk.is_open(), is_active))
     version = await version_for(wants, places, left, how)
@@ -177,6 +181,7 @@ async def carrier_of(wants: TrunkWants, places: ProgramPlaces, left: Left, hando
     if how is not Takeover.ADOPT:       # (only now: a program that carries the trunk ends for none that is refused)
         await end_left(places, GRACE)
     carrier = TrunkCarrier(wants, version, trunk, places, handover, notifier)
+    carrier.sockets.take_up(sockets)
     if left.is_anything:
         takes_up(carrier, left)
     elif wants.state and load_stored(wants.state, places.log):
@@ -184,7 +189,7 @@ async def carrier_of(wants: TrunkWants, places: ProgramPlaces, left: Left, hando
     if how is Takeover.ADOPT:
         carrier.program = TrunkProgram.adopted(version, places, left.pid)
         carrier.program.begun = note.begun if note else 0
-        carrier.taken.take_up(version, note.taken if note else ())
+        carrier.sockets.adopts(version, note.lacking if note else ())
     return carrier
 
 

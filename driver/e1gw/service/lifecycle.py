@@ -26,10 +26,10 @@ from .drains import KeptDrains
 from .journal import NOTICE
 from .log_folder import LogPair, LogWriter
 from .note import ServiceNote
-from .ports import TakenPorts
 from .process import start_of
 from .program import ProgramPlaces, TrunkProgram, config_in, end_left
 from .reader import LogReader, ReadingNote
+from .sockets import CircuitSockets
 from .trunk import LineOptions, TrunkFiles, again, either
 from .version import ProgramVersion, VersionHistory
 
@@ -39,6 +39,7 @@ if TYPE_CHECKING:
 
 START, RELOADED = 10.0, 1.0     # seconds for a program to carry the trunk; for a new version, that has one before it
 GRACE = 5.0                 # seconds for a program to end in order
+OLD = 1.0                   # seconds for which speech may wait in sockets that no program reads
 TICK = 0.25                 # seconds between two looks while nothing happens
 NOTED = 1.0                 # seconds between two notes for the next service, while no call changes
 MEMORY = '/dev/shm'         # where the folder of a trunk is by default, and if its own cannot be made again
@@ -85,7 +86,7 @@ class TrunkCarrier:
         self._gone: LogPair | None = None       # what a log had that was taken away
         self.status: int | None = None
         self.was_up = self.has_carried = False  # a program was up; one was since this machine is to carry the trunk
-        self.ends, self.wake, self.taken = asyncio.Event(), asyncio.Event(), TakenPorts()
+        self.ends, self.wake, self.sockets = asyncio.Event(), asyncio.Event(), CircuitSockets()
         self._handover, self.notifier = handover, notifier
         self._noted = -inf, trunk.note()        # when it was noted last what the next service has to know, and this
         self.silent, self._due = time.monotonic(), 0.0
@@ -126,10 +127,11 @@ class TrunkCarrier:
         self._make_folder()
         self.trunk.follows()
         await self.reader.copied()
+        open_sockets(self)
         self.note()
         self.program = program = TrunkProgram.started(
             self.versions.now, self.places, self.trunk.both,
-            ['--senders', self.versions.now.senders, *self.wants.words], self.taken)
+            ['--senders', self.versions.now.senders, *self.wants.words], self.sockets)
         program.begun = self.reader.octets
         if self.wish in (Wish.RELOAD, Wish.RENEW):      # (this is the one that was wanted)
             self.wish = Wish.NONE
@@ -189,7 +191,7 @@ class TrunkCarrier:
         now = time.monotonic()
         self.versions.look(now)
         self._pass_on(program)
-        if now >= self._due and program.lacks() or self.taken.are_free(program.version, now):
+        if now >= self._due and program.lacks() or self.sockets.look(program.version, now, not self.versions.before):
             self._due = now + APART     # (another program has them, once a minute at most)
             self.wish = Wish.RENEW
         if now >= self._noted[0] + NOTED or self.trunk.note() != self._noted[1]:
@@ -207,8 +209,6 @@ class TrunkCarrier:
         self._pass_on(program)
         self._totals += program.process.totals()
         end, failure = self._end_of(program, hangs), self.trunk.failure()
-        if end.fault is ProgramFault.SOCKET and self.was_up and not end.trial and (self.has_carried or not self.pair):
-            self.taken.look(self.versions.now, end.now)
         is_asked = end.wish is not Wish.NONE and end.is_well
         self.why, self.lost = str(end.wish.value) if is_asked else f'the program {words}', \
             '' if end.is_well or not end.was_up else LOST
@@ -272,6 +272,7 @@ class TrunkCarrier:
             logger.info('totals: %s', ', '.join(f'{word} {count}' for word, count in self._totals.items()))
         self.notifier.tell('STOPPING=1')
         self._handover.forget()
+        self.sockets.close()
         self.status = status
 
     # ---- what is asked for ----
@@ -316,8 +317,16 @@ class TrunkCarrier:
         begun = self.program.begun if self.program else reader.octets
         self._handover.put(ServiceNote(
             self.wants.opens, os.getpid(), start_of(os.getpid()), version.senders, version.name,
-            self.pair is None or self.pair.is_active, self.was_up, begun, reader.noted(), (*self.taken.circuits,),
-            self._noted[1], reader.recording_note(), self.calls()), self.trunk.files)
+            self.pair is None or self.pair.is_active, self.was_up, begun, reader.noted(), (*self.sockets.lacking,),
+            self._noted[1], reader.recording_note(), self.calls()), {**self.trunk.files, **self.sockets.files})
+
+
+def open_sockets(carrier: TrunkCarrier) -> None:
+    """Those of the next program. What waits in them is old speech if no program was there for long."""
+    now, is_known = time.monotonic(), carrier.was_up and not carrier.versions.trial
+    carrier.sockets.open(carrier.versions.now, now, is_known and (carrier.has_carried or not carrier.pair))
+    if now > carrier.silent + OLD:
+        carrier.sockets.drop_old()
 
 
 def why_of(words: str, config: str) -> str:

@@ -37,7 +37,7 @@ class ServiceNote:
     was_up: bool                # a program has carried it
     begun: int                  # the octet of the trunk with which that of now has begun, or the next one will
     read: ReadingNote
-    taken: tuple[int, ...]      # circuits whose ports it does not have
+    lacking: tuple[int, ...]    # circuits whose ports others have
     trunk: TrunkNote
     recording: RecordingNote | None
     calls: CallsNote | None

@@ -76,6 +76,7 @@ class TrunkPair:
         """The trunk is closed. What is known of it is what this machine had itself, if it carried it."""
         carrier, ended = self._carrier, time.monotonic()
         await carrier.trunk.finish()
+        carrier.sockets.close()
         carrier.trunk.fault = 'standby'
         await self.feed.finish(GRACE)
         carrier.reader.look()

@@ -15,8 +15,8 @@ from typing import Sequence
 from .decisions import ProgramFault
 from .log_folder import LOCK, holder_of
 from .memory import octets_in
-from .ports import TakenPorts
 from .process import Child
+from .sockets import CircuitSockets
 from .version import ProgramVersion
 
 # No record that a client may give: the program closes the connection, which says that it runs, and logs nothing.
@@ -25,7 +25,7 @@ SOON = 0.001                # seconds between two tries to connect to a program 
 MOST_PATH = 107             # octets of the path of a socket
 # By what the first line has with which it ends.
 FAULTS = ((r'^fault [56] ', ProgramFault.TRUNK), (r'^config ', ProgramFault.CONFIG),
-          (r'^socket ', ProgramFault.SOCKET), (r'\blog\b.* in use by', ProgramFault.LOG_IN_USE),
+          (r'\blog\b.* in use by', ProgramFault.LOG_IN_USE),
           (r'\blog\b.* has no state|^state \d', ProgramFault.LOG_LOST), (r'\blog\b.* wants', ProgramFault.NO_ROOM))
 
 
@@ -99,15 +99,15 @@ class TrunkProgram:
 
     @classmethod
     def started(cls, version: ProgramVersion, places: ProgramPlaces, trunk: tuple[int, int],
-                words: Sequence[str], taken: TakenPorts) -> TrunkProgram:
-        """One that is started on the log, without ports that are taken. OSError if it cannot be."""
-        end = places.opened_end()
+                words: Sequence[str], sockets: CircuitSockets) -> TrunkProgram:
+        """One that is started on the log, with these sockets. OSError if it cannot be."""
+        end, (given, files) = places.opened_end(), sockets.words(version)
         try:
             drain(end)
-            with taken.left_out(version) as without:
-                process = without.start(
+            with sockets.given(version) as its:
+                process = its.start(
                     ['trunk', '--log', places.log, '--tell', places.tell, '--control', places.control, '--end',
-                     str(end), '--totals', *words], *trunk, [end], places.said('program', True))
+                     str(end), *given, '--totals', *words], *trunk, [end, *files], places.said('program', True))
         except OSError:
             os.close(end)
             raise

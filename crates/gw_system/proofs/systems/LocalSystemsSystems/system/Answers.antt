@@ -12,7 +12,8 @@ returns-clause-some g c =
       takes = takes_asked _ _ _ _ _ _ (rw local.ensures.path (sym c.in_ok-path.ensures)) local.ensures.log
           local.ensures.load local.ensures.save local.ensures.wait;
       ends = ends_in (subcommand_rows_of c.args.self.now.matches.now) _ local.result.recording local.ensures.log
-          local.ensures.recording local.result.senders local.ensures.senders;
+          local.ensures.recording local.result.senders local.ensures.senders local.result.among
+          local.ensures.among;
       watch = λ fault. named_so (λ path. path.now) local.result.tell _ _ (λ path. LacksTeller path fault)
           local.ensures.tell (λ path why. why);
     }
