@@ -14,7 +14,7 @@ from . import support
 from e1gw.service import recordings
 from e1gw.service.decisions import ProgramFault
 from e1gw.service.feed import FeedHead, configured
-from e1gw.service.memory import give_back, given_back, in_memory, octets_in
+from e1gw.service.memory import give_back, given_back, in_memory
 from e1gw.service.options import folder_of, opens_of, recording_of, wants_of, watched_of
 from e1gw.service.process import UNKNOWN, Child, ran, signal_words
 from e1gw.service.program import MOST_PATH, ProgramPlaces, TrunkProgram
