@@ -7,7 +7,7 @@ import fcntl
 import logging
 import os
 import socket
-from contextlib import contextmanager, suppress
+from contextlib import contextmanager
 from dataclasses import replace
 from math import inf
 from typing import Any, Collection, Iterator, Mapping
@@ -118,14 +118,16 @@ class CircuitSockets:
         return faults
 
     def drop_old(self) -> None:
-        """Takes what waits in them, which nobody has read for long."""
+        """Takes what waits in them, which nobody has read for long. (To bind them anew would not do: systemd has them
+        too.)"""
         for file in self._held.values():
             for _ in range(MOST_OLD):
-                with suppress(ConnectionError):
-                    try:
-                        os.read(file, 1)
-                    except BlockingIOError:
-                        break
+                try:
+                    os.read(file, 1)
+                except BlockingIOError:
+                    break
+                except OSError:             # (what the network said of a datagram that was sent)
+                    pass
 
     def close(self) -> None:
         """Lets all of them go."""
