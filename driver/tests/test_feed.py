@@ -2,7 +2,10 @@
 from __future__ import annotations
 
 import asyncio
+import math
 import os
+import socket
+import threading
 import unittest
 from types import SimpleNamespace
 from typing import Any, Callable
@@ -10,10 +13,14 @@ from unittest import mock
 
 from . import support
 from .logs import WrittenLog
-from e1gw.events import Event, Fed, NotFed
+from e1gw.events import Event, Fed, NotFed, RoleGiven
 from e1gw.service import standby
+from e1gw.service.decisions import Wish
 from e1gw.service.drains import Drains, KeptDrains
-from e1gw.service.feed import FeedServer
+from e1gw.service.feed import LENGTH, MOST_PIECE, PIECE, STATE, FeedRefused, FeedServer
+from e1gw.service.log_folder import STATE_ROOM
+from e1gw.service.missed import passed
+from e1gw.service.pair import GRACE, TrunkPair
 from e1gw.service.reader import LogReader
 from e1gw.service.standby import NO_TRUNK, TrunkStandby
 from e1gw.session import MULTIFRAME
@@ -141,6 +148,69 @@ class FeedTests(support.FolderCase, unittest.IsolatedAsyncioTestCase):
         self.assertEqual((its.why, its.fed), (NO_TRUNK, None))
         said_of_it = [each.getMessage() for each in told.records]
         self.assertIn(f'feed: {HOST} is not --standby, and is fed nothing', said_of_it)
+
+
+class BadPieceTests(support.FolderCase, unittest.IsolatedAsyncioTestCase):
+    async def test_each(self) -> None:
+        """One that is too long, has no time, or a state that is too long ends the feed."""
+        its = TrunkStandby((HOST, 1), '', (), mock.Mock(), self.folder, mock.Mock())
+        for octets in (PIECE.pack(math.nan, 0), PIECE.pack(1.0, MOST_PIECE + 1),
+                       PIECE.pack(0.0, STATE) + LENGTH.pack(STATE_ROOM + 1)):
+            reader, fed = asyncio.StreamReader(), mock.Mock()
+            reader.feed_data(octets)
+            reader.feed_eof()
+            with self.assertRaisesRegex(FeedRefused, '^a (piece|state) of the feed is too long'):
+                await its._take(fed, reader, mock.Mock())
+            self.assertEqual(fed.mock_calls, [])
+
+
+class PairRoleTests(unittest.IsolatedAsyncioTestCase):
+    """One of two machines, whose carrier is played."""
+
+    def setUp(self) -> None:
+        self.carrier = mock.Mock(ending='', ends=asyncio.Event(), has_carried=False, program=None)
+        self.carrier.trunk.finish, self.feed = mock.AsyncMock(), mock.Mock(finish=mock.AsyncMock())
+
+    def test_asked_back_at_once(self) -> None:
+        """Who waits for the trunk to open goes on, unless its end is asked for."""
+        for ending in '', 'quit':
+            self.carrier.ending = ending
+            its = TrunkPair(self.carrier, mock.Mock(), self.feed, True)
+            its.goes(False, True)
+            self.assertEqual((its.is_active, self.feed.hands_over, self.carrier.ends.is_set()), (False, True, True))
+            its.goes(True)
+            self.assertEqual((its.is_active, self.feed.hands_over, self.carrier.ends.is_set()),
+                             (True, False, bool(ending)))
+        self.assertEqual([each.args for each in self.carrier.want.call_args_list], [(Wish.DEMOTE,), (Wish.NONE,)] * 2)
+
+    async def test_given_up(self) -> None:
+        """Nothing is read of the log, which another machine's takes the place of, and systemd and others learn it."""
+        its = TrunkPair(self.carrier, mock.Mock(), self.feed, False)
+        self.carrier.ends.set()
+        await its._give_up()
+        self.assertEqual((self.carrier.reader.rests, self.carrier.ends.is_set(), self.carrier.trunk.fault),
+                         (True, False, 'standby'))
+        self.carrier.trunk.tell.assert_called_once_with(RoleGiven('standby'))
+        self.assertEqual((self.carrier.trunk.finish.await_count, self.feed.finish.await_args), (1, mock.call(GRACE)))
+
+
+class ReadAgainTests(unittest.TestCase):
+    def test_more_than_a_pipe_has_room_for(self) -> None:
+        """All is given, then its end, and all that is told is read."""
+        near, far = socket.socketpair()
+        gives, given = os.pipe()
+        self.addCleanup(os.close, given)
+        taken = list[bytes]()
+
+        def tells() -> None:
+            with far, open(gives, 'rb') as octets:
+                taken.append(octets.read())
+                far.sendall(b'told')
+        (thread := threading.Thread(target=tells)).start()
+        with near:
+            self.assertEqual(passed(near, given, bytes(range(256)) * 1000), b'told')
+        thread.join()
+        self.assertEqual(taken, [bytes(range(256)) * 1000])
 
 
 if __name__ == '__main__':
