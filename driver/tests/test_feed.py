@@ -8,7 +8,7 @@ import socket
 import threading
 import unittest
 from types import SimpleNamespace
-from typing import Any, Callable
+from typing import Any, Callable, cast
 from unittest import mock
 
 from . import support
@@ -18,9 +18,10 @@ from e1gw.service import standby
 from e1gw.service.decisions import Wish
 from e1gw.service.drains import Drains, KeptDrains
 from e1gw.service.feed import LENGTH, MOST_PIECE, PIECE, STATE, FeedRefused, FeedServer
+from e1gw.service.lifecycle import GRACE
 from e1gw.service.log_folder import STATE_ROOM
 from e1gw.service.missed import passed
-from e1gw.service.pair import GRACE, TrunkPair
+from e1gw.service.pair import TrunkPair
 from e1gw.service.reader import LogReader
 from e1gw.service.standby import NO_TRUNK, TrunkStandby
 from e1gw.session import MULTIFRAME
@@ -46,10 +47,10 @@ class FeedTests(support.FolderCase, unittest.IsolatedAsyncioTestCase):
         reader.told = lambda: self.log.octets
         self.addCleanup(reader._close)
         self.config = self.write('here.toml', support.config_text({1: {}, 2: {'local_port': 5000}}))
-        self.program: Any = SimpleNamespace(
+        self.program = SimpleNamespace(
             is_up=True, places=SimpleNamespace(log=self.path('log')), process=SimpleNamespace(over=self.over, pid=77),
             version=SimpleNamespace(config_path=lambda: self.config))
-        self.feed = FeedServer(HOST, lambda: self.program, lambda: reader, lambda: 5, self.drains)
+        self.feed = FeedServer(HOST, lambda: cast(Any, self.program), lambda: reader, lambda: 5, self.drains)
         server = await asyncio.start_server(self.feed.came, HOST, 0)
         self.addCleanup(server.close)
         self.place = server.sockets[0].getsockname()
