@@ -22,6 +22,7 @@ from e1gw.service.lifecycle import GRACE
 from e1gw.service.log_folder import STATE_ROOM
 from e1gw.service.missed import passed
 from e1gw.service.pair import TrunkPair
+from e1gw.service.program import TrunkProgram
 from e1gw.service.reader import LogReader
 from e1gw.service.standby import NO_TRUNK, TrunkStandby
 from e1gw.session import MULTIFRAME
@@ -50,7 +51,8 @@ class FeedTests(support.FolderCase, unittest.IsolatedAsyncioTestCase):
         self.program = SimpleNamespace(
             is_up=True, places=SimpleNamespace(log=self.path('log')), process=SimpleNamespace(over=self.over, pid=77),
             version=SimpleNamespace(config_path=lambda: self.config))
-        self.feed = FeedServer(HOST, lambda: cast(Any, self.program), lambda: reader, lambda: 5, self.drains)
+        self.feed = FeedServer(HOST, lambda: cast(TrunkProgram, self.program), lambda: reader, lambda: 5,
+                               self.drains)
         server = await asyncio.start_server(self.feed.came, HOST, 0)
         self.addCleanup(server.close)
         self.place = server.sockets[0].getsockname()
