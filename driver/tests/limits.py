@@ -16,8 +16,11 @@ LONG = 900.0                # seconds
 TELLS = {'service.connection.PATIENCE': LONG}
 # Octets come when a test gives them, and by no clock: a flow that is never steady has no gap, behind which calls are
 # restarted. (A test that had taken ten seconds longer than its trunk found one.) Nor is a version tried for a minute.
-# Files of a ring are of a second there, and of each program: more of them are kept than of hours.
-STARTED = {'clock.STEADY': 0.0, 'service.decisions.TRIED': LONG, 'recording_ring.MOST_OWN': 1000}
+# Files of a ring are of a second there, and of each program: more of them are kept than of hours. What draws and what
+# keeps has its share of a loaded machine.
+STARTED: dict[str, Any] = {
+    'clock.STEADY': 0.0, 'service.decisions.TRIED': LONG, 'recording_ring.MOST_OWN': 1000,
+    **dict.fromkeys(('service.pages.put_behind', 'service.recordings.put_behind'), lambda *_: None)}
 LIMITS: dict[str, Any] = {
     'service.lifecycle.START': LONG, 'service.lifecycle.GRACE': LONG, 'service.lifecycle.RELOADED': LONG,
     'service.lifecycle.OLD': LONG,

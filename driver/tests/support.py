@@ -78,7 +78,8 @@ def config_text(circuits: Mapping[int, Mapping[str, object]], law: str = 'A') ->
 
 def remove(folder: str) -> None:
     """Removes a folder. (Who packs a file of a ring may go on for a moment behind its service.)"""
-    until(lambda: shutil.rmtree(folder, ignore_errors=True) or not os.path.lexists(folder))
+    while os.path.lexists(folder):
+        shutil.rmtree(folder, ignore_errors=True)
 
 
 def in_memory() -> tempfile.TemporaryDirectory[str]:

@@ -11,13 +11,13 @@ import subprocess
 import sys
 import threading
 import unittest
-from collections.abc import Iterable, Iterator
 from concurrent.futures import ThreadPoolExecutor
 
 from . import support
 from .support import SECONDS
 from .test_program_killed import CIRCUITS, KeeperCase
 from .test_service_killed import RestartedKeeperCase
+from .test_trunk_served import octets_in
 from .world import LAUNCHER
 from e1gw.service import trunk
 from e1gw.service.commands import MOST_CLIENTS
@@ -26,7 +26,6 @@ from e1gw.service.pages import MOST_READERS, MOST_VISITORS
 from e1gw.service.handover import CannotBegin
 from e1gw.service.log_folder import RECORDS_ROOM, LogFiles
 from e1gw.service.service import make_own
-from e1gw.session import Kind, records_in
 from e1gw.testing.service import ask
 from e1gw.tie.site import STRANGERS
 from e1gw.trunks import Stream
@@ -35,11 +34,6 @@ OWN = 20                    # descriptors of a tie itself
 FLOODED = range(11, 31)     # circuits
 LONGEST = bytes(65_507)     # a datagram of IPv4
 READ = 4                    # multiframes: 2,048 octets
-
-
-def octets_in(records: Iterable[bytes]) -> Iterator[bytes]:
-    """Those of the trunk."""
-    return (record.body for each in records for record in records_in(each) if record.kind is Kind.TRUNK)
 
 
 class FloodTests(KeeperCase):
@@ -55,7 +49,7 @@ class FloodTests(KeeperCase):
         with socket.socket(socket.AF_INET, socket.SOCK_DGRAM) as other:
             for _ in range(count):
                 self.flooded(other)
-        self.assertTrue(self.octets_logged().endswith(b''.join(octets_in(self.given[-READ:]))))
+        self.assertTrue(self.octets_logged().endswith(octets_in(b''.join(self.given[-READ:]))))
         os.kill(self.program, signal.SIGKILL)
         self.goes_on()              # (the service counts octets, and may not have seen all of them: it had its stalls)
         self.assertLessEqual({*CIRCUITS} - {*FLOODED}, self.peers_heard(count * READ))
@@ -69,7 +63,7 @@ class FloodTests(KeeperCase):
         files = LogFiles(self.log())
         self.addCleanup(files.close)
         pairs = sorted(filter(None, map(files.pair, (0, 1))), key=lambda pair: pair.turn)
-        return b''.join(octets_in(pair.records for pair in pairs))
+        return b''.join(octets_in(pair.records) for pair in pairs)
 
     def flooded(self, other: socket.socket) -> None:
         """One read of the trunk, before and while which their sockets are full."""

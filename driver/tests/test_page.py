@@ -19,7 +19,7 @@ from e1gw.lines import Alignment, Role, State
 from e1gw.metrics import NOT_OPEN
 from e1gw.service import pages
 from e1gw.service.options import kept_of
-from e1gw.service.page import circuit_row, message_of, page_of, trunk_row, trunks_page
+from e1gw.service.page import POLICY, circuit_row, message_of, page_of, trunk_row, trunks_page
 from e1gw.service.pages import EventReaders, PageRequest
 
 EVIL = '"><script>alert(1)</script><img src=x onerror=alert(1)>\'&</td></table>'
@@ -158,7 +158,7 @@ class PageServerTests(unittest.IsolatedAsyncioTestCase):
         """For a browser; the other trunks are those that it is told of, at the host by which it has come."""
         status, kind, policy, body = await self.answered('GET', '/', 'Accept: text/html')
         self.assertEqual((status, kind, policy, '<title>trunk west' in body, '"c1"' in body),
-                         ('200 OK', 'text/html', pages.POLICY, True, True))
+                         ('200 OK', 'text/html', POLICY, True, True))
         with mock.patch.object(pages, 'asked_trunks', lambda patience: ['north', patience]), \
                 mock.patch.object(pages, 'trunks_page', lambda trunks, host: f'{trunks} {host} \0</html>\n'.encode()):
             self.assertEqual((await self.answered('GET', '/trunks', 'Host: west.example:9'))[1:], (

@@ -15,6 +15,7 @@ from typing import Any, Callable
 
 from . import limits, support
 from .support import SECONDS
+from .test_trunk_served import octets_in
 from .world import trunk_command, words_of
 from e1gw.exchange import ACKNOWLEDGED, ANSWERED, SEIZED
 from e1gw.session import (FRAME, MULTIFRAME, Codec, Command, Kind, Packet, codec_record, command_record, packet_of,
@@ -223,8 +224,7 @@ class KeeperCase(support.FolderCase):
 
     def killed(self, number: int) -> None:
         """The program is sent a signal at any moment behind a record, and another one goes on."""
-        before = sum(len(record.body) for record in records_in(b''.join(self.given)) if record.kind is Kind.TRUNK)
-        before -= self.first * MULTIFRAME
+        before = len(octets_in(b''.join(self.given))) - self.first * MULTIFRAME
         self.send()
         for _ in range(self.chance.randrange(0, 400)):
             pass

@@ -9,9 +9,10 @@ import signal
 
 from . import support
 from .test_program_killed import KeeperCase
+from .test_trunk_served import octets_in
 from e1gw.priority import run_last
 from e1gw.session_files import by_time, front_of, kept, note_of, octets_of
-from e1gw.session import MULTIFRAME, Kind, records_in
+from e1gw.session import MULTIFRAME
 
 LONG = '96h'                # of a ring whose files have to be of one program each: they are of eight hours
 
@@ -20,11 +21,7 @@ class RecorderCase(KeeperCase):
     """A trunk whose recordings are kept."""
 
     def given_trunk(self) -> bytes:
-        return b''.join(record.body for record in records_in(b''.join(self.given)) if record.kind is Kind.TRUNK)
-
-    def trunk_of(self, path: str) -> bytes:
-        """Octets of the trunk in what is kept there."""
-        return b''.join(record.body for record in records_in(self.kept_of(path)) if record.kind is Kind.TRUNK)
+        return octets_in(b''.join(self.given))
 
     def kept_of(self, path: str) -> bytes:
         files = kept(path).files if os.path.exists(path) and (not os.path.isdir(path) or os.listdir(path)) else []
@@ -32,8 +29,7 @@ class RecorderCase(KeeperCase):
 
     def answers(self, octets: bytes, *options: str) -> bytes:
         """Octets of the trunk that a replay answers."""
-        said = support.run('replay', '--config', self.config, *options, given=octets)
-        return b''.join(record.body for record in records_in(said) if record.kind is Kind.TRUNK)
+        return octets_in(support.run('replay', '--config', self.config, *options, given=octets))
 
     def heard_all(self) -> bytes:
         return b''.join(piece or b'' for piece in self.heard)

@@ -2,6 +2,7 @@
 from __future__ import annotations
 
 import asyncio
+import grp
 import logging
 import os
 import signal
@@ -308,6 +309,13 @@ class ControlSocketTests(support.FolderCase):
                     client.connect(path)
                     self.assertEqual(os.stat(path).st_mode & 0o777, 0o600)
         self.assertEqual((found, os.listdir(self.folder)), ([False, True], ['control']))
+
+    def test_group(self) -> None:
+        """By its name or its number."""
+        for group in grp.getgrgid(os.getgid()).gr_name, '7':
+            with mock.patch('os.chown') as given:
+                unix_listener(self.path('control'), 0o660, group).close()
+            given.assert_called_once_with(self.path('control~'), -1, 7 if group == '7' else os.getgid())
 
 
 class ProgramConnectionTests(support.FolderCase, unittest.IsolatedAsyncioTestCase):

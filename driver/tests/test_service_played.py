@@ -25,6 +25,7 @@ from e1gw.service.note import NoteFiles, note_in
 from e1gw.service.options import wants_of
 from e1gw.service.program import ProgramPlaces
 from e1gw.service.version import ProgramVersion, version_of_now
+from e1gw.testing.ports import free_port
 
 LOGGED = LogPair(1, 0, b'state', b'')
 HAND = ', what it had in hand is lost: 2048 octets (8 ms) at most'
@@ -391,6 +392,33 @@ async def never(*_: object, **__: object) -> list[tuple[Any, ...]]:
     """A name server that is away."""
     await asyncio.sleep(SECONDS)
     return []
+
+
+class PlayedPairTests(ServiceCase):
+    """One of two machines, whose other one is away."""
+
+    async def test_roles(self) -> None:
+        """It stands by until it is promoted, and does so again."""
+        other = f'127.0.0.1:{free_port()}'
+        self.begins('--feed', f'127.0.0.1:{free_port()}', '--standby', other, '--name', 'west')
+        await self.until(lambda: 'STATUS=standby' in self.manager.told)
+        self.assertEqual((await self.ask('role'), self.starts()), ('standby, not fed', []))
+        status = json.loads(await self.ask('status json'))
+        self.assertEqual({key: status[key] for key in ('role', 'fed', 'differs', 'fault')},
+                         {'role': 'standby', 'fed': False, 'differs': [], 'fault': 'standby'})
+        self.assertEqual(await self.ask('demote'), 'demote: done')
+        for _ in range(2):
+            self.assertEqual(await self.ask('move'), 'move: refused: no standby is fed here')
+            self.assertEqual(await self.ask('promote'), 'promote: done')
+            self.assertEqual(await self.ask('role'), 'active, not fed')
+            self.assertEqual(await self.ask('demote'), 'demote: done')
+            self.assertEqual(await self.ask('role'), 'standby, not fed')
+        self.assertEqual(plain(self.said())[0], 'warning: promoted: program A goes on after T ms, nothing is known; '
+                         'all calls begin anew')
+        told = [each for each in self.manager.told if each[:6] == 'STATUS']
+        self.assertEqual([each[7:14] for each in told], ['standby', *['the tru', 'program', 'standby'] * 2])
+        await self.ends()
+        self.assertEqual((len(self.starts()), os.listdir(self.path('run'))), (2, []))
 
 
 class PlayedTakeoverTests(ServiceCase):

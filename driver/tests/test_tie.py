@@ -1,5 +1,6 @@
 """The tie with played drivers: what is reported, the connection and its certificates, and calls from end to end."""
 import asyncio
+import io
 import json
 import os
 import re
@@ -18,7 +19,7 @@ from e1gw.testing.ports import free_port
 from e1gw.tie.circuit import CircuitEnd
 from e1gw.tie.coding import Coding
 from e1gw.tie.events import SiteCame
-from e1gw.tie.main import ANYBODY, parser
+from e1gw.tie.main import ANYBODY, main, parser
 from e1gw.tie.messages import BadMessage, Greeting, Message, SiteState, encode_message, message_of
 from e1gw.tie.pairs import agreed, pairs_of
 from e1gw.tie.site import Reasons, Site, has_name, one_too_many, read_one
@@ -151,6 +152,13 @@ class TieOptionTests(unittest.TestCase):
             with self.subTest(words=words), self.assertRaises(SystemExit) as end, mock.patch('sys.stderr'):
                 parser().parse_args(words.split())
             self.assertEqual(end.exception.code, 2)
+
+    def test_a_name_without_certificates(self) -> None:
+        words = 'e1gw-tie --control a --listen 127.0.0.1:1 --peer east'
+        with mock.patch('sys.argv', words.split()), mock.patch('sys.stderr', new_callable=io.StringIO) as said, \
+                mock.patch('e1gw.tie.main.EventFile', side_effect=AssertionError), self.assertRaises(SystemExit) as end:
+            main()
+        self.assertEqual((end.exception.code, '--peer needs --tls' in said.getvalue()), (2, True))
 
     def test_defaults_of_the_units(self) -> None:
         """Calls are held for as long as a trunk's service that is killed is away, and a tie that hangs, and as both

@@ -20,7 +20,7 @@ LINES = {
     'return a is not b': ('bool', {'return a is b', 'return not (a is not b)'}),
     'return a and b or c': ('bool', {'return (a and b) and c', 'return a or b or c', 'return not (a and b or c)'}),
     'return not (a or b)': ('object', {'return (a or b)', 'return not (a and b)', 'return None'}),
-    'return f(a, 1)': ('int', {'return f(1, a)', 'return f(a, 2)', 'return 0'}),
+    'suppress(A, B)': ('None', {'pass'}), 'return f(a, 1)': ('int', {'return f(1, a)', 'return f(a, 2)', 'return 0'}),
     'return min(a, 0.5)': ('float', {'return max(a, 0.5)', 'return min(a, 1.0)', 'return 0.0'}),
     'return a if b else True': ('object', {'return a', 'return True', 'return a if b else False', 'return None'}),
     'return [a for a in b if c]': ('list[int]', {'return [a for a in b if True]', 'return []'}),
