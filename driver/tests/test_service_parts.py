@@ -440,6 +440,18 @@ class TrunkEndTests(support.FolderCase, unittest.IsolatedAsyncioTestCase):
         await its.finish()
         self.assertEqual((card.mock_calls, its.card, its.both), ([mock.call.end()], None, (-1, -1)))
 
+    async def test_what_fails_is_begun_again(self) -> None:
+        """It is told where, in one line."""
+        faults = [ValueError('odd'), None]
+
+        async def work() -> None:
+            if fault := faults.pop(0):
+                raise fault
+        with mock.patch.object(trunk, 'AGAIN', 0.0), self.assertLogs('e1gw.service.trunk') as told:
+            await trunk.again(work, 'the work')
+        self.assertRegex(told.records[0].getMessage(),
+                         r'^the work goes on: ValueError: odd \(test_service_parts.py:\d+ in work\)$')
+
     async def test_either(self) -> None:
         """One event is enough, or the time; what has waited for them waits no more."""
         one, other = asyncio.Event(), asyncio.Event()
