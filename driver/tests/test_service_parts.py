@@ -93,6 +93,21 @@ class ReloadRequestTests(unittest.IsolatedAsyncioTestCase):
             self.carrier.pair, self.carrier.program = pair, program
             self.assertIs(self.requests._log(), log or fed.standby.last.return_value)
 
+    async def test_one_after_another(self) -> None:
+        """Another one is refused meanwhile."""
+        self.carrier.versions, goes_on = mock.Mock(refused=''), asyncio.Event()
+        self.carrier.trunk.is_open.return_value = False
+
+        async def tries(force: bool) -> tuple[str, frozenset[int]]:
+            await goes_on.wait()
+            return '', frozenset()
+        with mock.patch.object(self.requests, '_try', tries), self.assertLogs('e1gw.service.reload'):
+            first = asyncio.create_task(self.requests.reload())
+            await asyncio.sleep(0)
+            self.assertEqual(await self.requests.reload(), 'reload: one is tried already')
+            goes_on.set()
+            self.assertEqual([await first, await self.requests.reload()], ['reload: done'] * 2)
+
     async def test_no_program_follows(self) -> None:
         """That is said after a while; of a trunk that is not open at once that it is done."""
         self.carrier.versions = mock.Mock(settled=asyncio.Event(), refused='', silent=0.0)
