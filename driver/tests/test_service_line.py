@@ -141,6 +141,7 @@ class LineProcessTests(support.FolderCase, unittest.IsolatedAsyncioTestCase):
         await self.goes_round(trunk)
         self.assertEqual([event.name for event in self.told],
                          ['trunk', 'trunk lost', 'trunk', 'trunk lost', 'trunk'])
+        self.assertEqual(self.told[1], TrunkLost(f'{BROKEN}: e1gw satop ended by signal 9 (SIGKILL)'))
 
     async def test_multiframes_are_looked_for_again(self) -> None:
         """With CRC-4 both ends are given ones behind another one."""
@@ -165,7 +166,7 @@ class LineProcessTests(support.FolderCase, unittest.IsolatedAsyncioTestCase):
         note = replace(before.note(), names=('near', 'far'), satop=SatopNote(('a', 'b'), 7, '', 0, 0))
         its = SatopTrunk(LineOptions(satop=lambda: [], program='none'))
         its.take_up(files, note)
-        self.assertEqual((its.child, its.is_open(), its.zero), (None, True, 7))
+        self.assertEqual((its.child, its.is_open(), its.zero, len(its._works)), (None, True, 7, 2))
         await its.finish()
 
     async def test_more_ones_than_there_is_room_for(self) -> None:

@@ -93,6 +93,21 @@ class ReloadRequestTests(unittest.IsolatedAsyncioTestCase):
             self.carrier.pair, self.carrier.program = pair, program
             self.assertIs(self.requests._log(), log or fed.standby.last.return_value)
 
+    async def test_one_after_another(self) -> None:
+        """Another one is refused meanwhile."""
+        self.carrier.versions, goes_on = mock.Mock(refused=''), asyncio.Event()
+        self.carrier.trunk.is_open.return_value = False
+
+        async def tries(force: bool) -> tuple[str, frozenset[int]]:
+            await goes_on.wait()
+            return '', frozenset()
+        with mock.patch.object(self.requests, '_try', tries), self.assertLogs('e1gw.service.reload'):
+            first = asyncio.create_task(self.requests.reload())
+            await asyncio.sleep(0)
+            self.assertEqual(await self.requests.reload(), 'reload: one is tried already')
+            goes_on.set()
+            self.assertEqual([await first, await self.requests.reload()], ['reload: done'] * 2)
+
     async def test_no_program_follows(self) -> None:
         """That is said after a while; of a trunk that is not open at once that it is done."""
         self.carrier.versions = mock.Mock(settled=asyncio.Event(), refused='', silent=0.0)
@@ -441,6 +456,18 @@ class TrunkEndTests(support.FolderCase, unittest.IsolatedAsyncioTestCase):
         its.card = card = mock.Mock()
         await its.finish()
         self.assertEqual((card.mock_calls, its.card, its.both), ([mock.call.end()], None, (-1, -1)))
+
+    async def test_what_fails_is_begun_again(self) -> None:
+        """It is told where, in one line."""
+        faults = [ValueError('odd'), None]
+
+        async def work() -> None:
+            if fault := faults.pop(0):
+                raise fault
+        with mock.patch.object(trunk, 'AGAIN', 0.0), self.assertLogs('e1gw.service.trunk') as told:
+            await trunk.again(work, 'the work')
+        self.assertRegex(told.records[0].getMessage(),
+                         r'^the work goes on: ValueError: odd \(test_service_parts.py:\d+ in work\)$')
 
     async def test_either(self) -> None:
         """One event is enough, or the time; what has waited for them waits no more."""

@@ -335,7 +335,7 @@ class PlayedWatchTests(ServiceCase):
 
     async def test_commands_and_status(self) -> None:
         self.plan({'state': 'idle'})
-        self.begins('--name', 'west')
+        self.begins('--name', 'west', '--http', f'127.0.0.1:{(port := free_port())}')
         await self.until(lambda: any(each.getMessage() == 'connected to the program' for each in self.records))
         status = json.loads(await self.ask('status json'))
         self.assertEqual({key: status[key] for key in ('name', 'version', 'fault', 'program', 'commands')},
@@ -344,6 +344,10 @@ class PlayedWatchTests(ServiceCase):
         for words, answer in COMMANDS:
             self.assertEqual(await self.ask(words), answer)
         self.assertIn('\n  seize N, clear N', await self.ask('help'))
+        reader, writer = await asyncio.open_connection('127.0.0.1', port)
+        self.addCleanup(writer.close)
+        writer.write(b'GET /table HTTP/1.0\r\n\r\n')
+        self.assertIn(b'\r\n\r\ntrunk west, ', await reader.read())
         status = json.loads(await self.ask('status json'))
         self.assertEqual(status['commands'], [{'command': 'codec', 'answer': 'done', 'count': 1},
                                               {'command': 'seize', 'answer': 'done', 'count': 2}])

@@ -18,7 +18,7 @@ from .logs import WrittenLog
 from .test_watch import FACTS
 from e1gw.clock import TICK
 from e1gw.service import reader, recordings, status, watch
-from e1gw.service.log_folder import RECORDS, LogFiles
+from e1gw.service.log_folder import RECORDS, LogFiles, LogState
 from e1gw.session import MULTIFRAME
 
 RECORD = MULTIFRAME / 256_000       # seconds
@@ -44,6 +44,17 @@ class RingAgainTests(unittest.IsolatedAsyncioTestCase):
             with mock.patch.object(reader, 'has_room', return_value=room) as looked:
                 self.assertEqual(await its._can_begin(ended), is_over and room)
             self.assertEqual((ended.close.call_count, looked.mock_calls), (1, [mock.call('ring')] * is_over))
+
+
+class UnreadTests(unittest.TestCase):
+    def test_a_file_ends(self) -> None:
+        """If a part of the log was not read; of a ring another file begins."""
+        for keep, calls in (None, [mock.call('a part of the log was not read')]), (60, []):
+            its = reader.LogReader('none', 0.1, None, lambda: None, bytes)
+            its._begun = 0
+            its._recording = recording = mock.Mock(why='', **{'wants.keep': keep})
+            its._see_file(LogState(3, 99, b'state'), True)
+            self.assertEqual((recording.end.mock_calls, recording.begin.call_count), (calls, not calls))
 
 
 class ServiceFlowTests(support.FolderCase, unittest.IsolatedAsyncioTestCase):

@@ -13,6 +13,7 @@ import socket
 import ssl
 import struct
 import subprocess
+import time
 import unittest
 from itertools import accumulate
 from typing import Callable
@@ -328,6 +329,21 @@ class FedLogTests(support.FolderCase):
                 fed.is_all(fresh - 77)
                 fed.take(record)
             self.assertAlmostEqual(fed.came, last + 5, delta=0.011)
+
+
+class OldLogTests(support.FolderCase, unittest.IsolatedAsyncioTestCase):
+    async def test_what_is_too_old(self) -> None:
+        """It is not taken, nor is what there is not."""
+        its = TrunkStandby(('127.0.0.1', 1), '', (), mock.Mock(), self.folder, mock.Mock())
+        self.assertEqual(await its.goes_to(self.path('log'), False), (None, 'nothing is known'))
+        for age, words in (3000.0, 'what is known is 3000 s old'), (0.0, ''):
+            with mock.patch.object(standby, 'MOST_AGE', 2000.0):
+                its.fed = fed = FedLog(self.folder, 0, 0, 0)
+                fed.begin(b'state')
+                fed.came = fed.fresh = time.monotonic() - age
+                found, told = await its.goes_to(self.path('log'), False)
+            self.assertEqual((found, told[:len(words)], its.fed), (None if words else fed, words, None))
+        self.assertEqual((os.listdir(self.folder), self.held()), (['log'], []))
 
 
 class HandedTests(support.FolderCase, unittest.IsolatedAsyncioTestCase):
