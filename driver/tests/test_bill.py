@@ -135,7 +135,8 @@ class CalledSession:
 
     def changed(self, n: int, last: int) -> int:
         """The multiframe up to this one in which the state of a line changed last."""
-        return max(m for m in (ALIGNED, *self._steps.get(n, ())) if m <= last)
+        found: int = max(m for m in (ALIGNED, *self._steps.get(n, ())) if m <= last)
+        return found
 
 
 def now(work: Coroutine[Any, Any, Any]) -> None:
