@@ -44,6 +44,9 @@ class Manager:
                 (file,) = array.array('i', rights[0][2])
                 os.set_inheritable(file, False)
                 self._keep(words['FDNAME'], file)
+            elif 'BARRIER' in words:
+                (file,) = array.array('i', rights[0][2])
+                os.close(file)
             elif 'FDSTOREREMOVE' in words:
                 if words['FDNAME'] in self.files:
                     os.close(self.files.pop(words['FDNAME']))

@@ -15,7 +15,7 @@ from .test_program_killed import CIRCUITS, GOES_ON
 from .test_service_killed import RestartedKeeperCase
 from e1gw.service.log_folder import LogFiles
 from e1gw.service.memory import in_memory, octets_in
-from e1gw.service.sockets import AGAIN, CircuitSockets, address_in, addresses_of, name_of
+from e1gw.service.sockets import AGAIN, NAME, CircuitSockets, address_in, addresses_of, name_of
 from e1gw.service.version import ProgramVersion
 from e1gw.testing.ports import free_port, free_ports
 from e1gw.testing.service import ask
@@ -100,13 +100,19 @@ class HeldSocketTests(RestartedKeeperCase):
         """They show their own address and the peer's: they are found, parted, and joined again."""
         self.reloaded('peer')
 
+    def kept(self) -> set[int]:
+        """The sockets of the circuits that systemd has."""
+        self.manager.take_all()
+        return {os.fstat(file).st_ino for name, file in self.manager.files.items() if name.startswith(NAME)}
+
     def test_all_killed(self) -> None:
         """systemd has the sockets while neither the service nor a program is there."""
         self.speaks()
-        waiting = self.all_killed()
+        before, waiting = self.kept(), self.all_killed()
         self.again()
         self.goes_on_behind()
         self.take(waiting)
+        self.assertEqual((len(before), self.kept()), (len(CIRCUITS), before))
         self.assertEqual(self.got(), self.spoken())
         self.ends()
 
@@ -129,14 +135,17 @@ class HeldSocketTests(RestartedKeeperCase):
         self.ends()
 
     def test_nobody_there_for_long(self) -> None:
-        """What has waited then is old speech, and is dropped."""
+        """What has waited then is old speech, and is dropped. The sockets are made anew, in the cgroup of now: of those
+        before nftables marks nothing."""
         with mock.patch.dict(os.environ, self.within(lifecycle_OLD=0.0)):
             self.speaks()
-            before, waiting = self._spoken, self.all_killed()
+            kept, before, waiting = self.kept(), self._spoken, self.all_killed()
             missed = self._spoken - before
             self.again()
         self.goes_on_behind()
         self.take(waiting)
+        support.until(lambda: len(self.kept() - kept) == len(CIRCUITS))
+        self.assertEqual(self.kept() & kept, set())
         self.assertGreater(missed, 0)
         self.assertEqual(self.got(), {n: count - missed for n, count in self.spoken().items()})
         self.ends()

@@ -5,6 +5,7 @@ is good to know."""
 from __future__ import annotations
 
 import array
+import asyncio
 import fcntl
 import json
 import logging
@@ -17,7 +18,7 @@ import time
 from contextlib import suppress
 from dataclasses import dataclass
 from math import inf
-from typing import Mapping, NoReturn
+from typing import Collection, Mapping, NoReturn
 
 from ..programs import SENDERS
 from .decisions import Found, Takeover, takeover_of
@@ -29,6 +30,7 @@ from .satop_trunk import trunk_of
 from .sockets import NAME as SOCKETS
 from .version import ProgramVersion, VersionRefused, version_left, version_of_now
 
+HEARD, SOON = 1.0, 0.001    # seconds for systemd to take what it is told; between two tries
 FIRST, APART = 3, 100       # the first descriptor that is given, and where they are put out of the way
 # Signals that a service catches. They wait while it becomes another one, which they would end.
 CAUGHT = signal.SIGHUP, signal.SIGUSR1, signal.SIGUSR2, signal.SIGTERM, signal.SIGINT
@@ -57,6 +59,20 @@ class Notifier:
         except OSError:
             return False
 
+    async def give(self, *lines: str, file: int = -1) -> None:
+        """Tells it once there is room: systemd lets a few wait."""
+        while not self.tell(*lines, file=file):
+            await asyncio.sleep(SOON)
+
+    async def heard(self) -> None:
+        """Waits until systemd has taken all that it was told (sd_notify_barrier(3))."""
+        near, far = socket.socketpair()
+        with near:
+            near.setblocking(False)
+            with far:
+                await self.give('BARRIER=1', file=far.fileno())
+            await asyncio.get_running_loop().sock_recv(near, 1)     # (its end)
+
 
 class Handover:
     """What is kept for the next service of this trunk: descriptors, and a note."""
@@ -78,6 +94,15 @@ class Handover:
                 self._held[name] = its[name]
         with suppress(OSError):             # (the folder is gone)
             self._note.put(note.text())
+
+    async def lets_go(self, names: Collection[str]) -> None:
+        """Keeps these no more. systemd has closed them then, unless it takes too long."""
+        with suppress(TimeoutError):
+            async with asyncio.timeout(HEARD):
+                for name in [name for name in names if name in self._held]:
+                    await self._notifier.give('FDSTOREREMOVE=1', f'FDNAME={name}')
+                    del self._held[name]
+                await self._notifier.heard()
 
     def forget(self) -> None:
         """Nothing is kept any more: the trunk has ended. What systemd has no room for waits, GRACE at most."""

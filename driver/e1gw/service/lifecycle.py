@@ -127,7 +127,7 @@ class TrunkCarrier:
         self._make_folder()
         self.trunk.follows()
         await self.reader.copied()
-        open_sockets(self)
+        await open_sockets(self, self._handover)
         self.note()
         self.program = program = TrunkProgram.started(
             self.versions.now, self.places, self.trunk.both,
@@ -321,9 +321,14 @@ class TrunkCarrier:
             self._noted[1], reader.recording_note(), self.calls()), {**self.trunk.files, **self.sockets.files})
 
 
-def open_sockets(carrier: TrunkCarrier) -> None:
-    """Those of the next program. What waits in them is old speech if no program was there for long."""
+async def open_sockets(carrier: TrunkCarrier, handover: Handover) -> None:
+    """Those of the next program. What waits in them is old speech if no program was there for long. Those of a service
+    that died with its program are bound anew then: their cgroup is gone, and DSCP= marks what is made in that of now."""
     now, is_known = time.monotonic(), carrier.was_up and not carrier.versions.trial
+    if carrier.sockets.are_left and now > carrier.silent + OLD:
+        names = [*carrier.sockets.files]
+        carrier.sockets.close()
+        await handover.lets_go(names)
     carrier.sockets.open(carrier.versions.now, now, is_known and (carrier.has_carried or not carrier.pair))
     if now > carrier.silent + OLD:
         carrier.sockets.drop_old()

@@ -61,6 +61,7 @@ class CircuitSockets:
         self._version: ProgramVersion | None = None     # with the circuits that lack one
         self._stands: ProgramVersion | None = None      # of which alone they are held
         self._lacking, self._due = frozenset[int](), inf
+        self.are_left = False       # those that are held are of a service before this one, and of no program since
 
     @property
     def lacking(self) -> frozenset[int]:
@@ -75,10 +76,11 @@ class CircuitSockets:
     def take_up(self, files: Mapping[str, int]) -> None:
         """Those of the service before this one."""
         self._held |= {address_in(name): file for name, file in files.items()}
+        self.are_left = bool(files)
 
     def adopts(self, version: ProgramVersion, lacking: Collection[int]) -> None:
         """A program of this version goes on, without sockets for these circuits."""
-        self._version, self._lacking, self._due = version, frozenset(lacking), 0.0
+        self._version, self._lacking, self._due, self.are_left = version, frozenset(lacking), 0.0, False
 
     def open(self, version: ProgramVersion, now: float, may_lack: bool) -> None:
         """Binds what this version wants beyond those that are held, while there is no program. Circuits that may lack
@@ -90,6 +92,7 @@ class CircuitSockets:
         for n in sorted({*faults} - before):
             logger.error('circuit %d has no port: %s; it is tried again each second', n, faults[n])
         self._version, self._lacking, self._due, self._stands = version, frozenset(faults), now + AGAIN, None
+        self.are_left = False
 
     def look(self, version: ProgramVersion, now: float, stands: bool) -> bool:
         """To be called now and then while a program of this version is up: whether another one would have a socket
@@ -118,8 +121,7 @@ class CircuitSockets:
         return faults
 
     def drop_old(self) -> None:
-        """Takes what waits in them, which nobody has read for long. (To bind them anew would not do: systemd has them
-        too.)"""
+        """Takes what waits in them, which nobody has read for long."""
         for file in self._held.values():
             for _ in range(MOST_OLD):
                 try:
