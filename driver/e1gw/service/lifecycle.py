@@ -323,7 +323,7 @@ class TrunkCarrier:
 
 async def open_sockets(carrier: TrunkCarrier, handover: Handover) -> None:
     """Those of the next program. What waits in them is old speech if no program was there for long. Those of a service
-    that died with its program are bound anew then: their cgroup is gone, and DSCP= marks what is made in that of now."""
+    that died with its program are bound anew then: DSCP= marks what the cgroup of now has made, and theirs is gone."""
     now, is_known = time.monotonic(), carrier.was_up and not carrier.versions.trial
     if carrier.sockets.are_left and now > carrier.silent + OLD:
         names = [*carrier.sockets.files]
