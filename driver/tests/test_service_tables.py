@@ -11,13 +11,13 @@ from typing import Any
 from unittest import mock
 
 from . import support
-from e1gw.service import recordings
+from e1gw.service import program, recordings
 from e1gw.service.decisions import ProgramFault
 from e1gw.service.feed import FeedHead, configured
-from e1gw.service.memory import give_back, given_back, in_memory
+from e1gw.service.memory import give_back, given_back, in_memory, reserve
 from e1gw.service.options import folder_of, opens_of, recording_of, wants_of, watched_of
 from e1gw.service.process import UNKNOWN, Child, ran, signal_words
-from e1gw.service.program import MOST_PATH, ProgramPlaces, TrunkProgram
+from e1gw.service.program import MOST_PATH, WORDS, ProgramPlaces, TrunkProgram
 from e1gw.service.recordings import RecordingNote, RecordingWants, TrunkRecording
 from e1gw.service.service import parser
 from e1gw.service.standby import TrunkStandby
@@ -198,22 +198,35 @@ class ProgramFaultTests(support.FolderCase, unittest.IsolatedAsyncioTestCase):
                 child = Child.start('/bin/sh', ['sh', '-c', f'exec >&2; {script}'], 0, 1)
                 await child.over.wait()
                 for is_adopted in False, True:
-                    program = TrunkProgram(ProgramVersion('e1gw', 0, 0, 'any'), places, child, -1, is_adopted)
-                    self.assertEqual((program.fault(), program.ended_well()), (fault, is_adopted or not status), line)
-                program.close()
+                    its = TrunkProgram(ProgramVersion('e1gw', 0, 0, 'any'), places, child, -1, is_adopted)
+                    self.assertEqual((its.fault(), its.ended_well()), (fault, is_adopted or not status), line)
+                its.close()
 
     async def test_what_it_lacks(self) -> None:
         places = ProgramPlaces(self.folder)
-        program = TrunkProgram(ProgramVersion('e1gw', 0, 0, 'any'), places, Child(os.getpid()), -1, True)
+        its = TrunkProgram(ProgramVersion('e1gw', 0, 0, 'any'), places, Child(os.getpid()), -1, True)
         names = ('program', 'tell', 'log/lock')
         for name in names:
-            self.assertTrue(program.lacks())
+            self.assertTrue(its.lacks())
             self.write(name, '')
-        self.assertFalse(program.lacks())
+        self.assertFalse(its.lacks())
         for name in names:
             os.unlink(self.path(name))
-            self.assertTrue(program.lacks())
+            self.assertTrue(its.lacks())
             self.write(name, '')
+
+
+    def test_room_for_what_is_said(self) -> None:
+        """A log that takes all room of a disk leaves that for why it does not fit; else it is said in memory."""
+        places = ProgramPlaces(self.folder)
+        for room, blocks, name in ((reserve, WORDS // 512, 'program.said'),
+                                   (mock.Mock(side_effect=OSError), 0, 'memfd:e1gw-words')):
+            with mock.patch.object(program, 'reserve', room):
+                file = places.said('program', True)
+            said = os.fstat(file)
+            self.assertEqual((said.st_size, said.st_blocks), (0, blocks))
+            self.assertIn(name, os.readlink(f'/proc/self/fd/{file}'))
+            os.close(file)
 
 
 class VersionTests(support.FolderCase):

@@ -1,7 +1,8 @@
-"""Files in memory without a name, and files of which what was read is given back."""
+"""Files in memory without a name, files of which what was read is given back, and files that have room."""
 from __future__ import annotations
 
 import ctypes
+import errno
 import os
 
 from ..writers import write_all
@@ -33,6 +34,13 @@ def give_back(file: int, first: int, last: int) -> None:
     were given back before goes whole; some files keep all.)"""
     if last > first:
         _fallocate(file, KEEP_SIZE | PUNCH_HOLE, first // PAGE * PAGE, last - first // PAGE * PAGE)
+
+
+def reserve(file: int, octets: int) -> None:
+    """The first octets of a file have room from now on, whoever fills the disk; its size stays. OSError if there is not
+    so much. (A file system may not know of that.)"""
+    if _fallocate(file, KEEP_SIZE, 0, octets) and (fault := ctypes.get_errno()) != errno.EOPNOTSUPP:
+        raise OSError(fault, os.strerror(fault))
 
 
 def given_back(file: int) -> int:

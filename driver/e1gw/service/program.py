@@ -14,7 +14,7 @@ from typing import Sequence
 
 from .decisions import ProgramFault
 from .log_folder import LOCK, holder_of
-from .memory import octets_in
+from .memory import octets_in, reserve
 from .process import Child
 from .sockets import CircuitSockets
 from .version import ProgramVersion
@@ -23,6 +23,7 @@ from .version import ProgramVersion
 NO_RECORD = bytes(4)
 SOON = 0.001                # seconds between two tries to connect to a program that begins
 MOST_PATH = 107             # octets of the path of a socket
+WORDS = 64 << 10            # octets for which there is room in a file of what a process says
 # By what the first line has with which it ends.
 FAULTS = ((r'^fault [56] ', ProgramFault.TRUNK), (r'^config ', ProgramFault.CONFIG),
           (r'\blog\b.* in use by', ProgramFault.LOG_IN_USE),
@@ -65,14 +66,22 @@ class ProgramPlaces:
         return os.path.join(self.folder, 'config')
 
     def said(self, name: str, is_new: bool) -> int:
-        """The file of what a process says, in memory if there is no room."""
+        """The file of what a process says, in memory if there is no room. (A log that does not fit takes all: what the
+        program says of that has its room before.)"""
         path = os.path.join(self.folder, f'{name}.said')
         try:
             if is_new:
                 with suppress(FileNotFoundError):
                     os.unlink(path)
-            return os.open(path, os.O_RDWR | os.O_APPEND | os.O_CREAT | os.O_CLOEXEC, 0o600)
+            file = os.open(path, os.O_RDWR | os.O_APPEND | os.O_CREAT | os.O_CLOEXEC, 0o600)
         except OSError:
+            return os.memfd_create('e1gw-words')
+        try:
+            if is_new:
+                reserve(file, WORDS)
+            return file
+        except OSError:
+            os.close(file)
             return os.memfd_create('e1gw-words')
 
     def opened_end(self) -> int:
