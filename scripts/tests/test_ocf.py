@@ -1,5 +1,6 @@
 """The agent of Pacemaker, with a systemd and a trunk of the test's own."""
 import os
+import re
 import socket
 import subprocess
 import tempfile
@@ -80,9 +81,11 @@ class AgentTests(unittest.TestCase):
 
 
 class ExampleTests(unittest.TestCase):
-    def test_a_machine_is_banned_for_a_time(self) -> None:
+    def test_what_they_need(self) -> None:
         """Where failures ban a machine they are forgotten again: both were banned for ever, and nobody carried the
-        trunk."""
-        for name in 'west.crm', 'rack.sh':
-            with open(os.path.join(TOP, 'dist', 'ocf', name), encoding='utf-8') as file:
-                self.assertRegex(file.read(), r'rsc_defaults [^\n]*\bmigration-threshold=3 failure-timeout=\d+min\b')
+        trunk. Each machine has a fence device: without one crm refuses a configuration that wants fencing."""
+        for words, machines in (('cat west.crm', 'west-a west-b'), ('sh rack.sh', 'rack-a rack-b rack-c')):
+            text = subprocess.run(words.split(), cwd=os.path.dirname(AGENT), capture_output=True, text=True,
+                                  check=True).stdout
+            self.assertRegex(text, r'rsc_defaults [^\n]*\bmigration-threshold=3 failure-timeout=\d+min\b')
+            self.assertEqual(re.findall(r'stonith:[\w \\\n]+ pcmk_host_list=(\S+)', text), machines.split())
