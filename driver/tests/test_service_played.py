@@ -196,11 +196,12 @@ class PlayedReloadTests(ServiceCase):
 
     async def test_one_that_does_not_come_up(self) -> None:
         self.plan(WAITS, says('socket 1'), WAITS)
+        self.plan(WAITS, WAITS, new(), new(), what='check')
         self.begins()
         await self.says('carries')
         self.assertRegex(await self.ask('reload'), '^reload: refused, the version before goes on: the program says: '
                          r'socket 1: its port is free now, or its peer cannot be reached; silent for \d\.\d s: '
-                         'no calls$')
+                         r'5 calls \(circuits 3, 4, 5, 7, 8\)$')
         await self.ends()
 
     async def test_a_program_that_may_not_be_executed_any_more(self) -> None:
