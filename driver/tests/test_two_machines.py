@@ -26,7 +26,7 @@ from .support import SECONDS
 from .test_program_killed import CIRCUITS
 from e1gw.ctl_all import TrunkLine
 from e1gw.metrics import exposition
-from e1gw.service import feed, standby
+from e1gw.service import standby
 from e1gw.service.feed import BACK, CARRIES, MARK, MOST_PIECE, PIECE, TAKES, TICK, FeedServer
 from e1gw.service.standby import IN_TIME, FedLog, TrunkStandby
 from e1gw.session import MULTIFRAME, OCTETS_A_SECOND, packet_of, trunk_record
