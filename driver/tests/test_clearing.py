@@ -1,12 +1,15 @@
 """Who clears calls: clients that are gone, and a trunk out of service, by a clock of their own."""
 from __future__ import annotations
 
+import asyncio
 import unittest
 from math import inf
 from typing import Any, NamedTuple
+from unittest import mock
 
 from .properties import PropertyCase
 from e1gw.clearing import DisconnectPolicy, DisconnectWatch, OutageWatch, on_loss_of
+from e1gw.service.commands import CommandServer
 
 LOOK = 0.125                # seconds between two looks
 
@@ -57,6 +60,15 @@ class SilentClientTests(unittest.TestCase):
             now += LOOK
             watch.look(now)
         self.assertEqual(cleared, [103.0])
+
+    def test_each_line_is_a_sign(self) -> None:
+        async def comes() -> list[str]:
+            trunk, reader = mock.Mock(), asyncio.StreamReader()
+            reader.feed_data(b'\nhelp\n')
+            reader.feed_eof()
+            await CommandServer(trunk).came(reader, mock.Mock(drain=mock.AsyncMock()))
+            return [name for name, *_ in trunk.disconnects.mock_calls]
+        self.assertEqual(asyncio.run(comes()), ['said', 'said', 'left'])
 
 
 class HeardClient(NamedTuple):

@@ -186,6 +186,13 @@ class PairRoleTests(unittest.IsolatedAsyncioTestCase):
                              (True, False, bool(ending)))
         self.assertEqual([each.args for each in self.carrier.want.call_args_list], [(Wish.DEMOTE,), (Wish.NONE,)] * 2)
 
+    def test_what_is_over(self) -> None:
+        """A move once the other machine carries the trunk, a demotion before."""
+        its, self.feed.is_carried = TrunkPair(self.carrier, mock.Mock(), self.feed, False), False
+        self.assertEqual([its._is_over(word) for word in ('demote', 'move')], [True, False])
+        self.feed.is_carried = True
+        self.assertTrue(its._is_over('move'))
+
     async def test_given_up(self) -> None:
         """Nothing is read of the log, which another machine's takes the place of, and systemd and others learn it."""
         its = TrunkPair(self.carrier, mock.Mock(), self.feed, False)

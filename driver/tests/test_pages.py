@@ -6,6 +6,7 @@ import os
 import re
 import shutil
 import unittest
+from pathlib import Path
 
 from . import support
 from e1gw import ctl
@@ -49,6 +50,11 @@ class PagesTests(unittest.TestCase):
         self.assertEqual(named, commands)
         self.assertEqual({*offered('trunk1')}, commands - {'undrain'} | {'calls', 'outages'})   # (of e1gw-ctl itself)
         self.assertEqual({word for word in commands if word in (control.__doc__ or '')}, commands)
+
+    def test_words_of_parts_that_are_gone(self) -> None:
+        for pattern in '*.md', 'docs/*', 'dist/**/*', 'driver/e1gw/**/*.py':
+            for path in filter(Path.is_file, Path(support.TOP).glob(pattern)):
+                self.assertNotRegex(path.read_text('utf-8'), r'(?i)\b(shadow|follower|keeper)\b', path)
 
     def test_codecs(self) -> None:
         self.assertEqual({*offered('trunk1', 'codec', '3')}, set(control.CODECS))

@@ -101,7 +101,7 @@ class PlayedEndTests(ServiceCase):
         self.plays(hangs='trunk')
         with mock.patch.object(lifecycle, 'RELOADED', 0.1):
             self.assertRegex(await self.ask('reload'), '^reload: refused, the version before goes on: the program does '
-                             r'not begin within 0.1 s; silent for \d+\.\d s: no calls$')
+                             r'not begin within 0.1 s; silent for (?!0\.0)\d+\.\d s: no calls$')
         await self.ends()
 
     async def test_what_asked_the_one_before_to_end(self) -> None:
@@ -155,6 +155,7 @@ FIVE = '4 calls (circuits 3, 4, 5, 8)'
 RELOADS: list[tuple[str, list[dict[str, Any]], str]] = [
     ('reload', [WAITS, WAITS, WAITS], 'reload: done'),
     ('reload', [WAITS, new(3, 6), new()], 'reload: it ends 1 calls (circuits 3)\nreload: done'),
+    ('reload', [WAITS, new(3, 6), says('config 2'), new()], 'reload: it ends 1 calls (circuits 3)\nreload: done'),
     ('reload', [WAITS, new(3, 4, 5, 8), new()], 'reload: refused, the trunk goes on as it was: it would end '
      f'{FIVE}; reload force does'),
     ('reload force', [WAITS, new(3, 4, 5, 6, 8), new()], f'reload: it ends {FIVE}\nreload: done'),
@@ -195,21 +196,25 @@ class PlayedReloadTests(ServiceCase):
 
     async def test_one_that_does_not_come_up(self) -> None:
         self.plan(WAITS, says('socket 1'), WAITS)
+        self.plan(WAITS, WAITS, new(), new(), what='check')
         self.begins()
         await self.says('carries')
         self.assertRegex(await self.ask('reload'), '^reload: refused, the version before goes on: the program says: '
                          r'socket 1: its port is free now, or its peer cannot be reached; silent for \d\.\d s: '
-                         'no calls$')
+                         r'5 calls \(circuits 3, 4, 5, 7, 8\)$')
         await self.ends()
 
     async def test_a_program_that_may_not_be_executed_any_more(self) -> None:
-        """No reload takes it; the one that was tried goes on."""
+        """No reload takes it; the one that was tried goes on, up to an update."""
         self.begins()
         await self.says('carries')
         os.chmod(self.path('e1gw'), 0o644)
         self.assertIn('Permission denied', await self.ask('reload'))
         os.kill(self.starts()[-1][1], signal.SIGKILL)
         await self.says('goes on after')
+        self.plays()
+        self.plan(WAITS, new(1, 2, 3, 4), what='check')
+        self.assertEqual(await self.ask('reload'), 'reload: done')
         await self.ends()
 
 
@@ -310,10 +315,10 @@ class PlayedVersionTests(ServiceCase):
             for host, asked, address, senders in (
                     ('west', None, '10.0.0.1', 'any'), ('10.0.0.2', None, '10.0.0.2', 'host'),
                     ('west', 'host', '10.0.0.1', 'host'), ('10.0.0.2', 'any', '10.0.0.2', 'any')):
-                its = await self.version(support.config_text({
-                    3: {'local_port': 9, 'peer_port': 9, 'peer_host': host}, 4: {}}), asked)
+                text = support.config_text({3: {'local_port': 9, 'peer_port': 9, 'peer_host': host}, 4: {}})
+                its = await self.version(text.replace('peer_host', '"peer_host"'), asked)
                 text = its.config_octets().decode()
-                self.assertEqual((text.count('west'), text.count(f'peer_host = "{address}"'), its.senders, its.name),
+                self.assertEqual((text.count('west'), text.count(f' = "{address}"'), its.senders, its.name),
                                  (0, 1, senders, '7.7'))
         words = self.starts('check')[-1]
         self.assertEqual((len(self.starts('check')), words[words.index('--seizure-wait') + 1]), (6, '300'))
@@ -478,5 +483,6 @@ class PlayedTakeoverTests(ServiceCase):
         self.manager.take_all()
         self.assertEqual(self.manager.files, {})
         told = [line.partition('=')[0] for line in self.manager.told if not line.startswith('FD')]
+        self.assertIn('WATCHDOG', told)
         self.assertEqual([word for word in told if word != 'WATCHDOG'],
                          ['READY', 'STATUS', 'RELOADING', 'MONOTONIC_USEC', 'READY', 'STATUS', 'STOPPING'])

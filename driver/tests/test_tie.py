@@ -19,7 +19,7 @@ from e1gw.testing.ports import free_port
 from e1gw.tie.circuit import CircuitEnd
 from e1gw.tie.coding import Coding
 from e1gw.tie.events import SiteCame
-from e1gw.tie.main import ANYBODY, main, parser
+from e1gw.tie.main import ANYBODY, main, parser, sign_of_life
 from e1gw.tie.messages import BadMessage, Greeting, Message, SiteState, encode_message, message_of
 from e1gw.tie.pairs import agreed, pairs_of
 from e1gw.tie.site import Reasons, Site, has_name, one_too_many, read_one
@@ -169,6 +169,14 @@ class TieOptionTests(unittest.TestCase):
         begins, hold = 1.5, parser().parse_args(['--control', 'a', '--listen', '127.0.0.1:1']).hold
         self.assertLessEqual(seconds('trunk', 'RestartSec') + begins, hold)
         self.assertLessEqual(seconds('tie', 'WatchdogSec') + seconds('tie', 'RestartSec') + begins, hold)
+
+    def test_signs_of_life(self) -> None:
+        """systemd, which begins a tie anew that hangs, learns that this one does not."""
+        rests = mock.AsyncMock(side_effect=(None, EOFError))
+        with mock.patch('e1gw.tie.main.Notifier') as systemd, mock.patch('asyncio.sleep', rests), \
+                self.assertRaises(EOFError):
+            asyncio.run(sign_of_life())
+        self.assertEqual([each.args[0] for each in systemd().tell.call_args_list], ['READY=1', *['WATCHDOG=1'] * 2])
 
     def test_loopback(self) -> None:
         for host, here in (('127.0.0.1', True), ('127.5.5.5', True), ('[::1]', True), ('localhost', True),

@@ -26,7 +26,7 @@ from .support import SECONDS
 from .test_program_killed import CIRCUITS
 from e1gw.ctl_all import TrunkLine
 from e1gw.metrics import exposition
-from e1gw.service import feed, standby
+from e1gw.service import standby
 from e1gw.service.feed import BACK, CARRIES, MARK, MOST_PIECE, PIECE, TAKES, TICK, FeedServer
 from e1gw.service.standby import IN_TIME, FedLog, TrunkStandby
 from e1gw.session import MULTIFRAME, OCTETS_A_SECOND, packet_of, trunk_record
@@ -372,12 +372,13 @@ class HandedTests(support.FolderCase, unittest.IsolatedAsyncioTestCase):
         its._writer, its.is_carried = mock.Mock(), carried
         if leaves:
             left.set_result(None)
-        with mock.patch.object(feed, 'TICK', 0.0):
+        with mock.patch('asyncio.wait', mock.AsyncMock()) as waits:
             await its._handed(left)
+        self.assertLess(sum(call.kwargs['timeout'] for call in waits.call_args_list), 1.0)
         return [call.args[0] for call in its._writer.write.call_args_list]
 
     async def test_what_is_taken_back(self) -> None:
-        """It says so, if the standby does not say that it carries the trunk."""
+        """It says so within a second, if the standby does not say that it carries the trunk."""
         for carried, leaves in (False, False), (False, True), (True, False):
             with self.subTest(carried=carried, leaves=leaves):
                 self.assertEqual(await self.told(carried, leaves), [] if carried else [PIECE.pack(0.0, BACK)])

@@ -1,5 +1,6 @@
 """The agent of Pacemaker, with a systemd and a trunk of the test's own."""
 import os
+import re
 import socket
 import subprocess
 import tempfile
@@ -29,12 +30,11 @@ class AgentTests(unittest.TestCase):
         self.addCleanup(folder.cleanup)
         self.folder = folder.name
         self.write('ocf-shellfuncs', FUNCTIONS)
-        for name, text in (('systemctl', SYSTEMCTL), ('sleep', '#!/bin/sh\n'), ('setsid', '#!/bin/sh\n'),
-                           ('crm_resource', '#!/bin/sh\n'), ('ip', '#!/bin/sh\necho "$@" >> "$IPS"\n')):
-            os.chmod(self.write(name, text), 0o755)
+        for name in 'sleep', 'setsid', 'crm_resource', 'ip', 'systemctl':
+            os.chmod(self.write(name, SYSTEMCTL if name == 'systemctl' else '#!/bin/sh\n'), 0o755)
         with open(AGENT, encoding='utf-8') as file:
             self.agent = self.write('agent', file.read().replace('/run/e1gw/$OCF_RESKEY_trunk/', f'{self.folder}/'))
-        self.trunk = socket.socket(socket.AF_UNIX)
+        self.asked, self.trunk = list[str](), socket.socket(socket.AF_UNIX)
         self.addCleanup(self.trunk.close)
         self.trunk.bind(os.path.join(self.folder, 'control'))
         self.trunk.listen(8)
@@ -53,37 +53,39 @@ class AgentTests(unittest.TestCase):
                 line = self.trunk.accept()[0]
             except OSError:
                 return
-            asked = line.recv(100).decode().strip()
+            self.asked.append(asked := line.recv(100).decode().strip())
             line.sendall(b'active, fed\n' if asked == 'role' else f'{asked}: done\n'.encode())
             line.close()
 
     def does(self, action: str, *states: str) -> int:
         """The status of an action while systemd says these of the unit."""
-        paths = {name: self.write(name.lower(), '') for name in ('STATES', 'IPS')}
-        self.write('states', ''.join(f'{state}\n' for state in states))
         around = {'PATH': f'{self.folder}:{os.environ["PATH"]}', 'OCF_FUNCTIONS_DIR': self.folder,
                   'HA_RSCTMP': self.folder, 'OCF_RESKEY_trunk': 'west', 'OCF_RESOURCE_INSTANCE': 'west',
-                  'OCF_RESKEY_addresses': 'eth9 192.0.2.100/24'}
-        return subprocess.run(['sh', self.agent, action], env={**os.environ, **paths, **around},
+                  'OCF_RESKEY_addresses': 'eth9 192.0.2.100/24',
+                  'STATES': self.write('states', ''.join(f'{state}\n' for state in states))}
+        return subprocess.run(['sh', self.agent, action], env={**os.environ, **around},
                               capture_output=True, timeout=60, check=False).returncode
 
     def test_a_service_that_systemd_begins_again(self) -> None:
-        """It was killed; its program carries the trunk, which no monitor and no demotion ends."""
+        """It was killed; its program carries the trunk, which no monitor ends, and a demotion moves."""
         again = 'deactivating', 'activating', 'activating', 'active'
         self.assertEqual([self.does('monitor', *again), self.does('demote', *again)], [ACTIVE, 0])
+        self.assertEqual(self.asked, ['role', 'move'])
 
     def test_a_unit_that_is_not_there(self) -> None:
         """One failure is counted, by the monitor: three of them ban a machine."""
         for states in (('inactive',), ('failed',), ('activating', 'failed'), ('activating',)):
             with self.subTest(states):
                 self.assertEqual([self.does(each, *states) for each in ('monitor', 'demote')], [NOT_RUNNING, 0])
-        self.assertEqual(self.does('monitor', 'active'), ACTIVE)
+        self.assertEqual((self.does('monitor', 'active'), self.asked), (ACTIVE, ['role']))
 
 
 class ExampleTests(unittest.TestCase):
-    def test_a_machine_is_banned_for_a_time(self) -> None:
+    def test_what_they_need(self) -> None:
         """Where failures ban a machine they are forgotten again: both were banned for ever, and nobody carried the
-        trunk."""
-        for name in 'west.crm', 'rack.sh':
-            with open(os.path.join(TOP, 'dist', 'ocf', name), encoding='utf-8') as file:
-                self.assertRegex(file.read(), r'rsc_defaults [^\n]*\bmigration-threshold=3 failure-timeout=\d+min\b')
+        trunk. Each machine has a fence device: without one crm refuses a configuration that wants fencing."""
+        for words, machines in (('cat west.crm', 'west-a west-b'), ('sh rack.sh', 'rack-a rack-b rack-c')):
+            text = subprocess.run(words.split(), cwd=os.path.dirname(AGENT), capture_output=True, text=True,
+                                  check=True).stdout
+            self.assertRegex(text, r'rsc_defaults [^\n]*\bmigration-threshold=3 failure-timeout=\d+min\b')
+            self.assertEqual(re.findall(r'stonith:[\w \\\n]+ pcmk_host_list=(\S+)', text), machines.split())
