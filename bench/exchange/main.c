@@ -1,6 +1,6 @@
 /* The exchange in lock step. Standard input has records (a kind, 0, a length of two octets, that many octets):
  *   T  whole multiframes that the exchange receives; as many that it sends are the answer
- *   L  a command as text: call N ANI DNIS, answer N, hangup N, block N, unblock N, bits N HEX, media N .., result N
+ *   L  a command as text: call N ANI DNIS, answer N, hangup N, block N, unblock N
  * Standard output has a T record for each T record, and before it an E record with each event: milliseconds of the
  * trunk, circuit (0 is the trunk), what happened. Time is the octets of the trunk, so no clock and no load matters. */
 #include <stdarg.h>
@@ -40,8 +40,7 @@ static void obey(char *line)
     if (!count) return;
     int n = count > 1 ? atoi(words[1]) : 0;
     if (n < 1 || n > CIRCUITS) report(0, "no circuit for %s", words[0]);
-    else if (!obey_call(&circuits[n], words, count) && !obey_media(&circuits[n], words, count))
-        report(n, "unknown command %s", words[0]);
+    else if (!obey_call(&circuits[n], words, count)) report(n, "unknown command %s", words[0]);
 }
 
 static void exchange_multiframe(uint8_t *octets)
@@ -62,7 +61,6 @@ static int int_of(const char *word) { return word ? atoi(word) : 0; }
 
 static int read_option(const char *name, char *value)
 {
-    if (!strcmp(name, "--plain")) { options.plain = 1; return 1; }
     if (!value) return 0;
     if (!strcmp(name, "--variant")) options.variant = value;
     else if (!strcmp(name, "--ani")) options.ani = int_of(value);
@@ -81,7 +79,7 @@ static void read_options(int count, char **words)
         used = read_option(words[i], i + 1 < count ? words[i + 1] : NULL);
         if (used) continue;
         fprintf(stderr, "exchange [--variant NAME] [--ani DIGITS] [--dnis DIGITS] [--answer MS] [--hold MS]"
-                        " [--threshold MS] [--persistence MS] [--plain]\n");
+                        " [--threshold MS] [--persistence MS]\n");
         exit(2);
     }
 }
