@@ -33,7 +33,6 @@ static void call_answered(openr2_chan_t *channel)
 {
     circuit_t *circuit = circuit_of(channel);
     report(circuit->number, "answered %lld", (long long)(frames - circuit->seized_at) / FRAMES_A_MS);
-    circuit->hang_up_at = after(options.hold);
 }
 
 static void call_disconnected(openr2_chan_t *channel, openr2_call_disconnect_cause_t cause)
@@ -45,7 +44,7 @@ static void call_disconnected(openr2_chan_t *channel, openr2_call_disconnect_cau
 static void call_ended(openr2_chan_t *channel)
 {
     circuit_t *circuit = circuit_of(channel);
-    circuit->answer_at = circuit->hang_up_at = 0;
+    circuit->answer_at = 0;
     report(circuit->number, "ended");
 }
 
@@ -89,26 +88,12 @@ static openr2_event_interface_t reported = {
     .on_context_log = context_logged, .on_dnis_digit_received = digit_of_called,
     .on_ani_digit_received = digit_of_caller, .on_billing_pulse_received = charged };
 
-/* What only a file of r2proto.conf's form can set. */
-static void set_persistence(openr2_context_t *context)
-{
-    char path[] = "/tmp/exchange.XXXXXX";
-    int file = mkstemp(path);
-    if (file < 0) exit(1);
-    dprintf(file, "timers.cas_persistence_check=%d\n", options.persistence);
-    close(file);
-    int failed = openr2_context_configure_from_advanced_file(context, path);
-    unlink(path);
-    if (failed) exit(1);
-}
-
 static openr2_context_t *open_context(void)
 {
-    openr2_variant_t variant = openr2_proto_get_variant(options.variant);
-    openr2_context_t *context = openr2_context_new(NULL, &reported, NULL, variant, options.ani, options.dnis);
+    openr2_context_t *context =
+        openr2_context_new(NULL, &reported, NULL, OR2_VAR_ITU, options.ani, options.dnis);
     if (!context) { fprintf(stderr, "exchange: libopenr2 refuses these options\n"); exit(1); }
     openr2_context_set_log_level(context, OR2_LOG_NOTHING);
-    if (options.persistence) set_persistence(context);
     if (options.threshold) openr2_context_set_mf_threshold(context, options.threshold);
     return context;
 }
@@ -142,11 +127,6 @@ void process_calls(circuit_t *circuit)
         circuit->answer_at = 0;
         openr2_chan_answer_call(circuit->channel);
         report(circuit->number, "answers");
-    }
-    if (circuit->hang_up_at && frames >= circuit->hang_up_at) {
-        circuit->hang_up_at = 0;
-        hang_up(circuit);
-        report(circuit->number, "hangs up");
     }
 }
 

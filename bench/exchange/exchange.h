@@ -18,13 +18,11 @@ typedef struct {
     int events[EVENTS], event_count;        /* of the made-up DAHDI channel */
     uint8_t received[ROOM]; int received_count;
     uint8_t waiting[ROOM]; int waiting_count;       /* octets that libopenr2 has written */
-    int64_t seized_at, answer_at, hang_up_at;       /* frames; 0 is never */
+    int64_t seized_at, answer_at;           /* frames; 0 is never */
 } circuit_t;
 
 typedef struct {
-    const char *variant;
-    int dnis, ani, threshold, persistence;      /* digits, digits, ms, ms */
-    int answer_after, hold;                     /* ms, or -1 */
+    int dnis, ani, threshold, answer_after;     /* digits, digits, ms, ms or -1 */
 } options_t;
 
 extern circuit_t circuits[CIRCUITS + 1];        /* from 1 */
