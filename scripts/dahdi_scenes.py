@@ -118,8 +118,8 @@ def thirty_calls() -> str:
     talk = pair.talk(10)
     after = [site.losses() for site in pair.sites]
     compared = talk.compared()
-    told = ', '.join(figures(compared))
-    if before != after or any(one.found != 1 or one.wrong or one.missing for one in compared):
+    told = figures(compared)
+    if before != after or any(one.wrong or one.missing or not one.octets for one in compared):
         raise SceneFailed(f'slot 16 and multiframe alignment lost: {before} before, {after} behind; sent late by '
                           f'{talk.late:.3f} s at most; {told}')
     return told
