@@ -46,17 +46,16 @@ class Scene:
 
     name: str
     does: Callable[[], str]
-    is_long: bool = False
 
 
 class Pair:
     """Two sites, one on each span, aligned."""
 
-    def __init__(self, *options: str) -> None:
+    def __init__(self) -> None:
         inside.configured()
-        self.west = Site('west', 0, *options)
+        self.west = Site('west', 0)
         time.sleep(APART)
-        self.east = Site('east', 1, *options)
+        self.east = Site('east', 1)
         self.sites = [self.west, self.east]
         self.are_heard()
 
@@ -119,8 +118,8 @@ def thirty_calls() -> str:
     talk = pair.talk(10)
     after = [site.losses() for site in pair.sites]
     compared = talk.compared()
-    told = ', '.join(figures(compared))
-    if before != after or any(one.found != 1 or one.wrong or one.missing for one in compared):
+    told = figures(compared)
+    if before != after or any(one.wrong or one.missing or not one.octets for one in compared):
         raise SceneFailed(f'slot 16 and multiframe alignment lost: {before} before, {after} behind; sent late by '
                           f'{talk.late:.3f} s at most; {told}')
     return told
@@ -366,29 +365,6 @@ def real_call() -> str:
     return f'{OFFERED} after {took:.1f} s, answered, cleared'
 
 
-def delays() -> str:
-    """What blocks of so many frames cost, and what is lost with them."""
-    Shared.end()
-    for frames in 1, 2, 4, 8, 16, 32, 64:
-        pair = Pair('--block', str(frames), '--buffers', str(min(32, 32768 // (31 * frames), max(16, 256 // frames))))
-        try:
-            pair.calls()
-            before, began = [site.losses() for site in pair.sites], time.monotonic()
-            busy = pair.west.busy()
-            talk = pair.talk(4)
-            share = (pair.west.busy() - busy) / (time.monotonic() - began)
-            lost = [b - a for one, other in zip(before, (site.losses() for site in pair.sites))
-                    for a, b in zip(one, other)]
-            blocks = pair.west.transport()
-            print(f'  {frames} frames x {blocks["buffers"]}: {", ".join(figures(talk.compared()))}; lost {lost}; '
-                  f'{100 * share:.1f} % of a core', flush=True)
-        except SceneFailed as fault:
-            print(f'  {frames} frames: {fault}', flush=True)
-        finally:
-            pair.end()
-    return 'see above'
-
-
 SCENES = (
     Scene('thirty calls', thirty_calls),
     Scene('killed', killed),
@@ -401,7 +377,6 @@ SCENES = (
     Scene('simulated exchange', simulated_exchange),
     Scene(R2, real_call),
     Scene('START', by_the_page),
-    Scene('delays', delays, is_long=True),
 )
 
 

@@ -105,9 +105,8 @@ NOT_RUN = {
     ('docs/TWO-MACHINES.md', 'crm'): CLUSTER,
 }
 # What a block needs of others, by a word of it; without that it is not run.
-TOOLS = {tool: tool for tool in ('espeak-ng', 'sox', 'tshark', 'xxd', 'zstd', 'openssl', 'ffmpeg',
-                                        'gst-launch-1.0')} | {
-    'two_gateways/run': 'espeak-ng', 'exchange/card': '/usr/include/openr2.h'}
+TOOLS = {tool: tool for tool in ('espeak-ng', 'sox', 'tshark', 'xxd', 'zstd', 'openssl', 'ffmpeg', 'gst-launch-1.0')}
+TOOLS['exchange/card'] = '/usr/include/openr2.h'
 # Words of a block that its output has: of a comparison, and the state of a circuit as a comment has it.
 SAID = re.compile(r'&& echo (same)\b|e1gw-ctl \S+ status\b.*# (idle|seized|acked|answered|releasing|blocked|fault)\b')
 

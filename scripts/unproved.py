@@ -1,25 +1,23 @@
 """Builds the program without proof, with checks at run time in the proof's place, and keeps it: for scripts/build.
 
 usage: scripts/unproved.py PROGRAM             makes the file PROGRAM
-       scripts/unproved.py --again [WORD..]    builds the program for one run with these words
 
 `rt try` builds such a program, runs it and removes it. It is run here on a configuration that is a pipe, and is copied
-while it waits there for the first octet. Where the copy does not print what that run printed, PROGRAM is a script that
-has rt try build the program for each run. Status 0, or 70 if rt try built none.
+while it waits there for the first octet. The copy has to print what that run printed. Status 0, or 70 if rt try built
+none, or none that can be kept.
 """
 from __future__ import annotations
 
 import os
 import re
-import shlex
 import shutil
 import signal
 import subprocess
 import sys
 import time
-from contextlib import contextmanager, suppress
+from contextlib import suppress
 from types import FrameType
-from typing import Any, Iterator, Optional
+from typing import Optional
 
 TOP = os.path.dirname(os.path.dirname(os.path.realpath(__file__)))
 CRATE = f'{TOP}/crates/gateway_main'
@@ -28,21 +26,8 @@ NOT_BUILT = 70
 SIGNALS = (signal.SIGTERM, signal.SIGINT, signal.SIGHUP)
 BETWEEN_LINES, BETWEEN_LOOKS = 10.0, 0.1        # seconds
 PATIENCE = 5.0              # seconds from the opening of the pipe to the copy
-MOST_SECONDS = '600'        # for a run by rt try
-WRITTEN = '--save'            # the option with the path of a file that need not be there
 # What rt try says of a run that ended.
 OF_THE_RUN = re.compile(r'(?m)^(?:(?:checked: ended|interpreter: |races: ).*\n)*run=ended .*\n\Z')
-
-
-@contextmanager
-def rt_try(words: list[str], **around: Any) -> Iterator[subprocess.Popen[bytes]]:
-    """rt try with these words, which ends with this block."""
-    rt = subprocess.Popen(['rt', 'try', *words], cwd=CRATE, **around)
-    try:
-        yield rt
-    finally:
-        rt.terminate()
-        rt.wait()
 
 
 def program_reading(pipe: str) -> Optional[str]:
@@ -92,10 +77,14 @@ def tried(work: str, log: str) -> Optional[bytes]:
     """What the program printed that rt try built, and of which work/program is a copy; nothing if it built none."""
     pipe = f'{work}/config'
     os.mkfifo(pipe)
-    with open(log, 'wb') as told, open(f'{work}/said', 'wb') as said, \
-            rt_try(['--', *JOB, pipe], stdin=subprocess.DEVNULL, stdout=said, stderr=told,
-                   env={**os.environ, 'TMPDIR': work}) as rt:
-        watch(rt, pipe, f'{work}/program')
+    with open(log, 'wb') as told, open(f'{work}/said', 'wb') as said:
+        rt = subprocess.Popen(['rt', 'try', '--', *JOB, pipe], cwd=CRATE, stdin=subprocess.DEVNULL, stdout=said,
+                              stderr=told, env={**os.environ, 'TMPDIR': work})
+        try:
+            watch(rt, pipe, f'{work}/program')
+        finally:
+            rt.terminate()
+            rt.wait()
     with open(log, encoding='utf-8', errors='replace') as file, open(f'{work}/said', 'rb') as octets:
         return octets.read() if OF_THE_RUN.search(file.read()) else None
 
@@ -116,10 +105,8 @@ def build(program: str, work: str) -> int:
             print(f'e1gw: not built; from {program}.log:', *file.read().splitlines()[:40], sep='\n', file=sys.stderr)
         return NOT_BUILT
     if not answers(f'{work}/program', said):
-        print('e1gw: rt try does not let it be kept: it is built for each run', file=sys.stderr)
-        with open(f'{work}/program', 'w', encoding='utf-8') as script:
-            script.write(f'#!/bin/sh\nexec python3 -B {shlex.quote(os.path.realpath(__file__))} --again "$@"\n')
-        os.chmod(script.name, 0o755)
+        print('e1gw: not built: rt try does not let its program be kept', file=sys.stderr)
+        return NOT_BUILT
     os.replace(f'{work}/program', program)
     return 0
 
@@ -135,21 +122,6 @@ def keep(program: str) -> int:
         shutil.rmtree(work, ignore_errors=True)
 
 
-def from_here(before: str, word: str) -> str:
-    """A word of the program that names a file, as it is named from any folder."""
-    option, equals, path = word.rpartition('=') if word.startswith('--') else ('', '', word)
-    return option + equals + os.path.abspath(path) if os.path.exists(path) or (option or before) == WRITTEN else word
-
-
-def again(words: list[str]) -> int:
-    """Runs the program by rt try, which says nothing of its own of a run that ended."""
-    named = [from_here(before, word) for before, word in zip(['', *words], words)]
-    with rt_try(['--seconds', MOST_SECONDS, '--', *named], stderr=subprocess.PIPE) as rt:
-        told = rt.communicate()[1].decode(errors='replace')
-    sys.stderr.write(OF_THE_RUN.sub('', told))
-    return rt.returncode
-
-
 def end(_number: int, _frame: Optional[FrameType]) -> None:
     for each in SIGNALS:
         signal.signal(each, signal.SIG_IGN)
@@ -159,7 +131,7 @@ def end(_number: int, _frame: Optional[FrameType]) -> None:
 def main(words: list[str]) -> int:
     for each in SIGNALS:
         signal.signal(each, end)
-    return again(words[1:]) if words[0] == '--again' else keep(os.path.abspath(words[0]))
+    return keep(os.path.abspath(words[0]))
 
 
 if __name__ == '__main__':

@@ -1,12 +1,10 @@
-/* Calls: what libopenr2 reports, and the commands to it. If options.plain is set, libopenr2 is left out: a seizure is
- * acknowledged at once, and all other line signals are those of the command `bits`. */
+/* Calls: what libopenr2 reports, and the commands to it. */
 #include <stdlib.h>
 #include <string.h>
 #include <unistd.h>
 #include "exchange.h"
 #include "dahdi.h"
 
-enum { IDLE = 2, SEIZED = 0, ACKNOWLEDGED_BITS = 13 };     /* Q.421: a and b; ABCD */
 enum { FRAMES_A_MS = 8 };
 
 static circuit_t *circuit_of(openr2_chan_t *channel) { return openr2_chan_get_client_data(channel); }
@@ -35,7 +33,6 @@ static void call_answered(openr2_chan_t *channel)
 {
     circuit_t *circuit = circuit_of(channel);
     report(circuit->number, "answered %lld", (long long)(frames - circuit->seized_at) / FRAMES_A_MS);
-    circuit->hang_up_at = after(options.hold);
 }
 
 static void call_disconnected(openr2_chan_t *channel, openr2_call_disconnect_cause_t cause)
@@ -47,8 +44,7 @@ static void call_disconnected(openr2_chan_t *channel, openr2_call_disconnect_cau
 static void call_ended(openr2_chan_t *channel)
 {
     circuit_t *circuit = circuit_of(channel);
-    circuit->answer_at = circuit->hang_up_at = 0;
-    stop_media(circuit);
+    circuit->answer_at = 0;
     report(circuit->number, "ended");
 }
 
@@ -92,30 +88,12 @@ static openr2_event_interface_t reported = {
     .on_context_log = context_logged, .on_dnis_digit_received = digit_of_called,
     .on_ani_digit_received = digit_of_caller, .on_billing_pulse_received = charged };
 
-static int16_t expand(uint8_t octet) { return alaw_to_linear(octet); }
-static uint8_t compress(int sample) { return linear_to_alaw(sample); }
-static openr2_transcoder_interface_t law = { expand, compress };
-
-/* What only a file of r2proto.conf's form can set. */
-static void set_persistence(openr2_context_t *context)
-{
-    char path[] = "/tmp/exchange.XXXXXX";
-    int file = mkstemp(path);
-    if (file < 0) exit(1);
-    dprintf(file, "timers.cas_persistence_check=%d\n", options.persistence);
-    close(file);
-    int failed = openr2_context_configure_from_advanced_file(context, path);
-    unlink(path);
-    if (failed) exit(1);
-}
-
 static openr2_context_t *open_context(void)
 {
-    openr2_variant_t variant = openr2_proto_get_variant(options.variant);
-    openr2_context_t *context = openr2_context_new(NULL, &reported, &law, variant, options.ani, options.dnis);
+    openr2_context_t *context =
+        openr2_context_new(NULL, &reported, NULL, OR2_VAR_ITU, options.ani, options.dnis);
     if (!context) { fprintf(stderr, "exchange: libopenr2 refuses these options\n"); exit(1); }
     openr2_context_set_log_level(context, OR2_LOG_NOTHING);
-    if (options.persistence) set_persistence(context);
     if (options.threshold) openr2_context_set_mf_threshold(context, options.threshold);
     return context;
 }
@@ -137,14 +115,6 @@ void open_channels(void)
     }
 }
 
-static void acknowledge(circuit_t *circuit)
-{
-    circuit->received_count = circuit->event_count = 0;
-    int pair = circuit->received_bits >> 2;
-    if (circuit->sent_bits == IDLE_BITS && pair == SEIZED) circuit->sent_bits = ACKNOWLEDGED_BITS;
-    if (circuit->sent_bits == ACKNOWLEDGED_BITS && pair == IDLE) circuit->sent_bits = IDLE_BITS;
-}
-
 static int hang_up(circuit_t *circuit)
 {
     return openr2_chan_disconnect_call(circuit->channel, OR2_CAUSE_NORMAL_CLEARING);
@@ -152,17 +122,11 @@ static int hang_up(circuit_t *circuit)
 
 void process_calls(circuit_t *circuit)
 {
-    if (options.plain) { acknowledge(circuit); return; }
     openr2_chan_process_event(circuit->channel);
     if (circuit->answer_at && frames >= circuit->answer_at) {
         circuit->answer_at = 0;
         openr2_chan_answer_call(circuit->channel);
         report(circuit->number, "answers");
-    }
-    if (circuit->hang_up_at && frames >= circuit->hang_up_at) {
-        circuit->hang_up_at = 0;
-        hang_up(circuit);
-        report(circuit->number, "hangs up");
     }
 }
 
@@ -182,7 +146,6 @@ int obey_call(circuit_t *circuit, char **words, int count)
     else if (!strcmp(name, "hangup")) refused = hang_up(circuit);
     else if (!strcmp(name, "block")) refused = openr2_chan_set_blocked(circuit->channel);
     else if (!strcmp(name, "unblock")) refused = openr2_chan_set_idle(circuit->channel);
-    else if (!strcmp(name, "bits") && count == 3) circuit->sent_bits = strtol(words[2], NULL, 16) & 15;
     else return 0;
     if (refused) report(circuit->number, "refused");
     return 1;

@@ -1,28 +1,15 @@
-/* An exchange of thirty circuits: libopenr2 for line and register signals, SpanDSP for DTMF, fax and modems. */
+/* An exchange of thirty circuits: libopenr2 for line and register signals. */
 #ifndef EXCHANGE_H
 #define EXCHANGE_H
 #include <stdint.h>
 #include <stdio.h>
 #include <openr2.h>
-#define SPANDSP_EXPOSE_INTERNAL_STRUCTURES
-#include <spandsp.h>
 
 enum { CIRCUITS = 30, FRAME = 32, FRAMES = 16, MULTIFRAME = FRAME * FRAMES };
 enum { BLOCK = 160, ROOM = 4 * BLOCK, EVENTS = 16 };
 enum { IDLE_OCTET = 0xD5, IDLE_BITS = 9, UNKNOWN_BITS = -1 };
 /* the events of DAHDI that libopenr2 reads */
 enum { ALARM_BEGINS = 4, ALARM_ENDS = 5, BITS_CHANGED = 13 };
-
-/* What a modem, a fax machine or a tone generator sends and receives, as SpanDSP has it. */
-typedef struct {
-    int (*send)(void *, int16_t *, int);
-    int (*receive)(void *, const int16_t *, int);
-    void *sender, *receiver;
-    uint8_t sent[BLOCK]; int sent_at;
-    int16_t received[BLOCK]; int received_count;
-    bert_state_t *bits;
-    dtmf_rx_state_t *dtmf; char digits[256];
-} media_t;
 
 typedef struct {
     int number, slot;
@@ -31,14 +18,11 @@ typedef struct {
     int events[EVENTS], event_count;        /* of the made-up DAHDI channel */
     uint8_t received[ROOM]; int received_count;
     uint8_t waiting[ROOM]; int waiting_count;       /* octets that libopenr2 has written */
-    int64_t seized_at, answer_at, hang_up_at;       /* frames; 0 is never */
-    media_t media;
+    int64_t seized_at, answer_at;           /* frames; 0 is never */
 } circuit_t;
 
 typedef struct {
-    const char *variant;
-    int dnis, ani, threshold, persistence;      /* digits, digits, ms, ms */
-    int answer_after, hold, plain;              /* ms, ms, or -1; no libopenr2: line signals alone */
+    int dnis, ani, threshold, answer_after;     /* digits, digits, ms, ms or -1 */
 } options_t;
 
 extern circuit_t circuits[CIRCUITS + 1];        /* from 1 */
@@ -51,11 +35,6 @@ void add_event(circuit_t *circuit, int event);
 void open_channels(void);
 void process_calls(circuit_t *circuit);
 int obey_call(circuit_t *circuit, char **words, int count);
-
-int obey_media(circuit_t *circuit, char **words, int count);
-void stop_media(circuit_t *circuit);
-uint8_t media_sends(media_t *media);
-void media_receives(media_t *media, uint8_t octet);
 
 void receive_octets(const uint8_t *octets, int count);
 void send_frame(uint8_t *frame);

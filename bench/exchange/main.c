@@ -1,6 +1,6 @@
 /* The exchange in lock step. Standard input has records (a kind, 0, a length of two octets, that many octets):
  *   T  whole multiframes that the exchange receives; as many that it sends are the answer
- *   L  a command as text: call N ANI DNIS, answer N, hangup N, block N, unblock N, bits N HEX, media N .., result N
+ *   L  a command as text: call N ANI DNIS, answer N, hangup N, block N, unblock N
  * Standard output has a T record for each T record, and before it an E record with each event: milliseconds of the
  * trunk, circuit (0 is the trunk), what happened. Time is the octets of the trunk, so no clock and no load matters. */
 #include <stdarg.h>
@@ -9,7 +9,7 @@
 #include "exchange.h"
 
 circuit_t circuits[CIRCUITS + 1];
-options_t options = { .variant = "ITU", .dnis = 4, .ani = 10, .answer_after = -1, .hold = -1 };
+options_t options = { .dnis = 4, .ani = 10, .answer_after = -1 };
 int64_t frames;
 
 enum { HEAD = 4, MOST = 65535, WORDS = 6 };
@@ -40,8 +40,7 @@ static void obey(char *line)
     if (!count) return;
     int n = count > 1 ? atoi(words[1]) : 0;
     if (n < 1 || n > CIRCUITS) report(0, "no circuit for %s", words[0]);
-    else if (!obey_call(&circuits[n], words, count) && !obey_media(&circuits[n], words, count))
-        report(n, "unknown command %s", words[0]);
+    else if (!obey_call(&circuits[n], words, count)) report(n, "unknown command %s", words[0]);
 }
 
 static void exchange_multiframe(uint8_t *octets)
@@ -58,31 +57,19 @@ static void exchange_octets(uint8_t *octets, int length)
     if (fflush(stdout)) exit(1);
 }
 
-static int int_of(const char *word) { return word ? atoi(word) : 0; }
-
-static int read_option(const char *name, char *value)
-{
-    if (!strcmp(name, "--plain")) { options.plain = 1; return 1; }
-    if (!value) return 0;
-    if (!strcmp(name, "--variant")) options.variant = value;
-    else if (!strcmp(name, "--ani")) options.ani = int_of(value);
-    else if (!strcmp(name, "--dnis")) options.dnis = int_of(value);
-    else if (!strcmp(name, "--answer")) options.answer_after = int_of(value);
-    else if (!strcmp(name, "--hold")) options.hold = int_of(value);
-    else if (!strcmp(name, "--threshold")) options.threshold = int_of(value);
-    else if (!strcmp(name, "--persistence")) options.persistence = int_of(value);
-    else return 0;
-    return 2;
-}
-
 static void read_options(int count, char **words)
 {
-    for (int i = 1, used; i < count; i += used) {
-        used = read_option(words[i], i + 1 < count ? words[i + 1] : NULL);
-        if (used) continue;
-        fprintf(stderr, "exchange [--variant NAME] [--ani DIGITS] [--dnis DIGITS] [--answer MS] [--hold MS]"
-                        " [--threshold MS] [--persistence MS] [--plain]\n");
-        exit(2);
+    const struct { const char *name; int *value; } rows[] = { { "--ani", &options.ani }, { "--dnis", &options.dnis },
+        { "--answer", &options.answer_after }, { "--threshold", &options.threshold } };
+    for (int i = 1; i < count; i += 2) {
+        int *value = NULL;
+        for (size_t k = 0; i + 1 < count && k < sizeof rows / sizeof *rows; k++)
+            if (!strcmp(words[i], rows[k].name)) value = rows[k].value;
+        if (!value) {
+            fprintf(stderr, "exchange [--ani DIGITS] [--dnis DIGITS] [--answer MS] [--threshold MS]\n");
+            exit(2);
+        }
+        *value = atoi(words[i + 1]);
     }
 }
 

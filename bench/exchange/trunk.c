@@ -62,7 +62,6 @@ static void receive_signalling(uint8_t octet)
 
 static void receive_speech(circuit_t *circuit, uint8_t octet)
 {
-    if (circuit->media.receive) media_receives(&circuit->media, octet);
     if (circuit->received_count == ROOM) {
         circuit->received_count -= BLOCK;
         memmove(circuit->received, circuit->received + BLOCK, circuit->received_count);
@@ -112,7 +111,6 @@ void receive_octets(const uint8_t *octets, int count)
 
 static uint8_t next_octet(circuit_t *circuit)
 {
-    if (circuit->media.send) return media_sends(&circuit->media);
     if (!circuit->waiting_count) return IDLE_OCTET;
     uint8_t octet = circuit->waiting[0];
     memmove(circuit->waiting, circuit->waiting + 1, --circuit->waiting_count);

@@ -5,48 +5,6 @@ import pasted
 import tree
 from . import FolderCase, loaded
 
-CALLS = """/// Holds of all counters.
-pub fn law()
-    ensures { HasLaw }
-{}
-
-/// A counter.
-pub struct Counter(u8);
-
-impl Counter {
-    /// Counts one more, at most 255;
-    /// none at 0.
-    ///
-    /// More of it.
-    #[inline]
-    pub fn more(
-        &mut self,
-        by: u8,
-    ) -> bool
-        requires { IsTrue by }
-        ensures { result ≡ true }
-        ensures stands { {n : ℕ} → n ≡ 0 → self.new ≡ (record {
-          count = n;
-        }) }
-        ensures err { self.new ≡ self.old }
-    {
-        self.private()
-    }
-
-    fn private(&self)
-        ensures { self ≡ self }
-    {
-    }
-
-    pub fn without_a_clause(&self) {
-    }
-}
-
-trait Told {
-    fn told(&self) -> u8
-        ensures bound { result < 256 };
-}
-"""
 LIB = """//! A small crate.
 
 /// Doubles.
@@ -116,20 +74,6 @@ class Tree(FolderCase):
         self.write('driver/e1gw/tie/__init__.py', '')
         self.assertEqual(tree.modules(), {'calls': 'A line for each call: as CSV.', 'tie/': ''})
         self.assertEqual(list(self.docs.wrong_heads()), ['driver/e1gw/tie/: does not begin with a sentence'])
-
-    def test_what_a_crate_has(self) -> None:
-        self.write('crates.txt', 'small:\nsmall_tests: small\n')
-        self.write('crates/small_tests/src/small_tests.rt', TESTS.replace('two_and_two', 'elsewhere'))
-        self.assertEqual(tree.summary('crates/small/src/lib.rt'), 'A small crate.')
-        self.assertEqual(tree.tests(), {'small': ['two_and_two', 'elsewhere'], 'small_tests': []})
-        self.assertEqual(tree.wrong_bodies_of('small'), ['double_is_three'])
-
-    def test_calls(self) -> None:
-        self.write('crates/small/src/counter.rt', CALLS)
-        self.assertEqual(list(tree.calls('crates/small/src/counter.rt')),
-                         [('law', 'Holds of all counters.', ['result']),
-                          ('Counter::more', 'Counts one more, at most 255; none at 0.', ['result', 'stands', 'err']),
-                          ('Told::told', '', ['bound'])])
 
     def test_links_out_of_the_package(self) -> None:
         self.write('scripts/package', 'for file in OPERATING TIE; do\n')

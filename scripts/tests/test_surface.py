@@ -1,55 +1,34 @@
-"""What scripts/surface says of a list and a changelog. (That all is found shows the list of this tree.)"""
-import contextlib
-import io
-from unittest import mock
+"""What scripts/surface reads of a page and of the code, and what it says where they differ."""
+import unittest
 
-from . import FolderCase, loaded
+from . import loaded
+
+surface = loaded('surface')
+PAGE = '''.It lamp.lit, .dim
+seconds; age
+.It Fl -red , Fl -blue Ar n
+.It "lamp gone"
+.It none
+e1gw_up e1gw_down_total
+.It end, lamp
+e1gw_lit
+'''
+PAGE = PAGE.replace('Fl -', '--')
 
 
-class Surface(FolderCase):
-    def setUp(self) -> None:
-        super().setUp()
-        self.words = ['lamp', 'lamp --lit']
-        self.surface = loaded('surface')
-        for name, value in {'TOP': self.top, 'KINDS': {'option': lambda: self.words}}.items():
-            patched = mock.patch.object(self.surface, name, value)
-            patched.start()
-            self.addCleanup(patched.stop)
-        self.write('scripts/surface.txt', 'option lamp\noption lamp --lit\n')
-        self.write('CHANGELOG.md', '* New: `lamp --old`.\n')
+class Surface(unittest.TestCase):
+    def test_what_a_page_lists(self) -> None:
+        self.assertLessEqual({'lit', 'dim', 'lamp gone'}, surface.items(PAGE))
+        self.assertEqual(surface.options_on(PAGE), {'--red', '--blue'})
+        self.assertEqual(surface.metrics_on(PAGE), {'e1gw_up', 'e1gw_down_total', 'e1gw_lit end lamp'})
 
-    def ran(self, *words: str) -> tuple[int, list[str]]:
-        """The status and the output."""
-        with mock.patch('sys.argv', ['surface', *words]), contextlib.redirect_stdout(io.StringIO()) as said:
-            return self.surface.main(), said.getvalue().splitlines()
+    def test_what_there_is(self) -> None:
+        told = '# HELP e1gw_up\ne1gw_up{trunk="a"} 1\ne1gw_lit{trunk="a",end="this",lamp="1"} 0\n'
+        self.assertEqual(surface.metrics(told), {'e1gw_up', 'e1gw_lit end lamp'})
+        self.assertEqual(surface.keys({'a': [{'b': 1}], 'c': {'d': None}}), {'a', 'b', 'c', 'd'})
 
-    def test_as_it_was(self) -> None:
-        self.assertEqual(self.ran(), (0, ['option lamp', 'option lamp --lit']))
-        self.assertEqual(self.ran('--check'), (0, ['2 passed, 0 failed']))
-
-    def test_what_is_gone_fails_until_the_changelog_says_so(self) -> None:
-        self.write('scripts/surface.txt', 'option lamp\noption lamp --lit\noption lamp --old\n')
-        status, said = self.ran('--check')
-        self.assertEqual((status, said[-1]), (1, '2 passed, 1 failed'))
-        self.assertIn('gone: option lamp --old (', said[0])
-        self.ran('--write')
-        self.assertEqual(self.ran('--check')[0], 1)
-        self.write('CHANGELOG.md', '* Gone: `lamp ..`.\n')
-        self.assertEqual(self.ran('--check'), (0, ['3 passed, 0 failed']))
-        self.write('CHANGELOG.md', '* New: x.\n* Gone: `lamp --older`, and\n  `lamp\n  --old`.\n')
-        self.assertEqual(self.ran('--check'), (0, ['3 passed, 0 failed']))
-        self.ran('--write')
-        self.assertEqual(self.ran('--check'), (0, ['2 passed, 0 failed']))
-
-    def test_what_is_new_fails_until_it_is_written(self) -> None:
-        self.words.append('lamp --dim')
-        said = ['surface: new: option lamp --dim (scripts/surface --write)', '2 passed, 1 failed']
-        self.assertEqual(self.ran('--check'), (1, said))
-        self.ran('--write')
-        self.assertEqual(self.ran('--check'), (0, ['3 passed, 0 failed']))
-
-    def test_a_kind_that_cannot_be_read(self) -> None:
-        """Its lines are gone."""
-        kinds = {'option': mock.Mock(side_effect=ValueError)}
-        with mock.patch.object(self.surface, 'KINDS', kinds), contextlib.redirect_stderr(io.StringIO()):
-            self.assertEqual(self.ran('--check')[1][-1], '0 passed, 2 failed')
+    def test_both_ways(self) -> None:
+        self.assertEqual([*surface.Listed('a', {'lit', 'dim'}, {'lit', 'dim'}, PAGE, {'age'}).wrong()], [])
+        self.assertEqual([*surface.Listed('a', {'lit', 'dim'}, {'lit', 'off', 'lamp gone'}, PAGE, {'why'}).wrong()],
+                         ['a does not name lamp gone', 'a does not name off', 'a does not name why',
+                          'a names dim, which is not there'])

@@ -19,7 +19,6 @@ PROGRAM = '''#!/bin/sh
 case $1 in
 check) while IFS= read -r line; do echo "$line"; done < "$3" ;;
 encode) echo "coded $(cat)"; echo 'of encode' >&2; exit 3 ;;
-replay) cat "$3" > "$5" ;;
 *) echo "not proved: $*" ;;
 esac
 '''
@@ -157,14 +156,9 @@ class Front(UnprovedCase):
         self.assertEqual(self.kept(), [])
 
     def test_where_it_cannot_be_kept(self) -> None:
-        """Each run builds it, and has its own words and files."""
-        self.encoded(HIDDEN='yes')
-        self.assertEqual((self.encoded(HIDDEN='yes'), self.tries()), (UNPROVED, 3))
-        self.write('in.rec', 'octets')
-        self.assertEqual(self.ran('e1gw', 'replay', '--load', 'in.rec', '--save', 'state', HIDDEN='yes'),
-                         (0, '', UNPROVED))
-        with open(f'{self.top}/state', encoding='utf-8') as file:
-            self.assertEqual(file.read(), 'octets')
+        status, out, told = self.ran('e1gw', 'encode', HIDDEN='yes')
+        self.assertEqual((status, out, self.kept()), (70, '', []))
+        self.assertIn('rt try does not let its program be kept', told)
 
     def test_a_second_one_waits(self) -> None:
         held = f'{self.top}/held'

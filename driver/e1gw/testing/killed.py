@@ -1,6 +1,5 @@
-"""A trunk with thirty calls whose program is killed again and again, for bench/kills and bench/log: all octets of the
-trunk and all datagrams that all programs sent have to be those of one session, never cut, of all records that the log
-had."""
+"""A trunk with thirty calls whose program is killed again and again, for bench/kills: all octets of the trunk and all
+datagrams that all programs sent have to be those of one session, never cut, of all records that the log had."""
 from __future__ import annotations
 
 import os
@@ -72,11 +71,11 @@ class KilledTrunk:
     def path(self, name: str) -> str:
         return os.path.join(self.room, name)
 
-    def start(self, log: str = 'log', **dies: int) -> None:
+    def start(self, **dies: int) -> None:
         """Another program goes on from the log."""
         self.device, its = socket.socketpair()
         self.device.settimeout(SECONDS)
-        options = {'config': 'trunk.toml', 'log': log, 'control': 'control'}
+        options = {'config': 'trunk.toml', 'log': 'log', 'control': 'control'}
         words = [word for option, name in options.items() for word in (f'--{option}', self.path(name))]
         more = {name: str(number) for name, number in dies.items()} | ({'LD_PRELOAD': self.dies} if dies else {})
         self.process = subprocess.Popen([self.program, 'trunk', *words], stdin=its.fileno(), stdout=its.fileno(),
