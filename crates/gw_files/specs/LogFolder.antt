@@ -45,7 +45,7 @@ SystemFailsToLock file error = ⊤
 abbrev pub FillsFrom : ℕ → List ℕ → List ℕ → Type 0
 FillsFrom from old new = from ≤ length old → (from ≤ length new) × (take from new ≡ take from old)
 
--- so many octets were written from an octet on
+-- some octets of this number were written from an octet on
 abbrev pub WritesSome : ℕ → ℕ → List ℕ → List ℕ → Type 0
 WritesSome at len old new = (octets : List ℕ) × (length octets ≡ len) × IsWrittenAt at octets old new
 

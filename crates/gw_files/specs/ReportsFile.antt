@@ -1,5 +1,5 @@
 -- How the FIFO of `--reports` is opened, or why not (module `reports`).
-use Rattle.std.specs.Prelude.{◌≡◌, ◌⊎◌, ⊤, ℕ, Bool, true, false, List, [], ◌∷◌, Some, None}
+use Rattle.std.specs.Prelude.{◌≡◌, ◌⊎◌, ⊤, ℕ, Bool, true, false, List, [], ◌∷◌, Option, Some, None}
 use Rattle.std.specs.declared.fs.File.{File}
 use Rattle.std.specs.declared.io.Error.{Error}
 use Rattle.gw_machine.specs.Files.{SystemRefusesFile, SystemShowsFile}
@@ -38,3 +38,8 @@ abbrev pub ReportsBy : List ℕ → Bool → List FileCall → Type 0
 ReportsBy path true calls = calls ≡ FileCall.Look path ∷ all_done (opening_reports path)
 ReportsBy path false calls = (rest : List FileCall) × UpTo (opening_reports path) rest
     × (calls ≡ FileCall.Look path ∷ rest)
+
+-- .. if one is named; otherwise nothing is done with files
+abbrev pub ReportsAt : Option (List ℕ) → List FileCall → Type 0
+ReportsAt None calls = calls ≡ []
+ReportsAt (Some path) calls = (done : Bool) × ReportsBy path done calls

@@ -111,6 +111,10 @@ pub trait FileSystem {
         ensures err { IfErr result SystemLetsWait }
         ensures calls { Makes has_made self.old self.new (FileCall.NeverWait (is_done result) ∷ []) };
 
+    /// An open file, for who tells what it reads and writes.
+    fn opened(&self, file: Self::File) -> File
+        ensures { result ≡ system file };
+
     /// The file of a recording, to which nothing was written yet.
     fn recording_file(&self, file: Self::File) -> RecordingFile<File, Stderr>
         ensures writer { result.writer ≡ Some (system file) }
@@ -255,6 +259,10 @@ impl<R: Machine> FileSystem for LocalFiles<'_, R> {
 
     fn never_wait(&mut self, file: &File) -> io::Result<()> {
         never_wait(file)
+    }
+
+    fn opened(&self, file: File) -> File {
+        file
     }
 
     fn recording_file(&self, file: File) -> RecordingFile<File, Stderr> {

@@ -10,7 +10,7 @@ use std::fs::File;
 // The octets that are written at once to a new file.
 const PIECE: usize = 4_096;
 
-// Writes so many zeros to a store from this octet on.
+// Writes this many octets to a store from this octet on: zeros, which no clause says.
 fn write_zeros<S: Store>(store: &mut S, at: u64, len: usize) -> Result<(), StoreFault>
     requires room { at + len ≤ S.room store.old }
     requires few { len ≤ 4096 }

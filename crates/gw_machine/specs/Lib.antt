@@ -8,4 +8,5 @@ pub mod Setup
 pub mod State
 pub mod Log
 pub mod System
+pub mod SystemCalls
 pub mod CommandLine

@@ -1,7 +1,7 @@
 -- The lines that the program writes to standard error (module `lines`).
 use Rattle.std.specs.Prelude.{⊤, ℕ, List, []}
 use Rattle.g704_crc4.specs.declared.counting.ReceiverCounts.{ReceiverCounts}
-use Rattle.gw_machine.specs.Calls.{behind}
+use Rattle.gw_machine.specs.Calls.{followed_by}
 use Rattle.gw_machine.specs.declared.program_fault.ProgramFault.{ProgramFault}
 use Rattle.gw_machine.specs.declared.report.Skipped.{Skipped}
 
@@ -20,6 +20,7 @@ pub data Line : Type 0 where
 unfoldable pub SystemHasWritten : List Line → Type 0
 SystemHasWritten lines = ⊤
 
--- just these were written, in this order
+-- These were written, in this order, since standard error was taken. Whoever has a machine can take it once
+-- more: that no other line was written holds only of a function that is generic in `ErrorLines`.
 abbrev pub SystemWrites : List Line → Type 0
-SystemWrites lines = SystemHasWritten (behind [] lines)
+SystemWrites lines = SystemHasWritten (followed_by [] lines)

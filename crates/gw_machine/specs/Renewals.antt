@@ -4,7 +4,7 @@ use Rattle.gw_switch.specs.declared.GatewayConfig.{GatewayConfig}
 use Rattle.gw_switch.specs.Whole.{config_of}
 use Rattle.gw_machine.specs.Lines.{Line, SystemWrites}
 
--- that a circuit begins as new was written as a line, and nothing else
+-- that a circuit begins as new was written as a line
 abbrev pub SystemTellsNew : ℕ → Type 0
 SystemTellsNew circuit = SystemWrites (Line.BeginsAsNew circuit ∷ [])
 

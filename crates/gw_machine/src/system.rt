@@ -1,20 +1,33 @@
 //! What a session takes from the system beside its streams, and how it ends (`System`).
 
 ghost use Rattle.std.specs.Prelude.{◌≡◌, ◌⊎◌, IfOk, IfErr};
+ghost use Rattle.gw_machine.specs.Calls.{MakesSuch};
 ghost use Rattle.gw_machine.specs.System.{told_as, IsTold};
+ghost use Rattle.gw_machine.specs.SystemCalls.{EndsBy};
 
 use crate::program_fault::ProgramFault;
 use gw_config::Config;
 use gw_session::{Ports, RunFault, Tape, Totals, Watch};
 use gw_switch::Gateway;
+use std::alloc::Global;
 
 /// What a session takes from the system beside its streams. The relations belong to the type. A generic
-/// caller has them only for results that these calls returned.
+/// caller has them only for results that these calls returned, and can make none that its list of calls has
+/// not.
 pub trait System {
+    ghost use Rattle.std.specs.Prelude.{List, Bool, [], ◌∷◌, is_ok};
+    ghost use Rattle.gw_machine.specs.Calls.{Makes};
+    ghost use Rattle.gw_machine.specs.SystemCalls.{SystemCall};
     ghost use Rattle.gw_config.specs.declared.config.Config.{Config};
     ghost use Rattle.gw_switch.specs.declared.gateway.Gateway.{Gateway};
     ghost use Rattle.gw_machine.specs.System.{SystemFiles};
     ghost use Rattle.gw_machine.specs.declared.program_fault.ProgramFault.{ProgramFault};
+
+    /// The files that it uses, which have all calls.
+    type Files: Drop;
+
+    /// What keeps the folder of a log, if one is named.
+    type Lock: Drop;
 
     /// The ports that receive and send the datagrams of the circuits.
     type Ports: Ports + Drop;
@@ -24,6 +37,18 @@ pub trait System {
 
     /// The watch of a replay.
     type Watch: Watch + Drop;
+
+    /// Holds of what a system was asked with its files, of which the latest is the first.
+    ghost has_asked: { Self → Self.Files → List SystemCall → Type 0 };
+
+    /// Whether its tape may be waited for.
+    ghost waits: { Self → Bool };
+
+    /// Holds of what keeps the folder of the log.
+    ghost locks: { Self → Self.Lock → Type 0 };
+
+    /// Holds of the fault if that folder was not taken.
+    ghost lacks_lock: { Self → ProgramFault → Type 0 };
 
     /// What holds of the configuration, of the gateway that a session begins with, and of the saved state.
     ghost files: { Self → SystemFiles };
@@ -52,42 +77,90 @@ pub trait System {
     /// Relates a system and a fault that it reported.
     ghost reports: { Self → ProgramFault → Type 0 };
 
+    /// Where memory is taken.
+    fn alloc(&self) -> Global;
+
+    /// Takes the folder of the log, if one is named.
+    fn lock_log(&self, used: &mut Self::Files) -> Result<Self::Lock, ProgramFault>
+        ensures ok { IfOk result (locks self.now) }
+        ensures err { IfErr result (lacks_lock self.now) }
+        ensures asked { Makes (has_asked self.now) used.old used.new
+            (SystemCall.LockLog (is_ok result) ∷ []) };
+
     /// Reads the configuration of the session.
-    fn read_config(&self) -> Result<Config, ProgramFault>
+    fn read_config(&self, used: &mut Self::Files) -> Result<Config, ProgramFault>
         ensures ok { IfOk result (files self.now).reads }
-        ensures err { IfErr result (files self.now).lacks_config };
+        ensures err { IfErr result (files self.now).lacks_config }
+        ensures asked { Makes (has_asked self.now) used.old used.new
+            (SystemCall.ReadConfig (is_ok result) ∷ []) };
 
     /// Opens the gateway of a session.
-    fn begin_gateway(&self, config: &Config) -> Result<Gateway, ProgramFault>
+    fn begin_gateway(
+        &self,
+        used: &mut Self::Files,
+        config: &Config,
+    ) -> Result<Gateway, ProgramFault>
         ensures ok { IfOk result ((files self.now).starts config.now) }
-        ensures err { IfErr result ((files self.now).lacks_gateway config.now) };
+        ensures err { IfErr result ((files self.now).lacks_gateway config.now) }
+        ensures asked { Makes (has_asked self.now) used.old used.new
+            (SystemCall.BeginGateway config.now (is_ok result) ∷ []) };
 
     /// Saves the state of a gateway, if requested.
-    fn save_gateway(&self, config: &Config, gateway: &Gateway) -> Result<(), ProgramFault>
-        ensures { (files self.now).saves config.now gateway.now result };
+    fn save_gateway(
+        &self,
+        used: &mut Self::Files,
+        config: &Config,
+        gateway: &Gateway,
+    ) -> Result<(), ProgramFault>
+        ensures saved { (files self.now).saves config.now gateway.now result }
+        ensures asked { Makes (has_asked self.now) used.old used.new
+            (SystemCall.SaveGateway config.now gateway.now (is_ok result) ∷ []) };
 
     /// Begins what a session is recorded on that begins with this gateway, if requested.
-    fn begin_tape(&self, config: &Config, gateway: &Gateway) -> Result<Self::Tape, ProgramFault>
+    fn begin_tape(
+        &self,
+        used: &mut Self::Files,
+        config: &Config,
+        gateway: &Gateway,
+    ) -> Result<Self::Tape, ProgramFault>
         ensures ok { IfOk result (begins self.now config.now gateway.now) }
-        ensures err { IfErr result (λ program_fault. lacks_tape self.now program_fault) };
+        ensures err { IfErr result (λ program_fault. lacks_tape self.now program_fault) }
+        ensures asked { Makes (has_asked self.now) used.old used.new
+            (SystemCall.BeginTape config.now gateway.now (is_ok result) ∷ []) };
 
     /// Opens the ports of a configuration.
-    fn open_ports(&self, config: &Config) -> Result<Self::Ports, ProgramFault>
+    fn open_ports(
+        &self,
+        used: &mut Self::Files,
+        config: &Config,
+    ) -> Result<Self::Ports, ProgramFault>
         ensures ok { IfOk result (λ ports. opens self.now config.now ports) }
-        ensures err { IfErr result (λ program_fault. lacks_ports self.now config.now program_fault) };
+        ensures err { IfErr result (λ program_fault. lacks_ports self.now config.now program_fault) }
+        ensures asked { Makes (has_asked self.now) used.old used.new
+            (SystemCall.OpenPorts config.now (is_ok result) ∷ []) };
 
     /// Opens the watch of a replay that begins with this gateway.
-    fn open_watch(&self, config: &Config, gateway: &Gateway) -> Result<Self::Watch, ProgramFault>
+    fn open_watch(
+        &self,
+        used: &mut Self::Files,
+        config: &Config,
+        gateway: &Gateway,
+    ) -> Result<Self::Watch, ProgramFault>
         ensures ok { IfOk result (watches self.now config.now gateway.now) }
-        ensures err { IfErr result (λ program_fault. lacks_watch self.now program_fault) };
+        ensures err { IfErr result (λ program_fault. lacks_watch self.now program_fault) }
+        ensures asked { Makes (has_asked self.now) used.old used.new
+            (SystemCall.OpenWatch config.now gateway.now (is_ok result) ∷ []) };
 
     /// Ends the watch of a replay.
-    fn end_watch(&self, watch: &mut Self::Watch)
-        ensures { ends_watch watch.old watch.new };
+    fn end_watch(&self, used: &mut Self::Files, watch: &mut Self::Watch)
+        ensures ended { ends_watch watch.old watch.new }
+        ensures asked { Makes (has_asked self.now) used.old used.new (SystemCall.EndWatch ∷ []) };
 
     /// Reports the end of a session, beyond its result.
-    fn tell(&self, program_fault: &ProgramFault)
-        ensures { reports self.now program_fault.now };
+    fn tell(&self, used: &mut Self::Files, program_fault: &ProgramFault)
+        ensures told { reports self.now program_fault.now }
+        ensures asked { Makes (has_asked self.now) used.old used.new
+            (SystemCall.Tell program_fault.now ∷ []) };
 }
 
 /// The report of the end of a job or a session.
@@ -105,6 +178,7 @@ pub fn told_as(ended: Result<Totals, RunFault>) -> Result<Totals, ProgramFault>
 /// The fault of the session, or that its state was not saved.
 pub fn end_session<Y: System>(
     system: &Y,
+    files: &mut Y::Files,
     config: &Config,
     gateway: &Gateway,
     ended: Result<Totals, RunFault>,
@@ -112,12 +186,14 @@ pub fn end_session<Y: System>(
     ensures told { IsTold ((Y.files system.now).saves config.now gateway.now) ended result }
     ensures reported { IfErr ended (λ fault. (result ≡ Err (ProgramFault.Session fault))
         ⊎ Y.reports system.now (ProgramFault.Session fault)) }
+    ensures asked { MakesSuch (Y.has_asked system.now) files.old files.new
+        (EndsBy config.now gateway.now ended) }
 {
-    match system.save_gateway(config, gateway) {
+    match system.save_gateway(files, config, gateway) {
         Ok(()) => told_as(ended),
         Err(program_fault) => {
             if let Err(fault) = ended {
-                system.tell(&ProgramFault::Session(fault));
+                system.tell(files, &ProgramFault::Session(fault));
             }
             Err(program_fault)
         }

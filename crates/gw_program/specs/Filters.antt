@@ -28,7 +28,7 @@ DoesFilterUntil reports Align = AlignsUntil
 DoesFilterUntil reports Crc4 = SendsMultiframesUntil reports
 
 -- CRC-4 multiframes were checked in the whole of the source, with these totals, and errored submultiframes
--- reported. The counts were written, and how many were not reported if that is asked for, and nothing else.
+-- reported. The counts were written, and how many were not reported if that is asked for.
 pub record HasChecked (unreported : Bool) (Wrote : List Line → Type 0) (source source' : SourceState)
     (sink sink' : SinkState) (totals : Totals) : Type 0 where
   pub checked : Checked

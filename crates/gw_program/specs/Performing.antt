@@ -1,5 +1,6 @@
 -- What a session does on its streams (module `performing`).
-use Rattle.std.specs.Prelude.{◌≡◌, false, Result}
+use Rattle.std.specs.Prelude.{◌≡◌, ◌⊎◌, ◌∷◌, List, [], true, false, Result}
+use Rattle.gw_config.specs.declared.config.Config.{Config}
 use Rattle.gw_records.specs.declared.outcome.Totals.{Totals}
 use Rattle.gw_records.specs.declared.outcome.RunFault.{RunFault}
 use Rattle.gw_records.specs.Ports.{PortsState}
@@ -11,7 +12,8 @@ use Rattle.gw_session.specs.Watch.{RecordsShown, RunsWatched}
 use Rattle.gw_switch.specs.declared.gateway.Gateway.{Gateway}
 use Rattle.gw_command.specs.declared.command.SessionKind.{SessionKind}
 use Rattle.gw_command.specs.declared.command.SessionKind.TheVariants.{Replay, Check, Serve}
-use Rattle.gw_machine.specs.System.{HasServed, Serves}
+use Rattle.gw_machine.specs.System.{HasServed, Serves, SystemFiles, by_session}
+use Rattle.gw_machine.specs.SystemCalls.{AsksThen, EndsSo, SystemCall}
 use Rattle.gw_program.specs.Sessions.{Runs, Checks}
 
 -- this was done with the ports and the tape of a system by a session that serves, and with none by another
@@ -33,6 +35,26 @@ pub record IsWatched {W : Type 0} (Opens : W → Type 0) (Ends : W → W → Typ
   pub opened : Opens first
   pub watched : RunsWatched a a' gateway gateway' (RecordsShown shows gateway first last) (last ≡ first) end
   pub ended : Ends last left
+
+-- A replay asks for its watch, and then for the end of this and its own. If there is no watch, nothing more.
+abbrev pub ReplayAsks : Config → Gateway → Gateway → List SystemCall → Type 0
+ReplayAsks config gateway gateway' calls = (calls ≡ SystemCall.OpenWatch config gateway false ∷ [])
+    ⊎ ((more : List SystemCall) × EndsSo config gateway' more
+    × (calls ≡ SystemCall.OpenWatch config gateway true ∷ SystemCall.EndWatch ∷ more))
+
+-- A session that serves asks for its tape, then for its ports, and then for its end. If there is one of these
+-- not, nothing more.
+abbrev pub ServeAsks : Config → Gateway → Gateway → List SystemCall → Type 0
+ServeAsks config gateway gateway' calls = (calls ≡ SystemCall.BeginTape config gateway false ∷ [])
+    ⊎ (calls ≡ SystemCall.BeginTape config gateway true ∷ SystemCall.OpenPorts config false ∷ [])
+    ⊎ ((more : List SystemCall) × EndsSo config gateway' more
+    × (calls ≡ SystemCall.BeginTape config gateway true ∷ SystemCall.OpenPorts config true ∷ more))
+
+-- what a session of this kind asks of a system with these files, in this order, and nothing else
+abbrev pub SessionAsks : SystemFiles → SessionKind → List SystemCall → Type 0
+SessionAsks files session = AsksThen files (λ config gateway gateway' calls. by_session session
+    (ReplayAsks config gateway gateway' calls) (EndsSo config gateway' calls)
+    (ServeAsks config gateway gateway' calls))
 
 -- a session of this kind ended so on these streams with a gateway
 abbrev pub RunsSession : SessionKind → SessionStreams → SessionStreams → Gateway → Gateway

@@ -62,7 +62,7 @@ abbrev pub DoesJob : SpeechJob → SourceState → SourceState → SinkState →
     → Result Totals ProgramFault → Type 0
 DoesJob job s s' k k' = Ended (λ end. MatchResult end (Does job s s' k k') (DoesUntil job s s' k k'))
 
--- .. and all lines that were written for it are those of the datagrams that it skipped
+-- .. and the line of the datagrams that it skipped was written, if it skipped some
 abbrev pub PerformsJob : SpeechJob → SourceState → SourceState → SinkState → SinkState
     → Result Totals ProgramFault → Type 0
 PerformsJob job s s' k k' told = DoesJob job s s' k k' told × SystemWrites (job_lines job told)

@@ -6,11 +6,12 @@ ghost use Rattle.gw_command.specs.declared.command.SessionKind.TheVariants.{Repl
 ghost use Rattle.gw_session.specs.PacketPorts.{no_ports};
 ghost use Rattle.gw_session.specs.Serve.{around};
 ghost use Rattle.gw_session.specs.Tape.{no_tape};
-ghost use Rattle.gw_machine.specs.Calls.{Makes};
+ghost use Rattle.gw_machine.specs.Calls.{Makes, MakesSuch};
 ghost use Rattle.gw_machine.specs.Report.{job_lines};
 ghost use Rattle.gw_machine.specs.System.{EndedSaved, HasServed, NotBegun, Performed};
 ghost use Rattle.gw_machine.specs.System.{LacksMore, LacksSession, LacksTapeOrPorts};
-ghost use Rattle.gw_program.specs.Performing.{IsWatched, RunsSession, WithEnds};
+ghost use Rattle.gw_program.specs.Performing.{IsWatched, ReplayAsks, RunsSession, ServeAsks};
+ghost use Rattle.gw_program.specs.Performing.{SessionAsks, WithEnds};
 ghost use Rattle.gw_program.specs.Requests.{DoesJob};
 
 use crate::jobs::do_job;
@@ -57,7 +58,7 @@ pub fn perform_job<E: ErrorLines, S: Source + StandardInput, K: Sink + StandardO
 // Replays with a gateway, and shows each record to a watch of the system.
 fn perform_replay<Y: System, S: Source, K: Sink>(
     system: &Y,
-    alloc: Global,
+    files: &mut Y::Files,
     config: &Config,
     gateway: &mut Gateway,
     ends: &mut SessionEnds<S, K>,
@@ -74,24 +75,32 @@ fn perform_replay<Y: System, S: Source, K: Sink>(
         (around (S.tells ends.old.source) (K.tells ends.old.sink) no_ports no_tape)
         (around (S.tells ends.new.source) (K.tells ends.new.sink) no_ports no_tape)
         gateway.old gateway.new }
+    ensures asked { MakesSuch (Y.has_asked system.now) files.old files.new
+        (ReplayAsks config.now gateway.old gateway.new) }
 {
-    let mut watch = system.open_watch(config, gateway)?;
-    let ended = replay_watched(alloc, gateway, &mut ends.source, &mut ends.sink, &mut watch);
-    system.end_watch(&mut watch);
-    end_session(system, config, gateway, ended)
+    let mut watch = system.open_watch(files, config, gateway)?;
+    let ended = replay_watched(
+        system.alloc(),
+        gateway,
+        &mut ends.source,
+        &mut ends.sink,
+        &mut watch,
+    );
+    system.end_watch(files, &mut watch);
+    end_session(system, files, config, gateway, ended)
 }
 
 // Serves with a configuration, on ports and a tape of the system. The tape is begun before the ports are
 // opened.
 fn perform_serve<Y: System, S: Source, K: Sink>(
     system: &Y,
-    alloc: Global,
+    files: &mut Y::Files,
     config: &Config,
     gateway: &mut Gateway,
     ends: &mut SessionEnds<S, K>,
 ) -> Result<Totals, ProgramFault>
     requires { CanBegin (S.tells ends.old.source) (K.tells ends.old.sink) }
-    ensures { NotBegun ends.old ends.new
+    ensures serves { NotBegun ends.old ends.new
         (LacksTapeOrPorts (Y.lacks_tape system.now) (Y.lacks_ports system.now config.now)) result
         ⊎ HasServed (Y.opens system.now config.now) (Y.begins system.now config.now gateway.old)
         (λ ports ports' tape tape'. EndedSaved (RunsSession Serve
@@ -99,18 +108,20 @@ fn perform_serve<Y: System, S: Source, K: Sink>(
         (around (S.tells ends.new.source) (K.tells ends.new.sink) (Y.Ports.tells ports') (Y.Tape.tells tape'))
         gateway.old gateway.new)
         ((Y.files system.now).saves config.now gateway.new) result) }
+    ensures asked { MakesSuch (Y.has_asked system.now) files.old files.new
+        (ServeAsks config.now gateway.old gateway.new) }
 {
-    let mut tape = system.begin_tape(config, gateway)?;
-    let mut ports = system.open_ports(config)?;
+    let mut tape = system.begin_tape(files, config, gateway)?;
+    let mut ports = system.open_ports(files, config)?;
     let ended = serve_through(
-        alloc,
+        system.alloc(),
         gateway,
         &mut ports,
         &mut ends.source,
         &mut ends.sink,
         &mut tape,
     );
-    end_session(system, config, gateway, ended)
+    end_session(system, files, config, gateway, ended)
 }
 
 /// Runs a session with the configuration and the gateway of the system, and saves the gateway's state.
@@ -118,12 +129,12 @@ fn perform_serve<Y: System, S: Source, K: Sink>(
 /// returned, and nothing was read or written.
 pub fn perform_session<Y: System, S: Source + StandardInput, K: Sink + StandardOutput>(
     system: &Y,
-    alloc: Global,
+    files: &mut Y::Files,
     session: SessionKind,
     ends: &mut SessionEnds<S, K>,
 ) -> Result<Totals, ProgramFault>
     requires { CanBegin (S.tells ends.old.source) (K.tells ends.old.sink) }
-    ensures { Performed ends.old ends.new (Y.files system.now) (LacksSession (Y.files system.now)
+    ensures performed { Performed ends.old ends.new (Y.files system.now) (LacksSession (Y.files system.now)
         (LacksMore session (Y.lacks_watch system.now)
         (λ config. LacksTapeOrPorts (Y.lacks_tape system.now) (Y.lacks_ports system.now config))))
         (λ config gateway gateway'. WithEnds session (Y.opens system.now config)
@@ -133,15 +144,22 @@ pub fn perform_session<Y: System, S: Source + StandardInput, K: Sink + StandardO
         (around (S.tells ends.new.source) (K.tells ends.new.sink) ports' tape')
         gateway gateway')
         ((Y.files system.now).saves config gateway') result)) result }
+    ensures asked { MakesSuch (Y.has_asked system.now) files.old files.new
+        (SessionAsks (Y.files system.now) session) }
 {
-    let config = system.read_config()?;
-    let mut gateway = system.begin_gateway(&config)?;
+    let config = system.read_config(files)?;
+    let mut gateway = system.begin_gateway(files, &config)?;
     match session {
-        SessionKind::Replay => perform_replay(system, alloc, &config, &mut gateway, ends),
+        SessionKind::Replay => perform_replay(system, files, &config, &mut gateway, ends),
         SessionKind::Check => {
-            let ended = check(alloc, &mut gateway, &mut ends.source, &mut ends.sink);
-            end_session(system, &config, &gateway, ended)
+            let ended = check(
+                system.alloc(),
+                &mut gateway,
+                &mut ends.source,
+                &mut ends.sink,
+            );
+            end_session(system, files, &config, &gateway, ended)
         }
-        SessionKind::Serve => perform_serve(system, alloc, &config, &mut gateway, ends),
+        SessionKind::Serve => perform_serve(system, files, &config, &mut gateway, ends),
     }
 }

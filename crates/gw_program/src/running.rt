@@ -4,6 +4,8 @@ ghost use Rattle.std.specs.Prelude.{◌≡◌, Some, None, true, false, codes};
 ghost use Rattle.clap.specs.Words.{subcommand_rows_of};
 ghost use Rattle.gw_command.specs.Command.{HasFlag};
 ghost use Rattle.gw_records.specs.Streams.{CanBegin};
+ghost use Rattle.gw_files.specs.FileCalls.{MakesSuch};
+ghost use Rattle.gw_files.specs.ReportsFile.{ReportsAt};
 ghost use Rattle.gw_program.specs.Requests.{ChecksCrc4, RunsFilter, reports_path_in};
 
 use crate::filters::{do_filter, perform_crc4_check};
@@ -11,9 +13,9 @@ use crate::performing::SessionEnds;
 use crate::sealed::{StandardInput, StandardOutput};
 use clap::ArgMatches;
 use gw_command::{Filter, asks_live, reports_of};
-use gw_files::{LocalFiles, open_reports};
+use gw_files::{FileSystem, open_reports};
 use gw_filter::{NoReports, ReportingSender, ToReports};
-use gw_machine::{CheckTells, Machine, ProgramFault, StandardError, told_as};
+use gw_machine::{CheckTells, ProgramFault, StandardError, told_as};
 use gw_session::{FromRead, Sink, Source, Totals};
 
 // Runs a filter of a trunk, without reports.
@@ -32,22 +34,23 @@ fn filter_alone<S: Source + StandardInput, K: Sink + StandardOutput>(
 }
 
 // Runs a filter of a trunk, with the reports that come from the FIFO at the path.
-fn filter_reporting<S: Source + StandardInput, K: Sink + StandardOutput>(
-    rt: &impl Machine,
+fn filter_reporting<F: FileSystem, S: Source + StandardInput, K: Sink + StandardOutput>(
+    files: &mut F,
     path: &str,
     filter: Filter,
     ends: &mut SessionEnds<S, K>,
 ) -> Result<Totals, ProgramFault>
     requires { CanBegin (S.tells ends.old.source) (K.tells ends.old.sink) }
-    ensures { RunsFilter (Some path.now) filter
+    ensures runs { RunsFilter (Some path.now) filter
         (S.tells ends.old.source) (S.tells ends.new.source) (K.tells ends.old.sink) (K.tells ends.new.sink)
         result }
+    ensures calls { MakesSuch F.has_made files.old files.new (ReportsAt (Some path.now)) }
 {
-    let file = match open_reports(&mut LocalFiles::new(rt), path) {
+    let file = match open_reports(files, path) {
         Ok(file) => file,
         Err(fault) => return Err(fault),
     };
-    let mut sender = ReportingSender::new(FromRead::new(file));
+    let mut sender = ReportingSender::new(FromRead::new(files.opened(file)));
     let end = do_filter(filter, &mut sender, &mut ends.source, &mut ends.sink);
     told_as(end)
 }
@@ -58,19 +61,21 @@ fn filter_reporting<S: Source + StandardInput, K: Sink + StandardOutput>(
 ///
 /// [`ProgramFault::Reports`] if the FIFO can't be opened, or [`ProgramFault::Session`] if a read or a write
 /// fails.
-pub fn run_filter<S: Source + StandardInput, K: Sink + StandardOutput>(
-    rt: &impl Machine,
+pub fn run_filter<F: FileSystem, S: Source + StandardInput, K: Sink + StandardOutput>(
+    files: &mut F,
     matches: &ArgMatches<'_>,
     filter: Filter,
     ends: &mut SessionEnds<S, K>,
 ) -> Result<Totals, ProgramFault>
     requires { CanBegin (S.tells ends.old.source) (K.tells ends.old.sink) }
-    ensures { RunsFilter (reports_path_in (subcommand_rows_of matches.now)) filter
+    ensures runs { RunsFilter (reports_path_in (subcommand_rows_of matches.now)) filter
         (S.tells ends.old.source) (S.tells ends.new.source) (K.tells ends.old.sink) (K.tells ends.new.sink)
         result }
+    ensures calls { MakesSuch F.has_made files.old files.new
+        (ReportsAt (reports_path_in (subcommand_rows_of matches.now))) }
 {
     match reports_of(matches) {
-        Some(path) => filter_reporting(rt, path, filter, ends),
+        Some(path) => filter_reporting(files, path, filter, ends),
         None => filter_alone(filter, ends),
     }
 }
@@ -88,7 +93,7 @@ fn tells_as_asked(matches: &ArgMatches<'_>, unreported: bool) -> CheckTells
 
 // Checks the CRC-4 multiframes of a trunk, without reports.
 fn check_alone<S: Source + StandardInput, K: Sink + StandardOutput>(
-    rt: &impl Machine,
+    rt: &impl Eprint,
     tells: CheckTells,
     ends: &mut SessionEnds<S, K>,
 ) -> Result<Totals, ProgramFault>
@@ -110,19 +115,21 @@ fn check_alone<S: Source + StandardInput, K: Sink + StandardOutput>(
 }
 
 // Checks the CRC-4 multiframes of a trunk, and reports errored ones to the FIFO at the path.
-fn check_reporting<S: Source + StandardInput, K: Sink + StandardOutput>(
-    rt: &impl Machine,
+fn check_reporting<F: FileSystem, S: Source + StandardInput, K: Sink + StandardOutput>(
+    rt: &impl Eprint,
+    files: &mut F,
     path: &str,
     tells: CheckTells,
     ends: &mut SessionEnds<S, K>,
 ) -> Result<Totals, ProgramFault>
     requires begins { CanBegin (S.tells ends.old.source) (K.tells ends.old.sink) }
     requires tells { tells.unreported ≡ true }
-    ensures { ChecksCrc4 (Some path.now)
+    ensures checks { ChecksCrc4 (Some path.now)
         (S.tells ends.old.source) (S.tells ends.new.source) (K.tells ends.old.sink) (K.tells ends.new.sink)
         result }
+    ensures calls { MakesSuch F.has_made files.old files.new (ReportsAt (Some path.now)) }
 {
-    let file = match open_reports(&mut LocalFiles::new(rt), path) {
+    let file = match open_reports(files, path) {
         Ok(file) => file,
         Err(fault) => return Err(fault),
     };
@@ -130,7 +137,7 @@ fn check_reporting<S: Source + StandardInput, K: Sink + StandardOutput>(
     perform_crc4_check(
         rt,
         errors,
-        ToReports::new(file),
+        ToReports::new(files.opened(file)),
         tells,
         &mut ends.source,
         &mut ends.sink,
@@ -144,18 +151,21 @@ fn check_reporting<S: Source + StandardInput, K: Sink + StandardOutput>(
 ///
 /// [`ProgramFault::Reports`] if the FIFO can't be opened, or [`ProgramFault::Session`] if a read or a write
 /// fails.
-pub fn run_crc4_check<S: Source + StandardInput, K: Sink + StandardOutput>(
-    rt: &impl Machine,
+pub fn run_crc4_check<F: FileSystem, S: Source + StandardInput, K: Sink + StandardOutput>(
+    rt: &impl Eprint,
+    files: &mut F,
     matches: &ArgMatches<'_>,
     ends: &mut SessionEnds<S, K>,
 ) -> Result<Totals, ProgramFault>
     requires { CanBegin (S.tells ends.old.source) (K.tells ends.old.sink) }
-    ensures { ChecksCrc4 (reports_path_in (subcommand_rows_of matches.now))
+    ensures checks { ChecksCrc4 (reports_path_in (subcommand_rows_of matches.now))
         (S.tells ends.old.source) (S.tells ends.new.source) (K.tells ends.old.sink) (K.tells ends.new.sink)
         result }
+    ensures calls { MakesSuch F.has_made files.old files.new
+        (ReportsAt (reports_path_in (subcommand_rows_of matches.now))) }
 {
     match reports_of(matches) {
-        Some(path) => check_reporting(rt, path, tells_as_asked(matches, true), ends),
+        Some(path) => check_reporting(rt, files, path, tells_as_asked(matches, true), ends),
         None => check_alone(rt, tells_as_asked(matches, false), ends),
     }
 }

@@ -1,1 +1,2 @@
 pub mod Lacked
+pub mod Made

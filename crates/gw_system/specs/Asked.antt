@@ -1,7 +1,8 @@
--- What the command line asks of a session's ports.
-use Rattle.std.specs.Prelude.{◌≡◌, ◌≢◌, ◌⊎◌, ◌<◌, ℕ, MatchOption, codes}
+-- What the command line asks of a session's ports and of its recording.
+use Rattle.std.specs.Prelude.{◌≡◌, ◌≢◌, ◌⊎◌, ◌<◌, ℕ, Bool, false, Option, Some, None, MatchOption, codes}
 use Rattle.gw_command.specs.Command.{SaysDescriptors, SaysNumberIn, text_in}
 use Rattle.gw_machine.specs.CommandLine.{CommandLine}
+use Rattle.gw_files.specs.declared.recording.Recording.{Recording}
 use Rattle.gw_udp.specs.SourceFilter.{senders_name}
 use Rattle.gw_udp.specs.declared.inherited.Descriptors.{Descriptors}
 use Rattle.gw_udp.specs.declared.source_filter.SourceFilter.{SourceFilter}
@@ -22,3 +23,8 @@ IsRepeat command count = SaysNumberIn 8 (codes "repeat") command count
 abbrev pub AreSockets : CommandLine → Descriptors → Type 0
 AreSockets command among = SaysDescriptors command among.first among.last
     ⊎ (((first last : ℕ) → ¬ SaysDescriptors command first last) × (among.last < among.first))
+
+-- a recording is waited for, if one is asked for that is
+abbrev pub waits_for : Option Recording → Bool
+waits_for None = false
+waits_for (Some recording) = recording.waits

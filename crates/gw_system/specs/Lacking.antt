@@ -81,10 +81,11 @@ LacksSessionIn command session =
     LacksIn command (LacksMore session (LacksTellerIn command) (LacksEndsIn command))
 
 -- a system with these files, and that lacks these, is the one that the command names
-pub record IsOfCommand (command : CommandLine) (files : SystemFiles) (lacks_tape : ProgramFault → Type 0)
-    (lacks_ports : Config → ProgramFault → Type 0) (lacks_watch : ProgramFault → Type 0) : Type 0
+pub record IsOfCommand (command : CommandLine) (files : SystemFiles)
+    (lacks_ends : Config → ProgramFault → Type 0) (lacks_watch lacks_lock : ProgramFault → Type 0) : Type 0
   where
     pub takes : TakesAsked command files
-    pub ends : (config : Config) (fault : ProgramFault)
-        → LacksTapeOrPorts lacks_tape (lacks_ports config) fault → LacksEndsIn command config fault
+    pub ends : (config : Config) (fault : ProgramFault) → lacks_ends config fault
+        → LacksEndsIn command config fault
     pub watch : (fault : ProgramFault) → lacks_watch fault → LacksTellerIn command fault
+    pub lock : (fault : ProgramFault) → lacks_lock fault → FailsToLockIn command fault

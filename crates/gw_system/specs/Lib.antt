@@ -3,3 +3,4 @@ pub mod Lacking
 pub mod Opening
 pub mod Telling
 pub mod Tapes
+pub mod LocalCalls

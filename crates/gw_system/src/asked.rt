@@ -1,18 +1,13 @@
 //! What the command line says of senders, of repeats and of the recording.
 
-ghost use Rattle.std.specs.Prelude.{◌≡◌, IfErr, IfOk, IfSome, IsSomeAnd, MatchOption, None, option_map};
-ghost use Rattle.std.specs.Prelude.{codes};
+ghost use Rattle.std.specs.Prelude.{◌≡◌, IfSome, option_map, codes};
 ghost use Rattle.clap.specs.Words.{subcommand_rows_of};
 ghost use Rattle.gw_command.specs.Command.{HasFlag, text_in};
-ghost use Rattle.gw_machine.specs.CommandLine.{log_in};
-ghost use Rattle.gw_files.specs.LogFolder.{HasLocked};
-ghost use Rattle.gw_system.specs.Lacking.{FailsToLockIn};
 ghost use Rattle.gw_system.specs.Asked.{AreSenders, AreSockets, IsRepeat};
 
 use clap::ArgMatches;
-use gw_command::{log_of, recording_of, records_over, repeat_of, senders_of, sockets_of};
-use gw_files::{LocalFiles, LogLock, Recording, lock_log};
-use gw_machine::{Machine, ProgramFault};
+use gw_command::{recording_of, records_over, repeat_of, senders_of, sockets_of};
+use gw_files::Recording;
 use gw_udp::{Descriptors, SourceFilter};
 
 // Which senders are accepted: any, if the matches name none.
@@ -59,19 +54,4 @@ pub(crate) fn recording_asked<'m>(matches: &'m ArgMatches<'_>, waits: bool) -> O
         over: records_over(matches),
         waits,
     })
-}
-
-/// Takes the folder of the log that the matches name, if they name one.
-pub fn lock_asked(
-    rt: &impl Machine,
-    matches: &ArgMatches<'_>,
-) -> Result<Option<LogLock>, ProgramFault>
-    ensures ok { IfOk result (λ lock. MatchOption (log_in (subcommand_rows_of matches.now)) (lock ≡ None)
-        (λ folder. IsSomeAnd lock (HasLocked folder))) }
-    ensures err { IfErr result (FailsToLockIn (subcommand_rows_of matches.now)) }
-{
-    match log_of(matches) {
-        Some(folder) => Ok(Some(lock_log(&mut LocalFiles::new(rt), folder)?)),
-        None => Ok(None),
-    }
 }

@@ -2,9 +2,10 @@
 #![tactic(auto)]
 
 mod asked;
+mod fileless;
 mod local;
 mod systems;
 
-pub use asked::lock_asked;
+pub use fileless::Fileless;
 pub use local::{Local, local_of};
 pub use systems::{LocalSystems, Systems};

@@ -10,12 +10,13 @@ ghost use Rattle.gw_system.specs.Opening.{trouble_of_opening};
 ghost use Rattle.gw_system.specs.Telling.{TellsFrom};
 
 use crate::asked::{recording_asked, repeat_asked, senders_asked, sockets_asked};
+use crate::fileless::Fileless;
 use clap::ArgMatches;
 use gw_command::{load_of, log_of, save_of, seizure_wait_of, tell_of};
 use gw_config::Config;
 use gw_files::{
-    LocalFiles, OneOf, Recording, RecordingFile, Tape, begin, begin_gateway, begin_log,
-    keep_gateway, read_config,
+    FileSystem, LogLock, OneOf, Recording, RecordingFile, Tape, begin, begin_gateway, begin_log,
+    keep_gateway, lock_log, read_config,
 };
 use gw_log::TrunkLog;
 use gw_machine::{ErrorLines, Machine, ProgramFault, StandardError, System};
@@ -28,8 +29,10 @@ use gw_udp::{
     Descriptors, OpenFault, Resting, Socket, SourceFilter, SystemSocket, UdpPorts, open_sockets,
 };
 use log_files::FileStore;
+use std::alloc::Global;
 use std::fs::File;
 use std::io;
+use std::marker::PhantomData;
 use std::rt::Stderr;
 
 // The program's fault if the circuits' sockets are not opened.
@@ -44,7 +47,7 @@ fn of_opening(fault: OpenFault) -> ProgramFault
 
 // Opens the socket of `--tell` at a path. The error is the system's, or that memory was refused.
 #[tactic(auto, unfolding(crate::specs::Lacking::SystemRefusesTeller))]
-fn open_teller(
+pub(crate) fn open_teller(
     rt: &impl Machine,
     path: &str,
     config: &Config,
@@ -59,8 +62,10 @@ fn open_teller(
 
 /// What a session or a trunk takes from this system, by the matches of the command line.
 #[derive(Drop)]
-pub struct Local<'m, R> {
+pub struct Local<'m, R, F> {
     rt: &'m R,
+    // The files that it uses.
+    files: PhantomData<F>,
     // The path of the configuration.
     path: &'m str,
     // Who may send to the circuits.
@@ -83,9 +88,12 @@ pub struct Local<'m, R> {
     tell: Option<&'m str>,
 }
 
-impl<R: Machine> System for Local<'_, R> {
+impl<R: Fileless, F: FileSystem + Drop> System for Local<'_, R, F> {
+    ghost use Rattle.gw_system.specs.LocalCalls.{CallsFor, HasAsked};
+    ghost use Rattle.gw_system.specs.Asked.{waits_for};
     ghost use Rattle.std.specs.Prelude.{IsSomeAnd, MatchOption, None, string_bytes, [], ◌∷◌};
     ghost use Rattle.gw_machine.specs.System.{IsBegun};
+    ghost use Rattle.gw_files.specs.LogFolder.{FailsToLock, HasLocked};
     ghost use Rattle.gw_files.specs.Recording.{IsOpenedFor, LacksRecording};
     ghost use Rattle.gw_machine.specs.Lines.{Line, SystemWrites};
     ghost use Rattle.gw_machine.specs.Setup.{IsMeant, LacksConfigAt, PathGives};
@@ -103,11 +111,25 @@ impl<R: Machine> System for Local<'_, R> {
     ghost use Rattle.gw_udp.specs.Calls.{IsFresh};
     ghost use Rattle.gw_repeat.specs.Words.{HasPacketWords};
 
+    type Files = F;
+
+    type Lock = Option<LogLock>;
+
     type Ports = Repeating<UdpPorts<Resting<SystemSocket>>>;
 
     type Tape = OneOf<Tape, TrunkLog<FileStore>>;
 
     type Watch = Option<Teller>;
+
+    ghost has_asked = { λ s. HasAsked F.has_made (CallsFor s.path.now (option_map (λ path. path.now) s.log)
+        (option_map (λ path. path.now) s.load) (option_map (λ path. path.now) s.save) s.recording) };
+
+    ghost waits = { λ s. waits_for s.recording };
+
+    ghost locks = { λ s lock. MatchOption s.log (lock ≡ None)
+        (λ folder. IsSomeAnd lock (HasLocked folder.now)) };
+
+    ghost lacks_lock = { λ s fault. IsSomeAnd s.log (λ folder. FailsToLock folder.now fault) };
 
     ghost files = { λ s. record {
       reads = IsMeant (PathGives s.path.now);
@@ -154,41 +176,53 @@ impl<R: Machine> System for Local<'_, R> {
 
     ghost reports = { λ _ program_fault. SystemWrites (Line.OfFault program_fault ∷ []) };
 
-    fn read_config(&self) -> Result<Config, ProgramFault> {
-        read_config(&mut LocalFiles::new(self.rt), self.path)
+    fn alloc(&self) -> Global {
+        self.rt.alloc()
     }
 
-    fn begin_gateway(&self, config: &Config) -> Result<Gateway, ProgramFault> {
-        let gateway = &config.gateway;
-        let files = &mut LocalFiles::new(self.rt);
-        begin_gateway(files, gateway, self.log, self.load, self.wait)
+    fn lock_log(&self, files: &mut F) -> Result<Option<LogLock>, ProgramFault> {
+        match self.log {
+            Some(folder) => Ok(Some(lock_log(files, folder)?)),
+            None => Ok(None),
+        }
     }
 
-    fn save_gateway(&self, config: &Config, gateway: &Gateway) -> Result<(), ProgramFault> {
-        let files = &mut LocalFiles::new(self.rt);
+    fn read_config(&self, files: &mut F) -> Result<Config, ProgramFault> {
+        read_config(files, self.path)
+    }
+
+    fn begin_gateway(&self, files: &mut F, config: &Config) -> Result<Gateway, ProgramFault> {
+        begin_gateway(files, &config.gateway, self.log, self.load, self.wait)
+    }
+
+    fn save_gateway(
+        &self,
+        files: &mut F,
+        config: &Config,
+        gateway: &Gateway,
+    ) -> Result<(), ProgramFault> {
         keep_gateway(files, &config.gateway, gateway, self.save)
     }
 
-    fn begin_tape(&self, config: &Config, gateway: &Gateway) -> Result<Self::Tape, ProgramFault> {
+    fn begin_tape(
+        &self,
+        files: &mut F,
+        config: &Config,
+        gateway: &Gateway,
+    ) -> Result<Self::Tape, ProgramFault> {
         let Some(folder) = self.log else {
-            let files = &mut LocalFiles::new(self.rt);
             return Ok(OneOf::First(begin(files, self.recording)?));
         };
         if self.recording.is_some() {
             return Err(ProgramFault::TwoRecordings);
         }
-        match begin_log(
-            &mut LocalFiles::new(self.rt),
-            folder,
-            &config.gateway,
-            gateway,
-        ) {
+        match begin_log(files, folder, &config.gateway, gateway) {
             Ok(log) => Ok(OneOf::Second(log)),
             Err(fault) => Err(fault),
         }
     }
 
-    fn open_ports(&self, config: &Config) -> Result<Self::Ports, ProgramFault> {
+    fn open_ports(&self, files: &mut F, config: &Config) -> Result<Self::Ports, ProgramFault> {
         let alloc = self.rt.alloc();
         let ports = match open_sockets(self.rt, alloc, config, self.senders, self.among) {
             Ok(ports) => ports,
@@ -203,37 +237,38 @@ impl<R: Machine> System for Local<'_, R> {
 
     fn open_watch(
         &self,
+        files: &mut F,
         config: &Config,
         gateway: &Gateway,
     ) -> Result<Option<Teller>, ProgramFault> {
         let Some(path) = self.tell else {
             return Ok(None);
         };
-        match open_teller(self.rt, path, config, gateway) {
+        match self.rt.teller_at(path, config, gateway) {
             Ok(teller) => Ok(Some(teller)),
             Err(error) => Err(ProgramFault::of(&error, ProgramFault::Tell)),
         }
     }
 
-    fn end_watch(&self, watch: &mut Option<Teller>) {
+    fn end_watch(&self, files: &mut F, watch: &mut Option<Teller>) {
         if let Some(teller) = watch {
             teller.end();
         }
     }
 
-    fn tell(&self, program_fault: &ProgramFault) {
+    fn tell(&self, files: &mut F, program_fault: &ProgramFault) {
         StandardError::new(self.rt).write_line(program_fault);
     }
 }
 
 /// What the matches say of the session or the trunk that they ask for, with its configuration at the path.
 /// `waits` says whether its recording is waited for: that of a trunk never is.
-pub fn local_of<'m, R: Machine>(
+pub fn local_of<'m, R: Fileless, F>(
     rt: &'m R,
     matches: &'m ArgMatches<'_>,
     path: &'m str,
     waits: bool,
-) -> Local<'m, R>
+) -> Local<'m, R, F>
     ensures path { result.path.now ≡ path.now }
     ensures senders { AreSenders (subcommand_rows_of matches.now) result.senders }
     ensures among { AreSockets (subcommand_rows_of matches.now) result.among }
@@ -252,6 +287,7 @@ pub fn local_of<'m, R: Machine>(
 {
     Local {
         rt,
+        files: PhantomData,
         path,
         senders: senders_asked(matches),
         among: sockets_asked(matches),

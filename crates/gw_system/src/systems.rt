@@ -1,21 +1,29 @@
 //! What gives a session or a trunk its system, by the command line (`Systems`).
 
-ghost use Rattle.std.specs.Prelude.{◌≡◌, None, IfNone, IfSome, codes};
+ghost use Rattle.std.specs.Prelude.{◌≡◌, None, IfNone, IfSome, codes, false};
 ghost use Rattle.clap.specs.Words.{subcommand_rows_of};
 ghost use Rattle.gw_command.specs.Command.{text_in};
+ghost use Rattle.gw_machine.specs.System.{LacksTapeOrPorts};
 ghost use Rattle.gw_system.specs.Lacking.{IsOfCommand};
+ghost use Rattle.gw_system.specs.LocalCalls.{CallsFiles, CallsIn};
 
+use crate::fileless::Fileless;
 use crate::local::{Local, local_of};
 use clap::ArgMatches;
 use gw_command::path_of;
-use gw_machine::{Machine, System};
+use gw_files::FileSystem;
+use gw_machine::System;
+use std::marker::PhantomData;
 
 /// What gives a command its system. A generic caller knows of it only what the command line names.
 pub trait Systems<'a> {
     ghost use Rattle.gw_machine.specs.CommandLine.{CommandLine};
 
+    /// The files of the system that is given.
+    type Files: FileSystem;
+
     /// The system that is given.
-    type Given: System + Drop;
+    type Given: System<Files = Self::Files> + Drop;
 
     /// The command line.
     ghost command: { Self → CommandLine };
@@ -28,23 +36,31 @@ pub trait Systems<'a> {
     /// recording is waited for.
     fn system(&self, waits: bool) -> Option<Self::Given>
         ensures some { IfSome result (λ s. IsOfCommand (command self.now) (Self.Given.files s)
-            (Self.Given.lacks_tape s) (Self.Given.lacks_ports s) (Self.Given.lacks_watch s)) }
+            (λ config. LacksTapeOrPorts (Self.Given.lacks_tape s) (Self.Given.lacks_ports s config))
+            (Self.Given.lacks_watch s) (Self.Given.lacks_lock s)) }
+        ensures waits { IfSome result (λ s. waits ≡ false → Self.Given.waits s ≡ false) }
+        ensures calls { IfSome result (λ s. CallsFiles Self.Files.has_made (CallsIn (command self.now) waits)
+            (Self.Given.has_asked s)) }
         ensures none { IfNone result (text_in (codes "config") (command self.now) ≡ None) };
 }
 
-/// The systems of this machine.
+/// The systems of this machine, with files.
 #[derive(Drop)]
-pub struct LocalSystems<'m, 'a, R> {
+pub struct LocalSystems<'m, 'a, R, F> {
     /// The machine.
     pub rt: &'m R,
     /// What `clap` found in the command line.
     pub matches: &'m ArgMatches<'a>,
+    /// The files.
+    pub files: PhantomData<F>,
 }
 
-impl<'m, 'a, R: Machine> Systems<'a> for LocalSystems<'m, 'a, R> {
+impl<'m, 'a, R: Fileless, F: FileSystem + Drop> Systems<'a> for LocalSystems<'m, 'a, R, F> {
     ghost use Rattle.clap.specs.Words.{subcommand_rows_of};
 
-    type Given = Local<'m, R>;
+    type Files = F;
+
+    type Given = Local<'m, R, F>;
 
     ghost command = { λ s. subcommand_rows_of s.matches.now };
 
@@ -52,7 +68,7 @@ impl<'m, 'a, R: Machine> Systems<'a> for LocalSystems<'m, 'a, R> {
         self.matches
     }
 
-    fn system(&self, waits: bool) -> Option<Local<'m, R>> {
+    fn system(&self, waits: bool) -> Option<Local<'m, R, F>> {
         let path = path_of(self.matches)?;
         Some(local_of(self.rt, self.matches, path, waits))
     }

@@ -12,6 +12,7 @@ use Rattle.gw_session.specs.Serve.{around, around_log}
 use Rattle.gw_session.specs.Tape.{TapeState, no_tape}
 use Rattle.run_trunk.specs.Serving.{Traffic}
 use Rattle.gw_command.specs.Command.{SaysNumberIn, text_in}
+use Rattle.gw_machine.proofs.Made.{asked_in}
 use Rattle.gw_machine.proofs.Streams.{lacks_asked, on_new, performed_so, saved_told, told_why}
 use Rattle.gw_machine.specs.declared.program_fault.ProgramFault.{ProgramFault}
 use Rattle.gw_machine.specs.declared.program_fault.ProgramFault.TheVariants as program_faults
@@ -19,8 +20,9 @@ use Rattle.gw_switch.specs.declared.gateway.Gateway.{Gateway}
 use Rattle.gw_machine.specs.System.{EndedSaved, HasServed, LacksSession, NotBegun, SystemFiles}
 use Rattle.gw_machine.specs.System.Performed.{Lacked, Done}
 use Rattle.gw_machine.specs.CommandLine.{CommandLine, TakesAsked, files_in}
+use Rattle.gw_machine.specs.SystemCalls.{SystemCall}
 use Rattle.run_trunk.specs.Trunks.{CarriesTrunk, HasTrunk, IsEndedBy, LacksControl, LacksEnds}
-use Rattle.run_trunk.specs.Trunks.{LacksStream, ServesBy, ServesTrunk, told_behind}
+use Rattle.run_trunk.specs.Trunks.{LacksStream, ServesBy, ServesTrunk, TrunkAsks, told_behind}
 use Rattle.gw_trunk.specs.declared.device.DeviceFault.{DeviceFault}
 
 -- a fault is returned for a reason, and nothing was done with the streams
@@ -146,3 +148,10 @@ served_so command lacks lacks' told is s = record {
   new = s.new;
   done = performed_so (λ fault why. elim why [ inl ends ↦ inl ends | inr more ↦ inr (is fault more) ]) s.done;
 }
+
+-- What a trunk asks of a system that takes what the command names it asks of the command's files.
+pub trunk_asks : {command : CommandLine} {files : SystemFiles} → TakesAsked command files
+    → (calls : List SystemCall) → TrunkAsks files calls → TrunkAsks (files_in command) calls
+trunk_asks takes calls (inl unlocked) = inl unlocked
+trunk_asks takes calls (inr (more, inl none, are)) = inr (more, inl none, are)
+trunk_asks takes calls (inr (more, inr asks, are)) = inr (more, inr (asked_in takes more asks), are)

@@ -159,7 +159,7 @@ totals_told true (Ok totals) = Some totals
 totals_told asked told = None
 
 -- What was written at the end of a trunk that ended so: these lines, if the command asks for totals and it
--- ended well, and nothing else.
+-- ended well, and otherwise none.
 pub record EndIsTold (Wrote : List Line → Type 0) (command : CommandLine) (came : List ℕ) (discarded : ℕ)
     (told : Result Totals ProgramFault) : Type 0 where
   pub asked : Bool

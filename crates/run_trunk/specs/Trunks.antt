@@ -1,5 +1,7 @@
 -- What it means that the trunk that the command line names is served.
-use Rattle.std.specs.Prelude.{◌≡◌, ◌⊎◌, ℕ, ℤ, Bool, pos, List, true, Some, None, Ok, Err, Result, codes}
+use Rattle.std.specs.Prelude.{◌≡◌, ◌⊎◌, ◌∷◌, ℕ, ℤ, Bool, pos, List, [], true, false, Some, None, Ok, Err}
+use Rattle.std.specs.Prelude.{Result, codes}
+use Rattle.gw_config.specs.declared.config.Config.{Config}
 use Rattle.mio.specs.declared.interest.TheConstants.Interest.{WRITABLE}
 use Rattle.mio.specs.declared.poll.Poll.{Poll}
 use Rattle.e1_g711.specs.declared.Law.{Law}
@@ -20,9 +22,10 @@ use Rattle.gw_trunk.specs.System.{SystemRefusesDoor, SystemRefusesStream, System
 use Rattle.gw_trunk.specs.Waiting.{WaitsFor}
 use Rattle.run_trunk.specs.Filters.{Comes, EndIsTold, Goes, IsPlaceOf, LiveIsTold}
 use Rattle.run_trunk.specs.Serving.{Carried, Traffic}
-use Rattle.gw_machine.specs.System.{EndedSaved, LacksTapeOrPorts, NotBegun, Serves}
+use Rattle.gw_machine.specs.System.{EndedSaved, LacksTapeOrPorts, NotBegun, Serves, SystemFiles}
 use Rattle.gw_machine.specs.CommandLine.{ByGateway, CommandLine, OnNewStreams, save_in}
 use Rattle.gw_machine.specs.State.{IsSaved}
+use Rattle.gw_machine.specs.SystemCalls.{AsksThen, EndsSo, SystemCall}
 use Rattle.gw_machine.specs.Lines.{SystemWrites}
 use Rattle.gw_machine.specs.Status.{SaysRefused}
 use Rattle.gw_machine.specs.declared.program_fault.ProgramFault.{ProgramFault}
@@ -41,6 +44,27 @@ abbrev pub LacksServing : (ProgramFault → Type 0) → (ProgramFault → Type 0
     → ProgramFault → Type 0
 LacksServing lacks_tape lacks_ports lacks_watch fault =
     LacksTapeOrPorts lacks_tape lacks_ports fault ⊎ lacks_watch fault
+
+-- A trunk asks its system for its tape, its ports and its watch, and then for the end of this and its own. If
+-- there is one of these not, nothing more.
+abbrev pub ServingAsks : Config → Gateway → Gateway → List SystemCall → Type 0
+ServingAsks config gateway gateway' calls = (calls ≡ SystemCall.BeginTape config gateway false ∷ [])
+    ⊎ (calls ≡ SystemCall.BeginTape config gateway true ∷ SystemCall.OpenPorts config false ∷ [])
+    ⊎ (calls ≡ SystemCall.BeginTape config gateway true ∷ SystemCall.OpenPorts config true
+    ∷ SystemCall.OpenWatch config gateway false ∷ [])
+    ⊎ ((more : List SystemCall) × EndsSo config gateway' more
+    × (calls ≡ SystemCall.BeginTape config gateway true ∷ SystemCall.OpenPorts config true
+    ∷ SystemCall.OpenWatch config gateway true ∷ SystemCall.EndWatch ∷ more))
+
+-- what a trunk asks of a system with these files between its ends; nothing if it has none
+abbrev pub CarryingAsks : SystemFiles → List SystemCall → Type 0
+CarryingAsks files calls = (calls ≡ []) ⊎ AsksThen files ServingAsks calls
+
+-- What a trunk asks of a system with these files, in this order, and nothing else: the folder of its log is
+-- taken first. If that is not done, nothing more.
+abbrev pub TrunkAsks : SystemFiles → List SystemCall → Type 0
+TrunkAsks files calls = (calls ≡ SystemCall.LockLog false ∷ [])
+    ⊎ ((more : List SystemCall) × CarryingAsks files more × (calls ≡ SystemCall.LockLog true ∷ more))
 
 -- this was done with some ports and some tape, as they were before and after
 pub record WithSome (does : PortsState → TapeState → PortsState → TapeState → Type 0) : Type 0 where
@@ -95,7 +119,7 @@ told_behind (Err fault) output = Err fault
 -- first. Octets came from it and were sent to it, clients asked and were answered, and this was done of it
 -- by the gateway. What came and what was sent passed the filters that the command asks for. The line of
 -- counts at the end was told if the command asks for such lines; and the rest of what it asks for then, if it
--- ended well, and nothing else.
+-- ended well.
 pub record HasTrunk (command : CommandLine) (law : Law) (gateway : Gateway)
     (does : Traffic → Result Totals ProgramFault → Type 0) (told : Result Totals ProgramFault) : Type 0 where
   pub poll : Poll

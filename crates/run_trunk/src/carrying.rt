@@ -1,15 +1,17 @@
 //! How the trunk that the command line asks for is opened and served (`serve`).
 
-ghost use Rattle.std.specs.Prelude.{◌≡◌, ◌%◌, [], IfOk, IfErr, None, OnOk, codes, is_some, pos};
+ghost use Rattle.std.specs.Prelude.{◌≡◌, ◌⊎◌, ◌%◌, [], IfOk, IfErr, None, OnOk, codes, false, is_some, pos};
 ghost use Rattle.clap.specs.Words.{subcommand_rows_of};
 ghost use Rattle.gw_command.specs.Command.{HasFlag, text_in};
 ghost use Rattle.gw_machine.specs.System.{LacksSession};
+ghost use Rattle.gw_machine.specs.SystemCalls.{AsksThen};
 ghost use Rattle.gw_machine.specs.CommandLine.{TakesAsked, files_in};
 ghost use Rattle.gw_trunk.specs.Door.{HasMadeSuch, OpensAt, TriesDoor};
-ghost use Rattle.gw_machine.specs.Calls.{Makes};
+ghost use Rattle.gw_machine.specs.Calls.{Makes, MakesSuch};
 ghost use Rattle.run_trunk.specs.Filters.{AreAsked, EndIsTold, LiveIsTold, totals_told};
 ghost use Rattle.run_trunk.specs.Trunks.{IsEndedBy, IsInputOf, IsOutput, IsReported, LacksControl};
-ghost use Rattle.run_trunk.specs.Trunks.{LacksServing, LacksStream, ServesBy, ServesTrunk, told_behind};
+ghost use Rattle.run_trunk.specs.Trunks.{LacksServing, LacksStream, ServesBy, ServesTrunk, ServingAsks};
+ghost use Rattle.run_trunk.specs.Trunks.{CarryingAsks, TrunkAsks, told_behind};
 
 use crate::fileless::Fileless;
 use crate::filters::{
@@ -177,6 +179,7 @@ fn carry_from<
     rt: &'r R,
     matches: &ArgMatches<'_>,
     system: &Y,
+    files: &mut Y::Files,
     config: &Config,
     gateway: &mut Gateway,
     ends: TrunkEnds<I, O, A>,
@@ -194,10 +197,12 @@ fn carry_from<
     requires live { ends.filters.live ≡ V.is_on }
     requires place { (gateway.old.trunk.position % 512 ≡ P.place) × (P.place ≡ S.place) }
     requires law { config.now.gateway.law ≡ S.law }
-    ensures { ServesBy (subcommand_rows_of matches.now) config.now.gateway.law
+    ensures serves { ServesBy (subcommand_rows_of matches.now) config.now.gateway.law
         (LacksServing (Y.lacks_tape system.now) (Y.lacks_ports system.now config.now)
         (Y.lacks_watch system.now))
         ((Y.files system.now).saves config.now gateway.new) gateway.old gateway.new result }
+    ensures asked { MakesSuch (Y.has_asked system.now) files.old files.new
+        (ServingAsks config.now gateway.old gateway.new) }
 {
     let TrunkEnds {
         incoming,
@@ -225,7 +230,7 @@ fn carry_from<
         source: TrunkRecordSource::new(incoming),
         sink: TrunkRecordSink::new(outgoing, answers),
     };
-    let ended = perform_trunk(system, rt.alloc(), config, gateway, &mut trunk);
+    let ended = perform_trunk(system, files, config, gateway, &mut trunk);
     let TrunkRecords { source, sink } = trunk;
     let (discarded, output) = finish_output(sink.into_outgoing());
     let told = told_behind(ended, &output);
@@ -251,6 +256,7 @@ fn carry<
     rt: &'r R,
     matches: &ArgMatches<'_>,
     system: &Y,
+    files: &mut Y::Files,
     ends: TrunkEnds<I, O, A>,
 ) -> Result<Totals, ProgramFault>
     requires takes { TakesAsked (subcommand_rows_of matches.now) (Y.files system.now) }
@@ -261,17 +267,20 @@ fn carry<
     requires went { O.went ends.outgoing ≡ [] }
     requires told { A.went ends.answers ≡ [] }
     requires filters { AreAsked (subcommand_rows_of matches.now) ends.filters }
-    ensures { ServesTrunk (subcommand_rows_of matches.now)
+    ensures serves { ServesTrunk (subcommand_rows_of matches.now)
         (LacksSession (files_in (subcommand_rows_of matches.now))
         (λ config. LacksServing (Y.lacks_tape system.now) (Y.lacks_ports system.now config)
         (Y.lacks_watch system.now))) result }
+    ensures asked { MakesSuch (Y.has_asked system.now) files.old files.new
+        (AsksThen (Y.files system.now) ServingAsks) }
 {
-    let config = system.read_config()?;
-    let mut gateway = system.begin_gateway(&config)?;
+    let config = system.read_config(files)?;
+    let mut gateway = system.begin_gateway(files, &config)?;
     carry_from::<R, Y, I, O, A, Brand, Brand, Brand, Brand, Brand>(
         rt,
         matches,
         system,
+        files,
         &config,
         &mut gateway,
         ends,
@@ -283,15 +292,18 @@ fn serve_alone<R: Fileless, Y: System>(
     rt: &R,
     matches: &ArgMatches<'_>,
     system: &Y,
+    files: &mut Y::Files,
     input: Stdin,
     output: Stdout,
 ) -> Result<Totals, ProgramFault>
     requires takes { TakesAsked (subcommand_rows_of matches.now) (Y.files system.now) }
     requires alone { text_in (codes "control") (subcommand_rows_of matches.now) ≡ None }
-    ensures { ServesTrunk (subcommand_rows_of matches.now)
+    ensures serves { ServesTrunk (subcommand_rows_of matches.now)
         (LacksSession (files_in (subcommand_rows_of matches.now))
         (λ config. LacksServing (Y.lacks_tape system.now) (Y.lacks_ports system.now config)
         (Y.lacks_watch system.now))) result }
+    ensures asked { MakesSuch (Y.has_asked system.now) files.old files.new
+        (CarryingAsks (Y.files system.now)) }
 {
     if let Some(_descriptor) = end_of(matches) {
         return Err(ProgramFault::Nothing);
@@ -302,7 +314,7 @@ fn serve_alone<R: Fileless, Y: System>(
         answers: NoClients::new(),
         filters: filters_as_asked(rt, matches)?,
     };
-    carry(rt, matches, system, ends)
+    carry(rt, matches, system, files, ends)
 }
 
 // Serves the trunk with clients. The descriptor that the matches name asks for the end of this trunk.
@@ -310,6 +322,7 @@ fn serve_clients<R: Fileless, Y: System>(
     rt: &R,
     matches: &ArgMatches<'_>,
     system: &Y,
+    files: &mut Y::Files,
     incoming: WithClients<Stdin>,
     answers: ToDevice<UnixStream>,
     output: Stdout,
@@ -319,10 +332,12 @@ fn serve_clients<R: Fileless, Y: System>(
     requires came { incoming.reader.log.octets ≡ [] }
     requires asked { incoming.asked.octets ≡ [] }
     requires told { answers.log.octets ≡ [] }
-    ensures { ServesTrunk (subcommand_rows_of matches.now)
+    ensures serves { ServesTrunk (subcommand_rows_of matches.now)
         (LacksSession (files_in (subcommand_rows_of matches.now))
         (λ config. LacksServing (Y.lacks_tape system.now) (Y.lacks_ports system.now config)
         (Y.lacks_watch system.now))) result }
+    ensures asked { MakesSuch (Y.has_asked system.now) files.old files.new
+        (CarryingAsks (Y.files system.now)) }
 {
     let outgoing = open_stdout(rt, output)?;
     let filters = filters_as_asked(rt, matches)?;
@@ -332,7 +347,7 @@ fn serve_clients<R: Fileless, Y: System>(
         answers,
         filters,
     };
-    carry(rt, matches, system, ends)
+    carry(rt, matches, system, files, ends)
 }
 
 // Serves the trunk, and the clients of a Unix socket that is opened at one of these doors if the matches name
@@ -342,28 +357,32 @@ fn serve_at<R: Fileless, D: Doors, Y: System>(
     doors: &mut D,
     matches: &ArgMatches<'_>,
     system: &Y,
+    files: &mut Y::Files,
     input: Stdin,
     output: Stdout,
 ) -> Result<Totals, ProgramFault>
     requires takes { TakesAsked (subcommand_rows_of matches.now) (Y.files system.now) }
-    ensures served { ServesTrunk (subcommand_rows_of matches.now)
+    ensures serves { ServesTrunk (subcommand_rows_of matches.now)
         (LacksSession (files_in (subcommand_rows_of matches.now))
         (λ config. LacksServing (Y.lacks_tape system.now) (Y.lacks_ports system.now config)
         (Y.lacks_watch system.now))) result }
     ensures calls { OpensAt D.has_made doors.old doors.new
         (text_in (codes "control") (subcommand_rows_of matches.now)) }
+    ensures asked { MakesSuch (Y.has_asked system.now) files.old files.new
+        (CarryingAsks (Y.files system.now)) }
 {
     let Some(path) = control_of(matches) else {
-        return serve_alone(rt, matches, system, input, output);
+        return serve_alone(rt, matches, system, files, input, output);
     };
     let (incoming, answers) = open_control(rt, doors, path, input)?;
     end_as_asked(matches, &incoming)?;
-    serve_clients(rt, matches, system, incoming, answers, output)
+    serve_clients(rt, matches, system, files, incoming, answers, output)
 }
 
 /// Serves the trunk whose octets come from standard input and go to standard output, with what the system
 /// takes for the command line, and the clients of a Unix socket if the matches name one. It ends with the
-/// trunk, or as the descriptor asks that they name.
+/// trunk, or as the descriptor asks that they name. Its recording is not waited for. The folder of its log,
+/// if it has one, is locked meanwhile.
 ///
 /// # Errors
 ///
@@ -375,14 +394,29 @@ pub fn serve<R: Machine, Y: System>(
     rt: &R,
     matches: &ArgMatches<'_>,
     system: &Y,
+    files: &mut Y::Files,
     input: Stdin,
     output: Stdout,
 ) -> Result<Totals, ProgramFault>
-    requires { TakesAsked (subcommand_rows_of matches.now) (Y.files system.now) }
-    ensures { ServesTrunk (subcommand_rows_of matches.now)
-        (LacksSession (files_in (subcommand_rows_of matches.now))
+    requires takes { TakesAsked (subcommand_rows_of matches.now) (Y.files system.now) }
+    requires waits { Y.waits system.now ≡ false }
+    ensures serves { ServesTrunk (subcommand_rows_of matches.now)
+        (λ fault. LacksSession (files_in (subcommand_rows_of matches.now))
         (λ config. LacksServing (Y.lacks_tape system.now) (Y.lacks_ports system.now config)
-        (Y.lacks_watch system.now))) result }
+        (Y.lacks_watch system.now)) fault ⊎ Y.lacks_lock system.now fault) result }
+    ensures asked { MakesSuch (Y.has_asked system.now) files.old files.new (TrunkAsks (Y.files system.now)) }
 {
-    serve_at(rt, &mut LocalDoors::new(rt), matches, system, input, output)
+    let _lock = match system.lock_log(files) {
+        Ok(lock) => lock,
+        Err(fault) => return Err(fault),
+    };
+    serve_at(
+        rt,
+        &mut LocalDoors::new(rt),
+        matches,
+        system,
+        files,
+        input,
+        output,
+    )
 }

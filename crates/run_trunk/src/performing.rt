@@ -5,9 +5,10 @@ ghost use Rattle.gw_records.specs.declared.outcome.RunFault.{RunFault};
 ghost use Rattle.gw_records.specs.declared.outcome.Totals.{Totals};
 ghost use Rattle.gw_session.specs.Watch.{InputsShown, ServesWatched};
 ghost use Rattle.gw_session.specs.Serve.{around_log};
+ghost use Rattle.gw_machine.specs.Calls.{MakesSuch};
 ghost use Rattle.gw_machine.specs.System.{EndedSaved, HasServed, NotBegun};
 ghost use Rattle.run_trunk.specs.Serving.{IsUnread, IsUntaken, traffic};
-ghost use Rattle.run_trunk.specs.Trunks.{CarriesTrunk, HasWatched, LacksServing, WithSome};
+ghost use Rattle.run_trunk.specs.Trunks.{CarriesTrunk, HasWatched, LacksServing, ServingAsks, WithSome};
 
 use crate::sealed::{AnswersDevice, FilteredSource, MultiframeDevice};
 use crate::serving::serve_trunk;
@@ -16,7 +17,6 @@ use gw_machine::{ProgramFault, System, end_session};
 use gw_session::{Sink, Source, Totals};
 use gw_switch::Gateway;
 use gw_trunk::{TrunkInput, TrunkOutput, TrunkRecordSink, TrunkRecordSource};
-use std::alloc::Global;
 
 /// A trunk and its clients as the source and the sink of a session.
 #[derive(Drop)]
@@ -34,7 +34,7 @@ pub(crate) fn perform_trunk<
     A: TrunkOutput + AnswersDevice,
 >(
     system: &Y,
-    alloc: Global,
+    files: &mut Y::Files,
     config: &Config,
     gateway: &mut Gateway,
     trunk: &mut TrunkRecords<I, O, A>,
@@ -61,12 +61,14 @@ pub(crate) fn perform_trunk<
         (around_log (⟦<TrunkRecordSource<I> as Source>⟧.tells trunk.new.source)
         (⟦<TrunkRecordSink<O, A> as Sink>⟧.tells trunk.new.sink) ports' tape') gateway.old gateway.new
         (InputsShown Y.Watch.shows gateway.old first last) (last ≡ first) end)) Y.ends_watch }
+    ensures asked { MakesSuch (Y.has_asked system.now) files.old files.new
+        (ServingAsks config.now gateway.old gateway.new) }
 {
-    let mut tape = system.begin_tape(config, gateway)?;
-    let mut ports = system.open_ports(config)?;
-    let mut watch = system.open_watch(config, gateway)?;
+    let mut tape = system.begin_tape(files, config, gateway)?;
+    let mut ports = system.open_ports(files, config)?;
+    let mut watch = system.open_watch(files, config, gateway)?;
     let ended = serve_trunk(
-        alloc,
+        system.alloc(),
         gateway,
         &mut ports,
         &mut trunk.source,
@@ -74,6 +76,6 @@ pub(crate) fn perform_trunk<
         &mut tape,
         &mut watch,
     );
-    system.end_watch(&mut watch);
-    end_session(system, config, gateway, ended)
+    system.end_watch(files, &mut watch);
+    end_session(system, files, config, gateway, ended)
 }

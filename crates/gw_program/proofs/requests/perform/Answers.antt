@@ -1,4 +1,4 @@
-use Rattle.std.proofs.Common.{inl}
+use Rattle.std.proofs.Common.{inl, refl}
 use Rattle.gw_program.proofs.requests.perform.Goals as goal
 
 pub returns-in-SpeechJob : goal.returns-in-SpeechJob
@@ -7,7 +7,7 @@ returns-in-SpeechJob g c = (
   inl (record {
     request = c.in-Some.request;
     asked = c.in-Some.ensures.found;
-    done = rw c.in-SpeechJob.is c.job.ensures;
+    done = rw c.in-SpeechJob.is (c.job.ensures, refl);
   }),
 )
 

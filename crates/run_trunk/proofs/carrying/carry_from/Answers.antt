@@ -10,8 +10,8 @@ use Rattle.run_trunk.proofs.Served.{served_by}
 use Rattle.run_trunk.specs.Filters.{Checks}
 use Rattle.run_trunk.proofs.carrying.carry_from.Goals as goal
 
-pub returns : goal.returns
-returns g c =
+pub returns-clause-serves : goal.returns-clause-serves
+returns-clause-serves g c =
     let incoming = c.perform_trunk-ended.new.trunk.source.incoming in
     let aligned = incoming.incoming in
     let slots = aligned.incoming in

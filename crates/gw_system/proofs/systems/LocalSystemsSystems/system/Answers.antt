@@ -1,8 +1,10 @@
 use Rattle.std.proofs.Common.{sym}
 use Rattle.clap.specs.Words.{subcommand_rows_of}
 use Rattle.gw_machine.proofs.Streams.{takes_asked}
+use Rattle.gw_files.specs.LogFolder.{FailsToLock}
 use Rattle.gw_system.specs.Lacking.{LacksTeller}
 use Rattle.gw_system.proofs.Lacked.{ends_in, named_so}
+use Rattle.gw_system.proofs.Made.{calls_files, done_in}
 use Rattle.gw_system.proofs.systems.LocalSystemsSystems.system.Goals as goal
 
 pub returns-clause-some : goal.returns-clause-some
@@ -16,4 +18,17 @@ returns-clause-some g c =
           local.ensures.among;
       watch = λ fault. named_so (λ path. path.now) local.result.tell _ _ (λ path. LacksTeller path fault)
           local.ensures.tell (λ path why. why);
+      lock = λ fault. named_so (λ path. path.now) local.result.log _ _ (λ path. FailsToLock path fault)
+          local.ensures.log (λ path why. why);
     }
+
+pub returns-clause-calls : goal.returns-clause-calls
+returns-clause-calls g c =
+    let local = c.local_of in
+    calls_files (done_in (subcommand_rows_of c.args.self.now.matches.now) c.args.waits local.result.path.now _ _ _
+    local.result.recording (rw local.ensures.path (sym c.in_ok-path.ensures)) local.ensures.log local.ensures.load
+    local.ensures.save (record {
+      path = local.ensures.recording;
+      over = local.ensures.over;
+      waits_is = local.ensures.waits;
+    }))

@@ -1,0 +1,7 @@
+use Rattle.std.proofs.Common.{is_ok}
+use Rattle.gw_machine.specs.SystemCalls.{SystemCall}
+use Rattle.gw_system.proofs.Made.{asked_by}
+use Rattle.gw_system.proofs.local.LocalSystem.read_config.Goals as goal
+
+pub returns-clause-asked : goal.returns-clause-asked
+returns-clause-asked g c = asked_by (SystemCall.ReadConfig (is_ok c.read_config.result)) c.read_config.ensures.calls

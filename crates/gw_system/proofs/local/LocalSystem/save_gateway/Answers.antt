@@ -1,0 +1,9 @@
+use Rattle.std.proofs.Common.{is_ok}
+use Rattle.gw_machine.specs.SystemCalls.{SystemCall}
+use Rattle.gw_system.proofs.Made.{asked_by}
+use Rattle.gw_system.proofs.local.LocalSystem.save_gateway.Goals as goal
+
+pub returns-clause-asked : goal.returns-clause-asked
+returns-clause-asked g c =
+    asked_by (SystemCall.SaveGateway c.args.config.now c.args.gateway.now (is_ok c.keep_gateway.result))
+    c.keep_gateway.ensures.calls

@@ -1,0 +1,19 @@
+use Rattle.std.proofs.Common.{inl, inr, refl}
+use Rattle.run_trunk.proofs.Served.{nothing_served, served_so}
+use Rattle.run_trunk.proofs.carrying.serve.Goals as goal
+
+pub returns-in-Err-clause-serves : goal.returns-in-Err-clause-serves
+returns-in-Err-clause-serves g c = nothing_served _ _ _ (inr (inr c.in-Err.ensures.err))
+
+pub returns-in-Err-clause-asked : goal.returns-in-Err-clause-asked
+returns-in-Err-clause-asked g c = record { calls = _; are = inl refl; made = c.in-Err.ensures.asked }
+
+pub returns-clause-serves : goal.returns-clause-serves
+returns-clause-serves g c = served_so _ _ _ c.serve_at.result (λ fault why. inl why) c.serve_at.ensures.serves
+
+pub returns-clause-asked : goal.returns-clause-asked
+returns-clause-asked g c = let more = c.serve_at.ensures.asked in record {
+  calls = _;
+  are = inr (more.calls, more.are, refl);
+  made = λ before asked. more.made _ (c.in-Ok.ensures.asked before asked);
+}
