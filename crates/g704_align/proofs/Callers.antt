@@ -26,12 +26,7 @@ some-age (Some n) number fas e = (n, refl)
 
 -- the slots of frames are places as the laws need them
 frames_are_placed : IsPlacing frames
-frames_are_placed = record {
-  framing = frame_is_framing;
-  found = omega arith;
-  lost = is_third_wrong-alike;
-  zero = slot_zero;
-}
+frames_are_placed = grind (arith, frame_is_framing, is_third_wrong-alike, slot_zero)
 
 -- no later octet moves the slot of an octet, or changes the alarm that stood
 pub place_append : PlacesAreSettled frames

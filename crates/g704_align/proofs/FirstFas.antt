@@ -1,11 +1,11 @@
 -- A search finds the least position of a FAS octet from its begin.
-use Rattle.std.proofs.Common.{◌≡◌, ℕ, zero, suc, ◌+◌, List, [], ◌∷◌, length, Bool}
-use Rattle.std.proofs.Common.{Option, Some, None, refl, sym, ap, ◌∙◌, arith, inl, inr}
-use Rattle.std.specs.Prelude.{nat_le, ◌&&◌, slice_index, slice_get, if◌then◌else◌}
-use Rattle.std.proofs.lemmas.Bool.{cases_Bool, le-leb, lt-leb, and_left, and_right}
+use Rattle.std.proofs.Common.{◌≡◌, ℕ, zero, suc, ◌+◌, List, [], ◌∷◌, length, Bool, Option, Some, None, refl, sym, ap}
+use Rattle.std.proofs.Common.{◌∙◌, arith}
+use Rattle.std.specs.Prelude.{nat_le, ◌&&◌, slice_index, if◌then◌else◌}
+use Rattle.std.proofs.lemmas.Bool.{cases_Bool, le-leb, lt-leb, and_left}
 use Rattle.g704_framing.specs.Alignment.{later}
 use Rattle.g704_framing.proofs.Leasts.{IsLeast, least_equals, le-suc, least-later}
-use Rattle.g704_align.specs.Search.{is_fas, is_nfas, confirmed, search, after_fas, SearchMeetsLeast}
+use Rattle.g704_align.specs.Search.{is_fas, search, after_fas, SearchMeetsLeast}
 
 -- the first FAS octet from a position on
 abbrev first_fas : List ℕ → ℕ → Option ℕ
@@ -25,31 +25,9 @@ first_fas-least (x ∷ s) (suc from) =
     (and_left _ _ (lt-leb (suc from) 0 (omega arith)))
     (λ k. ap (λ late. late && is_fas (slice_index s k)) (le-suc from k))
     (first_fas-least s from)
-first_fas-least (x ∷ s) zero = elim (cases_Bool (is_fas x)) [
-  | inl fas ↦ rw fas (omega arith, rw (le-leb 0 0 (omega arith)) fas, λ k lt. absurd (omega arith))
-  | inr other ↦ rw other (least-later (meets s 0) (meets (x ∷ s) 0) (length s) (first_fas s 0)
-      (and_right (nat_le 0 0) (is_fas x) other)
-      (λ k. ap (λ late. late && is_fas (slice_index s k))
-      (le-leb 0 (suc k) (omega arith) ∙ sym (le-leb 0 k (omega arith))))
-      (first_fas-least s 0))
-]
+first_fas-least (x ∷ s) zero = grind (arith, cases_Bool (is_fas x), le-leb 0 0 (omega arith), first_fas-least s 0)
 
--- a confirmation does not depend on the origin of positions
-later-confirmed : (f o u a b : Option ℕ) → later (confirmed f o u a b) ≡ confirmed (later f) o u (later a) (later b)
-later-confirmed f None u a b = refl
-later-confirmed f (Some x) None a b = elim (cases_Bool (is_nfas x)) [
-  | inl right ↦ rw right refl
-  | inr wrong ↦ rw wrong refl
-]
-later-confirmed f (Some x) (Some y) a b = elim (cases_Bool (is_nfas x)) [
-  | inr wrong ↦ rw wrong refl
-  | inl right ↦ elim (cases_Bool (is_fas y)) [
-    | inl fas ↦ rw (right, fas) refl
-    | inr other ↦ rw (right, other) refl
-  ]
-]
-
--- nor what a search finds that has met its first FAS octet
+-- what a search finds that has met its first FAS octet does not depend on the origin of positions
 after_fas-later : (x : ℕ) (s : List ℕ) (o : Option ℕ) → later (after_fas s o) ≡ after_fas (x ∷ s) (later o)
 unfolding search
 after_fas-later x s None = refl
@@ -58,18 +36,14 @@ after_fas-later x s (Some k) =
     let b : suc k + 64 ≡ suc (k + 64) = omega arith in
     let c : suc k + 33 ≡ suc (k + 33) = omega arith in
     let d : suc k + 65 ≡ suc (k + 65) = omega arith in
-    rw (a, b, c, d) (later-confirmed (Some k) (slice_get s (k + 32)) (slice_get s (k + 64)) (search s (k + 33))
-    (search s (k + 65)))
+    grind arith
 
 -- the search goes on from the first FAS octet
 search-meets : (s : List ℕ) (from : ℕ) → search s from ≡ after_fas s (first_fas s from)
 unfolding search
 search-meets [] from = refl
 search-meets (x ∷ s) (suc from) = ap later (search-meets s from) ∙ after_fas-later x s (first_fas s from)
-search-meets (x ∷ s) zero = elim (cases_Bool (is_fas x)) [
-  | inl fas ↦ rw fas refl
-  | inr other ↦ rw other (ap later (search-meets s 0) ∙ after_fas-later x s (first_fas s 0))
-]
+search-meets (x ∷ s) zero = grind (arith, cases_Bool (is_fas x), search-meets s 0, after_fas-later x s (first_fas s 0))
 
 -- the law
 pub search_meets_least : SearchMeetsLeast

@@ -1,6 +1,6 @@
 -- Octets between two of slot 0, all at once.
-use Rattle.std.proofs.Common.{◌≡◌, ℕ, zero, suc, ◌+◌, ◌<◌, ◌≤◌, ◌%◌, List, [], ◌∷◌, ◌++◌, length, None, refl}
-use Rattle.std.proofs.Common.{◌∙◌, subst, arith}
+use Rattle.std.proofs.Common.{◌≡◌, ℕ, zero, suc, ◌+◌, ◌<◌, ◌≤◌, ◌%◌, List, [], ◌∷◌, ◌++◌, length, None, refl, ◌∙◌}
+use Rattle.std.proofs.Common.{subst, arith}
 use Rattle.std.specs.Prelude.{◌≢◌}
 use Rattle.std.proofs.lemmas.List.{length_push, append_assoc, append-nil}
 use Rattle.g704_framing.specs.Restart.{last_of}
@@ -32,10 +32,7 @@ pub rest-passes : (age ws wd : ℕ) (history octets : List ℕ) → HasHistory (
     → (0 < length octets → age % 32 ≢ 0) → age % 32 + length octets ≤ 32
     → HasHistory (record { phase = Aligned ((age + length octets) % 64) ws wd }) (history ++ octets)
     × ((k : ℕ) → k < length octets → 0 < number_of (place (history ++ octets) (length history + k)))
-rest-passes age ws wd history [] h begun fits =
-    let counted = h.fields.counted in
-    let same : (age + 0) % 64 ≡ age = omega arith in
-    (rw (same, append-nil history) h, λ k lt. absurd (omega arith))
+rest-passes age ws wd history [] h begun fits = grind (arith, append-nil history)
 rest-passes age ws wd history (x ∷ octets) h begun fits =
     let ne = begun (omega arith) in
     let more = between-signals h.since x age ws wd h.fields ((age + 1) % 64) ne (λ _. refl) in

@@ -1,6 +1,7 @@
 -- Searches in a stream that goes on.
-use Rattle.std.proofs.Common.{◌≡◌, ℕ, zero, suc, ◌<◌, List, [], ◌∷◌, ◌++◌, length, true, false}
-use Rattle.std.proofs.Common.{Option, Some, None, refl, sym, ◌∙◌, arith, get_or, inl, inr}
+use Rattle.std.proofs.lemmas.Grind.{common_steps}
+use Rattle.std.proofs.Common.{◌≡◌, ℕ, zero, suc, ◌<◌, List, [], ◌∷◌, ◌++◌, length, true, false, Option, Some, None}
+use Rattle.std.proofs.Common.{refl, arith, get_or, inl, inr}
 use Rattle.std.specs.Prelude.{slice_get}
 use Rattle.std.proofs.lemmas.Bool.{cases_Bool, cases_lt}
 use Rattle.std.proofs.lemmas.List.{append-nil}
@@ -37,19 +38,7 @@ confirmed-refuted x f (Some y) a b h = rw h refl
 confirmed-found : (f o u o' u' a b a' b' : Option ℕ) → StaysFound o o' → StaysFound u u' → StaysFound a a'
     → StaysFound b b' → StaysFound (confirmed f o u a b) (confirmed f o' u' a' b')
 confirmed-found f None u o' u' a b a' b' ho hu ha hb p e = cc
-confirmed-found f (Some x) u o' u' a b a' b' ho hu ha hb p e =
-    rw (ho x refl) (elim (cases_Bool (is_nfas x)) [
-      | inr wrong ↦ confirmed-refuted x f u' a' b' wrong ∙ ha p (sym (confirmed-refuted x f u a b wrong) ∙ e)
-      | inl right ↦ second u hu e right
-    ])
-  where
-    second : (v : Option ℕ) → StaysFound v u' → confirmed f (Some x) v a b ≡ Some p → is_nfas x ≡ true
-        → confirmed f (Some x) u' a' b' ≡ Some p
-    second None hv i right = let n = rw right at i in cc
-    second (Some y) hv i right = rw (hv y refl, right) (elim (cases_Bool (is_fas y)) [
-      | inl fas ↦ rw fas (rw (right, fas) at i)
-      | inr other ↦ rw other (hb p (rw (right, other) at i))
-    ])
+confirmed-found f (Some x) u o' u' a b a' b' ho hu ha hb p e = grind (arith, common_steps)
 
 -- later octets change nothing that is found
 pub search-append : (s t : List ℕ) (from : ℕ) → StaysFound (search s from) (search (s ++ t) from)
@@ -69,13 +58,7 @@ search-append (x ∷ s) t zero p e = elim (cases_Bool (is_fas x)) [
 -- also what is confirmed, or found past an octet that is wrong
 confirmed-after : (count p x y : ℕ) (a b a' b' : Option ℕ) → FoundAfter 64 count a a' → FoundAfter 64 count b b'
     → FoundAfter 64 count (confirmed (Some p) (Some x) (Some y) a b) (confirmed (Some p) (Some x) (Some y) a' b')
-confirmed-after count p x y a b a' b' ha hb e = elim (cases_Bool (is_nfas x)) [
-  | inr wrong ↦ rw wrong (ha (rw wrong at e))
-  | inl right ↦ elim (cases_Bool (is_fas y)) [
-    | inl fas ↦ let n = rw (right, fas) at e in cc
-    | inr other ↦ rw (right, other) (hb (rw (right, other) at e))
-  ]
-]
+confirmed-after count p x y a b a' b' ha hb e = grind (arith, cases_Bool (is_nfas x), cases_Bool (is_fas y))
 
 -- later octets bring what they find themselves
 pub search-after : (s t : List ℕ) (from : ℕ) → FoundAfter 64 (length s) (search s from) (search (s ++ t) from)

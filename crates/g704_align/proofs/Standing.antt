@@ -1,17 +1,18 @@
 -- The answers of an aligner with a history, and its next history.
-use Rattle.std.proofs.Common.{◌≡◌, ℕ, ◌-◌, ◌≤◌, ◌%◌, ◌/◌, List, [], ◌∷◌, ◌++◌, length, Bool, true, false}
-use Rattle.std.proofs.Common.{Option, Some, None, refl, sym, ap, ◌∙◌, subst, arith, ltb, eqb, inl, inr}
+use Rattle.std.proofs.Common.{rules, ◌≡◌, ℕ, ◌-◌, ◌≤◌, ◌%◌, ◌/◌, List, [], ◌∷◌, ◌++◌, length, Bool, true, false, Option}
+use Rattle.std.proofs.Common.{Some, None, refl, sym, ap, ◌∙◌, subst, arith, ltb, eqb, inl, inr}
+use Rattle.std.proofs.lemmas.Grind.{common_steps}
 use Rattle.std.specs.Prelude.{nat_lt, is_none, ◌==◌}
 use Rattle.std.proofs.lemmas.List.{length_push, append_assoc}
-use Rattle.std.proofs.lemmas.Bool.{lt-ltb, le-ltb, eq-eqb, ne_eqb, cases_lt, cases_Bool}
+use Rattle.std.proofs.lemmas.Bool.{cases_Bool}
 use Rattle.g704_framing.specs.Alignment.{alignments_from}
 use Rattle.g704_framing.specs.Age.{age_in}
 use Rattle.g704_framing.specs.Places.{place_since}
 use Rattle.g704_framing.specs.Restart.{RestartsAfter, last_of}
 use Rattle.g704_framing.proofs.Ends.{alignments-standing, kept-more, RestartsAfter-lost}
 use Rattle.g704_framing.proofs.Ages.{age-early, age-standing}
-use Rattle.g704_framing.proofs.Standings.{place-history, place-over, alarm-since, alarm-over}
-use Rattle.g704_framing.proofs.Standings.{since-nothing, since-more, since-anew}
+use Rattle.g704_framing.proofs.Standings.{place-history, place-over, alarm-since, alarm-over, since-nothing, since-more}
+use Rattle.g704_framing.proofs.Standings.{since-anew}
 use Rattle.g704_align.specs.declared.alignment.Place.{Place}
 use Rattle.g704_align.specs.declared.alignment.Place.TheVariants.{Hunting, Slot}
 use Rattle.g704_align.specs.declared.alignment.SyncState.{SyncState}
@@ -25,16 +26,11 @@ use Rattle.g704_align.proofs.Searches.{frame_is_framing, search-found}
 age-aligned : (b : Option ℕ) (c : List ℕ) (after n age ws wd : ℕ) → IsAlignedRun age ws wd c → after ≤ n
     → age_in after (alignments_from frame_alignment b c 0) n ≡ Some n
 age-aligned b c after n age ws wd h le =
-    age-standing after n (alignments_from frame_alignment b c 0)
-    (alignments-standing frame_alignment frame_is_framing b c
-    (λ t. search-found c t h.found h.fas h.nfas h.confirmed) h.kept) le
+    search (rules, age-standing, alignments-standing, frame_is_framing, search-found)
 
 -- the first half of two frames is the even one
 even_frame : (n : ℕ) → ltb (n % 64) 32 ≡ eqb ((n / 32) % 2) 0
-even_frame n = elim (cases_lt (n % 64) 32) [
-  | inl lt ↦ lt-ltb (n % 64) 32 lt ∙ sym (eq-eqb ((n / 32) % 2) 0 (omega arith))
-  | inr ge ↦ le-ltb (n % 64) 32 ge ∙ sym (ne_eqb ((n / 32) % 2) 0 (omega arith))
-]
+even_frame n = grind (arith, common_steps)
 
 -- between two phases of an alignment
 pub place-aligned : (b : Option ℕ) (c : List ℕ) (x age ws wd age' ws' wd' : ℕ) → IsAlignedRun age ws wd c
@@ -42,10 +38,7 @@ pub place-aligned : (b : Option ℕ) (c : List ℕ) (x age ws wd age' ws' wd' : 
     → Slot (age % 32) (nat_lt age 32) ≡ place_since frames b (c ++ x ∷ []) (length c)
 unfolding place_since
 place-aligned b c x age ws wd age' ws' wd' h g =
-    let a = h.counted in
-    let n : age % 32 ≡ length c % 32 = omega arith in
-    let found = h.found in
-    rw (age-aligned b (c ++ x ∷ []) 65 (length c) age' ws' wd' g (omega arith), n, a, even_frame (length c)) refl
+    grind (arith, age-aligned b (c ++ x ∷ []) 65 (length c) age' ws' wd' g (omega arith), even_frame (length c))
 
 -- an octet before the first that can have a place
 place-early : (b : Option ℕ) (c : List ℕ) (n : ℕ) → n ≤ 64 → Hunting ≡ place_since frames b c n
@@ -58,7 +51,6 @@ place-kept : (b : Option ℕ) (c : List ℕ) (x age ws wd : ℕ) → IsAlignedRu
     → Slot (length c % 32) ((length c / 32) % 2 == 0) ≡ place_since frames b (c ++ x ∷ []) (length c)
 unfolding place_since
 place-kept b c x age ws wd h kept =
-    let found = h.found in
     ap place_of (sym (age-standing 65 (length c) (alignments_from frame_alignment b (c ++ x ∷ []) 0)
     (alignments-standing frame_alignment frame_is_framing b (c ++ x ∷ [])
     (λ t. rw (append_assoc c (x ∷ []) t) (search-found c (x ∷ t) h.found h.fas h.nfas h.confirmed))
@@ -82,9 +74,7 @@ place-signal b c x age ws wd h e = elim (cases_Bool (is_third_wrong (c ++ x ∷ 
 pub place-unless_after : (after : SyncState) (b : Option ℕ) (c : List ℕ) (x : ℕ) → Follows after b (c ++ x ∷ [])
     → ((a s d : ℕ) → after ≡ Aligned a s d → ⊥) → Hunting ≡ place_since frames b (c ++ x ∷ []) (length c)
 place-unless_after Searching b c x f unless = place-over frames b c x f
-place-unless_after (Candidate age) b c x f unless =
-    let a = f.counted in let y = f.young in let l = length_push c x in
-    place-early b (c ++ x ∷ []) (length c) (omega arith)
+place-unless_after (Candidate age) b c x f unless = search (rules, length_push, place-early)
 place-unless_after (Aligned a s d) b c x f unless = absurd (unless a s d refl)
 
 -- nor without one before
@@ -134,11 +124,9 @@ alarm-after : (phase : SyncState) (earlier since : List ℕ) → RestartsAfter f
     → alarm_of phase ≡ alarm_after (earlier ++ since)
 alarm-after Searching earlier since over f = rw f (alarm-over frames earlier over)
 alarm-after (Candidate age) earlier since over f =
-    let a = f.counted in let b = f.begun in let y = f.young in
     ap is_none (sym (age-early frame_alignment (last_of None earlier) since 64 (length since - 1) (omega arith)))
     ∙ alarm-since frames earlier since over (omega arith)
 alarm-after (Aligned age ws wd) earlier since over f =
-    let n = f.found in
     ap is_none (sym (age-aligned (last_of None earlier) since 64 (length since - 1) age ws wd f (omega arith)))
     ∙ alarm-since frames earlier since over (omega arith)
 

@@ -1,19 +1,17 @@
 -- One octet more, in each phase.
 use Rattle.std.proofs.Common.{◌≡◌, ℕ, ◌+◌, ◌-◌, ◌<◌, ◌≤◌, ◌%◌, List, [], ◌∷◌, ◌++◌, length, Bool, true, false, cond}
-use Rattle.std.proofs.Common.{Option, Some, None, refl, sym, ap, ◌∙◌, subst, arith, get_or, not, inl, inr, append_assoc}
+use Rattle.std.proofs.Common.{Option, Some, None, refl, sym, ◌∙◌, subst, arith, get_or, not, inl, inr, append_assoc}
 use Rattle.std.specs.Prelude.{◌≢◌, ◌&&◌, slice_get}
 use Rattle.std.proofs.lemmas.Option.{same_Some}
 use Rattle.std.proofs.lemmas.List.{get_or_append_left, length_push, get_or_push}
-use Rattle.std.proofs.lemmas.Bool.{lt-ltb, le-ltb, eqb-true, not-true, not-false, and_left}
-use Rattle.std.proofs.lemmas.Bool.{and_parts, or_cases, or_parts}
-use Rattle.std.proofs.lemmas.Bool.{cases_eq, cases_lt}
+use Rattle.std.proofs.lemmas.Bool.{lt-ltb, le-ltb, eqb-true, not-true, not-false, and_left, and_parts, or_cases}
+use Rattle.std.proofs.lemmas.Bool.{cases_lt}
 use Rattle.g704_framing.specs.Restart.{RestartsAfter}
 use Rattle.g704_framing.proofs.Ends.{RestartsAfter-passed, kept-more, RestartsAfter-lost}
 use Rattle.g704_align.specs.Search.{is_fas, is_nfas, search}
 use Rattle.g704_align.specs.Loss.{is_wrong, is_third_wrong, frame_alignment}
 use Rattle.g704_align.specs.Aligner.{IsCandidate, IsAlignedRun, CountsWrong, wrong_before, count_after, is_refuted}
-use Rattle.g704_align.proofs.Wrongs.{is_wrong-append, is_wrong-fas, is_wrong-nfas}
-use Rattle.g704_align.proofs.Wrongs.{is_wrong-early, is_wrong-other}
+use Rattle.g704_align.proofs.Wrongs.{is_wrong-append, is_wrong-fas, is_wrong-nfas, is_wrong-early, is_wrong-other}
 use Rattle.g704_align.proofs.Searches.{frame_is_framing, slice_get-within, slice_get-at, confirmed-refuted}
 use Rattle.g704_align.proofs.Searches.{search-found}
 
@@ -26,33 +24,9 @@ pub RestartsAfter-no_fas : (b : Option ℕ) (x : ℕ) → is_fas x ≡ false →
 unfolding search
 RestartsAfter-no_fas b x h = RestartsAfter-passed frame_alignment frame_is_framing b (x ∷ []) (λ t. rw h refl)
 
--- what an octet says that does not refute a candidate
-right_at_32 : (x age : ℕ) → is_refuted age x ≡ false → age ≡ 32 → is_nfas x ≡ true
-right_at_32 x age kept e =
-    not-false (is_nfas x) (or_parts (not (is_nfas x)) false (subst (λ a. is_refuted a x ≡ false) e kept)).0
-
--- and at the other place
+-- what an octet says that does not refute a candidate at its third place
 right_at_64 : (x age : ℕ) → is_refuted age x ≡ false → age ≡ 64 → is_fas x ≡ true
 right_at_64 x age kept e = not-false (is_fas x) (subst (λ a. is_refuted a x ≡ false) e kept)
-
--- the octet that confirms a candidate first, if it was there or is the one that was added
-nfas_at : (c : List ℕ) (x age : ℕ) → IsCandidate age c → is_refuted age x ≡ false → 32 < age + 1
-    → is_nfas (get_or (c ++ x ∷ []) 32 0) ≡ true
-nfas_at c x age h kept lt = elim (cases_eq age 32) [
-  | inl e ↦ rw (get_or_push c x 0 32 (h.counted ∙ e)) (right_at_32 x age kept e)
-  | inr ne ↦ let n = h.counted in rw (push_at c x 32 (omega arith)) (h.nfas (omega arith))
-]
-
--- a candidate that is not refuted
-pub candidate-more : (c : List ℕ) (x age : ℕ) → IsCandidate age c → is_refuted age x ≡ false → age < 64
-    → IsCandidate (age + 1) (c ++ x ∷ [])
-candidate-more c x age h kept lt = let n = h.counted in let b = h.begun in record {
-  counted = length_push c x ∙ ap (λ k. k + 1) h.counted;
-  begun = omega arith;
-  young = omega arith;
-  fas = rw (push_at c x 0 (omega arith)) h.fas;
-  nfas = nfas_at c x age h kept;
-}
 
 -- everything restarts after an octet that should be an NFAS octet, and is not
 over_no_nfas : (b : Option ℕ) (c : List ℕ) (x : ℕ) → length c ≡ 32 → is_fas (get_or c 0 0) ≡ true → is_nfas x ≡ false
@@ -127,7 +101,6 @@ pub candidate-found : (c : List ℕ) (x age : ℕ) → IsCandidate age c → is_
 candidate-found c x age h kept le =
     let n : length c ≡ 64 = (let a = h.counted in let y = h.young in omega arith) in
     let l : length (c ++ x ∷ []) ≡ 65 = omega (arith, length_push c x) in
-    let y = h.young in
     alignment-found (c ++ x ∷ []) l (rw (push_at c x 0 (omega arith)) h.fas)
     (rw (push_at c x 32 (omega arith)) (h.nfas (omega arith)))
     (rw (get_or_push c x 0 64 n) (right_at_64 x age kept (omega arith)))
@@ -137,7 +110,6 @@ counts-other : (c : List ℕ) (x rest count : ℕ) → 0 < length c → CountsWr
     → CountsWrong rest count (c ++ x ∷ [])
 counts-other c x rest count p h ne k ge lt e =
     let l = length_push c x in
-    let far : k ≢ length c + 64 = λ q. ne (omega (arith, q)) in
     h k (omega arith) (omega arith) e ∙ sym (wrong_before-append c (x ∷ []) k p (omega arith))
 
 -- a count below 2, with the octets that it counts
@@ -146,12 +118,6 @@ one_more : (a b : Bool) (count : ℕ) → count ≡ cond a (cond b 2 1) 0 → co
 one_more true true count e h = absurd (omega arith)
 one_more true false count e h = (omega arith, refl)
 one_more false b count e h = (omega arith, refl)
-
--- and a count of 2
-two_wrong : (a b : Bool) (count : ℕ) → count ≡ cond a (cond b 2 1) 0 → 2 ≤ count → (a && b) ≡ true
-two_wrong true true count e h = refl
-two_wrong true false count e h = absurd (omega arith)
-two_wrong false b count e h = absurd (omega arith)
 
 -- the octet is of the kind that is counted
 module _ (c : List ℕ) (x rest count : ℕ) (found : 64 < length c) (h : CountsWrong rest count c)
@@ -173,12 +139,10 @@ module _ (c : List ℕ) (x rest count : ℕ) (found : 64 < length c) (h : Counts
   third-is : (wrong : Bool) → is_wrong d (length c) ≡ wrong
       → is_third_wrong d (length c) ≡ (wrong && (is_wrong c (length c - 64) && is_wrong c (length c - 128)))
   third-is wrong e =
-      rw (
-        e,
+      cc (
         is_wrong-append c (x ∷ []) (length c - 64) (omega arith),
-        is_wrong-append c (x ∷ []) (length c - 128)
-            (omega arith),
-      ) refl
+        is_wrong-append c (x ∷ []) (length c - 128) (omega arith),
+      )
 
   -- the count goes on
   abbrev Counts : ℕ → Type 0
@@ -211,10 +175,7 @@ module _ (c : List ℕ) (x rest count : ℕ) (found : 64 < length c) (h : Counts
   count-lost : (right : Bool) → is_wrong d (length c) ≡ not right → None ≡ count_after count right
       → is_third_wrong d (length c) ≡ true
   count-lost true wrong e = cc
-  count-lost false wrong e = elim (cases_lt count 2) [
-    | inl lt ↦ let i = rw (lt-ltb count 2 lt) at e in cc
-    | inr ge ↦ third-is true wrong ∙ two_wrong (is_wrong c (length c - 64)) (is_wrong c (length c - 128)) count now ge
-  ]
+  count-lost false wrong e = grind (arith, cases_lt count 2, third-is true wrong)
 
 -- an alignment after one octet more
 module _ (c : List ℕ) (x age ws wd : ℕ) (h : IsAlignedRun age ws wd c) where
@@ -296,7 +257,6 @@ module _ (c : List ℕ) (x age ws wd : ℕ) (h : IsAlignedRun age ws wd c) where
   -- of another slot
   pub other-more : age ≢ 0 → age ≢ 32 → IsAlignedRun ((age + 1) % 64) ws wd (c ++ x ∷ [])
   other-more p q =
-      let a = h.counted in
       let other : length c % 32 ≢ 0 = omega (arith, not_at_rest 0 p, not_at_rest 32 q) in
       let right = is_wrong-other (c ++ x ∷ []) (length c) other in
       alignment-more ws wd (and_left _ _ right) (counts-other c x 0 ws begun h.fas_count (not_at_rest 0 p))

@@ -1,9 +1,8 @@
 -- Wrong octets of slot 0, and the loss.
-use Rattle.std.proofs.Common.{◌≡◌, ℕ, ◌-◌, ◌<◌, ◌≤◌, ◌%◌, ◌/◌, List, ◌++◌, length, true, false, refl, sym, ap, ◌∙◌}
-use Rattle.std.proofs.Common.{arith, not, inl, inr}
-use Rattle.std.specs.Prelude.{slice_index, nat_lt, ◌==◌, ◌&&◌, ◌≢◌}
+use Rattle.std.proofs.Common.{◌≡◌, ℕ, ◌-◌, ◌<◌, ◌≤◌, ◌%◌, List, ◌++◌, length, false, refl, ap, arith, not}
+use Rattle.std.specs.Prelude.{slice_index, nat_lt, ◌≢◌}
 use Rattle.std.proofs.lemmas.List.{get_or_append_left}
-use Rattle.std.proofs.lemmas.Bool.{lt-ltb, le-ltb, ne_eqb, and_left, and_right, cases_eq, cases_lt}
+use Rattle.std.proofs.lemmas.Bool.{lt-ltb, le-ltb, ne_eqb, cases_eq, cases_lt}
 use Rattle.g704_align.specs.Search.{is_fas, is_nfas}
 use Rattle.g704_align.specs.Loss.{is_expected, is_wrong, is_third_wrong}
 
@@ -11,21 +10,13 @@ use Rattle.g704_align.specs.Loss.{is_expected, is_wrong, is_third_wrong}
 pub is_wrong-fas : (octets : List ℕ) (k : ℕ) → 64 < k → k % 64 ≡ 0
     → is_wrong octets k ≡ not (is_fas (slice_index octets k))
 unfolding is_wrong
-is_wrong-fas octets k h e =
-    let a : k % 32 ≡ 0 = omega arith in
-    let b : (k / 32) % 2 ≡ 0 = omega arith in
-    let l : nat_lt 64 k ≡ true = lt-ltb 64 k h in
-    rw (l, a, b) refl
+is_wrong-fas octets k h e = grind (arith, lt-ltb 64 k h)
 
 -- in an odd frame
 pub is_wrong-nfas : (octets : List ℕ) (k : ℕ) → 64 < k → k % 64 ≡ 32
     → is_wrong octets k ≡ not (is_nfas (slice_index octets k))
 unfolding is_wrong
-is_wrong-nfas octets k h e =
-    let a : k % 32 ≡ 0 = omega arith in
-    let b : (k / 32) % 2 ≡ 1 = omega arith in
-    let l : nat_lt 64 k ≡ true = lt-ltb 64 k h in
-    rw (l, a, b) refl
+is_wrong-nfas octets k h e = grind (arith, lt-ltb 64 k h)
 
 -- no octet of the search is wrong
 pub is_wrong-early : (octets : List ℕ) (k : ℕ) → k ≤ 64 → is_wrong octets k ≡ false
@@ -35,22 +26,14 @@ is_wrong-early octets k h = let l : nat_lt 64 k ≡ false = le-ltb 64 k h in rw 
 -- and none of another slot
 pub is_wrong-other : (octets : List ℕ) (k : ℕ) → k % 32 ≢ 0 → is_wrong octets k ≡ false
 unfolding is_wrong
-is_wrong-other octets k other =
-    let l : (k % 32 == 0) ≡ false = ne_eqb (k % 32) 0 other in
-    and_left _ _ (and_right (nat_lt 64 k) _ l)
+is_wrong-other octets k other = grind (arith, ne_eqb (k % 32) 0 other)
 
 -- two alignments are wrong alike at a place if their octets are right alike
 pub is_wrong-alike : (octets others : List ℕ) (k : ℕ)
     → (64 < k → k % 32 ≡ 0 → is_expected k (slice_index octets k) ≡ is_expected k (slice_index others k))
     → is_wrong octets k ≡ is_wrong others k
 unfolding is_wrong
-is_wrong-alike octets others k alike = elim (cases_eq (k % 32) 0) [
-  | inr other ↦ is_wrong-other octets k other ∙ sym (is_wrong-other others k other)
-  | inl e ↦ elim (cases_lt 64 k) [
-    | inr early ↦ is_wrong-early octets k early ∙ sym (is_wrong-early others k early)
-    | inl late ↦ ap (λ right. (nat_lt 64 k && (k % 32 == 0)) && not right) (alike late e)
-  ]
-]
+is_wrong-alike octets others k alike = grind (arith, cases_eq (k % 32) 0, cases_lt 64 k)
 
 -- up to a place
 pub is_third_wrong-alike : (octets others : List ℕ) (k : ℕ)

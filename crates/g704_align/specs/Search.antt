@@ -1,7 +1,6 @@
 -- Finding frame alignment in a stream of octets: FAS, NFAS and FAS, 32 octets apart (ITU-T G.706, 4.1.2).
 use Rattle.std.specs.Prelude.{◌≡◌, ℕ, zero, suc, ◌+◌, Bool, not, ◌&&◌, ◌==◌, nat_le, bit_and, if◌then◌else◌}
-use Rattle.std.specs.Prelude.{List, [], ◌∷◌, length, slice_index}
-use Rattle.std.specs.Prelude.{Option, Some, None, slice_get}
+use Rattle.std.specs.Prelude.{List, [], ◌∷◌, length, slice_index, Option, Some, None, slice_get}
 use Rattle.g704_framing.specs.Least.{least}
 use Rattle.g704_framing.specs.Alignment.{later}
 

@@ -1,6 +1,6 @@
 -- The octets of an alignment among its windows, and its loss.
-use Rattle.std.proofs.Common.{◌≡◌, ℕ, zero, suc, ◌+◌, ◌*◌, ◌-◌, ◌<◌, ◌≤◌, ◌%◌, ◌/◌, List, [], ◌∷◌, ◌++◌, length}
-use Rattle.std.proofs.Common.{false, refl, sym, ap, ◌∙◌, arith, inl, inr}
+use Rattle.std.proofs.Common.{rules, ◌≡◌, ℕ, zero, suc, ◌+◌, ◌*◌, ◌-◌, ◌<◌, ◌≤◌, ◌%◌, ◌/◌, List, [], ◌∷◌, ◌++◌, length}
+use Rattle.std.proofs.Common.{false, refl, ap, ◌∙◌, arith}
 use Rattle.std.specs.Prelude.{slice_index, ◌≢◌}
 use Rattle.std.proofs.lemmas.Bool.{eq-eqb, ne_eqb, cases_eq}
 use Rattle.g704_align.specs.Loss.{is_third_wrong}
@@ -23,12 +23,8 @@ eighths-at : (s : List ℕ) (k n : ℕ) → slice_index (eighths_after k s) n �
 unfolding eighths_after
 eighths-at [] k n = refl
 eighths-at (w ∷ s) zero zero = refl
-eighths-at (w ∷ s) zero (suc n) =
-    let at : 0 + 8 * suc n ≡ suc (7 + 8 * n) = omega arith in
-    eighths-at s 7 n ∙ sym (ap (slice_index (w ∷ s)) at)
-eighths-at (w ∷ s) (suc k) n =
-    let at : suc k + 8 * n ≡ suc (k + 8 * n) = omega arith in
-    eighths-at s k n ∙ sym (ap (slice_index (w ∷ s)) at)
+eighths-at (w ∷ s) zero (suc n) = grind (arith, eighths-at s 7 n)
+eighths-at (w ∷ s) (suc k) n = grind (arith, eighths-at s k n)
 
 -- the octets of an alignment
 pub octet-at : (s : List ℕ) (n : ℕ) → slice_index (octets_along s) n ≡ slice_index s (8 * n)
@@ -73,9 +69,4 @@ lost-between s k ne = rw (ne_eqb (k % 8) 0 ne) refl
 pub lost-reads : (windows others : List ℕ) (k : ℕ)
     → ((j : ℕ) → j ≤ k → j % 256 ≡ 0 → slice_index windows j ≡ slice_index others j)
     → is_lost_at windows k ≡ is_lost_at others k
-lost-reads windows others k same = elim (cases_eq (k % 8) 0) [
-  | inr ne ↦ rw (lost-between windows k ne, lost-between others k ne) refl
-  | inl e ↦ rw (lost-octet windows k e, lost-octet others k e)
-      (is_third_wrong-reads (octets_along windows) (octets_along others) (k / 8)
-      (λ j le at. rw (octet-at windows j, octet-at others j) (same (8 * j) (omega arith) (omega arith))))
-]
+lost-reads windows others k same = search (rules, cases_eq, lost-between, lost-octet, is_third_wrong-reads, octet-at)

@@ -1,14 +1,15 @@
 -- Searches over bits, and that alignment over bits is an alignment of the kind that the laws speak of.
-use Rattle.std.proofs.Common.{◌≡◌, ℕ, suc, ◌+◌, ◌<◌, List, ◌∷◌, ◌++◌, length, Bool, true, false}
-use Rattle.std.proofs.Common.{Option, Some, None, refl, sym, ap, ◌∙◌, arith, inl, inr}
-use Rattle.std.specs.Prelude.{◌&&◌, nat_le, slice_index, option_map}
+use Rattle.std.proofs.lemmas.Grind.{common_steps}
+use Rattle.std.proofs.Common.{◌≡◌, ℕ, suc, ◌+◌, ◌<◌, List, ◌∷◌, ◌++◌, length, Bool, true, false, Option, Some, None}
+use Rattle.std.proofs.Common.{refl, sym, ap, ◌∙◌, arith, inl, inr}
+use Rattle.std.specs.Prelude.{◌&&◌, nat_le, option_map}
 use Rattle.std.proofs.lemmas.Bool.{cases_lt, and_parts, false≢true}
 use Rattle.std.proofs.lemmas.Bool.Decides.{nat_tests}
-use Rattle.std.proofs.lemmas.List.{get_or_append_left, get_or-append-add, get_or_past, length-append}
+use Rattle.std.proofs.lemmas.List.{get_or-append-add, length-append}
 use Rattle.g704_framing.specs.Least.{least}
 use Rattle.g704_framing.specs.Laws.{IsFraming, IsFoundAfter}
 use Rattle.g704_framing.proofs.Leasts.{IsLeast, least-is, least_equals, least-later, le-suc}
-use Rattle.g704_align.specs.Search.{is_fas, is_nfas}
+use Rattle.g704_align.specs.Search.{is_fas}
 use Rattle.g704_bits.specs.Search.{search, is_confirmed}
 use Rattle.g704_bits.specs.Loss.{bit_alignment}
 use Rattle.g704_bits.proofs.Eighths.{lost-reads}
@@ -20,37 +21,18 @@ passes s from k = nat_le from k && is_confirmed s k
 -- past the end there is no signal
 pub confirmed-within : (s : List ℕ) (k : ℕ) → is_confirmed s k ≡ true → k + 512 < length s
 unfolding is_confirmed is_fas
-confirmed-within s k h = elim (cases_lt (k + 512) (length s)) [
-  | inl lt ↦ lt
-  | inr ge ↦ absurd (
-      let two = (and_parts (is_fas (slice_index s k)) _ h).1 in
-      let last = (and_parts (is_nfas (slice_index s (k + 256))) _ two).1 in
-      let e = rw (get_or_past s (k + 512) 0 ge) at last in cc
-      )
-]
+confirmed-within s k h = grind (arith, common_steps)
 
 -- if all three windows are there, later ones change nothing
 pub confirmed-append : (s t : List ℕ) (k : ℕ) → k + 512 < length s → is_confirmed (s ++ t) k ≡ is_confirmed s k
 unfolding is_confirmed
-confirmed-append s t k lt =
-    rw (
-      get_or_append_left s t 0 k (omega arith),
-      get_or_append_left s t 0 (k + 256) (omega arith),
-      get_or_append_left s t 0 (k + 512) lt,
-    ) refl
+confirmed-append s t k lt = grind (arith, common_steps)
 
 -- behind other windows it is the same three
 pub confirmed-behind : (s t : List ℕ) → is_confirmed (s ++ t) (length s) ≡ is_confirmed t 0
 unfolding is_confirmed
 confirmed-behind s t =
-    rw (
-      ap (slice_index (s ++ t)) (zero_end (length s)) ∙ get_or-append-add s t 0 0,
-      get_or-append-add s t 256 0,
-      get_or-append-add s t 512 0,
-    ) refl
-  where
-    zero_end : (n : ℕ) → n ≡ n + 0
-    zero_end n = omega arith
+    grind (arith, get_or-append-add s t 0 0, get_or-append-add s t 256 0, get_or-append-add s t 512 0)
 
 -- what a search says
 pub search-is : (s : List ℕ) (from : ℕ) → IsLeast (passes s from) (length s) (search s from)

@@ -1,11 +1,11 @@
 -- One more window without alignment.
-use Rattle.std.proofs.Common.{◌≡◌, ◌≢◌, ℕ, ◌+◌, ◌-◌, ◌<◌, ◌≤◌, ◌%◌, List, [], ◌∷◌, ◌++◌, length, take, drop}
-use Rattle.std.proofs.Common.{true, false, refl, sym, ap, ◌∙◌, arith, inl, inr, append_assoc, length-drop}
+use Rattle.std.proofs.Common.{rules, ◌≡◌, ℕ, ◌+◌, ◌-◌, ◌<◌, ◌≤◌, ◌%◌, List, [], ◌∷◌, ◌++◌, length, take, drop, true}
+use Rattle.std.proofs.Common.{false, refl, sym, ap, ◌∙◌, arith, inl, inr, append_assoc, length-drop}
 use Rattle.std.specs.Prelude.{slice_index, slice_set}
 use Rattle.std.proofs.lemmas.Bool.{cases_Bool, cases_lt, cases_eq, le-leb, lt-ltb, le-ltb}
 use Rattle.std.proofs.lemmas.Grind.{common_steps}
-use Rattle.std.proofs.lemmas.List.{length_push, get_or_append_left, get_or_push}
-use Rattle.std.proofs.lemmas.List.{length-set, get_or-set_same, get_or-set_other, take-append-drop, length-take-le}
+use Rattle.std.proofs.lemmas.List.{length_push, get_or_append_left, get_or_push, length-set, get_or-set_same}
+use Rattle.std.proofs.lemmas.List.{get_or-set_other, take-append-drop, length-take-le}
 use Rattle.g704_align.specs.Search.{is_fas}
 use Rattle.g704_bits.specs.Search.{is_confirmed}
 use Rattle.g704_bits.specs.Aligner.{IsHunting, IsAligned, next_seen, confirms}
@@ -15,15 +15,7 @@ use Rattle.g704_bits.proofs.Steps.{alignment-found}
 -- no window came
 pub hunting-nothing : (memory : List ℕ) → length memory ≡ 512 → IsHunting 0 memory []
 unfolding is_confirmed is_fas
-hunting-nothing memory l = record {
-  limit = omega arith;
-  rest = refl;
-  few = λ lt. omega arith;
-  many = λ le. absurd (omega arith);
-  room = l;
-  kept = λ p lt le. absurd (omega arith);
-  none = λ p. refl;
-}
+hunting-nothing memory l = grind (arith, common_steps)
 
 -- the count after one more, in both cases
 next_seen-low : (seen : ℕ) → seen < 1023 → next_seen seen ≡ seen + 1
@@ -37,26 +29,7 @@ next_seen-last seen ge = rw (le-ltb seen 1023 ge) refl
 pub confirms-is : (seen : ℕ) (memory c : List ℕ) (x p : ℕ) → IsHunting seen memory c → p + 512 ≡ length c
     → is_confirmed (c ++ x ∷ []) p ≡ confirms seen memory x
 unfolding is_confirmed
-confirms-is seen memory c x p h e =
-    let enough : 512 ≤ seen = (elim (cases_lt seen 512) [
-      | inl lt ↦ let f = h.few lt in absurd (omega arith)
-      | inr ge ↦ ge
-    ]) in
-    let r = h.rest in
-    let ia : p % 512 ≡ seen % 512 = omega arith in
-    let ib : (p + 256) % 512 ≡ (seen + 256) % 512 = omega arith in
-    let a : slice_index memory (seen % 512) ≡ slice_index c p
-    = ap (slice_index memory) (sym ia) ∙ h.kept p (omega arith) (omega arith) in
-    let b : slice_index memory ((seen + 256) % 512) ≡ slice_index c (p + 256)
-    = ap (slice_index memory) (sym ib) ∙ h.kept (p + 256) (omega arith) (omega arith) in
-    rw (
-      le-leb 512 seen enough,
-      a,
-      b,
-      get_or_append_left c (x ∷ []) 0 p (omega arith),
-      get_or_append_left c (x ∷ []) 0 (p + 256) (omega arith),
-      get_or_push c x 0 (p + 512) (sym e),
-    ) refl
+confirms-is seen memory c x p h e = search (rules, cases_lt, le-leb, get_or_append_left, get_or_push)
 
 -- nothing is confirmed by the window
 none-more : (seen : ℕ) (memory c : List ℕ) (x : ℕ) → IsHunting seen memory c → confirms seen memory x ≡ false
@@ -76,19 +49,8 @@ none-more seen memory c x h quiet p = elim (cases_lt (p + 512) (length c)) [
 kept-more : (seen : ℕ) (memory c : List ℕ) (x : ℕ) → IsHunting seen memory c
     → (p : ℕ) → p < length (c ++ x ∷ []) → length (c ++ x ∷ []) ≤ p + 512
     → slice_index (slice_set memory (seen % 512) x) (p % 512) ≡ slice_index (c ++ x ∷ []) p
-kept-more seen memory c x h p lt le = elim (cases_eq p (length c)) [
-  | inl e ↦
-      let i : p % 512 ≡ seen % 512 = (let r = h.rest in omega arith) in
-      rw i (get_or-set_same memory (seen % 512) x 0 (let r = h.room in omega arith))
-      ∙ sym (get_or_push c x 0 p (sym e))
-  | inr ne ↦
-      let l = length_push c x in
-      let below : p < length c = omega arith in
-      let other : p % 512 ≢ seen % 512 = λ q. (let r = h.rest in omega arith) in
-      get_or-set_other memory (seen % 512) (p % 512) x 0 other
-      ∙ h.kept p below (omega arith)
-      ∙ sym (get_or_append_left c (x ∷ []) 0 p below)
-]
+kept-more seen memory c x h p lt le =
+    search (rules, cases_eq, get_or-set_same, get_or_push, length_push, get_or-set_other, get_or_append_left)
 
 -- the fields after the window
 pub hunting-more : (seen : ℕ) (memory c : List ℕ) (x : ℕ) → IsHunting seen memory c
@@ -101,10 +63,7 @@ hunting-more seen memory c x h quiet =
             limit = omega arith;
             rest = omega arith;
             few = λ lt. (let f = h.few (omega arith) in omega arith);
-            many = λ le. (elim (cases_lt seen 512) [
-              | inl lt ↦ omega arith
-              | inr ge ↦ let f = h.many ge in omega arith
-            ]);
+            many = λ le. (grind (arith, cases_lt seen 512));
             room = length-set memory (seen % 512) x ∙ h.room;
             kept = kept-more seen memory c x h;
             none = none-more seen memory c x h quiet;

@@ -35,7 +35,6 @@ none-yet b c none = alignments_turns bit_alignment bits_are_framing b c 0 ∙ rw
 pub found-at : (sk al t : List ℕ) (age ws wd : ℕ) → IsAlignedRun age ws wd al
     → ((k : ℕ) → k < length sk → is_confirmed (sk ++ al) k ≡ false) → search ((sk ++ al) ++ t) 0 ≡ Some (length sk)
 found-at sk al t age ws wd h none =
-    let n = h.found in
     let l : length (sk ++ al) ≡ length sk + length al = length-append sk al in
     let lt : length sk + 512 < length (sk ++ al) = omega arith in
     let here : is_confirmed (sk ++ al) (length sk) ≡ true
@@ -51,9 +50,7 @@ found-at sk al t age ws wd h none =
 loss-at : (sk d : List ℕ) (o : Option ℕ) → IsLeast (is_lost_at d) (length d) o
     → loss bit_alignment (sk ++ d) (length sk) ≡ option_map (λ age. length sk + age) o
 unfolding loss
-loss-at sk d o h =
-    rw (drop_at sk d (length sk) refl)
-    (ap (option_map (λ age. length sk + age)) (least_equals (is_lost_at d) (length d) o h))
+loss-at sk d o h = cc (drop_at sk d (length sk) refl, least_equals (is_lost_at d) (length d) o h)
 
 -- a present alignment is the only one
 pub one-stands : (b : Option ℕ) (sk al : List ℕ) (age ws wd : ℕ) → IsAlignedRun age ws wd al

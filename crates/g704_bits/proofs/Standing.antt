@@ -1,6 +1,6 @@
 -- An aligner with a history, one more window.
-use Rattle.std.proofs.Common.{◌≡◌, ℕ, ◌+◌, ◌<◌, ◌≤◌, ◌%◌, List, [], ◌∷◌, ◌++◌, length, map, true, false}
-use Rattle.std.proofs.Common.{None, refl, sym, ap, ◌∙◌, arith, append_assoc, subst}
+use Rattle.std.proofs.Common.{rules, ◌≡◌, ℕ, ◌+◌, ◌<◌, ◌≤◌, ◌%◌, List, [], ◌∷◌, ◌++◌, length, map, true, false, None}
+use Rattle.std.proofs.Common.{sym, ap, ◌∙◌, arith, append_assoc, subst}
 use Rattle.std.specs.Prelude.{slice_set}
 use Rattle.std.proofs.lemmas.List.{length-append, append-nil}
 use Rattle.g704_framing.specs.Alignment.{alignments_from}
@@ -11,8 +11,8 @@ use Rattle.g704_bits.specs.Loss.{is_lost_at, bit_alignment}
 use Rattle.g704_bits.specs.Bits.{offset_of, offset_after}
 use Rattle.g704_bits.specs.declared.aligner.SyncState.{SyncState}
 use Rattle.g704_bits.specs.declared.aligner.SyncState.TheVariants.{Hunting, Aligned}
-use Rattle.g704_bits.specs.Aligner.{IsHunting, IsAlignedRun, Describes, FollowsAlignment, HasHistory}
-use Rattle.g704_bits.specs.Aligner.{next_seen, confirms}
+use Rattle.g704_bits.specs.Aligner.{IsHunting, IsAlignedRun, Describes, FollowsAlignment, HasHistory, next_seen}
+use Rattle.g704_bits.specs.Aligner.{confirms}
 use Rattle.g704_bits.proofs.Framing.{confirmed-append}
 use Rattle.g704_bits.proofs.Spans.{none-yet, one-stands, one-lost, over-lost, offset-since}
 use Rattle.g704_bits.proofs.Steps.{other-more}
@@ -21,19 +21,14 @@ use Rattle.g704_bits.proofs.Hunts.{hunting-nothing, hunting-more, aligned-found}
 -- the offset while nothing was found since the last restart
 offset-quiet : (earlier c : List ℕ) (over : RestartsAfter bit_alignment None earlier)
     → ((k : ℕ) → is_confirmed c k ≡ false) → offset_after (earlier ++ c) ≡ offset_of 7 over.earlier
-offset-quiet earlier c over none =
-    offset-since earlier c over
-    ∙ ap (λ ds. offset_of (offset_of 7 over.earlier) (map (moved (length earlier)) ds))
-    (none-yet (last_of None earlier) c none)
+offset-quiet earlier c over none = cc (offset-since earlier c over, none-yet (last_of None earlier) c none)
 
 -- in alignment
 offset-stands : (earlier sk al : List ℕ) (age ws wd : ℕ) (over : RestartsAfter bit_alignment None earlier)
     → IsAlignedRun age ws wd al → ((k : ℕ) → k < length sk → is_confirmed (sk ++ al) k ≡ false)
     → offset_after (earlier ++ (sk ++ al)) ≡ (length earlier + length sk) % 8
 offset-stands earlier sk al age ws wd over h none =
-    offset-since earlier (sk ++ al) over
-    ∙ ap (λ ds. offset_of (offset_of 7 over.earlier) (map (moved (length earlier)) ds))
-    (one-stands (last_of None earlier) sk al age ws wd h none)
+    cc (offset-since earlier (sk ++ al) over, one-stands (last_of None earlier) sk al age ws wd h none)
 
 -- if it is lost by the last window
 offset-lost : (earlier sk al : List ℕ) (x age ws wd : ℕ) (over : RestartsAfter bit_alignment None earlier)
@@ -51,11 +46,7 @@ offset-lost earlier sk al x age ws wd over h none third =
 none-longer : (sk al : List ℕ) (x age ws wd : ℕ) → IsAlignedRun age ws wd al
     → ((k : ℕ) → k < length sk → is_confirmed (sk ++ al) k ≡ false)
     → (k : ℕ) → k < length sk → is_confirmed (sk ++ (al ++ x ∷ [])) k ≡ false
-none-longer sk al x age ws wd h none k lt =
-    let n = h.found in
-    let l = length-append sk al in
-    ap (λ s. is_confirmed s k) (sym (append_assoc sk al (x ∷ [])))
-    ∙ confirmed-append (sk ++ al) (x ∷ []) k (omega arith) ∙ none k lt
+none-longer sk al x age ws wd h none k lt = search (rules, length-append, append_assoc, confirmed-append)
 
 -- a history with one more window, by the windows since the last restart
 one_more : (history earlier since : List ℕ) (x : ℕ) → history ≡ earlier ++ since
@@ -67,12 +58,7 @@ one_more history earlier since x e =
 pub stands-new : (memory : List ℕ) → length memory ≡ 512
     → HasHistory (record { phase = Hunting 0; offset = 7; memory = memory }) []
 unfolding offset_after alignments_from
-stands-new memory l = record {
-  since = since-nothing bit_alignment (λ before windows. Describes (Hunting 0) memory windows)
-      (hunting-nothing memory l);
-  offset = refl;
-  room = l;
-}
+stands-new memory l = search (rules, since-nothing, hunting-nothing)
 
 -- nothing is found by the window
 pub stands-hunting : (seen o : ℕ) (memory history : List ℕ) (x : ℕ)
@@ -103,7 +89,6 @@ stands-found seen o bit memory history x s sure at =
     let found = aligned-found seen memory h.since x h.fields sure in
     let a = found.0 in
     let l : length history ≡ length h.earlier + length h.since = ap length h.whole ∙ length-append h.earlier h.since in
-    let f1 = found.1 in
     let here : bit ≡ (length h.earlier + length a.skipped) % 8 = omega arith in
     let none : (k : ℕ) → k < length a.skipped → is_confirmed (a.skipped ++ a.aligned) k ≡ false
     = λ k lt. ap (λ s. is_confirmed s k) (sym a.whole) ∙ a.none k lt in
@@ -193,6 +178,4 @@ pub stands-octet-skipped : (age ws wd o next : ℕ) (memory history windows : Li
     → HasHistory (record { phase = Aligned next ws wd; offset = o; memory = memory }) (history ++ windows)
 stands-octet-skipped age ws wd o next memory history [] lt le is eight s = absurd (omega (arith, eight))
 stands-octet-skipped age ws wd o next memory history (x ∷ xs) lt le is eight s =
-    let same : next ≡ (age + length (x ∷ xs)) % 512 = omega (arith, eight, is) in
-    subst (λ n. HasHistory (record { phase = Aligned n ws wd; offset = o; memory = memory }) (history ++ x ∷ xs))
-    (sym same) (stands-skipped x xs age ws wd o memory history lt (omega (arith, eight)) s)
+    grind (arith, stands-skipped x xs age ws wd o memory history lt (omega (arith, eight)) s)

@@ -50,25 +50,13 @@ module _ (c : List ℕ) (x age ws wd : ℕ) (h : IsAlignedRun age ws wd c) where
 
   -- the window lies between two octets
   between : length c % 8 ≢ 0 → IsAlignedRun ((age + 1) % 512) ws wd (c ++ x ∷ [])
-  between ne = let a = h.counted in let f = h.found in let l = length_push c x in record {
-    counted = omega arith;
-    found = omega arith;
-    octets = rw (octets-between c x ne) h.octets;
-  }
+  between ne = grind (arith, length_push c x, octets-between c x ne)
 
   -- or is the next one
   next-octet : (ws' wd' : ℕ) → length c % 8 ≡ 0
       → frames.IsAlignedRun ((length (octets_along c) % 64 + 1) % 64) ws' wd' (octets_along c ++ x ∷ [])
       → IsAlignedRun ((age + 1) % 512) ws' wd' (c ++ x ∷ [])
-  next-octet ws' wd' e more =
-      let a = h.counted in let f = h.found in let l = length_push c x in
-      let n : length (octets_along c ++ x ∷ []) % 64 ≡ (length (octets_along c) % 64 + 1) % 64
-      = omega (arith, length_push (octets_along c) x) in
-      record {
-        counted = omega arith;
-        found = omega arith;
-        octets = rw (octets-push c x e, n) more;
-      }
+  next-octet ws' wd' e more = grind (arith, length_push c x, length_push (octets_along c) x, octets-push c x e)
 
   -- the age of the octet, if that of the window is whole octets
   octet-age : (rest : ℕ) → age ≡ 8 * rest → rest < 64 → (length c % 8 ≡ 0) × (length (octets_along c) % 64 ≡ rest)
@@ -77,9 +65,7 @@ module _ (c : List ℕ) (x age ws wd : ℕ) (h : IsAlignedRun age ws wd c) where
   -- the window loses the alignment if the octet does
   lost-by : length c % 8 ≡ 0 → is_third_wrong (octets_along c ++ x ∷ []) (length (octets_along c)) ≡ true
       → is_lost_at (c ++ x ∷ []) (length c) ≡ true
-  lost-by e third =
-      let n : length c / 8 ≡ length (octets_along c) = omega (arith, length-octets c) in
-      lost-octet (c ++ x ∷ []) (length c) e ∙ rw (octets-push c x e, n) third
+  lost-by e third = grind (arith, length-octets c, lost-octet (c ++ x ∷ []) (length c) e, octets-push c x e)
 
   -- by the octet of slot 0 of an even frame
   pub fas-more : (n : ℕ) → age ≡ 0 → Some n ≡ count_after ws (is_fas x)

@@ -1,7 +1,6 @@
 -- A stream of octets as bits, and the octets of the aligned stream.
 use Rattle.std.specs.Prelude.{◌≡◌, ℕ, ◌+◌, ◌-◌, ◌*◌, ◌/◌, ◌%◌, ◌^◌, ◌<◌, List, [], ◌∷◌, ◌++◌, length}
-use Rattle.std.specs.Prelude.{slice_index}
-use Rattle.std.specs.Prelude.{true}
+use Rattle.std.specs.Prelude.{slice_index, true}
 use Rattle.g704_align.specs.Search.{is_fas, is_nfas}
 use Rattle.g704_bits.specs.Search.{is_confirmed}
 use Rattle.g704_framing.specs.Alignment.{AlignmentSpan, alignments_of}

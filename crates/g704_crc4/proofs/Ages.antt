@@ -1,9 +1,9 @@
 -- The ages of two octets in a row.
 use Rattle.g704_crc4.proofs.Common.{◌≡◌, ℕ, suc, ◌+◌, ◌-◌, ◌<◌, ◌≤◌, List, [], ◌∷◌, true, false, Option, Some, None}
-use Rattle.g704_crc4.proofs.Common.{refl, sym, ap, ◌∙◌, arith, inl, inr, lt-ltb, le-ltb, lt-leb, le-leb, and_left}
-use Rattle.g704_crc4.proofs.Common.{and_parts, cases_lt, cases_Bool, false≢true, age_in, IsFraming}
+use Rattle.g704_crc4.proofs.Common.{rules, sym, ◌∙◌, arith, inl, inr, lt-leb, le-leb, and_left, and_parts, cases_lt}
+use Rattle.g704_crc4.proofs.Common.{cases_Bool, false≢true, age_in, IsFraming}
 use Rattle.std.proofs.lemmas.Option.{same_Some}
-use Rattle.g704_framing.specs.Alignment.{Framing, AlignmentSpan, alignments_from, after_search, after_loss, loss}
+use Rattle.g704_framing.specs.Alignment.{Framing, AlignmentSpan, alignments_from, after_search, after_loss}
 use Rattle.g704_framing.specs.Age.{is_before_loss, is_standing}
 use Rattle.g704_framing.proofs.Turns.{alignments_turns}
 use Rattle.g704_framing.proofs.Settles.{IsNotBefore, alignments-begin, age_in-before, age-after_loss, loss-not_before}
@@ -18,46 +18,19 @@ pub record IsAgeBefore (first position age : ℕ) (before : Option ℕ) : Type 0
 
 -- What comes before a loss also does one octet earlier.
 before_loss-earlier : (n : ℕ) (o : Option ℕ) → is_before_loss (suc n) o ≡ true → is_before_loss n o ≡ true
-before_loss-earlier n None e = refl
-before_loss-earlier n (Some q) e = elim (cases_lt (suc n) q) [
-  | inl lt ↦ lt-ltb n q (omega arith)
-  | inr ge ↦ absurd (false≢true (sym (le-ltb (suc n) q ge) ∙ e))
-]
+before_loss-earlier n o e = search rules
 
 -- Where the next octet does not come before the loss any more, it is the loss.
 loss-here : (n : ℕ) (o : Option ℕ) → is_before_loss n o ≡ true → is_before_loss (suc n) o ≡ false → o ≡ Some (suc n)
-loss-here n None e g = cc
-loss-here n (Some q) e g = elim (cases_lt (suc n) q) [
-  | inl lt ↦ absurd (false≢true (sym g ∙ lt-ltb (suc n) q lt))
-  | inr ge ↦ elim (cases_lt n q) [
-    | inr le ↦ absurd (false≢true (sym (le-ltb n q le) ∙ e))
-    | inl lt ↦ let same : q ≡ suc n = omega arith in ap Some same
-  ]
-]
+loss-here n o e g = search rules
 
 module _ (f : Framing) (h : IsFraming f) (b : Option ℕ) (s : List ℕ) (a n k : ℕ) where
   -- There is an alignment at the octet.
   in_alignment : (p : ℕ) (l : Option ℕ) (ds : List AlignmentSpan) → ds ≡ after_loss f b s l → IsNotBefore p l
       → p + a ≤ suc n → is_before_loss (suc n) l ≡ true → suc n - p ≡ k
       → IsAgeBefore a (suc n) k (age_in a (record { start = p; lost = l } ∷ ds) n)
-  in_alignment p l ds tail nb le up e = elim (cases_lt n (p + a)) [
-    | inl lt ↦
-        let early : is_standing a (record { start = p; lost = l }) n ≡ false = and_left _ _ (lt-leb (p + a) n lt) in
-        record {
-          least = omega arith;
-          within = omega arith;
-          begins = λ same. rw (early, tail) (age-after_loss f h b s a p n l nb (omega arith));
-          goes_on = λ lt'. absurd (omega arith);
-        }
-    | inr ge ↦
-        let one : n - p ≡ k - 1 = omega arith in
-        record {
-          least = omega arith;
-          within = omega arith;
-          begins = λ same. absurd (omega arith);
-          goes_on = λ lt'. rw (le-leb (p + a) n ge, before_loss-earlier n l up, one) refl;
-        }
-  ]
+  in_alignment p l ds tail nb le up e =
+      search (rules, cases_lt, and_left, lt-leb, age-after_loss, le-leb, before_loss-earlier)
 
   -- There is no alignment at the octet, and there was none before, or it is lost by the octet.
   past_alignment : (p : ℕ) (l : Option ℕ) (ds : List AlignmentSpan) → ds ≡ after_loss f b s l
@@ -115,10 +88,7 @@ module _ (f : Framing) (h : IsFraming f) (b : Option ℕ) (s : List ℕ) (a n k 
       → IsAgeBefore a (suc n) k (age_in a (d ∷ ds) n)
   unfolding after_search
   found_before d ds None e i again = cc
-  found_before d ds (Some p) e i again =
-      let head : d ≡ record { start = p; lost = loss f s p } = cc in
-      let tail : ds ≡ after_loss f b s (loss f s p) = cc in
-      rw head (one_alignment p (loss f s p) ds tail (loss-not_before f h s p) (rw head at i) again)
+  found_before d ds (Some p) e i again = search (rules, one_alignment, loss-not_before)
 
   -- From the alignments of a stream.
   pub age_before : (ds : List AlignmentSpan) (from : ℕ) → ds ≡ alignments_from f b s from

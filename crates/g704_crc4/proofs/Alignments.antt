@@ -1,7 +1,8 @@
 -- The octets of a frame alignment, one octet more.
 use Rattle.g704_crc4.proofs.Common.{◌≡◌, ℕ, suc, ◌+◌, ◌-◌, ◌<◌, List, [], ◌∷◌, ◌++◌, length, drop, get_or, Option, Some}
-use Rattle.g704_crc4.proofs.Common.{None, Bool, refl, sym, ap, ◌∙◌, arith, inl, inr, length-drop, cases_lt, length_push}
-use Rattle.g704_crc4.proofs.Common.{drop-append-le, drop_all, age_in, octets_since, since_start, aligned_octets, GoesOn}
+use Rattle.g704_crc4.proofs.Common.{rules, None, Bool, refl, sym, ap, ◌∙◌, arith, inl, inr, length-drop, cases_lt}
+use Rattle.g704_crc4.proofs.Common.{length_push, drop-append-le, drop_all, age_in, octets_since, since_start}
+use Rattle.g704_crc4.proofs.Common.{aligned_octets, GoesOn}
 use Rattle.std.proofs.Common.{drop-cons}
 use Rattle.std.proofs.lemmas.List.{drop-drop}
 use Rattle.g704_framing.specs.Alignment.{alignments_from, alignments_of}
@@ -41,11 +42,7 @@ aligned-nil = refl
 module _ (part : List ℕ) (x age : ℕ) (is : age_at (part ++ x ∷ []) (length part) ≡ Some age) where
   -- It is not the first octet.
   begun : 0 < length part
-  begun = elim (cases_lt 0 (length part)) [
-    | inl lt ↦ lt
-    | inr ge ↦
-        let none = age-early frame_alignment None (part ++ x ∷ []) 65 (length part) (omega arith) in cc
-  ]
+  begun = search (rules, cases_lt, age-early)
 
   -- The octet before it.
   last : ℕ
@@ -62,18 +59,11 @@ module _ (part : List ℕ) (x age : ℕ) (is : age_at (part ++ x ∷ []) (length
 
   -- The octets of its alignment.
   with_octet : aligned_octets (part ++ x ∷ []) ≡ drop (length part - age) part ++ x ∷ []
-  with_octet =
-      let n : length (part ++ x ∷ []) - 1 ≡ length part = omega (arith, length_push part x) in
-      by-age (part ++ x ∷ []) (length part) (Some age) n is
-      ∙ ap (λ k. drop (k - age) (part ++ x ∷ [])) n ∙ drop-append-le (length part - age) part (x ∷ []) (omega arith)
+  with_octet = search (rules, length_push, by-age, drop-append-le)
 
   -- Where the octet before it has an age, those before it are its alignment's.
   later : 65 < age → aligned_octets part ≡ drop (length part - age) part
-  later lt =
-      let w = before.within in
-      let l = begun in
-      let n : length part - 1 - (age - 1) ≡ length part - age = omega arith in
-      by-age part (length part - 1) (Some (age - 1)) refl (before.goes_on lt) ∙ ap (λ k. drop k part) n
+  later lt = grind (arith, begun, by-age part (length part - 1) (Some (age - 1)) refl (before.goes_on lt))
 
   -- Where it has none, there are none.
   first : 65 ≡ age → aligned_octets part ≡ []

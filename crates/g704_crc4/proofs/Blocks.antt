@@ -1,9 +1,8 @@
 -- Submultiframes that are known, and how many are errored.
-use Rattle.g704_crc4.proofs.Common.{◌≡◌, ℕ, zero, suc, ◌+◌, ◌-◌, ◌*◌, ◌/◌, ◌%◌, ◌<◌, ◌≤◌, Bool, true, false, cond, List}
-use Rattle.g704_crc4.proofs.Common.{[], ◌∷◌, ◌++◌, length, Option, Some, refl, sym, ap, ◌∙◌, arith, inl, inr, nat_le}
-use Rattle.g704_crc4.proofs.Common.{◌||◌, ◌==◌, cases_eq, cases_lt, cases_Bool, eq-eqb, ne_eqb, lt-ltb, le-ltb}
-use Rattle.g704_crc4.proofs.Common.{and_left, and_right, Crc4Event, Block, si_of, check_bits_in, is_right, event_of}
-use Rattle.g704_crc4.proofs.Common.{far_end_event, count_in, errored_in, known_blocks, is_excessive}
+use Rattle.g704_crc4.proofs.Common.{◌≡◌, ℕ, zero, suc, ◌+◌, ◌-◌, ◌*◌, ◌/◌, ◌%◌, ◌<◌, ◌≤◌, Bool, false, cond, List}
+use Rattle.g704_crc4.proofs.Common.{rules, common_steps, [], ◌∷◌, ◌++◌, length, Option, Some, refl, ap, arith, nat_le}
+use Rattle.g704_crc4.proofs.Common.{cases_eq, cases_lt, eq-eqb, lt-ltb, Crc4Event, Block, check_bits_in, is_right}
+use Rattle.g704_crc4.proofs.Common.{event_of, count_in, errored_in, known_blocks, is_excessive}
 use Rattle.std.proofs.Common.{not}
 use Rattle.g704_crc4.proofs.Received.{si-before, remainder-stays}
 
@@ -18,14 +17,7 @@ count-alike p q from (suc n) e =
 -- A later octet does not change whether a submultiframe is right that is known.
 right-stays : (d : List ℕ) (x n : ℕ) → 256 * (n + 2) ≤ length d → is_right (d ++ x ∷ []) n ≡ is_right d n
 unfolding is_right check_bits_in
-right-stays d x n le =
-    rw (
-      remainder-stays d x n (omega arith),
-      si-before d x (8 * (n + 1)) (omega arith),
-      si-before d x (8 * (n + 1) + 2) (omega arith),
-      si-before d x (8 * (n + 1) + 4) (omega arith),
-      si-before d x (8 * (n + 1) + 6) (omega arith),
-    ) refl
+right-stays d x n le = search (rules, remainder-stays, si-before)
 
 -- Nor how many are errored.
 pub errored-stays : (d : List ℕ) (x from count : ℕ) → (0 < count → 256 * (from + count + 1) ≤ length d)
@@ -39,13 +31,7 @@ pub errored-more : (d : List ℕ) (from count number : ℕ) → from + count ≡
     → errored_in d from (count + 1)
     ≡ cond (is_right d number) (errored_in d from count) (errored_in d from count + 1)
 unfolding errored_in count_in
-errored-more d from count number e =
-    let one : count + 1 ≡ suc count = omega arith in
-    rw (one, e) (turned (is_right d number) _)
-  where
-    turned : (right : Bool) (n : ℕ) → cond (not right) (n + 1) n ≡ cond right n (n + 1)
-    turned true n = refl
-    turned false n = refl
+errored-more d from count number e = grind (arith, common_steps)
 
 -- None of no numbers is.
 pub errored-none : (d : List ℕ) (from : ℕ) → 0 ≡ errored_in d from 0
@@ -58,44 +44,21 @@ pub block-comes : (d : List ℕ) → length d % 256 ≡ 0 → 256 < length d
 unfolding event_of
 block-comes d e lt = rw (eq-eqb (length d % 256) 0 e, lt-ltb 256 (length d) lt) refl
 
--- An E bit is no submultiframe.
-far_end-no_block : (place : ℕ) (si right : Bool) → far_end_event place si ≡ Some (Block right) → ⊥
-far_end-no_block place si right e = elim (cases_Bool ((place == 416) || (place == 480))) [
-  | inl reports ↦ let i = rw reports at e in cc
-  | inr other ↦ let i = rw other at e in cc
-]
-
 -- Where one is known, the last octet is that of a submultiframe with one before it.
 pub block-came : (d : List ℕ) (right : Bool) → Some (Block right) ≡ event_of d
     → (length d % 256 ≡ 0) × (256 < length d) × (right ≡ is_right d (length d / 256 - 2))
 unfolding event_of
-block-came d right e = elim (cases_eq (length d % 256) 0) [
-  | inr ne ↦ absurd (far_end-no_block ((length d - 1) % 512) (si_of d ((length d - 1) / 32)) right
-      (sym (rw (ne_eqb (length d % 256) 0 ne) at e)))
-  | inl whole ↦ elim (cases_lt 256 (length d)) [
-    | inr ge ↦ let i = rw (eq-eqb (length d % 256) 0 whole, le-ltb 256 (length d) ge) at e in cc
-    | inl lt ↦
-        let i = rw (eq-eqb (length d % 256) 0 whole, lt-ltb 256 (length d) lt) at e in
-        let same : right ≡ is_right d (length d / 256 - 2) = cc in
-        (whole, lt, same)
-  ]
-]
+block-came d right e = grind (arith, common_steps)
 
 -- Where none is, there is no such octet.
 pub none-came : (d : List ℕ) (o : Option Crc4Event) → o ≡ event_of d → ((right : Bool) → o ≡ Some (Block right) → ⊥)
     → length d % 256 ≡ 0 → length d ≤ 256
-none-came d o e other whole = elim (cases_lt 256 (length d)) [
-  | inr ge ↦ ge
-  | inl lt ↦ absurd (other _ (e ∙ block-comes d whole lt))
-]
+none-came d o e other whole = search (rules, cases_lt, block-comes)
 
 -- Then no thousand has too many.
 pub not_excessive : (d : List ℕ) → (length d % 256 ≡ 0 → length d ≤ 256) → is_excessive d ≡ false
 unfolding is_excessive
-not_excessive d none = elim (cases_eq (length d % 256) 0) [
-  | inr ne ↦ and_left _ _ (ne_eqb (length d % 256) 0 ne)
-  | inl whole ↦ and_right _ _ (and_left _ _ (le-ltb 256 (length d) (none whole)))
-]
+not_excessive d none = grind (arith, cases_eq (length d % 256) 0)
 
 -- With one more that is known, its thousand decides.
 pub excessive-is : (d : List ℕ) (known total : ℕ) → length d % 256 ≡ 0 → 256 < length d → known_blocks d - 1 ≡ known

@@ -1,10 +1,10 @@
 -- The check bits and the signal that a receiver finds in what is sent.
-use Rattle.g704_crc4.proofs.Common.{◌≡◌, ℕ, zero, suc, ◌+◌, ◌*◌, ◌<◌, ◌≤◌, ◌/◌, ◌%◌, Bool, false, List, [], ◌∷◌, ◌++◌}
-use Rattle.g704_crc4.proofs.Common.{length, take, drop, refl, sym, ap, ◌∙◌, arith, inl, inr, nat_le, ◌≢◌, ◌==◌}
-use Rattle.g704_crc4.proofs.Common.{cases_eq, eq-eqb, ne_eqb, length-take-le, length_push, replies_after, Remainder}
-use Rattle.g704_crc4.proofs.Common.{no_remainder, remainder_of, each_at, submultiframe, with_si, check_bit, si_at}
-use Rattle.g704_crc4.proofs.Common.{octet_at, zeroed, check_bits_after, sent_octet, sent_octets, si_of, check_bits_in}
-use Rattle.g704_crc4.proofs.Common.{cleared_at, remainder_in, CheckBitsAreRight, SignalIsSent}
+use Rattle.g704_crc4.proofs.Common.{◌≡◌, ℕ, ◌+◌, ◌*◌, ◌<◌, ◌≤◌, ◌/◌, ◌%◌, Bool, false, List, [], ◌∷◌, ◌++◌, rules}
+use Rattle.g704_crc4.proofs.Common.{length, take, drop, refl, sym, ap, ◌∙◌, arith, nat_le, ◌≢◌, ◌==◌, cases_eq, eq-eqb}
+use Rattle.g704_crc4.proofs.Common.{ne_eqb, length-take-le, length_push, replies_after, Remainder, no_remainder}
+use Rattle.g704_crc4.proofs.Common.{remainder_of, each_at, submultiframe, with_si, check_bit, si_at, octet_at, zeroed}
+use Rattle.g704_crc4.proofs.Common.{check_bits_after, sent_octet, sent_octets, si_of, check_bits_in, cleared_at}
+use Rattle.g704_crc4.proofs.Common.{remainder_in, CheckBitsAreRight, SignalIsSent}
 use Rattle.std.specs.Prelude.{cond}
 use Rattle.std.proofs.lemmas.List.{take-append-drop}
 use Rattle.g704_crc4.proofs.Submultiframes.{part-stays}
@@ -22,20 +22,11 @@ at-even bits frame number came even is = rw (eq-eqb (frame % 2) 0 even, is) refl
 
 -- Check bits of no remainder are zeros.
 all-zeros : (number : ℕ) → check_bit no_remainder number ≡ false
-all-zeros zero = refl
-all-zeros (suc zero) = refl
-all-zeros (suc (suc zero)) = refl
-all-zeros (suc (suc (suc zero))) = refl
-all-zeros (suc (suc (suc (suc n)))) = refl
+all-zeros number = search rules
 
 -- An octet that is sent without a check bit is sent alike whatever the check bits are.
 at-same : (a b : Remainder) (place : ℕ) (x : ℕ) → place % 64 ≢ 0 → octet_at a place x ≡ octet_at b place x
-at-same a b place x ne = elim (cases_eq (place % 32) 0) [
-  | inl e ↦ at-frame a place x e
-      ∙ ap (λ si. with_si si x) (at-odd a b (place / 32 % 16) (nat_le 128 x) (λ z. ne (omega (arith, e, z))))
-      ∙ sym (at-frame b place x e)
-  | inr other ↦ at-other a place x other ∙ sym (at-other b place x other)
-]
+at-same a b place x ne = search (rules, cases_eq, at-frame, at-odd, at-other)
 
 -- An octet that is sent with a check bit, and that bit replaced by zero.
 at-check-bit : (bits : Remainder) (place : ℕ) (x : ℕ) → place % 64 ≡ 0
@@ -50,10 +41,7 @@ at-check-bit bits place x e =
 -- What is sent, its check bit replaced by zero, is what the sender counts.
 clear-one : (bits : Remainder) (place : ℕ) (x : ℕ)
     → cond (place % 64 == 0) (octet_at bits place x % 128) (octet_at bits place x) ≡ octet_at no_remainder place x
-clear-one bits place x = elim (cases_eq (place % 64) 0) [
-  | inl e ↦ rw (eq-eqb (place % 64) 0 e) (at-check-bit bits place x e)
-  | inr ne ↦ rw (ne_eqb (place % 64) 0 ne) (at-same bits no_remainder place x ne)
-]
+clear-one bits place x = search (rules, cases_eq, eq-eqb, at-check-bit, ne_eqb, at-same)
 
 -- So the receiver counts what the sender did.
 cleared-sent : (before octets : List ℕ)
@@ -110,24 +98,8 @@ right_check_bits octets n le =
 in-multiframe : (octets : List ℕ) (n frame : ℕ) → frame < 16 → 512 * (n + 1) ≤ length octets
     → si_of (sent_octets octets) (16 * n + frame)
     ≡ si_at (check_bits_after (take (32 * (16 * n + frame)) octets)) frame (si_of octets (16 * n + frame))
-in-multiframe octets n frame lt le =
-    let e : (16 * n + frame) % 16 ≡ frame = omega arith in
-    si-sent octets (16 * n + frame) (omega arith)
-    ∙ ap (λ k. si_at (check_bits_after (take (32 * (16 * n + frame)) octets)) k (si_of octets (16 * n + frame))) e
+in-multiframe octets n frame lt le = grind (arith, si-sent octets (16 * n + frame) (omega arith))
 
 -- A receiver finds the multiframe alignment signal in every whole multiframe.
 pub right_signal : SignalIsSent
-right_signal octets n le = (
-  record {
-    bit_1 = in-multiframe octets n 1 (omega arith) le;
-    bit_2 = in-multiframe octets n 3 (omega arith) le;
-    bit_3 = in-multiframe octets n 5 (omega arith) le;
-    bit_4 = in-multiframe octets n 7 (omega arith) le;
-    bit_5 = in-multiframe octets n 9 (omega arith) le;
-    bit_6 = in-multiframe octets n 11 (omega arith) le;
-  },
-  record {
-    e_1 = in-multiframe octets n 13 (omega arith) le;
-    e_2 = in-multiframe octets n 15 (omega arith) le;
-  },
-)
+right_signal octets n le = search (rules, in-multiframe)

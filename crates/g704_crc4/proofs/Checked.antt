@@ -1,10 +1,10 @@
 -- A checker and its history, one octet more.
-use Rattle.g704_crc4.proofs.Common.{◌≡◌, ℕ, ◌+◌, ◌*◌, ◌-◌, ◌/◌, ◌%◌, Bool, true, false, List, [], ◌∷◌, None, cond, ◌++◌}
-use Rattle.g704_crc4.proofs.Common.{length, refl, sym, ap, ◌∙◌, arith, inl, inr, ◌≢◌, nat_le, ◌==◌, cases_eq, cases_lt}
-use Rattle.g704_crc4.proofs.Common.{eq-eqb, ne_eqb, le-leb, lt-leb, lt-ltb, le-ltb, length_push, Remainder, Checker}
-use Rattle.g704_crc4.proofs.Common.{no_remainder, after_octet, sent_bits, remainder_of, crc_number, each_at}
-use Rattle.g704_crc4.proofs.Common.{submultiframe, si_of, check_bits_in, cleared_at, cleared, remainder_in, same}
-use Rattle.g704_crc4.proofs.Common.{check_bits_with, far_end_event, block_event, is_right, event_of, ChecksAfter}
+use Rattle.g704_crc4.proofs.Common.{◌≡◌, ℕ, ◌+◌, ◌*◌, ◌-◌, ◌/◌, ◌%◌, Bool, true, false, List, [], ◌∷◌, None, ◌++◌}
+use Rattle.g704_crc4.proofs.Common.{rules, common_steps, length, refl, sym, ap, ◌∙◌, arith, inl, inr, ◌≢◌, nat_le}
+use Rattle.g704_crc4.proofs.Common.{cases_eq, cases_lt, eq-eqb, ne_eqb, le-leb, lt-leb, lt-ltb, le-ltb, length_push}
+use Rattle.g704_crc4.proofs.Common.{Remainder, Checker, no_remainder, after_octet, sent_bits, remainder_of, crc_number}
+use Rattle.g704_crc4.proofs.Common.{each_at, submultiframe, si_of, check_bits_in, cleared_at, cleared, remainder_in}
+use Rattle.g704_crc4.proofs.Common.{same, check_bits_with, far_end_event, block_event, is_right, event_of, ChecksAfter}
 use Rattle.g704_crc4.proofs.Submultiframes.{remainder-grows, remainder-none}
 use Rattle.g704_crc4.proofs.CheckBits.{by-bits}
 use Rattle.g704_crc4.proofs.Received.{remainder-stays, si-here, first, second, third, fourth}
@@ -13,25 +13,13 @@ use Rattle.g704_crc4.proofs.Received.{remainder-stays, si-here, first, second, t
 pub checks-none : ChecksAfter
     (record { place = 0; before = no_remainder; running = 0; check_bits = no_remainder; begun = false }) []
 unfolding each_at submultiframe remainder_of sent_bits
-checks-none = record {
-  place = refl;
-  begun = refl;
-  before = λ le. absurd (omega arith);
-  running = refl;
-  c1 = λ lt. absurd (omega arith);
-  c2 = λ lt. absurd (omega arith);
-  c3 = λ lt. absurd (omega arith);
-  c4 = λ lt. absurd (omega arith);
-}
+checks-none = grind (arith, common_steps)
 
 -- A checker and its history, and the next octet.
 module _ (m : Checker) (h : List ℕ) (x : ℕ) (s : ChecksAfter m h) where
   -- Within a submultiframe there is one before it if there was.
   begun-within : (length h + 1) % 256 ≢ 0 → m.begun ≡ nat_le 256 (length (h ++ x ∷ []))
-  begun-within ne = let l = length_push h x in s.begun ∙ elim (cases_lt (length h) 256) [
-    | inl lt ↦ lt-leb 256 (length h) lt ∙ sym (lt-leb 256 (length (h ++ x ∷ [])) (omega (arith, ne)))
-    | inr ge ↦ le-leb 256 (length h) ge ∙ sym (le-leb 256 (length (h ++ x ∷ [])) (omega arith))
-  ]
+  begun-within ne = grind (arith, common_steps)
 
   -- The remainder of the submultiframe with the octet.
   abbrev pub with_octet : Remainder
@@ -41,10 +29,7 @@ module _ (m : Checker) (h : List ℕ) (x : ℕ) (s : ChecksAfter m h) where
   pub counted-more : (taken left : ℕ) → taken ≡ cleared_at (length h) x
       → ((r : Remainder) → m.running ≡ crc_number r → left ≡ crc_number (after_octet r taken))
       → left ≡ crc_number with_octet
-  counted-more taken left is more =
-      more _ s.running
-      ∙ ap (λ o. crc_number (after_octet (remainder_of (submultiframe (length h / 256) (cleared h))) o)) is
-      ∙ ap crc_number (sym (remainder-grows cleared_at h x))
+  counted-more taken left is more = grind (arith, remainder-grows cleared_at h x)
 
   -- An octet within a submultiframe.
   pub checks-within : (place left : ℕ) (bits : Remainder) → place ≡ (m.place + 1) % 512
@@ -53,7 +38,6 @@ module _ (m : Checker) (h : List ℕ) (x : ℕ) (s : ChecksAfter m h) where
       → ChecksAfter (record { place = place; before = m.before; running = left; check_bits = bits; begun = m.begun })
       (h ++ x ∷ [])
   checks-within place left bits at is now ne =
-      let p = s.place in
       let l = length_push h x in
       let same : length h / 256 ≡ length (h ++ x ∷ []) / 256 = omega (arith, ne) in
       record {
@@ -79,7 +63,6 @@ module _ (m : Checker) (h : List ℕ) (x : ℕ) (s : ChecksAfter m h) where
       → after.before ≡ with_octet → after.running ≡ 0 → after.begun ≡ true → ChecksAfter after (h ++ x ∷ [])
   unfolding remainder_in
   checks-last after at e left none begun =
-      let p = s.place in
       let l = length_push h x in
       let n : length h / 256 ≡ length (h ++ x ∷ []) / 256 - 1 = omega arith in
       record {
@@ -96,21 +79,11 @@ module _ (m : Checker) (h : List ℕ) (x : ℕ) (s : ChecksAfter m h) where
 
   -- An octet that is not the first of its frame has no check bit.
   pub bits-kept : m.place % 32 ≢ 0 → m.check_bits ≡ check_bits_with m.check_bits m.place (nat_le 128 x)
-  bits-kept ne =
-      sym (by-bits _ _ _ _ m.check_bits
-      (other 0 m.check_bits.c1 refl) (other 64 m.check_bits.c2 refl)
-      (other 128 m.check_bits.c3 refl) (other 192 m.check_bits.c4 refl))
-    where
-      other : (at : ℕ) (old : Bool) → at % 32 ≡ 0 → cond (m.place % 256 == at) (nat_le 128 x) old ≡ old
-      other at old e = rw (ne_eqb (m.place % 256) at (λ same. ne (omega (arith, same, e)))) refl
+  bits-kept ne = grind (arith, ne_eqb (m.place % 256))
 
   -- Nor an E bit.
   pub none_reported : (si : Bool) → m.place % 32 ≢ 0 → None ≡ far_end_event m.place si
-  none_reported si ne =
-      rw (
-        ne_eqb m.place 416 (λ same. ne (omega (arith, same))),
-        ne_eqb m.place 480 (λ same. ne (omega (arith, same))),
-      ) refl
+  none_reported si ne = grind (arith, common_steps)
 
   -- It is taken as it comes.
   pub taken-whole : m.place % 32 ≢ 0 → x ≡ cleared_at (length h) x
@@ -146,33 +119,16 @@ module _ (m : Checker) (h : List ℕ) (x : ℕ) (s : ChecksAfter m h) where
             let before : m.before ≡ remainder_in all (length h / 256 - 1)
             = s.before ge ∙ sym (remainder-stays h x (length h / 256 - 1) (omega arith)) in
             rw (eq-eqb (length all % 256) 0 end, lt-ltb 256 (length all) (omega arith))
-            (ap (λ b. block_event b (same (check_bits_with m.check_bits m.place (nat_le 128 x)) m.before))
-            (s.begun ∙ le-leb 256 (length h) ge)
-            ∙ ap (λ w. block_event true (same w m.before)) (bits-are (omega arith))
-            ∙ ap (λ r. block_event true (same (check_bits_in all (length h / 256)) r)) before
-            ∙ ap (λ i. block_event true (same (check_bits_in all i) (remainder_in all (length h / 256 - 1)))) (sym k)
-            ∙ ap (λ i. block_event true (is_right all i)) (sym n))
+            (grind (arith, le-leb 256 (length h) ge, bits-are (omega arith)))
       ]
 
   -- An E bit reports the same for Si bits that are equal at E bits.
   far-end-event-same : (place : ℕ) (a b : Bool) → (place ≡ 416 → a ≡ b) → (place ≡ 480 → a ≡ b)
       → far_end_event place a ≡ far_end_event place b
-  far-end-event-same place a b one two = elim (cases_eq place 416) [
-    | inl e ↦ ap (far_end_event place) (one e)
-    | inr ne ↦ elim (cases_eq place 480) [
-      | inl e ↦ ap (far_end_event place) (two e)
-      | inr other ↦ rw (ne_eqb place 416 ne, ne_eqb place 480 other) refl
-    ]
-  ]
+  far-end-event-same place a b one two = grind (arith, cases_eq place 416, cases_eq place 480)
 
   -- What is learned with any other octet.
   pub far-end-event-is : (place : ℕ) → place ≡ (m.place + 1) % 512 → place % 256 ≢ 0
       → far_end_event m.place (nat_le 128 x) ≡ event_of (h ++ x ∷ [])
   unfolding event_of
-  far-end-event-is place at ne =
-      let p = s.place in
-      let l = length_push h x in
-      let n : length (h ++ x ∷ []) - 1 ≡ length h = omega arith in
-      rw (ne_eqb (length (h ++ x ∷ []) % 256) 0 (λ z. ne (omega (arith, z))), n, ← p)
-      (far-end-event-same m.place (nat_le 128 x) (si_of (h ++ x ∷ []) (length h / 32))
-      (λ e. sym (si-here h x (length h / 32) (omega arith))) (λ e. sym (si-here h x (length h / 32) (omega arith))))
+  far-end-event-is place at ne = search (rules, length_push, ne_eqb, far-end-event-same, si-here)

@@ -30,13 +30,14 @@ pub use Rattle.g704_framing.specs.Laws.{IsFraming}
 unfoldable pub use Rattle.g704_framing.specs.Replies.{replies_after}
 pub use Rattle.g704_framing.specs.Restart.{RestartsAfter, last_of}
 pub use Rattle.std.proofs.Common.{Bool, List, None, Option, Some, [], ap, append-nil, append_assoc, arith, cond, drop}
-pub use Rattle.std.proofs.Common.{false, get_or, inl, inr, length, length-drop, refl, slice_set, subst, suc, sym, take}
-pub use Rattle.std.proofs.Common.{true, zero, ℕ, ◌%◌, ◌*◌, ◌++◌, ◌+◌, ◌-◌, ◌/◌, ◌<◌, ◌^◌, ◌∙◌, ◌∷◌, ◌≡◌, ◌≤◌}
+pub use Rattle.std.proofs.Common.{rules, false, get_or, inl, inr, length, length-drop, refl, slice_set, subst, suc, sym}
+pub use Rattle.std.proofs.Common.{take, true, zero, ℕ, ◌%◌, ◌*◌, ◌++◌, ◌+◌, ◌-◌, ◌/◌, ◌<◌, ◌^◌, ◌∙◌, ◌∷◌, ◌≡◌, ◌≤◌}
 pub use Rattle.std.proofs.Math.Seq.{drop-append_seam, take-suc}
 pub use Rattle.std.proofs.lemmas.Bool.{agree_below, agree_below_at, and_left, and_parts, and_right, cases_Bool}
 pub use Rattle.std.proofs.lemmas.Bool.{cases_eq, cases_lt, eq-eqb, eqb-true, false≢true, le-leb, le-ltb, lt-leb, lt-ltb}
 pub use Rattle.std.proofs.lemmas.Bool.{ne_eqb, true≢false}
+pub use Rattle.std.proofs.lemmas.Grind.{common_steps}
 pub use Rattle.std.proofs.lemmas.List.{drop-append-le, drop_all, get_or_past, get_or_push, length-take-le, length_push}
 pub use Rattle.std.proofs.lemmas.List.{take-append-le, take_all, take_more_set}
 pub use Rattle.std.specs.Prelude.{bit_xor, if◌then◌else◌, min, nat_le, not, option_map, replicate, slice_index, ◌&&◌}
-pub use Rattle.std.specs.Prelude.{◌==◌, ◌||◌, ◌≢◌}
+pub use Rattle.std.specs.Prelude.{◌==◌, ◌≢◌}

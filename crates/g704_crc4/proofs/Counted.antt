@@ -1,7 +1,6 @@
 -- Counts, one octet more.
 use Rattle.g704_crc4.proofs.Common.{◌≡◌, ℕ, suc, ◌+◌, ◌<◌, ◌≤◌, List, [], ◌∷◌, ◌++◌, length, take, drop, get_or, refl}
-use Rattle.g704_crc4.proofs.Common.{sym, arith, take-suc, drop_all, counts_with, event_of, counts_after}
-use Rattle.std.proofs.Math.Seq.{drop-cons}
+use Rattle.g704_crc4.proofs.Common.{common_steps, sym, arith, take-suc, drop_all, counts_with, event_of, counts_after}
 use Rattle.g704_crc4.specs.declared.checking.Counts.{Counts}
 
 -- The counts take the next octet.
@@ -9,9 +8,7 @@ pub count-more : (octets : List ℕ) (i : ℕ) (counts : Counts) → i < length 
     → counts_after (counts_with counts (event_of (take i octets ++ get_or octets i 0 ∷ []))) (take (i + 1) octets)
     (drop (i + 1) octets) ≡ counts_after counts (take i octets) (drop i octets)
 unfolding counts_after
-count-more octets i counts lt =
-    let one : i + 1 ≡ suc i = omega arith in
-    rw (one, take-suc octets i 0 lt, drop-cons octets i 0 lt) refl
+count-more octets i counts lt = grind (arith, common_steps)
 
 -- The octets before one, and that one.
 pub next-octet : (octets : List ℕ) (i : ℕ) → i < length octets

@@ -1,8 +1,7 @@
 -- What is counted, one octet more.
-use Rattle.g704_crc4.proofs.Common.{◌≡◌, ℕ, ◌+◌, ◌-◌, ◌^◌, Bool, true, false, List, [], ◌∷◌, ◌++◌, Option, None, sym}
-use Rattle.g704_crc4.proofs.Common.{ap, ◌∙◌, arith, append_assoc, append-nil, min, bit_number, learned, tells_given_up}
-use Rattle.g704_crc4.proofs.Common.{times_after, receiver_counts_with}
-use Rattle.g704_crc4.proofs.Common.{Some, refl}
+use Rattle.g704_crc4.proofs.Common.{◌≡◌, ℕ, ◌+◌, ◌-◌, Bool, List, [], ◌∷◌, ◌++◌, Option, None, sym, rules, ap, ◌∙◌}
+use Rattle.g704_crc4.proofs.Common.{arith, append_assoc, append-nil, bit_number, learned, tells_given_up, times_after}
+use Rattle.g704_crc4.proofs.Common.{receiver_counts_with, Some, refl}
 use Rattle.std.specs.Prelude.{is_some}
 use Rattle.g704_crc4.specs.declared.receiving.ReceiverEvent.{ReceiverEvent}
 use Rattle.g704_crc4.specs.declared.receiving.Receiver.{Receiver}
@@ -20,22 +19,12 @@ unfolding times_after
 times-push passes before [] x =
     omega (arith, ap (λ (xs : List ℕ). bit_number (passes (learned xs x))) (append-nil before))
 times-push passes before (y ∷ octets) x =
-    omega (
-      arith,
-      times-push passes (before ++ y ∷ []) octets x,
-      ap (λ (xs : List ℕ). bit_number (passes (learned xs x))) (append_assoc before (y ∷ []) octets),
-    )
+    grind (arith, times-push passes (before ++ y ∷ []) octets x, append_assoc before (y ∷ []) octets)
 
 -- The same as a count.
 counted-is : (passes : Option ReceiverEvent → Bool) (history : List ℕ) (x : ℕ)
     → count_with (times passes history) (passes (learned history x)) ≡ times passes (history ++ x ∷ [])
-counted-is passes history x =
-    clamped (times_after passes [] history) (passes (learned history x))
-    ∙ ap (λ n. min n (2 ^ 64 - 1)) (sym (times-push passes [] history x))
-  where
-    clamped : (n : ℕ) (more : Bool) → count_with (min n (2 ^ 64 - 1)) more ≡ min (n + bit_number more) (2 ^ 64 - 1)
-    clamped n true = omega arith
-    clamped n false = omega arith
+counted-is passes history x = grind (arith, times-push passes [] history x)
 
 -- Counts are the same that are so one by one.
 same_counts : (a b c d e f a' b' c' d' e' f' : ℕ) → a ≡ a' → b ≡ b' → c ≡ c' → d ≡ d' → e ≡ e' → f ≡ f'
@@ -78,7 +67,4 @@ pub checks-silent : (checker : TrunkChecker) (receiver : Receiver) (history octe
     → ChecksTrunk checker history → ReceivesAfter receiver (history ++ octets)
     → times_after is_some history octets ≡ 0
     → ChecksTrunk (record checker { receiver = receiver }) (history ++ octets)
-checks-silent checker receiver history octets s receives none = record {
-  receives = receives;
-  receiver_counts = s.receiver_counts ∙ receiver_counts-silent history octets none;
-}
+checks-silent checker receiver history octets s receives none = search (rules, receiver_counts-silent)

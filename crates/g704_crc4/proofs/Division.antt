@@ -1,6 +1,6 @@
 -- Division by the generator, one bit of the dividend more.
 use Rattle.g704_crc4.proofs.Common.{◌≡◌, ℕ, zero, suc, Bool, true, false, List, [], ◌∷◌, refl, sym, ap, ◌∙◌, Remainder}
-use Rattle.g704_crc4.proofs.Common.{add, no_remainder, with_bit, after_bits, false≢true}
+use Rattle.g704_crc4.proofs.Common.{arith, rules, common_steps, add, no_remainder, with_bit, after_bits}
 use Rattle.g704_crc4.specs.Polynomials.{coefficient, HaveSameCoefficients, sum, times_x, times, generator, of_remainder}
 use Rattle.g704_crc4.specs.Polynomials.{polynomial_after, Leaves, RemainderIsLeft}
 
@@ -29,12 +29,7 @@ far q = times_x (times_x (times_x (sum q (times_x []))))
 at-zero : (q : List Bool) (left : Remainder)
     → coefficient (sum (times generator q) (of_remainder left)) 0 ≡ add (add (coefficient q 0) false) left.c4
 unfolding sum
-at-zero q left =
-    at-sum (times generator q) (of_remainder left) 0
-    ∙ ap (λ a. add a left.c4) (at-sum q (times_x (sum q (times_x (far-rest q)))) 0)
-  where
-    far-rest : List Bool → List Bool
-    far-rest q = times_x (times_x (sum q (times_x [])))
+at-zero q left = grind (arith, common_steps)
 
 -- And the others.
 at-suc : (q : List Bool) (left : Remainder) (k : ℕ)
@@ -42,18 +37,11 @@ at-suc : (q : List Bool) (left : Remainder) (k : ℕ)
     ≡ add (add (coefficient q (suc k)) (add (coefficient q k) (coefficient (far q) k)))
     (coefficient (of_remainder left) (suc k))
 unfolding sum
-at-suc q left k =
-    at-sum (times generator q) (of_remainder left) (suc k)
-    ∙ ap (λ a. add a (coefficient (of_remainder left) (suc k))) (at-sum q (times_x (sum q (far q))) (suc k)
-    ∙ ap (add (coefficient q (suc k))) (at-sum q (far q) k))
+at-suc q left k = search (rules, at-sum)
 
 -- What that part is.
 far-is : (q : List Bool) (k : ℕ) → coefficient (sum q (times_x [])) k ≡ coefficient (sum q []) k
-far-is q k = at-sum q (times_x []) k ∙ ap (add (coefficient q k)) (none k) ∙ sym (at-sum q [] k)
-  where
-    none : (k : ℕ) → coefficient (times_x []) k ≡ coefficient [] k
-    none zero = refl
-    none (suc k) = refl
+far-is q k = grind (arith, at-sum q (times_x []) k, at-sum q [] k)
 
 -- What is added twice is gone.
 case-0 : (t : Bool) → false ≡ add (add t false) t
@@ -62,34 +50,12 @@ case-0 false = refl
 
 -- A quotient's bit that is added to the next coefficient is gone by the remainder's.
 case-1 : (q c t : Bool) → false ≡ add (add q false) c → false ≡ add (add q (add t false)) (add c t)
-case-1 true true true e = refl
-case-1 true true false e = refl
-case-1 true false true e = absurd (false≢true e)
-case-1 true false false e = absurd (false≢true e)
-case-1 false true true e = absurd (false≢true e)
-case-1 false true false e = absurd (false≢true e)
-case-1 false false true e = refl
-case-1 false false false e = refl
+case-1 q c t e = search rules
 
 -- The quotient's next bit is that over the top.
 case-4 : (a b c t : Bool) → false ≡ add (add a (add b false)) c
     → t ≡ add (add a (add b (add (add c t) false))) false
-case-4 true true true true e = absurd (false≢true e)
-case-4 true true true false e = absurd (false≢true e)
-case-4 true true false true e = refl
-case-4 true true false false e = refl
-case-4 true false true true e = refl
-case-4 true false true false e = refl
-case-4 true false false true e = absurd (false≢true e)
-case-4 true false false false e = absurd (false≢true e)
-case-4 false true true true e = refl
-case-4 false true true false e = refl
-case-4 false true false true e = absurd (false≢true e)
-case-4 false true false false e = absurd (false≢true e)
-case-4 false false true true e = absurd (false≢true e)
-case-4 false false true false e = absurd (false≢true e)
-case-4 false false false true e = refl
-case-4 false false false false e = refl
+case-4 a b c t e = search rules
 
 -- One bit more of the dividend.
 one-more : (p q : List Bool) (left : Remainder) (bit : Bool)
@@ -117,12 +83,7 @@ one-more p q left bit h (suc (suc (suc (suc (suc k))))) =
 -- Nothing is no multiple, and leaves nothing.
 nothing : HaveSameCoefficients (x4 []) (sum (times generator []) (of_remainder no_remainder))
 unfolding sum
-nothing zero = refl
-nothing (suc zero) = refl
-nothing (suc (suc zero)) = refl
-nothing (suc (suc (suc zero))) = refl
-nothing (suc (suc (suc (suc zero)))) = refl
-nothing (suc (suc (suc (suc (suc k))))) = refl
+nothing h0 = search rules
 
 -- All bits of the dividend.
 divided-after : (p q : List Bool) (left : Remainder) (bits : List Bool)

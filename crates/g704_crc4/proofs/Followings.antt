@@ -1,6 +1,6 @@
 -- Submultiframes of a frame alignment, one octet more.
 use Rattle.g704_crc4.proofs.Common.{◌≡◌, ℕ, ◌+◌, ◌-◌, ◌*◌, ◌/◌, ◌%◌, ◌<◌, ◌≤◌, Bool, true, false, cond, List, [], ◌∷◌}
-use Rattle.g704_crc4.proofs.Common.{◌++◌, length, drop, Option, Some, None, refl, sym, ap, ◌∙◌, arith, inl, inr, subst}
+use Rattle.g704_crc4.proofs.Common.{◌++◌, length, drop, Option, Some, None, refl, sym, ap, ◌∙◌, arith, inl, inr}
 use Rattle.g704_crc4.proofs.Common.{length-drop, nat_le, option_map, ◌==◌, if◌then◌else◌, cases_Bool, cases_eq, eq-eqb}
 use Rattle.g704_crc4.proofs.Common.{ne_eqb, false≢true, cases_lt, le-leb, length_push, drop-append-le, take-append-le}
 use Rattle.g704_crc4.proofs.Common.{drop_all, Checker, Crc4Event, Block, GivenUp, Received, is_right, event_of}
@@ -46,14 +46,7 @@ followed-excess octets checked e many = rw (e, many) refl
 -- Frame alignment is given up by what is learned if a thousand has too many.
 pub tells-excess : (octets : List ℕ) → tells_given_up (followed octets) ≡ is_excessive (checked_octets octets)
 unfolding followed
-tells-excess octets = elim (cases_Bool (is_excessive (checked_octets octets))) [
-  | inl many ↦ rw many refl
-  | inr few ↦ rw few (no_end (event_of (checked_octets octets)))
-]
-  where
-    no_end : (o : Option Crc4Event) → tells_given_up (option_map (λ event. Received event) o) ≡ false
-    no_end None = refl
-    no_end (Some event) = refl
+tells-excess octets = grind (arith, cases_Bool (is_excessive (checked_octets octets)))
 
 -- What is held, and the next octet of the frame alignment.
 module _ (m : SubmultiframeCheck) (octets : List ℕ) (x : ℕ) (s : IsFollowed m octets) where
@@ -83,18 +76,7 @@ module _ (m : SubmultiframeCheck) (octets : List ℕ) (x : ℕ) (s : IsFollowed 
   pub waits-on : (rest : ℕ) → 0 < m.to_come → rest ≡ m.to_come - 1
       → IsFollowed (record { to_come = rest; checker = m.checker; known = m.known; errored = m.errored })
       (octets ++ x ∷ [])
-  waits-on rest lt e =
-      let same = none-before lt ∙ sym (none-yet lt) in
-      record {
-        number = s.number;
-        found = found;
-        past = (let p = s.past in omega (arith, length_push octets x));
-        waits = (let w = s.waits in omega (arith, length_push octets x));
-        checks = subst (ChecksAfter m.checker) same s.checks;
-        known = rw same at s.known;
-        errored = rw same at s.errored;
-        few = s.few;
-      }
+  waits-on rest lt e = grind (arith, none-before lt, none-yet lt, found, length_push octets x)
 
   -- What is held with an octet that is checked.
   pub checks-on : (after : SubmultiframeCheck) → m.to_come ≡ 0 → after.to_come ≡ 0
@@ -104,18 +86,7 @@ module _ (m : SubmultiframeCheck) (octets : List ℕ) (x : ℕ) (s : IsFollowed 
       (1000 * (known_blocks (checked_octets octets ++ x ∷ []) / 1000))
       (known_blocks (checked_octets octets ++ x ∷ []) % 1000)
       → after.errored < 915 → IsFollowed after (octets ++ x ∷ [])
-  checks-on after e to checks known errored few =
-      let same = sym (one-more e) in
-      record {
-        number = s.number;
-        found = found;
-        past = (let p = s.past in omega (arith, length_push octets x));
-        waits = (let w = s.waits in omega (arith, length_push octets x));
-        checks = subst (ChecksAfter after.checker) same checks;
-        known = rw same at known;
-        errored = rw same at errored;
-        few = few;
-      }
+  checks-on after e to checks known errored few = grind (arith, one-more e, found, length_push octets x)
 
   -- The octets that are checked, and with the octet.
   abbrev d : List ℕ
@@ -130,14 +101,9 @@ module _ (m : SubmultiframeCheck) (octets : List ℕ) (x : ℕ) (s : IsFollowed 
       → IsFollowed after (octets ++ x ∷ [])
   no-block after z to checks none known errored =
       let l = length_push d x in
-      let same : known_blocks d ≡ known_blocks e = elim (cases_eq (length e % 256) 0) [
-        | inl whole ↦ omega (arith, none whole, whole)
-        | inr within ↦ omega (arith, within)
-      ] in
+      let same : known_blocks d ≡ known_blocks e = grind (arith, cases_eq (length e % 256) 0) in
       checks-on after z to checks (known ∙ s.known ∙ ap (λ n. n % 1000) same)
-      (errored ∙ s.errored
-      ∙ sym (errored-stays d x (1000 * (known_blocks d / 1000)) (known_blocks d % 1000) (λ lt. omega arith))
-      ∙ ap (λ n. errored_in e (1000 * (n / 1000)) (n % 1000)) same)
+      (grind (arith, errored-stays d x (1000 * (known_blocks d / 1000)) (known_blocks d % 1000) (λ lt. omega arith)))
       (let f = s.few in omega arith)
 
   -- How many of its thousand are errored with one that is known by the octet.
@@ -146,7 +112,6 @@ module _ (m : SubmultiframeCheck) (octets : List ℕ) (x : ℕ) (s : IsFollowed 
   total right is =
       let came = block-came e right is in
       let l = length_push d x in
-      let zero-rest = came.0 in
       let past = came.1 in
       let number : length e / 256 - 2 ≡ known_blocks d = omega arith in
       errored-more e (1000 * (known_blocks d / 1000)) (known_blocks d % 1000) (known_blocks d) (omega arith)
@@ -162,7 +127,6 @@ module _ (m : SubmultiframeCheck) (octets : List ℕ) (x : ℕ) (s : IsFollowed 
   excess-is right is =
       let came = block-came e right is in
       let l = length_push d x in
-      let rest = came.0 in
       let past = came.1 in
       excessive-is e (known_blocks d) (cond right m.errored (m.errored + 1)) came.0 came.1 (omega arith)
       (total right is)
@@ -216,15 +180,10 @@ pub begins : (octets : List ℕ) (number to_come : ℕ) (checker : Checker) → 
     → multiframe_in octets ≡ Some number → ChecksAfter checker [] → to_come ≡ 64 * (number % 8)
     → IsFollowed (record { to_come = to_come; checker = checker; known = 0; errored = 0 }) octets
 begins octets number to_come checker l e checks to =
-    let none : checked_octets octets ≡ []
-    = checked-is octets (Some number) e ∙ drop_all (2112 + 64 * (number % 8)) octets (omega arith) in
-    record {
-      number = number;
-      found = e;
-      past = omega arith;
-      waits = omega arith;
-      checks = rw none checks;
-      known = rw none refl;
-      errored = rw none (errored-none [] 0);
-      few = omega arith;
-    }
+    grind (
+      arith,
+      checked-is octets (Some number) e,
+      drop_all (2112 + 64 * (number % 8)) octets (omega arith),
+      found,
+      errored-none [] 0,
+    )

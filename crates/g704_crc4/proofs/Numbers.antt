@@ -1,5 +1,5 @@
 -- Remainders as numbers.
-use Rattle.g704_crc4.proofs.Common.{◌≡◌, ℕ, ◌*◌, ◌<◌, Bool, true, false, get_or, refl, arith, ◌==◌, bit_xor}
+use Rattle.g704_crc4.proofs.Common.{◌≡◌, ℕ, ◌*◌, ◌<◌, Bool, true, false, get_or, refl, ◌==◌, bit_xor, rules}
 use Rattle.g704_crc4.proofs.Common.{agree_below, agree_below_at, eqb-true, Remainder, after_octet, crc_number}
 use Rattle.g704_crc4.specs.declared.table.TheConstants.{REMAINDERS}
 
@@ -37,22 +37,7 @@ entry-is left octet lt =
 
 -- A remainder has four bits.
 all-below : (a b c d : Bool) → crc_number (record { c1 = a; c2 = b; c3 = c; c4 = d }) < 16
-all-below false false false false = omega arith
-all-below false false false true = omega arith
-all-below false false true false = omega arith
-all-below false false true true = omega arith
-all-below false true false false = omega arith
-all-below false true false true = omega arith
-all-below false true true false = omega arith
-all-below false true true true = omega arith
-all-below true false false false = omega arith
-all-below true false false true = omega arith
-all-below true false true false = omega arith
-all-below true false true true = omega arith
-all-below true true false false = omega arith
-all-below true true false true = omega arith
-all-below true true true false = omega arith
-all-below true true true true = omega arith
+all-below a b c d = search rules
 
 -- So its number is below 16.
 pub number-below : (left : Remainder) → crc_number left < 16

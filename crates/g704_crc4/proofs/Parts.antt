@@ -1,8 +1,8 @@
 -- The parts of a stream between the octets by which frame alignment is given up.
 use Rattle.g704_crc4.proofs.Common.{◌≡◌, ℕ, zero, suc, ◌+◌, ◌-◌, ◌<◌, ◌≤◌, List, [], ◌∷◌, ◌++◌, length, take, drop}
-use Rattle.g704_crc4.proofs.Common.{get_or, Option, None, refl, sym, ap, ◌∙◌, arith, append-nil, true, false, take-suc}
-use Rattle.g704_crc4.proofs.Common.{drop-append_seam, length_push, take_all, age_in, IsFraming, RestartsAfter, last_of}
-use Rattle.g704_crc4.proofs.Common.{octets_since, since_start, is_given_up, aligned_octets, parts, part_before}
+use Rattle.g704_crc4.proofs.Common.{rules, get_or, Option, None, refl, sym, ap, ◌∙◌, arith, append-nil, true, false}
+use Rattle.g704_crc4.proofs.Common.{take-suc, drop-append_seam, length_push, take_all, age_in, IsFraming, RestartsAfter}
+use Rattle.g704_crc4.proofs.Common.{last_of, octets_since, since_start, is_given_up, aligned_octets, parts, part_before}
 use Rattle.g704_crc4.proofs.Common.{learned, learned_of}
 use Rattle.std.proofs.Common.{length-append}
 use Rattle.g704_framing.specs.Alignment.{alignments_of}
@@ -42,32 +42,19 @@ position-after (x ∷ s) t (suc from) e =
 
 -- The parts of a stream are alignments of a kind.
 pub parts_are_framing : IsFraming parts
-parts_are_framing = record {
-  nothing = λ before from. refl;
-  later = λ before octet stream from. refl;
-  found = λ before stream rest from start e. position-stays stream rest from start e;
-  not_found = λ before stream rest from e. position-after stream rest from e;
-  reads = λ octets others age same. ap (λ xs. is_given_up (aligned_octets xs))
-      (octets-alike octets others (suc age) (λ k lt. same k (omega arith) (omega arith)));
-  whole = refl;
-}
+parts_are_framing = search (rules, position-stays, position-after, octets-alike)
 
 -- Whether a part is given up by its last octet.
 pub given_up-is : (part : List ℕ) (x : ℕ)
     → parts.is_lost (part ++ x ∷ []) (length part) ≡ is_given_up (aligned_octets (part ++ x ∷ []))
-given_up-is part x =
-    ap (λ xs. is_given_up (aligned_octets xs))
-    (octets-taken (part ++ x ∷ []) (suc (length part)) (omega (arith, length_push part x))
-    ∙ take_all (suc (length part)) (part ++ x ∷ []) (omega (arith, length_push part x)))
+given_up-is part x = search (rules, octets-taken, length_push, take_all)
 
 -- The part that goes on is the octets since it began.
 pub part-is : (earlier part : List ℕ) → RestartsAfter parts None earlier
     → ((position : ℕ) → position < length part → parts.is_lost part position ≡ false)
     → part_before (earlier ++ part) ≡ part
 unfolding since_start part_before
-part-is earlier [] over kept =
-    rw (append-nil earlier)
-    (ap (octets_since earlier) (age-at_over parts None earlier 0 (length earlier - 1) over (omega arith)))
+part-is earlier [] over kept = search (rules, append-nil, age-at_over)
 part-is earlier (x ∷ part) over kept =
     let n : length (earlier ++ x ∷ part) - 1 ≡ length earlier + length part
     = omega (arith, length-append earlier (x ∷ part)) in
@@ -83,9 +70,7 @@ pub part-over : (before : Option ℕ) (part : List ℕ) (x : ℕ) → 0 < length
     → ((position : ℕ) → position < length part → parts.is_lost part position ≡ false)
     → is_given_up (aligned_octets (part ++ x ∷ [])) ≡ true → RestartsAfter parts before (part ++ x ∷ [])
 part-over before [] x lt kept given_up = absurd (omega arith)
-part-over before (y ∷ part) x lt kept given_up =
-    RestartsAfter-lost parts parts_are_framing before (y ∷ part) x (λ rest. refl) kept (given_up-is (y ∷ part) x
-    ∙ given_up)
+part-over before (y ∷ part) x lt kept given_up = search (rules, RestartsAfter-lost, parts_are_framing, given_up-is)
 
 -- Or it goes on.
 pub part-kept : (part : List ℕ) (x : ℕ)

@@ -1,10 +1,10 @@
 -- Octets that show nothing, in CRC multiframes, all at once.
 use Rattle.g704_crc4.proofs.Common.{◌≡◌, ◌≢◌, ℕ, suc, ◌+◌, ◌/◌, ◌%◌, ◌<◌, ◌≤◌, Bool, false, List, [], ◌∷◌, ◌++◌, length}
-use Rattle.g704_crc4.proofs.Common.{None, refl, sym, ap, ◌∙◌, arith, append-nil, append_assoc, length_push}
+use Rattle.g704_crc4.proofs.Common.{rules, None, refl, sym, ap, ◌∙◌, arith, append-nil, append_assoc, length_push}
 use Rattle.g704_crc4.proofs.Common.{Checker, Remainder, after_octet, crc_number, remainder_of, sent_bits, submultiframe}
 use Rattle.g704_crc4.proofs.Common.{cleared, cleared_at, event_of, nat_le, ChecksAfter, IsFollowed, aligned_octets}
-use Rattle.g704_crc4.proofs.Common.{checked_octets, is_excessive, is_given_up, learned, learned_of, parts}
-use Rattle.g704_crc4.proofs.Common.{times_after, bit_number, RestartsAfter}
+use Rattle.g704_crc4.proofs.Common.{checked_octets, is_excessive, is_given_up, learned, learned_of, parts, times_after}
+use Rattle.g704_crc4.proofs.Common.{bit_number, RestartsAfter}
 use Rattle.std.specs.Prelude.{is_some}
 use Rattle.g704_align.specs.declared.alignment.Place.{Place}
 use Rattle.g704_align.specs.declared.alignment.Place.TheVariants.{Hunting, Slot}
@@ -23,7 +23,7 @@ use Rattle.g704_crc4.proofs.Checked.{checks-within, bits-kept, none_reported, ta
 use Rattle.g704_crc4.proofs.Blocks.{none-came, not_excessive}
 use Rattle.g704_crc4.proofs.Followings.{followed-is, one-more, no-block}
 use Rattle.g704_crc4.proofs.Searched.{long-learned, long-given_up}
-use Rattle.g704_crc4.proofs.Alignments.{slot-goes_on, goes_with}
+use Rattle.g704_crc4.proofs.Alignments.{slot-goes_on}
 use Rattle.g704_crc4.proofs.Parts.{part-is, part-kept, learned-is}
 
 -- The remainder of the submultiframe of the octet after these, up to that octet.
@@ -40,7 +40,6 @@ module _ (m : Checker) (h : List ℕ) (x : ℕ) (s : ChecksAfter m h) (begun : m
   -- It is that of the octet after it.
   running-more : running_in (h ++ x ∷ []) ≡ after_octet (running_in h) x
   running-more =
-      let p = s.place in
       let same : length (h ++ x ∷ []) / 256 ≡ length h / 256 = omega (arith, length_push h x, inner) in
       ap (λ n. remainder_of (submultiframe n (cleared (h ++ x ∷ [])))) same ∙ grown
 
@@ -81,10 +80,7 @@ module _ (m : SubmultiframeCheck) (part : List ℕ) (x : ℕ) (s : InMultiframes
 
   -- It goes on with the alignment.
   on : aligned_octets (part ++ x ∷ []) ≡ octets ++ x ∷ []
-  on =
-      let is = is-slot (place (part ++ x ∷ []) (length part)) slot in
-      let past = s.past in
-      goes_with part octets _ x (slot-goes_on part x is.0 is.1 is.2) (omega arith)
+  on = search (rules, is-slot, slot-goes_on)
 
   -- It is checked.
   checked : checked_octets (octets ++ x ∷ []) ≡ d ++ x ∷ []
@@ -108,9 +104,7 @@ module _ (m : SubmultiframeCheck) (part : List ℕ) (x : ℕ) (s : InMultiframes
 
   -- The part goes on.
   up : is_given_up (aligned_octets (part ++ x ∷ [])) ≡ false
-  up = let past = s.past in
-      ap is_given_up on ∙ long-given_up (octets ++ x ∷ []) (omega (arith, length_push octets x))
-      ∙ ap is_excessive checked ∙ few
+  up = search (rules, on, long-given_up, length_push, checked, few)
 
   -- The checker's remainder.
   running-on : running_in (checked_octets (aligned_octets (part ++ x ∷ []))) ≡ after_octet (running_in d) x
@@ -151,12 +145,7 @@ pub all-quiet : (m : SubmultiframeCheck) (earlier part xs : List ℕ) (left : �
     }) (part ++ xs)
     × (times_after is_some (earlier ++ part) xs ≡ 0)
 unfolding times_after sent_bits
-all-quiet m earlier part [] left over s slots z quiet is =
-    let checks = s.follows.checks in
-    let at = checks.place in
-    let same : (m.checker.place + 0) % 512 ≡ m.checker.place = omega arith in
-    let running : left ≡ m.checker.running = is ∙ sym checks.running in
-    (rw (append-nil part, same, running) s, refl)
+all-quiet m earlier part [] left over s slots z quiet is = search (rules, append-nil)
 all-quiet m earlier part (x ∷ xs) left over s slots z quiet is =
     let begun = quiet.begun (omega arith) in
     let inner : (m.checker.place + 1) % 256 ≢ 0 = λ e. omega (arith, quiet.in_submultiframe, e) in
@@ -219,7 +208,3 @@ received-rest r aligner m checker history xs h at z aligned slots quiet checks r
       },
       rw h.whole later.1,
     )
-
--- None.
-pub received-none : (r : Receiver) (history : List ℕ) → ReceivesAfter r history → ReceivesAfter r (history ++ [])
-received-none r history h = rw (append-nil history) h

@@ -1,7 +1,7 @@
 -- What a receiver has of a stream, one octet more.
 use Rattle.g704_crc4.proofs.Common.{◌≡◌, ℕ, ◌+◌, ◌*◌, ◌<◌, ◌≤◌, ◌/◌, ◌%◌, Bool, cond, List, [], ◌∷◌, ◌++◌, length, sym}
-use Rattle.g704_crc4.proofs.Common.{ap, ◌∙◌, arith, inl, inr, ◌==◌, nat_le, cases_eq, eq-eqb, ne_eqb, get_or_push}
-use Rattle.g704_crc4.proofs.Common.{Remainder, Checker, remainder_of, si_of, cleared_at, remainder_in, check_bits_with}
+use Rattle.g704_crc4.proofs.Common.{rules, ap, arith, ◌==◌, nat_le, cases_eq, eq-eqb, ne_eqb, get_or_push, Remainder}
+use Rattle.g704_crc4.proofs.Common.{Checker, remainder_of, si_of, cleared_at, remainder_in, check_bits_with}
 use Rattle.g704_crc4.proofs.Common.{ChecksAfter}
 use Rattle.std.proofs.lemmas.List.{get_or_append_left}
 use Rattle.g704_crc4.proofs.Submultiframes.{part-stays}
@@ -26,11 +26,7 @@ si-here h x frame e = ap (nat_le 128) (get_or_push h x 0 (32 * frame) (sym e))
 bit-more : (h : List ℕ) (x at frame place : ℕ) (old : Bool) → 32 * frame ≡ 256 * (length h / 256) + at
     → place ≡ length h % 512 → (at < length h % 256 → old ≡ si_of h frame) → at ≤ length h % 256
     → cond (place % 256 == at) (nat_le 128 x) old ≡ si_of (h ++ x ∷ []) frame
-bit-more h x at frame place old f p kept le = elim (cases_eq (place % 256) at) [
-  | inl e ↦ rw (eq-eqb (place % 256) at e) (sym (si-here h x frame (omega arith)))
-  | inr ne ↦ rw (ne_eqb (place % 256) at ne)
-      (kept (omega (arith, ne)) ∙ sym (si-before h x frame (omega (arith, ne))))
-]
+bit-more h x at frame place old f p kept le = search (rules, cases_eq, eq-eqb, si-here, ne_eqb, si-before)
 
 -- The check bits that a checker has with the next octet.
 module _ (m : Checker) (h : List ℕ) (x : ℕ) (s : ChecksAfter m h) where

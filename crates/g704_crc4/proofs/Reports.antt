@@ -1,7 +1,7 @@
 -- What is reported by E bits, one arrival more.
-use Rattle.g704_crc4.proofs.Common.{◌≡◌, ℕ, ◌+◌, ◌-◌, ◌%◌, ◌^◌, ◌≤◌, Bool, true, false, List, [], ◌∷◌, ◌++◌, refl, sym}
-use Rattle.g704_crc4.proofs.Common.{ap, ◌∙◌, arith, append_assoc, append-nil, inl, inr, ◌≢◌, min, not, ◌&&◌, ◌==◌}
-use Rattle.g704_crc4.proofs.Common.{cases_eq, eq-eqb, ne_eqb, bit_number, with_si}
+use Rattle.g704_crc4.proofs.Common.{◌≡◌, ℕ, ◌+◌, ◌-◌, ◌%◌, ◌^◌, ◌≤◌, Bool, true, false, List, [], ◌∷◌, ◌++◌, refl}
+use Rattle.g704_crc4.proofs.Common.{rules, common_steps, ap, ◌∙◌, arith, append_assoc, append-nil, ◌≢◌, min, not, ◌&&◌}
+use Rattle.g704_crc4.proofs.Common.{◌==◌, eq-eqb, ne_eqb, bit_number, with_si}
 use Rattle.std.specs.Prelude.{cond}
 use Rattle.g704_crc4.specs.declared.reporting.EBitReporter.{EBitReporter}
 use Rattle.g704_crc4.specs.Reporting.{SenderInput, Octet, Errored, octet_count, errored_in_all, has_e_bit}
@@ -12,9 +12,7 @@ use Rattle.g704_crc4.specs.Reporting.{EachIsReported, NoneIsReported, ReportsAft
 left-octet : (left place : ℕ) (h : List SenderInput) (x : ℕ) → unreported_after left place (h ++ Octet x ∷ [])
     ≡ cond (has_e_bit (place + octet_count h)) (unreported_after left place h - 1) (unreported_after left place h)
 unfolding octet_count unreported_after
-left-octet left place [] x =
-    let e : place + 0 ≡ place = omega arith in
-    ap (λ p. cond (has_e_bit p) (left - 1) left) (sym e)
+left-octet left place [] x = grind (arith, common_steps)
 left-octet left place (Octet y ∷ h) x =
     let e : place + 1 + octet_count h ≡ place + (octet_count h + 1) = omega arith in
     let now = cond (has_e_bit place) (left - 1) left in
@@ -33,9 +31,7 @@ left-errored left place (Errored m ∷ h) n = left-errored (min (left + m) (2 ^ 
 -- What is not yet reported after one octet more: an E bit reports one.
 pub unreported-octet : (h : List SenderInput) (x : ℕ) → unreported (h ++ Octet x ∷ [])
     ≡ cond (has_e_bit (octet_count h)) (unreported h - 1) (unreported h)
-unreported-octet h x =
-    let none : 0 + octet_count h ≡ octet_count h = omega arith in
-    left-octet 0 0 h x ∙ ap (λ p. cond (has_e_bit p) (unreported h - 1) (unreported h)) none
+unreported-octet h x = grind (arith, left-octet 0 0 h x)
 
 -- What is not yet reported with more to report.
 pub unreported-errored : (h : List SenderInput) (n : ℕ) → unreported (h ++ Errored n ∷ [])
@@ -44,11 +40,7 @@ unreported-errored h n = left-errored 0 0 h n
 
 -- An octet reports one, or none.
 one-less : (has : Bool) (left : ℕ) → bit_number (has && not (left == 0)) + cond has (left - 1) left ≡ left
-one-less false left = omega arith
-one-less true left = elim (cases_eq left 0) [
-  | inl e ↦ rw (eq-eqb left 0 e) omega (arith, e)
-  | inr ne ↦ rw (ne_eqb left 0 ne) omega (arith, ne)
-]
+one-less has left = search rules
 
 -- Reports and what is left, after more arrivals.
 reported-from : (before rest : List SenderInput) → unreported before + errored_in_all rest ≤ 2 ^ 32 - 1
@@ -68,9 +60,7 @@ reported-from before (Errored n ∷ rest) le =
 -- Each errored submultiframe is reported or not yet.
 pub each_reported : EachIsReported
 unfolding unreported_after
-each_reported arrivals le =
-    let start : unreported [] ≡ 0 = refl in
-    omega (arith, start, reported-from [] arrivals (omega (arith, le, start)))
+each_reported arrivals le = search (rules, reported-from)
 
 -- Without any there is nothing to report.
 pub none_reported : NoneIsReported
@@ -79,9 +69,7 @@ none_reported arrivals e = omega (arith, each_reported arrivals (omega (arith, e
 -- An octet that begins no frame has no E bit.
 pub e-bit-frame : (place : ℕ) → place % 32 ≢ 0 → has_e_bit place ≡ false
 unfolding has_e_bit
-e-bit-frame place ne =
-    rw (ne_eqb (place % 512) 416 (λ e. ne (omega (arith, e))), ne_eqb (place % 512) 480 (λ e. ne (omega (arith, e))))
-    refl
+e-bit-frame place ne = grind (arith, common_steps)
 
 -- The first E bit of a multiframe.
 pub e-bit-first : (place : ℕ) → place % 512 ≡ 416 → has_e_bit place ≡ true
@@ -102,13 +90,7 @@ e-bit-place p n e = let same : p % 512 ≡ n % 512 = omega (arith, e) in rw same
 pub without-bit : (bits : EBitReporter) (h : List SenderInput) (x : ℕ) → ReportsAfter bits h
     → has_e_bit (octet_count h) ≡ false → (x ≡ octet_with_e h x) × ReportsAfter bits (h ++ Octet x ∷ [])
 unfolding octet_with_e
-without-bit bits h x s none = (
-  rw none refl,
-  record {
-    unreported = s.unreported
-        ∙ sym (unreported-octet h x ∙ ap (λ b. cond b (unreported h - 1) (unreported h)) none);
-  },
-)
+without-bit bits h x s none = grind (arith, unreported-octet h x)
 
 -- One octet more that has one.
 pub with-bit : (bits : EBitReporter) (h : List SenderInput) (x left : ℕ) → ReportsAfter bits h
@@ -116,10 +98,4 @@ pub with-bit : (bits : EBitReporter) (h : List SenderInput) (x left : ℕ) → R
     → (with_si (bits.unreported == 0) x ≡ octet_with_e h x)
     × ReportsAfter (record { unreported = left }) (h ++ Octet x ∷ [])
 unfolding octet_with_e
-with-bit bits h x left s one less = (
-  rw one (ap (λ n. with_si (n == 0) x) s.unreported),
-  record {
-    unreported = less ∙ ap (λ n. n - 1) s.unreported
-        ∙ sym (unreported-octet h x ∙ ap (λ b. cond b (unreported h - 1) (unreported h)) one);
-  },
-)
+with-bit bits h x left s one less = grind (arith, unreported-octet h x)

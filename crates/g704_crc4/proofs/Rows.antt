@@ -4,8 +4,8 @@ use Rattle.g704_crc4.proofs.Common.{replicate, nat_le, remainder_of, sent_bits, 
 use Rattle.g704_crc4.proofs.Common.{remainder_in, has_signal, begins_multiframe, searched_octets, multiframe_in}
 use Rattle.g704_crc4.proofs.Common.{count_in}
 use Rattle.g704_framing.specs.Least.{least}
-use Rattle.g704_crc4.specs.Reporting.{SenderInput, Octet, Errored, octet_count, has_e_bit}
-use Rattle.g704_crc4.specs.Reporting.{unreported_after, unreported, octet_with_e}
+use Rattle.g704_crc4.specs.Reporting.{SenderInput, Octet, Errored, octet_count, has_e_bit, unreported_after, unreported}
+use Rattle.g704_crc4.specs.Reporting.{octet_with_e}
 
 -- Octets that count up from this one.
 ramp : ℕ → ℕ → List ℕ

@@ -1,8 +1,8 @@
 -- What a receiver learns by the octets of a frame alignment, before, at and after the end of the 8 ms.
 use Rattle.g704_crc4.proofs.Common.{◌≡◌, ℕ, ◌+◌, ◌*◌, ◌%◌, ◌<◌, ◌≤◌, true, false, List, [], ◌∷◌, ◌++◌, length, drop}
-use Rattle.g704_crc4.proofs.Common.{Option, Some, None, refl, sym, ap, ◌∙◌, arith, inl, inr, length-drop, ◌==◌, eq-eqb}
-use Rattle.g704_crc4.proofs.Common.{ne_eqb, lt-ltb, le-ltb, and_left, cases_lt, false≢true, length_push, drop_all}
-use Rattle.g704_crc4.proofs.Common.{take_all, Found, Lost, begins_multiframe, searched_octets, multiframe_in}
+use Rattle.g704_crc4.proofs.Common.{rules, Option, Some, None, refl, sym, ap, ◌∙◌, arith, inl, inr, length-drop, ◌==◌}
+use Rattle.g704_crc4.proofs.Common.{eq-eqb, ne_eqb, lt-ltb, le-ltb, and_left, cases_lt, false≢true, length_push}
+use Rattle.g704_crc4.proofs.Common.{drop_all, take_all, Found, Lost, begins_multiframe, searched_octets, multiframe_in}
 use Rattle.g704_crc4.proofs.Common.{octets_from, checked_octets, is_excessive, is_given_up, followed, learned_of}
 use Rattle.g704_framing.proofs.Leasts.{least_equals}
 use Rattle.g704_crc4.specs.Aligning.{is_false, is_multiframe_found, has_multiframes}
@@ -23,9 +23,7 @@ from-next octets (Some number) le = omega (arith, length-drop (2112 + 64 * (numb
 -- So none is known to be errored.
 pub next-few : (octets : List ℕ) → length octets ≤ 2113 → is_excessive (checked_octets octets) ≡ false
 unfolding checked_octets
-next-few octets le =
-    not_excessive (octets_from octets (multiframe_in octets))
-    (λ whole. omega (arith, from-next octets (multiframe_in octets) le))
+next-few octets le = search (rules, not_excessive, from-next)
 
 -- Up to the end of the 8 ms there are no multiframes.
 short-none : (octets : List ℕ) → length octets ≤ 2112 → has_multiframes octets ≡ false
@@ -45,9 +43,7 @@ short-learned before octets le le' =
 -- And frame alignment is not given up.
 pub short-kept : (octets : List ℕ) → length octets ≤ 2112 → is_given_up octets ≡ false
 unfolding is_given_up is_false
-short-kept octets le =
-    let other : (length octets == 2113) ≡ false = ne_eqb (length octets) 2113 (omega arith) in
-    rw (other, next-few octets (omega arith)) refl
+short-kept octets le = cc (ne_eqb (length octets) 2113 (omega arith), next-few octets (omega arith))
 
 -- Multiframes once found remain after the 8 ms.
 stands-after : (octets : List ℕ) (number : ℕ) → multiframe_in octets ≡ Some number → 2112 < length octets
@@ -59,30 +55,18 @@ stands-after octets number e lt = rw (lt-ltb 2112 (length octets) lt, e) refl
 pub lost-learned : (before : List ℕ) (number : ℕ) → multiframe_in before ≡ Some number → 2112 < length before
     → Some Lost ≡ learned_of before []
 unfolding learned_of is_multiframe_found
-lost-learned before number e lt =
-    let none : has_multiframes [] ≡ false = short-none [] (omega arith) in
-    rw (stands-after before number e lt, none) refl
+lost-learned before number e lt = cc (short-none [] (omega arith), stands-after before number e lt)
 
 -- From then on the events are those of submultiframes.
 pub long-learned : (before : List ℕ) (x number : ℕ) → multiframe_in before ≡ Some number → 2112 < length before
     → followed (before ++ x ∷ []) ≡ learned_of before (before ++ x ∷ [])
 unfolding learned_of is_multiframe_found
-long-learned before x number e lt =
-    let l = length_push before x in
-    let found = multiframe-stays before x (omega arith) ∙ e in
-    let other : (length (before ++ x ∷ []) == 2113) ≡ false = ne_eqb (length (before ++ x ∷ [])) 2113 (omega arith) in
-    rw (
-      other,
-      stands-after before number e lt,
-      stands-after (before ++ x ∷ []) number found (omega arith),
-    ) refl
+long-learned before x number e lt = search (rules, length_push, multiframe-stays, ne_eqb, stands-after)
 
 -- Frame alignment is given up then with too many errored ones.
 pub long-given_up : (octets : List ℕ) → 2113 < length octets → is_given_up octets ≡ is_excessive (checked_octets octets)
 unfolding is_given_up is_false
-long-given_up octets lt =
-    let other : (length octets == 2113) ≡ false = ne_eqb (length octets) 2113 (omega arith) in
-    rw other refl
+long-given_up octets lt = cc (ne_eqb (length octets) 2113 (omega arith))
 
 -- The octets of 8 ms are those that are searched.
 pub searched-is : (octets searched : List ℕ) → length octets ≡ 2112 → searched ≡ drop 64 octets
@@ -122,24 +106,13 @@ none-is octets searched l e none =
 pub found-learned : (octets : List ℕ) (x number : ℕ) → length octets ≡ 2112 → multiframe_in octets ≡ Some number
     → Some Found ≡ learned_of octets (octets ++ x ∷ [])
 unfolding learned_of is_multiframe_found
-found-learned octets x number l e =
-    rw (
-      eq-eqb (length (octets ++ x ∷ [])) 2113 (omega (arith, length_push octets x)),
-      multiframe-stays octets x (omega arith),
-      e,
-    ) refl
+found-learned octets x number l e = search (rules, eq-eqb, length_push, multiframe-stays)
 
 -- Frame alignment is kept.
 pub found-kept : (octets : List ℕ) (x number : ℕ) → length octets ≡ 2112 → multiframe_in octets ≡ Some number
     → is_given_up (octets ++ x ∷ []) ≡ false
 unfolding is_given_up is_false
-found-kept octets x number l e =
-    rw (
-      eq-eqb (length (octets ++ x ∷ [])) 2113 (omega (arith, length_push octets x)),
-      multiframe-stays octets x (omega arith),
-      e,
-      next-few (octets ++ x ∷ []) (omega (arith, length_push octets x)),
-    ) refl
+found-kept octets x number l e = search (rules, eq-eqb, length_push, multiframe-stays, next-few)
 
 -- Where none begins, nothing is learned.
 pub none-learned : (octets : List ℕ) (x : ℕ) → length octets ≡ 2112 → multiframe_in octets ≡ None
@@ -157,9 +130,4 @@ none-learned octets x l e =
 pub none-given_up : (octets : List ℕ) (x : ℕ) → length octets ≡ 2112 → multiframe_in octets ≡ None
     → is_given_up (octets ++ x ∷ []) ≡ true
 unfolding is_given_up is_false
-none-given_up octets x l e =
-    rw (
-      eq-eqb (length (octets ++ x ∷ [])) 2113 (omega (arith, length_push octets x)),
-      multiframe-stays octets x (omega arith),
-      e,
-    ) refl
+none-given_up octets x l e = search (rules, eq-eqb, length_push, multiframe-stays)

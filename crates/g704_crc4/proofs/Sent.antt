@@ -1,9 +1,8 @@
 -- The octets that are sent, one for each that comes.
 use Rattle.g704_crc4.proofs.Common.{◌≡◌, ℕ, zero, suc, ◌+◌, ◌*◌, ◌<◌, ◌/◌, ◌%◌, Bool, true, false, List, [], ◌∷◌, ◌++◌}
-use Rattle.g704_crc4.proofs.Common.{length, length_push, take, refl, sym, ap, ◌∙◌, arith, append_assoc, inl, inr, ◌≢◌}
-use Rattle.g704_crc4.proofs.Common.{slice_index}
-use Rattle.g704_crc4.proofs.Common.{nat_le, cases_eq, eq-eqb, ne_eqb, le-leb, lt-leb, cases_lt, get_or_past}
-use Rattle.g704_crc4.proofs.Common.{length-take-le, replies_after, Remainder, with_si, si_at, octet_at}
+use Rattle.g704_crc4.proofs.Common.{rules, length, length_push, take, refl, sym, ap, ◌∙◌, arith, append_assoc, ◌≢◌}
+use Rattle.g704_crc4.proofs.Common.{slice_index, nat_le, cases_eq, eq-eqb, ne_eqb, le-leb, lt-leb, cases_lt}
+use Rattle.g704_crc4.proofs.Common.{get_or_past, length-take-le, replies_after, Remainder, with_si, si_at, octet_at}
 use Rattle.g704_crc4.proofs.Common.{check_bits_after, sent_octet, sent_octets, si_of, LengthIsKept, OthersAreKept}
 use Rattle.std.proofs.lemmas.List.{append-nil}
 use Rattle.g704_framing.proofs.Replies.{length-replies}
@@ -58,42 +57,19 @@ sent-at before (x ∷ octets) (suc i) lt =
 sent-place : (octets : List ℕ) (i : ℕ) → i < length octets
     → slice_index (sent_octets octets) i ≡ octet_at (check_bits_after (take i octets)) i (slice_index octets i)
 unfolding sent_octet
-sent-place octets i lt =
-    sent-at [] octets i lt
-    ∙ ap (λ n. octet_at (check_bits_after (take i octets)) n (slice_index octets i)) (length-take-le i octets
-    (omega arith))
+sent-place octets i lt = cc (sent-at [] octets i lt, length-take-le i octets (omega arith))
 
 -- The Si bit of a frame as it is sent.
 pub si-sent : (octets : List ℕ) (frame : ℕ) → 32 * frame < length octets
     → si_of (sent_octets octets) frame
     ≡ si_at (check_bits_after (take (32 * frame) octets)) (frame % 16) (si_of octets frame)
 unfolding si_of
-si-sent octets frame lt =
-    let bits = check_bits_after (take (32 * frame) octets) in
-    let x = slice_index octets (32 * frame) in
-    let n : 32 * frame / 32 % 16 ≡ frame % 16 = omega arith in
-    ap (nat_le 128) (sent-place octets (32 * frame) lt ∙ at-frame bits (32 * frame) x (omega arith))
-    ∙ with-high (si_at bits (32 * frame / 32 % 16) (nat_le 128 x)) x
-    ∙ ap (λ k. si_at bits k (nat_le 128 x)) n
+si-sent octets frame lt = search (rules, sent-place, at-frame, with-high)
 
 -- The other bits of an octet stay as they are.
 low-kept : (bits : Remainder) (place : ℕ) (x : ℕ) → octet_at bits place x % 128 ≡ x % 128
-low-kept bits place x = elim (cases_eq (place % 32) 0) [
-  | inl e ↦ ap (λ o. o % 128) (at-frame bits place x e) ∙ with-low (si_at bits (place / 32 % 16) (nat_le 128 x)) x
-  | inr ne ↦ ap (λ o. o % 128) (at-other bits place x ne)
-]
+low-kept bits place x = search (rules, cases_eq, at-frame, with-low, at-other)
 
 -- Each bit but bit 1 of time slot 0 is sent as it came.
 pub kept_others : OthersAreKept
-kept_others octets place = elim (cases_lt place (length octets)) [
-  | inl lt ↦
-      let at = sent-place octets place lt in
-      let bits = check_bits_after (take place octets) in
-      let x = slice_index octets place in
-      (ap (λ o. o % 128) at ∙ low-kept bits place x, λ ne. at ∙ at-other bits place x ne)
-  | inr ge ↦
-      let none : slice_index (sent_octets octets) place ≡ slice_index octets place
-      = get_or_past (sent_octets octets) place 0 (omega (arith, length-replies sent_octet [] octets))
-      ∙ sym (get_or_past octets place 0 ge) in
-      (ap (λ o. o % 128) none, λ ne. none)
-]
+kept_others octets place = search (rules, cases_lt, sent-place, low-kept, at-other, get_or_past, length-replies)

@@ -1,9 +1,9 @@
 -- A multiframer and its history, one octet more.
 use Rattle.g704_crc4.proofs.Common.{◌≡◌, ℕ, ◌+◌, ◌-◌, ◌/◌, ◌%◌, List, [], ◌∷◌, ◌++◌, length, refl, sym, ap, ◌∙◌, arith}
-use Rattle.g704_crc4.proofs.Common.{inl, inr, ◌≢◌, length_push, cases_eq, ne_eqb, Remainder, no_remainder, after_octet}
-use Rattle.g704_crc4.proofs.Common.{sent_bits, remainder_of, crc_number, each_at, submultiframe, octet_at, zeroed}
-use Rattle.g704_crc4.proofs.Common.{check_bits_after, SendsAfter, SendsNext}
-use Rattle.g704_crc4.proofs.Common.{◌<◌, suc, append-nil, append_assoc}
+use Rattle.g704_crc4.proofs.Common.{rules, common_steps, inl, inr, ◌≢◌, length_push, cases_eq, ne_eqb, Remainder}
+use Rattle.g704_crc4.proofs.Common.{no_remainder, after_octet, sent_bits, remainder_of, crc_number, each_at}
+use Rattle.g704_crc4.proofs.Common.{submultiframe, octet_at, zeroed, check_bits_after, SendsAfter, SendsNext, ◌<◌, suc}
+use Rattle.g704_crc4.proofs.Common.{append-nil, append_assoc}
 use Rattle.g704_crc4.specs.Remainder.{after_all}
 use Rattle.g704_crc4.specs.declared.sending.Crc4Inserter.{Crc4Inserter}
 use Rattle.g704_crc4.proofs.Sent.{at-other}
@@ -18,9 +18,7 @@ sends-none = record { place = refl; before = λ _. refl; running = refl }
 pub check-bits-are : (before : List ℕ) (number : ℕ) → length before / 256 ≡ number + 1
     → check_bits_after before ≡ remainder_of (submultiframe number (zeroed before))
 unfolding check_bits_after
-check-bits-are before number e =
-    let n : number + 1 - 1 ≡ number = omega arith in
-    rw (e, ne_eqb (number + 1) 0 (λ z. omega (arith, z)), n) refl
+check-bits-are before number e = search (rules, ne_eqb)
 
 -- They are zeros in the first submultiframe.
 check-bits-first : (before : List ℕ) → length before / 256 ≡ 0 → check_bits_after before ≡ no_remainder
@@ -44,13 +42,7 @@ check-bits-stay h x ne =
 
 -- Within a submultiframe a multiframer is ready for the next octet.
 pub next-within : (m : Crc4Inserter) (h : List ℕ) → SendsAfter m h → length h % 256 ≢ 0 → SendsNext m h
-next-within m h s ne =
-    let same : (length h - 1) / 256 ≡ length h / 256 = omega (arith, ne) in
-    record {
-      place = s.place;
-      before = s.before ne;
-      running = s.running ∙ ap (λ n. crc_number (remainder_of (submultiframe n (zeroed h)))) same;
-    }
+next-within m h s ne = grind (arith, common_steps)
 
 -- No octets have no remainder.
 ended-none : remainder_of (submultiframe 0 (zeroed [])) ≡ check_bits_after []
@@ -61,18 +53,12 @@ ended-none = refl
 ended-is-before : (h : List ℕ) → length h % 256 ≡ 0
     → remainder_of (submultiframe ((length h - 1) / 256) (zeroed h)) ≡ check_bits_after h
 ended-is-before [] e = ended-none
-ended-is-before (x ∷ h) e =
-    let n : length (x ∷ h) / 256 ≡ (length (x ∷ h) - 1) / 256 + 1 = omega (arith, e) in
-    sym (check-bits-are (x ∷ h) ((length (x ∷ h) - 1) / 256) n)
+ended-is-before (x ∷ h) e = search (rules, check-bits-are)
 
 -- At the end of a submultiframe it is ready once its remainder is that of the one before.
 pub next-begins : (m : Crc4Inserter) (h : List ℕ) → SendsAfter m h → length h % 256 ≡ 0
     → SendsNext (record { place = m.place; before = m.running; running = 0 }) h
-next-begins m h s e = record {
-  place = s.place;
-  before = s.running ∙ ap crc_number (ended-is-before h e);
-  running = ap crc_number (remainder-none (octet_at no_remainder) (length h / 256) h (omega (arith, e)));
-}
+next-begins m h s e = search (rules, ended-is-before, remainder-none)
 
 -- The remainder of the submultiframe of the octet after these, up to that octet.
 abbrev pub running_at : List ℕ → Remainder
@@ -94,9 +80,7 @@ sends-more m h x counted place left s is at more =
     record {
       place = omega arith;
       before = λ ne. s.before ∙ ap crc_number (sym (check-bits-stay h x (λ z. ne (omega (arith, z)))));
-      running = more
-          ∙ ap crc_number (ap (after_octet (running_at h)) is ∙ sym (remainder-grows (octet_at no_remainder) h x))
-          ∙ ap (λ n. crc_number (remainder_of (submultiframe n (zeroed (h ++ x ∷ []))))) same;
+      running = grind (arith, remainder-grows (octet_at no_remainder) h x);
     }
 
 -- The rest of a frame, or some of its octets.
@@ -104,11 +88,7 @@ pub sends-rest : (m : Crc4Inserter) (h xs : List ℕ) (left : ℕ) → SendsAfte
     → ((k : ℕ) → k < length xs → (length h + k) % 32 ≢ 0) → left ≡ crc_number (after_all (running_before h) xs)
     → SendsAfter (record m { place = (m.place + length xs) % 65536; running = left }) (h ++ xs)
 unfolding sent_bits
-sends-rest m h [] left s rest is =
-    let p = s.place in
-    let same : (m.place + 0) % 65536 ≡ m.place = omega arith in
-    let running : left ≡ m.running = is ∙ sym s.running in
-    rw (append-nil h, same, running) s
+sends-rest m h [] left s rest is = grind (arith, append-nil h)
 sends-rest m h (x ∷ xs) left s rest is =
     let p = s.place in
     let l = length_push h x in
@@ -123,9 +103,6 @@ sends-rest m h (x ∷ xs) left s rest is =
       running = crc_number (after_octet (running_at h) x);
     }) (h ++ x ∷ []) xs left next
     (λ k lt e. rest (suc k) (omega arith) (omega (arith, e)))
-    (is ∙ ap crc_number (after-first (running_before h) x xs)
-    ∙ ap (λ r. crc_number (after_all r xs)) (ap (λ n. after_octet (remainder_of (submultiframe n (zeroed h))) x) now
-    ∙ ap (after_octet (running_at h)) taken ∙ sym (remainder-grows (octet_at no_remainder) h x)
-    ∙ ap (λ n. remainder_of (submultiframe n (zeroed (h ++ x ∷ [])))) (sym later_at))) in
+    (grind (arith, after-first (running_before h) x xs, remainder-grows (octet_at no_remainder) h x)) in
     let same : ((m.place + 1) % 65536 + length xs) % 65536 ≡ (m.place + suc (length xs)) % 65536 = omega arith in
     rw (← append_assoc h (x ∷ []) xs, ← same) later

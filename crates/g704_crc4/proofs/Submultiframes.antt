@@ -1,8 +1,8 @@
 -- Octets changed by their places, and the submultiframes of a stream as it grows.
 use Rattle.g704_crc4.proofs.Common.{◌≡◌, ℕ, suc, ◌+◌, ◌*◌, ◌≤◌, ◌/◌, Bool, List, [], ◌∷◌, ◌++◌, length, drop, refl, sym}
-use Rattle.g704_crc4.proofs.Common.{ap, ◌∙◌, arith, append_assoc, length-drop, take-append-le, drop-append-le, take_all}
-use Rattle.g704_crc4.proofs.Common.{drop_all, length_push, Remainder, no_remainder, after_bits, after_octet, sent_bits}
-use Rattle.g704_crc4.proofs.Common.{remainder_of, each_at, submultiframe}
+use Rattle.g704_crc4.proofs.Common.{rules, ap, ◌∙◌, arith, append_assoc, length-drop, take-append-le, drop-append-le}
+use Rattle.g704_crc4.proofs.Common.{take_all, drop_all, length_push, Remainder, no_remainder, after_bits, after_octet}
+use Rattle.g704_crc4.proofs.Common.{sent_bits, remainder_of, each_at, submultiframe}
 use Rattle.g704_crc4.specs.Remainder.{after_all, bits_in}
 
 -- The remainder of bits, and of others after them.
@@ -71,41 +71,27 @@ each-append : (change : ℕ → ℕ → ℕ) (place : ℕ) (octets others : List
 unfolding each_at
 each-append change place [] others =
     let e : place ≡ place + 0 = omega arith in ap (λ p. each_at change p others) e
-each-append change place (x ∷ octets) others =
-    let e : place + 1 + length octets ≡ place + suc (length octets) = omega arith in
-    ap (λ s. change place x ∷ s) (each-append change (place + 1) octets others
-    ∙ ap (λ p. each_at change (place + 1) octets ++ each_at change p others) e)
+each-append change place (x ∷ octets) others = grind (arith, each-append change (place + 1) octets others)
 
 -- One octet more, changed by its place.
 each-push : (change : ℕ → ℕ → ℕ) (octets : List ℕ) (x : ℕ)
     → each_at change 0 (octets ++ x ∷ []) ≡ each_at change 0 octets ++ change (length octets) x ∷ []
 unfolding each_at
-each-push change octets x =
-    let e : 0 + length octets ≡ length octets = omega arith in
-    each-append change 0 octets (x ∷ []) ∙ ap (λ p. each_at change 0 octets ++ change p x ∷ []) e
+each-push change octets x = grind (arith, each-append change 0 octets (x ∷ []))
 
 -- A stream that grows, its octets changed by their places.
 module _ (change : ℕ → ℕ → ℕ) where
   -- A whole submultiframe stays as it is.
   pub part-stays : (number : ℕ) (octets others : List ℕ) → 256 * (number + 1) ≤ length octets
       → submultiframe number (each_at change 0 (octets ++ others)) ≡ submultiframe number (each_at change 0 octets)
-  part-stays number octets others le =
-      ap (submultiframe number) (each-append change 0 octets others)
-      ∙ part-whole number (each_at change 0 octets) (each_at change (0 + length octets) others)
-      (omega (arith, length-each change 0 octets))
+  part-stays number octets others le = search (rules, each-append, part-whole, length-each)
 
   -- The remainder of the last submultiframe takes the next octet.
   pub remainder-grows : (octets : List ℕ) (x : ℕ)
       → remainder_of (submultiframe (length octets / 256) (each_at change 0 (octets ++ x ∷ [])))
       ≡ after_octet (remainder_of (submultiframe (length octets / 256) (each_at change 0 octets))) (change
       (length octets) x)
-  remainder-grows octets x =
-      let l = length-each change 0 octets in
-      let number = length octets / 256 in
-      let before = each_at change 0 octets in
-      ap remainder_of (ap (submultiframe number) (each-push change octets x)
-      ∙ part-push number before (change (length octets) x) (omega arith))
-      ∙ remainder-push (submultiframe number before) (change (length octets) x)
+  remainder-grows octets x = search (rules, length-each, each-push, part-push, remainder-push)
 
   -- A submultiframe that has not begun has no remainder.
   pub remainder-none : (number : ℕ) (octets : List ℕ) → length octets ≤ 256 * number

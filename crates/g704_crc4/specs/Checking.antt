@@ -1,7 +1,6 @@
 -- The events of a stream whose multiframes begin at its first octet (ITU-T G.706, 4.3), and their counts.
 use Rattle.std.specs.Prelude.{◌≡◌, ◌≢◌, ℕ, ◌+◌, ◌-◌, ◌*◌, ◌/◌, ◌%◌, ◌≤◌, Bool, true, not, ◌||◌, ◌==◌, nat_lt}
-use Rattle.std.specs.Prelude.{◌^◌, min}
-use Rattle.std.specs.Prelude.{if◌then◌else◌, List, [], ◌∷◌, ◌++◌, length, Option, Some, None}
+use Rattle.std.specs.Prelude.{◌^◌, min, if◌then◌else◌, List, [], ◌∷◌, ◌++◌, length, Option, Some, None}
 use Rattle.g704_crc4.specs.declared.remainder.Remainder.{Remainder}
 use Rattle.g704_crc4.specs.declared.checking.Counts.{Counts}
 use Rattle.g704_crc4.specs.declared.checking.Crc4Event.{Crc4Event}

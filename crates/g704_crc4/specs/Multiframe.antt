@@ -1,8 +1,8 @@
 -- Bit 1 of time slot 0 as sent (ITU-T G.704, 2.3.3 and table 5B). The frames of a stream begin at its first
 -- octet; even frames carry the frame alignment signal. A multiframe has sixteen frames, a submultiframe
 -- eight.
-use Rattle.std.specs.Prelude.{ℕ, ◌+◌, ◌-◌, ◌/◌, ◌%◌, Bool, true, false, ◌==◌, if◌then◌else◌}
-use Rattle.std.specs.Prelude.{List, [], ◌∷◌, length, slice_index_or, nat_le}
+use Rattle.std.specs.Prelude.{ℕ, ◌+◌, ◌-◌, ◌/◌, ◌%◌, Bool, true, false, ◌==◌, if◌then◌else◌, List, [], ◌∷◌}
+use Rattle.std.specs.Prelude.{length, slice_index_or, nat_le}
 use Rattle.g704_framing.specs.Replies.{stream_replies}
 use Rattle.g704_crc4.specs.declared.remainder.Remainder.{Remainder}
 use Rattle.g704_crc4.specs.Remainder.{no_remainder, remainder_of}

@@ -1,6 +1,6 @@
 -- The counts of a trunk.
-use Rattle.std.specs.Prelude.{ℕ, ◌+◌, ◌-◌, ◌^◌, Bool, true, false, not, min, if◌then◌else◌}
-use Rattle.std.specs.Prelude.{List, [], ◌∷◌, ◌++◌, Option, Some}
+use Rattle.std.specs.Prelude.{ℕ, ◌+◌, ◌-◌, ◌^◌, Bool, true, false, not, min, if◌then◌else◌, List, [], ◌∷◌}
+use Rattle.std.specs.Prelude.{◌++◌, Option, Some}
 use Rattle.g704_crc4.specs.declared.receiving.ReceiverEvent.{ReceiverEvent}
 use Rattle.g704_crc4.specs.declared.receiving.ReceiverEvent.TheVariants.{Found, Lost, GivenUp, Received}
 use Rattle.g704_crc4.specs.declared.checking.Crc4Event.TheVariants.{Block, FarEnd}

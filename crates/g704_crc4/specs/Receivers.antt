@@ -10,8 +10,8 @@ use Rattle.g704_crc4.specs.declared.receiving.MultiframeSync.TheVariants.{Submul
 use Rattle.g704_crc4.specs.declared.receiving.SubmultiframeCheck as followings
 use Rattle.g704_crc4.specs.declared.counting.TrunkChecker.{TrunkChecker}
 use Rattle.g704_crc4.specs.States.{ChecksAfter}
-use Rattle.g704_crc4.specs.Aligning.{aligned_octets, multiframe_in, checked_octets, known_blocks}
-use Rattle.g704_crc4.specs.Aligning.{errored_in, parts}
+use Rattle.g704_crc4.specs.Aligning.{aligned_octets, multiframe_in, checked_octets, known_blocks, errored_in}
+use Rattle.g704_crc4.specs.Aligning.{parts}
 use Rattle.g704_crc4.specs.ReceiverCounts.{receiver_counts_of}
 
 -- During the 8 ms: the number of their octets received, and these octets.

@@ -1,7 +1,7 @@
 -- What a receiver finds in a stream of octets, by these alone (ITU-T G.706, 4.2 and 4.3). The multiframes of
 -- the stream begin at its first octet.
-use Rattle.std.specs.Prelude.{◌≡◌, ℕ, ◌+◌, ◌*◌, ◌%◌, ◌≤◌, Bool, true, false, ◌==◌, if◌then◌else◌}
-use Rattle.std.specs.Prelude.{List, length, slice_index, nat_le, ◌≢◌}
+use Rattle.std.specs.Prelude.{◌≡◌, ℕ, ◌+◌, ◌*◌, ◌%◌, ◌≤◌, Bool, true, false, ◌==◌, if◌then◌else◌, List}
+use Rattle.std.specs.Prelude.{length, slice_index, nat_le, ◌≢◌}
 use Rattle.g704_crc4.specs.declared.remainder.Remainder.{Remainder}
 use Rattle.g704_crc4.specs.Remainder.{remainder_of}
 use Rattle.g704_crc4.specs.Submultiframes.{each_at, submultiframe}

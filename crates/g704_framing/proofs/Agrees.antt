@@ -1,7 +1,7 @@
 -- Streams that are aligned alike have the same alignments.
-use Rattle.std.proofs.Common.{◌≡◌, ℕ, suc, ◌+◌, ◌-◌, ◌<◌, ◌≤◌, List, [], ◌∷◌, length, drop, Bool}
-use Rattle.std.proofs.Common.{Option, Some, None, refl, sym, ap, ◌∙◌, subst, arith, length-drop}
-use Rattle.g704_framing.proofs.Common.{option_map, AllByRecursion, recursion_from_All, same_Some, least, Framing}
+use Rattle.std.proofs.Common.{rules, ◌≡◌, ℕ, suc, ◌+◌, ◌-◌, ◌<◌, ◌≤◌, List, [], ◌∷◌, length, Bool, Option, Some, None}
+use Rattle.std.proofs.Common.{refl, sym, ap, ◌∙◌, subst, arith, length-drop}
+use Rattle.g704_framing.proofs.Common.{option_map, AllByRecursion, recursion_from_All, same_Some, Framing}
 use Rattle.g704_framing.proofs.Common.{AlignmentSpan, loss, alignments_from, search_ends_of, after_search, after_loss}
 use Rattle.g704_framing.proofs.Common.{IsFraming, IsUpToLoss, IsLostAlike, AlignmentsAreAlike}
 use Rattle.g704_framing.proofs.Leasts.{IsLeast, least-is, least_equals, reach, least_alike}
@@ -10,33 +10,22 @@ use Rattle.g704_framing.proofs.Turns.{alignments_turns}
 
 -- up to the loss is also what comes before
 pub up_to_loss-earlier : (m n : ℕ) (o : Option ℕ) → m ≤ n → IsUpToLoss n o → IsUpToLoss m o
-up_to_loss-earlier m n None le up = tt
-up_to_loss-earlier m n (Some q) le up = omega arith
+up_to_loss-earlier m n o le up = search rules
 
 -- what is as far as the least that passes is in range, and up to the loss that it makes
 pub within_reach : (passes : ℕ → Bool) (k n : ℕ) (o : Option ℕ) → IsLeast passes n o → k < reach o n → k < n
-within_reach passes k n None l lt = lt
-within_reach passes k n (Some m) l lt = let in_range = l.0 in omega arith
+within_reach passes k n o l lt = search rules
 
 -- what is as far as the least that passes is up to the loss that it makes
 up_to_loss : (p k n : ℕ) (o : Option ℕ) → k < reach o n → IsUpToLoss (p + k) (option_map (λ j. p + j) o)
-up_to_loss p k n None lt = tt
-up_to_loss p k n (Some j) lt = omega arith
+up_to_loss p k n o lt = search rules
 
 -- a loss is the same if two streams are lost alike up to it
 pub loss-alike : (f : Framing) (s t : List ℕ) (p : ℕ) → length s ≡ length t
     → IsLostAlike f s t (record { start = p; lost = loss f s p }) → loss f s p ≡ loss f t p
 unfolding loss
 loss-alike f s t p len alike =
-    let c = drop p s in
-    let n : length (drop p t) ≡ length c = length-drop p t ∙ ap (λ m. m - p) (sym len) ∙ sym (length-drop p s) in
-    let o = least (f.is_lost c) (length c) in
-    let is : IsLeast (f.is_lost c) (length c) o = least-is (f.is_lost c) (length c) in
-    let other : IsLeast (f.is_lost (drop p t)) (length c) o
-    = least_alike (f.is_lost c) (f.is_lost (drop p t)) (length c) o (λ k lt.
-    let below : k < length c = within_reach (f.is_lost c) k (length c) o is lt in
-    alike k (omega (arith, length-drop p s)) (up_to_loss p k (length c) o lt)) is in
-    rw n (ap (option_map (λ k. p + k)) (sym (least_equals (f.is_lost (drop p t)) (length c) o other)))
+    search (rules, length-drop, least-is, least_alike, within_reach, up_to_loss, least_equals)
 
 module _ (f : Framing) (h : IsFraming f) (s t : List ℕ) (len : length s ≡ length t) where
   -- if no search ends there is no alignment
@@ -92,6 +81,4 @@ module _ (f : Framing) (h : IsFraming f) (s t : List ℕ) (len : length s ≡ le
 
 -- the law
 pub alignments_are_alike : AlignmentsAreAlike
-alignments_are_alike f h s t len ends alike =
-    alike_from f h s t len (alignments_from f None s 0) 0 refl ends
-    (recursion_from_All (IsLostAlike f s t) (alignments_from f None s 0) alike)
+alignments_are_alike f h s t len ends alike = search (rules, alike_from, recursion_from_All)

@@ -1,32 +1,25 @@
 -- Histories after which everything restarts.
-use Rattle.std.proofs.Common.{◌≡◌, ℕ, suc, ◌+◌, ◌<◌, ◌≤◌, List, [], ◌∷◌, ◌++◌, length, map, true, false}
-use Rattle.std.proofs.Common.{Option, Some, None, refl, sym, ap, ◌∙◌, arith, add-one, append_assoc, inl, inr}
+use Rattle.std.proofs.Common.{rules, ◌≡◌, ℕ, suc, ◌+◌, ◌<◌, ◌≤◌, List, [], ◌∷◌, ◌++◌, length, map, true, false, Option}
+use Rattle.std.proofs.Common.{Some, None, refl, sym, ap, ◌∙◌, arith, add-one, append_assoc}
 use Rattle.g704_framing.proofs.Common.{option_map, cases_eq, least, Framing, AlignmentSpan, loss, alignments_from}
 use Rattle.g704_framing.proofs.Common.{after_search, after_loss, moved, IsLostBefore, AllLostBefore, RestartsAfter}
 use Rattle.g704_framing.proofs.Common.{last_of, IsFraming}
 use Rattle.std.proofs.lemmas.List.{append-nil, length-append, length_push, map-append, get_or_append_left}
 use Rattle.g704_framing.proofs.Leasts.{IsLeast, least_equals}
 use Rattle.g704_framing.proofs.Moves.{option_map-zero, map-moved_zero, map-moved_add}
-use Rattle.g704_framing.proofs.Turns.{alignments_turns, alignments-append, onto}
+use Rattle.g704_framing.proofs.Turns.{alignments_turns, alignments-append}
 
 -- the empty history is over
 pub RestartsAfter-nil : (framing : Framing) (before : Option ℕ) → RestartsAfter framing before []
-RestartsAfter-nil f b = record {
-  earlier = [];
-  all_lost = tt;
-  anew = λ t. sym (map-moved_zero
-      (alignments_from f b t 0));
-}
+RestartsAfter-nil f b = search (rules, map-moved_zero)
 
 -- what is lost before a position is lost before a later one
 lost_later : (m n : ℕ) (o : Option ℕ) → m ≤ n → IsLostBefore m o → IsLostBefore n o
-lost_later m n None h g = g
-lost_later m n (Some k) h g = omega arith
+lost_later m n o h g = search rules
 
 -- also if both are counted from further back
 lost_moved : (m n : ℕ) (o : Option ℕ) → IsLostBefore n o → IsLostBefore (m + n) (option_map (λ k. m + k) o)
-lost_moved m n None g = g
-lost_moved m n (Some k) g = omega arith
+lost_moved m n o g = search rules
 
 -- the same of all alignments of a list
 all_later : (m n : ℕ) (ds : List AlignmentSpan) → m ≤ n → AllLostBefore m ds → AllLostBefore n ds
@@ -100,12 +93,7 @@ pub kept-more : (framing : Framing) → IsFraming framing → (octets : List ℕ
     → framing.is_lost (octets ++ octet ∷ []) (length octets) ≡ false
     → (position : ℕ) → position < length (octets ++ octet ∷ [])
     → framing.is_lost (octets ++ octet ∷ []) position ≡ false
-kept-more f h c x kept now k lt = elim (cases_eq k (length c)) [
-  | inl e ↦ rw e now
-  | inr ne ↦
-      let below : k < length c = (let l = length_push c x in omega arith) in
-      is_lost-append f h c (x ∷ []) k below ∙ kept k below
-]
+kept-more f h c x kept now k lt = search (rules, cases_eq, length_push, is_lost-append)
 
 -- the loss of an alignment at the head of the stream
 pub loss-head : (f : Framing) (s : List ℕ) (o : Option ℕ) → IsLeast (f.is_lost s) (length s) o → loss f s 0 ≡ o
@@ -134,8 +122,7 @@ RestartsAfter-lost f h b c x found kept lost =
                 ∙ kept k lt,
           ) in
           alignments_turns f h b ((c ++ x ∷ []) ++ t) 0
-          ∙ rw (is_found, is_lost) (ap (onto (record { start = 0; lost = Some (length c) }))
-          (rw (← len) (alignments-append f b (c ++ x ∷ []) t)));
+          ∙ rw (is_found, is_lost) (cc (alignments-append f b (c ++ x ∷ []) t));
     }
 
 -- an alignment at the head of the stream that is not lost is the only one
@@ -145,6 +132,4 @@ pub alignments-standing : (framing : Framing) → IsFraming framing → (before 
     → alignments_from framing before octets 0 ≡ record { start = 0; lost = None } ∷ []
 unfolding after_search after_loss
 alignments-standing f h b c found kept =
-    let is_found : f.search b c 0 ≡ Some 0 = ap (λ s. f.search b s 0) (sym (append-nil c)) ∙ found [] in
-    let is_kept : loss f c 0 ≡ None = loss-head f c None kept in
-    alignments_turns f h b c 0 ∙ rw (is_found, is_kept) refl
+    grind (arith, append-nil c, loss-head f c None kept, alignments_turns f h b c 0)

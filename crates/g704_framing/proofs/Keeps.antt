@@ -1,17 +1,18 @@
 -- Octets that no search and no loss reads change no alignment.
-use Rattle.std.proofs.Common.{◌≡◌, ℕ, zero, suc, ◌+◌, ◌-◌, ◌%◌, ◌<◌, ◌≤◌, List, [], ◌∷◌, ◌++◌, length, drop, take}
-use Rattle.std.proofs.Common.{get_or, Bool, true, false, cond, Option, Some, None, refl, sym, ap, ◌∙◌, subst, arith}
+use Rattle.std.proofs.Common.{rules, ◌≡◌, ℕ, zero, suc, ◌+◌, ◌-◌, ◌%◌, ◌<◌, ◌≤◌, List, [], ◌∷◌, ◌++◌, length, drop}
+use Rattle.std.proofs.Common.{take, get_or, Bool, cond, Option, Some, None, refl, sym, ap, ◌∙◌, subst, arith}
 use Rattle.std.proofs.Common.{length-drop, inl, inr}
-use Rattle.g704_framing.proofs.Common.{option_map, slice_index, AllByRecursion, All-from_recursion, same_Some, cases_lt}
-use Rattle.g704_framing.proofs.Common.{lt-leb, le-ltb, and_left, and_right, Framing, AlignmentSpan, loss}
-use Rattle.g704_framing.proofs.Common.{alignments_from, after_search, after_loss, is_standing, age_in, last_of}
-use Rattle.g704_framing.proofs.Common.{IsFraming, IsFoundAfter, IsRead, IsUpToLoss, AgreeAlong, OthersAreNotRead}
-use Rattle.std.proofs.lemmas.List.{ext_get_or, get_or-drop, take-append-drop, length-take-le, get_or_append_left}
+use Rattle.std.proofs.lemmas.Grind.{common_steps}
+use Rattle.g704_framing.proofs.Common.{option_map, slice_index, AllByRecursion, All-from_recursion, cases_lt, le-ltb}
+use Rattle.g704_framing.proofs.Common.{and_right, Framing, AlignmentSpan, loss, alignments_from, after_search}
+use Rattle.g704_framing.proofs.Common.{after_loss, age_in, last_of, IsFraming, IsRead, IsUpToLoss, AgreeAlong}
+use Rattle.g704_framing.proofs.Common.{OthersAreNotRead}
+use Rattle.std.proofs.lemmas.List.{ext_get_or, get_or-drop, take-append-drop, length-take-le}
 use Rattle.g704_framing.proofs.Moves.{option_map-zero, option_map-suc, same_alignment}
 use Rattle.g704_framing.proofs.Turns.{alignments_turns, onto, none_found}
 use Rattle.g704_framing.proofs.Settles.{IsNotBefore, loss-not_before, search-from, age-after_loss, age_in-before}
 use Rattle.g704_framing.proofs.Settles.{alignments-begin}
-use Rattle.g704_framing.proofs.Agrees.{loss-alike, up_to_loss-earlier}
+use Rattle.g704_framing.proofs.Agrees.{loss-alike}
 
 -- the last octet of a list that has one
 pub last_of-at : (b : Option ℕ) (a : List ℕ) (m : ℕ) → length a ≡ suc m → last_of b a ≡ Some (get_or a m 0)
@@ -23,10 +24,7 @@ last_of-at b (x ∷ y ∷ a) (suc m) n = last_of-at (Some x) (y ∷ a) m (omega 
 
 -- the octets of a prefix
 get_or-take : (l : List ℕ) (k i : ℕ) → i < k → k ≤ length l → get_or (take k l) i 0 ≡ get_or l i 0
-get_or-take l k i lt le =
-    let n : length (take k l) ≡ k = length-take-le k l le in
-    sym (get_or_append_left (take k l) (drop k l) 0 i (omega arith))
-    ∙ ap (λ z. get_or z i 0) (take-append-drop k l)
+get_or-take l k i lt le = grind (arith, common_steps)
 
 -- the octet before a position, if there is one
 abbrev before_position : List ℕ → ℕ → Option ℕ
@@ -41,10 +39,13 @@ before-same : (s t : List ℕ) (from end : ℕ) → length s ≡ length t → fr
     → before_position s from ≡ before_position t from
 before-same s t zero end len le lt agree = refl
 before-same s t (suc m) end len le lt agree =
-    last_of-at None (take (suc m) s) m (length-take-le (suc m) s le)
-    ∙ ap Some (get_or-take s (suc m) m (omega arith) le ∙ agree m (omega arith) (omega arith) (omega arith)
-    ∙ sym (get_or-take t (suc m) m (omega arith) (omega arith)))
-    ∙ sym (last_of-at None (take (suc m) t) m (length-take-le (suc m) t (omega arith)))
+    grind (
+      arith,
+      last_of-at None (take (suc m) s) m (length-take-le (suc m) s le),
+      get_or-take s (suc m) m (omega arith) le,
+      get_or-take t (suc m) m (omega arith) (omega arith),
+      last_of-at None (take (suc m) t) m (length-take-le (suc m) t (omega arith)),
+    )
 
 module _ (f : Framing) (h : IsFraming f) where
   -- a search from a position on is a search of the octets from there
@@ -52,25 +53,19 @@ module _ (f : Framing) (h : IsFraming f) where
       → f.search b (a ++ r) (length a) ≡ option_map (λ k. length a + k) (f.search (last_of b a) r 0)
   search-append b [] r = sym (option_map-zero (f.search b r 0))
   search-append b (x ∷ a) r =
-      h.later b x (a ++ r) (length a)
-      ∙ ap (option_map suc) (search-append (Some x) a r)
-      ∙ sym (option_map-suc (length a) (f.search (last_of (Some x) a) r 0))
+      grind (arith, search-append (Some x) a r, option_map-suc (length a) (f.search (last_of (Some x) a) r 0))
 
   -- the same, of a position in a stream
   search-drop : (s : List ℕ) (from : ℕ) → from ≤ length s
       → f.search None s from ≡ option_map (λ k. from + k) (f.search (before_position s from) (drop from s) 0)
   search-drop s from le =
-      let whole = take-append-drop from s in
-      let n : length (take from s) ≡ from = length-take-le from s le in
-      ap (λ z. f.search None z from) (sym whole)
-      ∙ rw n at (search-append None (take from s) (drop from s))
+      cc (take-append-drop from s, length-take-le from s le, search-append None (take from s) (drop from s))
 
   -- a search from past the end finds nothing
   search-past : (b : Option ℕ) (s : List ℕ) (from : ℕ) → length s ≤ from → f.search b s from ≡ None
   search-past b [] from le = h.nothing b from
   search-past b (x ∷ s) zero le = absurd (omega arith)
-  search-past b (x ∷ s) (suc from) le =
-      h.later b x s from ∙ ap (option_map suc) (search-past (Some x) s from (omega arith))
+  search-past b (x ∷ s) (suc from) le = grind (arith, search-past (Some x) s from (omega arith))
 
   -- a search finds the same in streams that agree from the octet before it on
   search-same : (s t : List ℕ) (from : ℕ) → length s ≡ length t → AgreeOn s t from (length s)
@@ -81,9 +76,7 @@ module _ (f : Framing) (h : IsFraming f) where
         let rest : drop from s ≡ drop from t
         = ext_get_or 0 (drop from s) (drop from t)
         (length-drop from s ∙ ap (λ n. n - from) len ∙ sym (length-drop from t))
-        (λ i lt. get_or-drop from s i 0
-        ∙ agree (from + i) (omega arith) (omega (arith, length-drop from s)) (omega (arith, length-drop from s))
-        ∙ sym (get_or-drop from t i 0)) in
+        (grind (arith, common_steps)) in
         search-drop s from le
         ∙ ap (λ b. option_map (λ k. from + k) (f.search b (drop from s) 0))
         (before-same s t from (length s) len le le agree)
@@ -95,28 +88,18 @@ module _ (f : Framing) (h : IsFraming f) where
   prefix_finds : (b : Option ℕ) (c u v : List ℕ) (p : ℕ) (o : Option ℕ) → f.search b c 0 ≡ o
       → f.search b (c ++ u) 0 ≡ Some p
       → p + f.found_at < length c → f.search b (c ++ v) 0 ≡ Some p
-  prefix_finds b c u v p None i found lt =
-      let late : IsFoundAfter (length c) f.found_at (Some p)
-      = subst (IsFoundAfter (length c) f.found_at) found (h.not_found b c u 0 i) in
-      absurd (omega arith)
-  prefix_finds b c u v p (Some q) i found lt =
-      let same : q ≡ p = same_Some q p (sym (h.found b c u 0 q i) ∙ found) in
-      h.found b c v 0 q i ∙ ap Some same
+  prefix_finds b c u v p o i found lt = search rules
 
   -- what is found is found by the octets up to the last one that the search needs
   search-prefix : (b : Option ℕ) (r v : List ℕ) (p end : ℕ) → f.search b r 0 ≡ Some p → p + f.found_at < end
       → end ≤ length r
       → take end r ≡ take end v → f.search b v 0 ≡ Some p
   search-prefix b r v p end found lt le same =
-      let n : length (take end r) ≡ end = length-take-le end r le in
-      ap (λ z. f.search b z 0) (sym (take-append-drop end v) ∙ ap (λ c. c ++ drop end v) (sym same))
-      ∙ prefix_finds b (take end r) (drop end r) (drop end v) p (f.search b (take end r) 0) refl
-      (ap (λ z. f.search b z 0) (take-append-drop end r) ∙ found) (omega arith)
+      grind (arith, length-take-le end r le, take-append-drop end v, take-append-drop end r)
 
   -- a position that was counted from further back, counted from its search
   found_from : (from p : ℕ) (o : Option ℕ) → option_map (λ k. from + k) o ≡ Some p → o ≡ Some (p - from)
-  found_from from p None e = cc
-  found_from from p (Some k) e = let n = same_Some (from + k) p e in ap Some (omega arith)
+  found_from from p o e = search rules
 
   -- a search finds the same in streams that agree from the octet before it to the octet by which it finds
   search-kept : (s t : List ℕ) (from p : ℕ) → length s ≡ length t → f.search None s from ≡ Some p
@@ -149,8 +132,7 @@ module _ (f : Framing) (h : IsFraming f) where
 
   -- an age whole periods from the first octet, or none
   read_if : (c : Bool) (age : ℕ) (o : Option ℕ) → age % f.period ≡ 0 → o ≡ None → IsRead f (cond c (Some age) o)
-  read_if true age o e i = e
-  read_if false age o e i = subst (IsRead f) (sym i) tt
+  read_if c age o e i = search rules
 
   -- the streams agree at each octet from one before a position on that has no age, or lies whole periods on
   abbrev Same : List ℕ → List ℕ → ℕ → ℕ → List AlignmentSpan → Type 0
@@ -161,34 +143,14 @@ module _ (f : Framing) (h : IsFraming f) where
     -- the octets read by a search have no age, except the last of them
     search_reads : (p n : ℕ) (o : Option ℕ) → IsNotBefore p o → n < suc (p + f.found_at)
         → IsRead f (age_in a (record { start = p; lost = o } ∷ after_loss f None s o) n)
-    search_reads p n o g lt =
-        let none : age_in a (after_loss f None s o) n ≡ None = age-after_loss f h None s a p n o g (omega arith) in
-        elim (cases_lt n (p + a)) [
-          | inl early ↦
-              let no_age : is_standing a (record { start = p; lost = o }) n ≡ false
-              = and_left _ _ (lt-leb (p + a) n early) in
-              rw no_age (subst (IsRead f) (sym none) tt)
-          | inr late ↦
-              let age : n - p ≡ f.found_at = omega arith in
-              read_if (is_standing a (record { start = p; lost = o }) n) (n - p) (age_in a (after_loss f None s o) n)
-              (ap (λ k. k % f.period) age ∙ h.whole) none
-        ]
+    search_reads p n o g lt = grind (arith, age-after_loss f h None s a p n o g (omega arith), cases_lt n (p + a))
 
     -- the octets whole periods from the first one, up to the loss, have such an age or none
     loss_reads : (p k : ℕ) (o : Option ℕ) → k % f.period ≡ 0 → IsUpToLoss (p + k) o
         → IsRead f (age_in a (record { start = p; lost = o } ∷ after_loss f None s o) (p + k))
     unfolding after_loss
-    loss_reads p k None e up =
-        let age : (p + k) - p ≡ k = omega arith in
-        read_if (is_standing a (record { start = p; lost = None }) (p + k)) ((p + k) - p) None
-        (ap (λ n. n % f.period) age ∙ e) refl
-    loss_reads p k (Some q) e up =
-        let age : (p + k) - p ≡ k = omega arith in
-        let others = alignments_from f None s (suc q) in
-        let none : age_in a others (p + k) ≡ None
-        = age_in-before a (suc q) (p + k) others (alignments-begin f None s (suc q)) (omega arith) in
-        read_if (is_standing a (record { start = p; lost = Some q }) (p + k)) ((p + k) - p) (age_in a others (p + k))
-        (ap (λ n. n % f.period) age ∙ e) none
+    loss_reads p k None e up = grind (arith, common_steps)
+    loss_reads p k (Some q) e up = search (rules, age_in-before, alignments-begin, read_if)
 
     -- so there the streams agree
     agree_along : (p : ℕ) (o : Option ℕ) → Same s t a p (record { start = p; lost = o } ∷ after_loss f None s o)
@@ -197,26 +159,19 @@ module _ (f : Framing) (h : IsFraming f) where
 
     -- and the loss is the same
     loss-kept : (p : ℕ) → AgreeAlong f s t (record { start = p; lost = loss f s p }) → loss f s p ≡ loss f t p
-    loss-kept p agree = loss-alike f s t p len (λ k lt up.
-        h.reads (drop p s) (drop p t) k (λ j le' e.
-        get_or-drop p s j 0
-        ∙ agree j e (omega arith) (up_to_loss-earlier (p + j) (p + k) (loss f s p) (omega arith) up)
-        ∙ sym (get_or-drop p t j 0)))
+    loss-kept p agree = loss-alike f s t p len (grind (arith, common_steps))
 
     -- after a loss the alignment before it gives no age
     after_lost : (p q n : ℕ) → q ≤ n
         → age_in a (record { start = p; lost = Some q } ∷ alignments_from f None s (suc q)) n
         ≡ age_in a (alignments_from f None s (suc q)) n
-    after_lost p q n le' =
-        let lost : is_standing a (record { start = p; lost = Some q }) n ≡ false
-        = and_right _ _ (le-ltb n q le') in rw lost refl
+    after_lost p q n le' = cc (and_right _ _ (le-ltb n q le'))
 
     -- what agrees after a loss, by what agrees before it
     same_after : (from p q : ℕ) → from ≤ suc q
         → Same s t a from (record { start = p; lost = Some q } ∷ alignments_from f None s (suc q))
         → Same s t a (suc q) (alignments_from f None s (suc q))
-    same_after from p q ge same n le' lt read =
-        same n (omega arith) lt (subst (IsRead f) (sym (after_lost p q n (omega arith))) read)
+    same_after from p q ge same n le' lt read = grind (arith, after_lost p q n (omega arith))
 
     -- what the streams have in common from an alignment of the first one on
     abbrev Kept : List AlignmentSpan → ℕ → Type 0
@@ -229,12 +184,7 @@ module _ (f : Framing) (h : IsFraming f) where
           → Same s t a from (record { start = p; lost = o } ∷ after_loss f None s o)
           → (ds ≡ after_loss f None t r) × AllByRecursion (AgreeAlong f s t) ds
       unfolding after_loss
-      keep_after from p None None ge g e i same = (i, subst (AllByRecursion (AgreeAlong f s t)) (sym i) tt)
-      keep_after from p None (Some r) ge g e i same = cc
-      keep_after from p (Some q) None ge g e i same = cc
-      keep_after from p (Some q) (Some r) ge g e i same =
-          let rest = again q i (subst (Same s t a (suc q)) (sym i) (same_after from p q (omega arith) same)) in
-          (rest.0 ∙ ap (λ k. alignments_from f None t (suc k)) (same_Some q r e), rest.1)
+      keep_after from p o r ge g e i same = search rules
 
       -- after a search that found one
       keep_found : (d : AlignmentSpan) (from : ℕ) (o : Option ℕ) → f.search None s from ≡ o
@@ -257,10 +207,7 @@ module _ (f : Framing) (h : IsFraming f) where
           = first ∙ same_alignment p p (loss f s p) (loss f t p) refl lost in
           let rest_kept = others.0 in
           let kept : d ∷ ds ≡ onto (record { start = p; lost = loss f t p }) (after_loss f None t (loss f t p))
-          = cc in (
-            kept ∙ ap (λ r. after_search f None t r) (sym found) ∙ sym (alignments_turns f h None t from),
-            (subst (AgreeAlong f s t) (sym first) along, others.1),
-          )
+          = cc in (grind (arith, alignments_turns f h None t from))
 
     -- if nothing is found there is no alignment
     nothing_after : [] ≡ after_search f None t None
@@ -270,12 +217,7 @@ module _ (f : Framing) (h : IsFraming f) where
     -- from any position on, by the alignments of the first stream
     keep : (ds : List AlignmentSpan) (from : ℕ) → ds ≡ alignments_from f None s from → Same s t a from ds
         → Kept ds from
-    keep [] from e same =
-        let nothing : f.search None s from ≡ None
-        = none_found f None s (f.search None s from) (e ∙ alignments_turns f h None s from) in
-        let here : f.search None t from ≡ None
-        = sym (search-same s t from len (λ n ge lt below. same n ge below tt)) ∙ nothing in
-        (nothing_after ∙ ap (after_search f None t) (sym here) ∙ sym (alignments_turns f h None t from), tt)
+    keep [] from e same = search (rules, none_found, alignments_turns, search-same, nothing_after)
     keep (d ∷ ds) from e same =
         keep_found ds (λ q i same'. keep ds (suc q) i same') d from (f.search None s from) refl
         (e ∙ alignments_turns f h None s from) same

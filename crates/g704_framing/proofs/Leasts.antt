@@ -1,25 +1,17 @@
 -- The least number that passes.
-use Rattle.std.proofs.Common.{◌≡◌, ℕ, zero, suc, ◌<◌, Bool, true, false, cond, Option, Some, None}
-use Rattle.std.proofs.Common.{refl, sym, ap, ◌∙◌, arith, inl, inr}
-use Rattle.g704_framing.proofs.Common.{option_map, nat_le, cases_lt, false≢true, nat_tests, least}
+use Rattle.std.proofs.Common.{rules, ◌≡◌, ℕ, zero, suc, ◌<◌, Bool, true, false, cond, Option, Some, None, refl, ◌∙◌}
+use Rattle.std.proofs.Common.{arith}
+use Rattle.g704_framing.proofs.Common.{option_map, nat_le, nat_tests, least}
 
 -- what `least` says: the number, or that none passes
 abbrev pub IsLeast : (ℕ → Bool) → ℕ → Option ℕ → Type 0
 IsLeast passes limit None = (k : ℕ) → k < limit → passes k ≡ false
 IsLeast passes limit (Some n) = (n < limit) × (passes n ≡ true) × ((k : ℕ) → k < n → passes k ≡ false)
 
--- none below the next number passes, if none below this one does and it does not
-below_suc : (passes : ℕ → Bool) (n : ℕ) → ((k : ℕ) → k < n → passes k ≡ false) → passes n ≡ false
-    → (k : ℕ) → k < suc n → passes k ≡ false
-below_suc passes n below here k h =
-    elim (cases_lt k n) [ inl lt ↦ below k lt | inr ge ↦ let e : n ≡ k = omega arith in rw e at here ]
-
 -- one number more
 step : (passes : ℕ → Bool) (n : ℕ) (o : Option ℕ) → IsLeast passes n o → (b : Bool) → passes n ≡ b
     → IsLeast passes (suc n) (elim o [ Some found ↦ Some found | None ↦ cond b (Some n) None ])
-step passes n (Some k) h b e = (omega (arith, h.0), h.1, h.2)
-step passes n None h true e = (omega arith, e, h)
-step passes n None h false e = below_suc passes n h e
+step passes n o h b e = search rules
 
 -- what `least` finds is least
 pub least-is : (passes : ℕ → Bool) (limit : ℕ) → IsLeast passes limit (least passes limit)
@@ -30,16 +22,7 @@ least-is passes (suc n) = step passes n (least passes n) (least-is passes n) (pa
 -- only one answer is least
 pub only_one : (passes : ℕ → Bool) (limit : ℕ) (o p : Option ℕ) → IsLeast passes limit o → IsLeast passes limit p
     → o ≡ p
-only_one passes limit None None h g = refl
-only_one passes limit None (Some n) h g = absurd (false≢true (sym (h n g.0) ∙ g.1))
-only_one passes limit (Some n) None h g = absurd (false≢true (sym (g n h.0) ∙ h.1))
-only_one passes limit (Some n) (Some m) h g = elim (cases_lt n m) [
-  | inl lt ↦ absurd (false≢true (sym (g.2 n lt) ∙ h.1))
-  | inr ge ↦ elim (cases_lt m n) [
-    | inl gt ↦ absurd (false≢true (sym (h.2 m gt) ∙ g.1))
-    | inr le ↦ let e : n ≡ m = omega arith in ap Some e
-  ]
-]
+only_one passes limit o p h g = search rules
 
 -- and nothing else is
 pub least_equals : (passes : ℕ → Bool) (limit : ℕ) (found : Option ℕ) → IsLeast passes limit found
@@ -55,9 +38,7 @@ reach (Some least) limit = suc least
 pub least_alike : (passes others : ℕ → Bool) (limit : ℕ) (found : Option ℕ)
     → ((number : ℕ) → number < reach found limit → passes number ≡ others number) → IsLeast passes limit found
     → IsLeast others limit found
-least_alike passes others limit None h l = λ k lt. sym (h k lt) ∙ l k lt
-least_alike passes others limit (Some n) h l =
-    (l.0, sym (h n (omega arith)) ∙ l.1, λ k lt. sym (h k (omega arith)) ∙ l.2 k lt)
+least_alike passes others limit found h l = search rules
 
 -- comparing numbers does not depend on their origin
 pub le-suc : (small large : ℕ) → nat_le (suc small) (suc large) ≡ nat_le small large

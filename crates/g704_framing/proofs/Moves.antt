@@ -1,22 +1,19 @@
 -- Alignments whose positions are counted from further back.
-use Rattle.std.proofs.Common.{◌≡◌, ℕ, suc, ◌+◌, List, [], ◌∷◌, map, Option, Some, None, refl, ap, arith, zero-add}
+use Rattle.std.proofs.Common.{rules, ◌≡◌, ℕ, suc, ◌+◌, List, [], ◌∷◌, map, Option, refl, arith, zero-add}
 use Rattle.g704_framing.proofs.Common.{option_map, AlignmentSpan, later_alignment, moved}
 
 -- counted from the old origin
 pub option_map-zero : (o : Option ℕ) → option_map (λ k. 0 + k) o ≡ o
-option_map-zero None = refl
-option_map-zero (Some k) = ap Some (zero-add k)
+option_map-zero o = search rules
 
 -- counted from one further back than that
 pub option_map-suc : (n : ℕ) (o : Option ℕ) → option_map (λ k. suc n + k) o ≡ option_map suc (option_map (λ k. n + k) o)
-option_map-suc n None = refl
-option_map-suc n (Some k) = ap Some (omega arith)
+option_map-suc n o = search rules
 
 -- counted from further back, twice
 option_map-add : (m n : ℕ) (o : Option ℕ)
     → option_map (λ k. m + k) (option_map (λ k. n + k) o) ≡ option_map (λ k. (m + n) + k) o
-option_map-add m n None = refl
-option_map-add m n (Some k) = ap Some (omega arith)
+option_map-add m n o = search rules
 
 -- alignments are equal that begin and are lost alike
 pub same_alignment : (a b : ℕ) (p q : Option ℕ) → a ≡ b → p ≡ q
@@ -26,9 +23,7 @@ same_alignment a b p q e f = cc
 -- the same for all alignments of a list, from the old origin
 pub map-moved_zero : (ds : List AlignmentSpan) → map (moved 0) ds ≡ ds
 map-moved_zero [] = refl
-map-moved_zero (d ∷ ds) =
-    let h : moved 0 d ≡ d = same_alignment _ _ _ _ (zero-add d.start) (option_map-zero d.lost) in
-    let t = map-moved_zero ds in cc
+map-moved_zero (d ∷ ds) = cc (same_alignment _ _ _ _ (zero-add d.start) (option_map-zero d.lost), map-moved_zero ds)
 
 -- from one further back
 pub map-moved_suc : (n : ℕ) (ds : List AlignmentSpan) → map (moved (suc n)) ds ≡ map later_alignment (map (moved n) ds)

@@ -1,5 +1,5 @@
 -- The octets that a machine returns, one for each.
-use Rattle.std.proofs.Common.{◌≡◌, ℕ, suc, List, [], ◌∷◌, ◌++◌, length, refl, sym, ap, ◌∙◌, append_assoc, append-nil}
+use Rattle.std.proofs.Common.{◌≡◌, ℕ, suc, List, [], ◌∷◌, ◌++◌, length, refl, sym, ap, append_assoc, append-nil}
 use Rattle.g704_framing.specs.Replies.{replies_after}
 
 -- One octet is returned for each.
@@ -16,6 +16,4 @@ pub replies-append : (reply : List ℕ → ℕ → ℕ) (before octets others : 
 unfolding replies_after
 replies-append reply before [] others = ap (λ b. replies_after reply b others) (sym (append-nil before))
 replies-append reply before (x ∷ octets) others =
-    let more = before ++ x ∷ [] in
-    ap (λ s. reply before x ∷ s) (replies-append reply more octets others
-    ∙ ap (λ b. replies_after reply more octets ++ replies_after reply b others) (append_assoc before (x ∷ []) octets))
+    cc (replies-append reply (before ++ x ∷ []) octets others, append_assoc before (x ∷ []) octets)

@@ -1,9 +1,9 @@
 -- Later octets change no age.
-use Rattle.std.proofs.Common.{◌≡◌, ℕ, zero, suc, ◌+◌, ◌<◌, ◌≤◌, List, [], ◌∷◌, ◌++◌, length, map, drop, true, false}
-use Rattle.std.proofs.Common.{Option, Some, None, refl, sym, ap, ◌∙◌, arith, ltb, inl, inr, length-append, length-drop}
-use Rattle.g704_framing.proofs.Common.{option_map, same_Some, lt-ltb, lt-leb, and_left, cases_lt, false≢true, least}
-use Rattle.g704_framing.proofs.Common.{Framing, AlignmentSpan, later_alignment, loss, alignments_from, after_search}
-use Rattle.g704_framing.proofs.Common.{after_loss, is_standing, age_in, IsFraming, IsFoundAfter, AgesAreSettled}
+use Rattle.std.proofs.Common.{rules, ◌≡◌, ℕ, zero, suc, ◌+◌, ◌<◌, ◌≤◌, List, [], ◌∷◌, ◌++◌, length, map, drop, Option}
+use Rattle.std.proofs.Common.{Some, None, refl, sym, ◌∙◌, arith, length-append, length-drop}
+use Rattle.g704_framing.proofs.Common.{option_map, lt-ltb, lt-leb, and_left, cases_lt, false≢true, least, Framing}
+use Rattle.g704_framing.proofs.Common.{AlignmentSpan, later_alignment, loss, alignments_from, after_search, after_loss}
+use Rattle.g704_framing.proofs.Common.{age_in, IsFraming, IsFoundAfter, AgesAreSettled}
 use Rattle.std.proofs.lemmas.List.{drop-append-le}
 use Rattle.g704_framing.proofs.Leasts.{IsLeast, least-is, only_one}
 use Rattle.g704_framing.proofs.Turns.{alignments_turns, none_found}
@@ -37,14 +37,11 @@ alignments-begin f b (x ∷ s) (suc from) =
 pub age_in-before : (a from n : ℕ) (ds : List AlignmentSpan) → BeginFrom from ds → n < from + a → age_in a ds n ≡ None
 age_in-before a from n [] h lt = refl
 age_in-before a from n (d ∷ ds) h lt =
-    let le = h.0 in
-    let e : is_standing a d n ≡ false = and_left _ _ (lt-leb (d.start + a) n (omega arith)) in
-    rw e (age_in-before a from n ds h.1 lt)
+    cc (and_left _ _ (lt-leb (d.start + a) n (omega arith)), age_in-before a from n ds h.1 lt)
 
 -- counted from one further back, what is found is one later too
 from_later : (from p : ℕ) (o : Option ℕ) → option_map suc o ≡ Some p → ((q : ℕ) → o ≡ Some q → from ≤ q) → suc from ≤ p
-from_later from p None e h = cc
-from_later from p (Some q) e h = let le = h q refl in let n = same_Some (suc q) p e in omega arith
+from_later from p o e h = search rules
 
 -- a search finds nothing before its begin
 pub search-from : (f : Framing) → IsFraming f → (b : Option ℕ) (s : List ℕ) (from p : ℕ) → f.search b s from ≡ Some p
@@ -69,10 +66,7 @@ module _ (f : Framing) (h : IsFraming f) where
   least-continues : (c t : List ℕ) (o p : Option ℕ) → IsLeast (f.is_lost c) (length c) o
       → IsLeast (f.is_lost (c ++ t)) (length (c ++ t)) p → Continues (length c) o p
   least-continues c t None None l m = tt
-  least-continues c t None (Some k) l m = elim (cases_lt k (length c)) [
-    | inl lt ↦ absurd (false≢true (sym (l k lt) ∙ sym (is_lost-append f h c t k lt) ∙ m.1))
-    | inr ge ↦ ge
-  ]
+  least-continues c t None (Some k) l m = search (rules, cases_lt, false≢true, is_lost-append)
   least-continues c t (Some j) p l m =
       let lt = l.0 in
       let n = length-append c t in
@@ -86,9 +80,7 @@ module _ (f : Framing) (h : IsFraming f) where
   -- the same, counted from further back
   moved-continues : (start end : ℕ) (o p : Option ℕ) → Continues end o p
       → Continues (start + end) (option_map (λ k. start + k) o) (option_map (λ k. start + k) p)
-  moved-continues start end None None g = tt
-  moved-continues start end None (Some k) g = omega arith
-  moved-continues start end (Some j) p g = ap (option_map (λ k. start + k)) g
+  moved-continues start end o p g = search rules
 
   -- so the loss of an alignment in a stream that goes on
   loss-continues : (s t : List ℕ) (p : ℕ) → p ≤ length s → Continues (length s) (loss f s p) (loss f (s ++ t) p)
@@ -106,8 +98,7 @@ module _ (f : Framing) (h : IsFraming f) where
 
   -- a position that is counted from another is not before it
   not_before : (p : ℕ) (o : Option ℕ) → IsNotBefore p (option_map (λ k. p + k) o)
-  not_before p None = tt
-  not_before p (Some k) = omega arith
+  not_before p o = search rules
 
   -- no alignment is lost before its first octet
   pub loss-not_before : (s : List ℕ) (p : ℕ) → IsNotBefore p (loss f s p)
@@ -121,16 +112,11 @@ module _ (f : Framing) (h : IsFraming f) where
 
   -- what is not before a position is not before an earlier one
   later_loss : (m n : ℕ) (o : Option ℕ) → m ≤ n → IsNotBefore n o → IsNotBefore m o
-  later_loss m n None le g = tt
-  later_loss m n (Some k) le g = omega arith
+  later_loss m n o le g = search rules
 
   -- the loss in a stream that goes on, wherever the alignment begins
   loss-settled : (s t : List ℕ) (p : ℕ) → Continues (length s) (loss f s p) (loss f (s ++ t) p)
-  loss-settled s t p = elim (cases_lt (length s) p) [
-    | inr le ↦ loss-continues s t p le
-    | inl lt ↦ rw (loss-past s p (omega arith))
-        (later_loss (length s) p (loss f (s ++ t) p) (omega arith) (loss-not_before (s ++ t) p))
-  ]
+  loss-settled s t p = search (rules, cases_lt, loss-continues, loss-past, later_loss, loss-not_before)
 
   -- what begins from a position on begins from an earlier one on
   begin_earlier : (m n : ℕ) (ds : List AlignmentSpan) → m ≤ n → BeginFrom n ds → BeginFrom m ds
@@ -142,24 +128,19 @@ module _ (f : Framing) (h : IsFraming f) where
       → BeginFrom (suc p) (after_loss f b s o)
   unfolding after_loss
   after_loss-begin b s p None g = tt
-  after_loss-begin b s p (Some q) g =
-      begin_earlier (suc p) (suc q) (alignments_from f b s (suc q)) (omega arith) (alignments-begin f b s (suc q))
+  after_loss-begin b s p (Some q) g = search (rules, begin_earlier, alignments-begin)
 
   -- so they give no age to an octet that the alignment before them could have
   pub age-after_loss : (b : Option ℕ) (s : List ℕ) (a p n : ℕ) (o : Option ℕ) → IsNotBefore p o → n ≤ p + a
       → age_in a (after_loss f b s o) n ≡ None
-  age-after_loss b s a p n o g le =
-      age_in-before a (suc p) n (after_loss f b s o) (after_loss-begin b s p o g) (omega arith)
+  age-after_loss b s a p n o g le = search (rules, age_in-before, after_loss-begin)
 
   -- what is found by a later octet gives no age
   age-found_later : (b : Option ℕ) (s : List ℕ) (a count n : ℕ) (o : Option ℕ) → f.found_at ≤ a → n < count
       → IsFoundAfter count f.found_at o → age_in a (after_search f b s o) n ≡ None
   unfolding after_search
   age-found_later b s a count n None le lt g = refl
-  age-found_later b s a count n (Some p) le lt g =
-      let early : is_standing a (record { start = p; lost = loss f s p }) n ≡ false
-      = and_left _ _ (lt-leb (p + a) n (omega arith)) in
-      rw early (age-after_loss b s a p n (loss f s p) (loss-not_before s p) (omega arith))
+  age-found_later b s a count n (Some p) le lt g = search (rules, and_left, lt-leb, age-after_loss, loss-not_before)
 
   -- an alignment and what comes after its loss, in the stream and in the stream that goes on
   module _ (b : Option ℕ) (s t : List ℕ) (a n : ℕ) (lt : n < length s) where
@@ -171,13 +152,7 @@ module _ (f : Framing) (h : IsFraming f) where
         ≡ age_in a (record { start = p; lost = o } ∷ after_loss f b s o) n
     unfolding after_loss
     age-continues p None None g again = refl
-    age-continues p None (Some q) g again =
-        let before : ltb n q ≡ true = lt-ltb n q (omega arith) in
-        rw (
-          before,
-          age_in-before a (suc q) n (alignments_from f b (s ++ t) (suc q))
-              (alignments-begin f b (s ++ t) (suc q)) (omega arith),
-        ) refl
+    age-continues p None (Some q) g again = search (rules, lt-ltb, age_in-before, alignments-begin)
     age-continues p (Some q) r g again = rw (g, again q refl) refl
 
     -- after a search that found an alignment
@@ -189,21 +164,12 @@ module _ (f : Framing) (h : IsFraming f) where
         → age_in a (after_search f b (s ++ t) (f.search b (s ++ t) from)) n ≡ age_in a (d ∷ ds) n
     unfolding after_search after_loss
     settle_found le d ds from None i e again = cc
-    settle_found le d ds from (Some p) i e again =
-        let tail : ds ≡ after_loss f b s (loss f s p) = cc in
-        ap (λ r. age_in a (after_search f b (s ++ t) r) n) (h.found b s t from p i)
-        ∙ age-continues p (loss f s p) (loss f (s ++ t) p) (loss-settled s t p) (λ q i'.
-        let same : ds ≡ alignments_from f b s (suc q) = tail ∙ ap (after_loss f b s) i' in
-        again q same ∙ ap (λ es. age_in a es n) same)
-        ∙ sym (ap (λ es. age_in a es n) e)
+    settle_found le d ds from (Some p) i e again = search (rules, age-continues, loss-settled)
 
     -- from any position on, by the alignments of the stream
     settle : (le : f.found_at ≤ a) (ds : List AlignmentSpan) (from : ℕ) → ds ≡ alignments_from f b s from
         → age_in a (alignments_from f b (s ++ t) from) n ≡ age_in a ds n
-    settle le [] from e =
-        let nothing = none_found f b s (f.search b s from) (e ∙ alignments_turns f h b s from) in
-        rw (alignments_turns f h b (s ++ t) from)
-        (age-found_later b (s ++ t) a (length s) n (f.search b (s ++ t) from) le lt (h.not_found b s t from nothing))
+    settle le [] from e = search (rules, none_found, alignments_turns, age-found_later)
     settle le (d ∷ ds) from e =
         rw (alignments_turns f h b (s ++ t) from)
         (settle_found le d ds from (f.search b s from) refl (e ∙ alignments_turns f h b s from)

@@ -1,6 +1,5 @@
 -- Places, alarms and histories of an aligner, by the octets since the last restart.
-use Rattle.std.proofs.Common.{◌≡◌, ℕ, ◌+◌, ◌-◌, ◌<◌, List, [], ◌∷◌, ◌++◌, length, true, Option, None}
-use Rattle.std.proofs.Common.{refl, sym, ap, arith}
+use Rattle.std.proofs.Common.{rules, ◌≡◌, ℕ, ◌+◌, ◌-◌, ◌<◌, List, [], ◌∷◌, ◌++◌, length, true, Option, None, arith}
 use Rattle.g704_framing.proofs.Common.{is_none, Framing, alignments_from, age_in, RestartsAfter, last_of, HoldsSince}
 use Rattle.std.proofs.lemmas.List.{length_push, append_assoc, length-append, append-nil}
 use Rattle.g704_framing.specs.Places.{PlaceRules, place_since, place_in, alarm_in}
@@ -13,18 +12,14 @@ pub place-history : {Place : Type 0} (placing : PlaceRules Place) (history earli
     → place_since placing (last_of None earlier) (since ++ octet ∷ []) (length since)
     ≡ place_in placing (history ++ octet ∷ []) (length history)
 unfolding place_in place_since
-place-history p history earlier since x e over =
-    rw (e, length-append earlier since, append_assoc earlier since (x ∷ []))
-    (ap p.place_of (sym (age-over p.framing None earlier (since ++ x ∷ []) p.placed_from (length since) over)))
+place-history p history earlier since x e over = search (rules, length-append, append_assoc, age-over)
 
 -- an octet after which everything restarts has none
 pub place-over : {Place : Type 0} (placing : PlaceRules Place) (before : Option ℕ) (octets : List ℕ) (octet : ℕ)
     → RestartsAfter placing.framing before (octets ++ octet ∷ [])
     → placing.place_of None ≡ place_since placing before (octets ++ octet ∷ []) (length octets)
 unfolding place_since
-place-over p b c x over =
-    let l = length_push c x in
-    ap p.place_of (sym (age-at_over p.framing b (c ++ x ∷ []) p.placed_from (length c) over (omega arith)))
+place-over p b c x over = search (rules, length_push, age-at_over)
 
 -- the alarm in the whole history, if octets came since
 pub alarm-since : {Place : Type 0} (placing : PlaceRules Place) (earlier since : List ℕ)
@@ -32,48 +27,36 @@ pub alarm-since : {Place : Type 0} (placing : PlaceRules Place) (earlier since :
     → is_none (age_in placing.framing.found_at (alignments_from placing.framing (last_of None earlier) since 0)
     (length since - 1)) ≡ alarm_in placing (earlier ++ since) (length (earlier ++ since) - 1)
 unfolding alarm_in
-alarm-since p earlier since over lt =
-    let e : (length earlier + length since) - 1 ≡ length earlier + (length since - 1) = omega arith in
-    rw (length-append earlier since, e)
-    (ap is_none (sym (age-over p.framing None earlier since p.framing.found_at (length since - 1) over)))
+alarm-since p earlier since over lt = search (rules, length-append, age-over)
 
 -- and if none did
 pub alarm-over : {Place : Type 0} (placing : PlaceRules Place) (earlier : List ℕ)
     → RestartsAfter placing.framing None earlier
     → true ≡ alarm_in placing (earlier ++ []) (length (earlier ++ []) - 1)
 unfolding alarm_in
-alarm-over p earlier over =
-    rw (append-nil earlier) (ap is_none (sym
-    (age-at_over p.framing None earlier p.framing.found_at (length earlier - 1) over (omega arith))))
+alarm-over p earlier over = search (rules, append-nil, age-at_over)
 
 -- what is so of no octet is so before the first
 pub since-nothing : (framing : Framing) (holds : Option ℕ → List ℕ → Type 0) → holds None []
     → HoldsSince framing holds []
-since-nothing framing holds h =
-    record { earlier = []; since = []; whole = refl; over = RestartsAfter-nil framing None; fields = h }
+since-nothing framing holds h = grind (arith, RestartsAfter-nil framing None)
 
 -- what is so with one octet more
 pub since-more : (framing : Framing) (holds : Option ℕ → List ℕ → Type 0) (history earlier since : List ℕ) (octet : ℕ)
     → history ≡ earlier ++ since → RestartsAfter framing None earlier
     → holds (last_of None earlier) (since ++ octet ∷ [])
     → HoldsSince framing holds (history ++ octet ∷ [])
-since-more framing holds history earlier since x e over h = record {
-  earlier = earlier;
-  since = since ++ x ∷ [];
-  whole = rw (e, append_assoc earlier since (x ∷ [])) refl;
-  over = over;
-  fields = h;
-}
+since-more framing holds history earlier since x e over h = grind (arith, append_assoc earlier since (x ∷ []))
 
 -- and for an octet after which everything restarts
 pub since-anew : (framing : Framing) (holds : Option ℕ → List ℕ → Type 0) (history earlier since : List ℕ) (octet : ℕ)
     → history ≡ earlier ++ since → RestartsAfter framing None earlier
     → RestartsAfter framing (last_of None earlier) (since ++ octet ∷ [])
     → holds (last_of None (earlier ++ (since ++ octet ∷ []))) [] → HoldsSince framing holds (history ++ octet ∷ [])
-since-anew framing holds history earlier since x e over f h = record {
-  earlier = earlier ++ (since ++ x ∷ []);
-  since = [];
-  whole = rw (e, append_assoc earlier since (x ∷ []), append-nil (earlier ++ (since ++ x ∷ []))) refl;
-  over = RestartsAfter-append framing None earlier (since ++ x ∷ []) over f;
-  fields = h;
-}
+since-anew framing holds history earlier since x e over f h =
+    grind (
+      arith,
+      append_assoc earlier since (x ∷ []),
+      append-nil (earlier ++ (since ++ x ∷ [])),
+      RestartsAfter-append framing None earlier (since ++ x ∷ []) over f,
+    )

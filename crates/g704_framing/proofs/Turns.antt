@@ -1,6 +1,6 @@
 -- The alignments of a stream as searches and losses in turn, and seen from a later octet on.
-use Rattle.std.proofs.Common.{◌≡◌, ℕ, zero, suc, List, [], ◌∷◌, ◌++◌, length, map, drop, Option, Some, None}
-use Rattle.std.proofs.Common.{refl, sym, ap, ◌∙◌}
+use Rattle.std.proofs.Common.{arith, rules, ◌≡◌, ℕ, zero, suc, List, [], ◌∷◌, ◌++◌, length, map, drop, Option, Some}
+use Rattle.std.proofs.Common.{None, refl, sym}
 use Rattle.g704_framing.proofs.Common.{option_map, least, Framing, AlignmentSpan, later_alignment, loss}
 use Rattle.g704_framing.proofs.Common.{alignments_from, after_loss, after_search, moved, last_of, AlignmentsTakeTurns}
 use Rattle.g704_framing.proofs.Moves.{option_map-suc, map-moved_zero, map-moved_suc}
@@ -13,8 +13,7 @@ loss-later f x s p = option_map-suc p (least (f.is_lost (drop p s)) (length (dro
 -- if there is no alignment, nothing was found
 pub none_found : (f : Framing) (b : Option ℕ) (s : List ℕ) (o : Option ℕ) → [] ≡ after_search f b s o → o ≡ None
 unfolding after_search
-none_found f b s None e = refl
-none_found f b s (Some p) e = cc
+none_found f b s o e = search rules
 
 -- an alignment before others
 abbrev pub onto : AlignmentSpan → List AlignmentSpan → List AlignmentSpan
@@ -31,28 +30,14 @@ zero_case : (f : Framing) (b : Option ℕ) (x : ℕ) (s : List ℕ) (r : Option 
           ])
     ]) (after_search f b (x ∷ s) r)
 unfolding after_search after_loss alignments_from
-zero_case f b x s None = refl
-zero_case f b x s (Some p) = ap (onto (record { start = p; lost = loss f (x ∷ s) p })) (go (loss f (x ∷ s) p))
-  where
-    go : (r : Option ℕ)
-        → ◌≡◌ {A = List AlignmentSpan}
-        (elim r [ None ↦ [] | Some position ↦ map later_alignment (alignments_from f (Some x) s position) ])
-        (after_loss f b (x ∷ s) r)
-    go None = refl
-    go (Some q) = refl
+zero_case f b x s r = search rules
 
 -- a search from a later octet on
 suc_case : (f : Framing) (b : Option ℕ) (x : ℕ) (s : List ℕ) (r : Option ℕ)
     → map later_alignment (after_search f (Some x) s r) ≡ after_search f b (x ∷ s) (option_map suc r)
 unfolding after_search after_loss alignments_from
 suc_case f b x s None = refl
-suc_case f b x s (Some p) =
-    rw (loss-later f x s p)
-    (ap (onto (record { start = suc p; lost = option_map suc (loss f s p) })) (go (loss f s p)))
-  where
-    go : (r : Option ℕ) → map later_alignment (after_loss f (Some x) s r) ≡ after_loss f b (x ∷ s) (option_map suc r)
-    go None = refl
-    go (Some q) = refl
+suc_case f b x s (Some p) = grind (arith, loss-later f x s p)
 
 -- the alignments, as searches and losses in turn
 pub alignments_turns : AlignmentsTakeTurns
@@ -60,9 +45,7 @@ unfolding alignments_from after_search
 alignments_turns f h b [] from = rw (h.nothing b from) refl
 alignments_turns f h b (x ∷ s) zero = zero_case f b x s (f.search b (x ∷ s) zero)
 alignments_turns f h b (x ∷ s) (suc from) =
-    ap (λ ds. map later_alignment ds) (alignments_turns f h (Some x) s from)
-    ∙ suc_case f b x s (f.search (Some x) s from)
-    ∙ ap (after_search f b (x ∷ s)) (sym (h.later b x s from))
+    grind (arith, alignments_turns f h (Some x) s from, suc_case f b x s (f.search (Some x) s from))
 
 -- the alignments from the first octet of the second part on
 pub alignments-append : (f : Framing) (b : Option ℕ) (a t : List ℕ)
@@ -70,5 +53,4 @@ pub alignments-append : (f : Framing) (b : Option ℕ) (a t : List ℕ)
 unfolding alignments_from
 alignments-append f b [] t = sym (map-moved_zero (alignments_from f b t 0))
 alignments-append f b (x ∷ a) t =
-    ap (λ ds. map later_alignment ds) (alignments-append f (Some x) a t)
-    ∙ sym (map-moved_suc (length a) (alignments_from f (last_of (Some x) a) t 0))
+    cc (alignments-append f (Some x) a t, map-moved_suc (length a) (alignments_from f (last_of (Some x) a) t 0))

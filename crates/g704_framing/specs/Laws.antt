@@ -1,9 +1,8 @@
 -- Properties of the alignments of every stream, for each kind of alignment.
 use Rattle.std.specs.Prelude.{◌≡◌, ℕ, suc, ◌+◌, ◌%◌, ◌<◌, ◌≤◌, List, [], ◌∷◌, ◌++◌, length, drop, All}
-use Rattle.std.specs.Prelude.{slice_index}
-use Rattle.std.specs.Prelude.{Option, Some, None, option_map}
-use Rattle.g704_framing.specs.Alignment.{Framing, AlignmentSpan, alignments_from, alignments_of}
-use Rattle.g704_framing.specs.Alignment.{after_search, search_ends_of}
+use Rattle.std.specs.Prelude.{slice_index, Option, Some, None, option_map}
+use Rattle.g704_framing.specs.Alignment.{Framing, AlignmentSpan, alignments_from, alignments_of, after_search}
+use Rattle.g704_framing.specs.Alignment.{search_ends_of}
 use Rattle.g704_framing.specs.Age.{age_in}
 
 -- whatever is found is found by an octet after the first this many

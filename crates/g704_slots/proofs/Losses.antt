@@ -1,6 +1,7 @@
 -- Slot 16 with nothing but the signal, and signals in error.
-use Rattle.std.proofs.Common.{◌≡◌, ℕ, suc, ◌+◌, ◌-◌, ◌*◌, ◌<◌, ◌≤◌, ◌%◌, List, ◌++◌, length, Bool, true, false, not}
-use Rattle.std.proofs.Common.{cond, Option, Some, None, refl, sym, ap, ◌∙◌, arith, inl, inr}
+use Rattle.std.proofs.Common.{rules, ◌≡◌, ℕ, suc, ◌+◌, ◌-◌, ◌*◌, ◌<◌, ◌≤◌, ◌%◌, List, ◌++◌, length, true, false, not}
+use Rattle.std.proofs.Common.{refl, ap, arith}
+use Rattle.std.proofs.lemmas.Grind.{common_steps}
 use Rattle.std.specs.Prelude.{◌≢◌, ◌&&◌, ◌||◌, is_none, slice_index}
 use Rattle.std.proofs.lemmas.Bool.{cases_eq, cases_lt, ne_eqb, and_left, and_right, le-ltb}
 use Rattle.std.proofs.lemmas.List.{get_or_append_left}
@@ -26,15 +27,7 @@ is_only_signal-none a s = refl
 pub is_only_signal-more : (octets : List ℕ) (signal count : ℕ) → is_only_signal octets signal (suc count)
     ≡ (is_only_signal octets signal count && is_mfas (slice_index octets (signal + 31 * suc count)))
 unfolding is_only_signal least
-is_only_signal-more a s n =
-    go (least (λ later. not (is_mfas (slice_index a (s + 31 * suc later)))) n)
-    (is_mfas (slice_index a (s + 31 * suc n)))
-  where
-    go : (o : Option ℕ) (b : Bool)
-        → is_none (elim o [ Some found ↦ Some found | None ↦ cond (not b) (Some n) None ]) ≡ (is_none o && b)
-    go None true = refl
-    go None false = refl
-    go (Some k) b = refl
+is_only_signal-more a s n = grind (arith, common_steps)
 
 -- later octets change nothing
 pub is_only_signal-append : (octets rest : List ℕ) (signal count : ℕ) → signal + 31 * count < length octets
@@ -57,14 +50,7 @@ is_wrong-at a k e = rw e refl
 pub is_wrong-same : (octets others : List ℕ) (age : ℕ) → 496 ≤ age
     → ((earlier : ℕ) → earlier ≤ age → earlier % 31 ≡ 0 → slice_index octets earlier ≡ slice_index others earlier)
     → is_wrong octets age ≡ is_wrong others age
-is_wrong-same a b k ge h = elim (cases_eq (k % 496) 0) [
-  | inr ne ↦ is_wrong-other a k ne ∙ sym (is_wrong-other b k ne)
-  | inl e ↦
-      let here : slice_index a k ≡ slice_index b k = h k (omega arith) (omega arith) in
-      let zero : is_only_signal a (k - 496) 15 ≡ is_only_signal b (k - 496) 15
-      = is_only_signal-same a b (k - 496) 15 (λ j lt. h (k - 496 + 31 * suc j) (omega arith) (omega arith)) in
-      is_wrong-at a k e ∙ rw (here, zero) (sym (is_wrong-at b k e))
-]
+is_wrong-same a b k ge h = search (rules, cases_eq, is_wrong-other, is_only_signal-same, is_wrong-at)
 
 -- later octets change nothing
 pub is_wrong-append : (octets rest : List ℕ) (age : ℕ) → 496 ≤ age → age < length octets
@@ -84,14 +70,4 @@ second-other a k right = and_right _ _ (and_left _ _ right)
 pub second-same : (octets others : List ℕ) (age : ℕ)
     → ((earlier : ℕ) → earlier ≤ age → earlier % 31 ≡ 0 → slice_index octets earlier ≡ slice_index others earlier)
     → is_second_in_error octets age ≡ is_second_in_error others age
-second-same a b k h = elim (cases_eq (k % 496) 0) [
-  | inr ne ↦ second-other a k (is_wrong-other a k ne) ∙ sym (second-other b k (is_wrong-other b k ne))
-  | inl e ↦ elim (cases_lt 496 k) [
-    | inr le ↦ second-early a k le ∙ sym (second-early b k le)
-    | inl lt ↦
-        rw (
-          is_wrong-same a b k (omega arith) h,
-          is_wrong-same a b (k - 496) (omega arith) (λ j le z. h j (omega arith) z),
-        ) refl
-  ]
-]
+second-same a b k h = search (rules, cases_eq, second-other, is_wrong-other, cases_lt, second-early, is_wrong-same)

@@ -1,5 +1,5 @@
 -- The octets that are kept.
-use Rattle.std.proofs.Common.{◌≡◌, ◌≢◌, ℕ, ◌+◌, ◌-◌, ◌*◌, ◌<◌, ◌≤◌, ◌%◌, List, [], ◌∷◌, ◌++◌, length, sym, ap, ◌∙◌}
+use Rattle.std.proofs.Common.{rules, ◌≡◌, ℕ, ◌+◌, ◌-◌, ◌*◌, ◌<◌, ◌≤◌, ◌%◌, List, [], ◌∷◌, ◌++◌, length, sym, ap, ◌∙◌}
 use Rattle.std.proofs.Common.{true, arith, inl, inr}
 use Rattle.std.specs.Prelude.{slice_index, slice_set}
 use Rattle.g704_cas.specs.Search.{is_mfas}
@@ -14,17 +14,8 @@ pub kept-octet : (memory history : List ℕ) (octet at : ℕ) → length memory 
     → slice_index memory (position % 2048) ≡ slice_index history position)
     → (position : ℕ) → position < length (history ++ octet ∷ []) → length (history ++ octet ∷ []) ≤ position + 2048
     → slice_index (slice_set memory at octet) (position % 2048) ≡ slice_index (history ++ octet ∷ []) position
-kept-octet memory c x at room is kept p lt le = elim (cases_eq p (length c)) [
-  | inl e ↦
-      let i : p % 2048 ≡ at = omega arith in
-      rw i (get_or-set_same memory at x 0 (omega arith)) ∙ sym (get_or_push c x 0 p (sym e))
-  | inr ne ↦
-      let l = length_push c x in
-      let below : p < length c = omega arith in
-      let other : p % 2048 ≢ at = λ q. omega arith in
-      get_or-set_other memory at (p % 2048) x 0 other ∙ kept p below (omega arith)
-      ∙ sym (get_or_append_left c (x ∷ []) 0 p below)
-]
+kept-octet memory c x at room is kept p lt le =
+    search (rules, cases_eq, get_or-set_same, get_or_push, length_push, get_or-set_other, get_or_append_left)
 
 -- the octet of slot 16 in a frame of three multiframes that end with the last octet
 pub kept-frame : (memory history : List ℕ) (octet at start frame : ℕ) → at % 2048 ≡ length history % 2048
@@ -33,11 +24,7 @@ pub kept-frame : (memory history : List ℕ) (octet at start frame : ℕ) → at
     → 1488 ≤ length history → start ≡ (at + 560) % 65536 → frame < 48
     → slice_index memory ((start + 31 * frame) % 65536 % 2048)
     ≡ slice_index (history ++ octet ∷ []) (length history - 1488 + 31 * frame)
-kept-frame memory c x at start f is kept long from lt =
-    let p = length c - 1488 + 31 * f in
-    let i : (start + 31 * f) % 65536 % 2048 ≡ p % 2048 = omega arith in
-    ap (slice_index memory) i ∙ kept p (omega arith) (omega arith)
-    ∙ sym (get_or_append_left c (x ∷ []) 0 p (omega arith))
+kept-frame memory c x at start f is kept long from lt = search (rules, get_or_append_left)
 
 -- and the signal behind them
 pub right-last : (history : List ℕ) (octet : ℕ) → 1488 ≤ length history

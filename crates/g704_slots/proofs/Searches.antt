@@ -1,6 +1,7 @@
 -- A search, one octet more.
-use Rattle.std.proofs.Common.{◌≡◌, ◌⊎◌, ℕ, ◌+◌, ◌-◌, ◌<◌, ◌≤◌, List, [], ◌∷◌, ◌++◌, length, take, drop, min}
-use Rattle.std.proofs.Common.{true, false, refl, sym, ap, ◌∙◌, arith, inl, inr, append_assoc, length-drop}
+use Rattle.std.proofs.Common.{rules, ◌≡◌, ◌⊎◌, ℕ, ◌+◌, ◌-◌, ◌<◌, ◌≤◌, List, [], ◌∷◌, ◌++◌, length, take, drop, min}
+use Rattle.std.proofs.Common.{true, false, sym, ap, ◌∙◌, arith, inl, inr, append_assoc, length-drop}
+use Rattle.std.proofs.lemmas.Grind.{common_steps}
 use Rattle.std.proofs.lemmas.Bool.{cases_Bool, cases_lt, cases_eq}
 use Rattle.std.proofs.lemmas.List.{length_push, take-append-drop, length-take-le}
 use Rattle.g704_slots.specs.Search.{is_whole, is_found}
@@ -11,46 +12,22 @@ use Rattle.g704_slots.proofs.Steps.{alignment-found}
 
 -- too few octets for four multiframes
 pub few-none : (c : List ℕ) (p : ℕ) → length c ≤ p + 1984 → is_found c p ≡ false
-few-none c p le = elim (cases_Bool (is_found c p)) [
-  | inr fails ↦ fails
-  | inl passes ↦ absurd (let w = found-within c p passes in omega arith)
-]
+few-none c p le = search (rules, cases_Bool, found-within)
 
 -- no octet came
 pub searching-nothing : IsSearching 0 0 []
-searching-nothing = record {
-  counted = refl;
-  none = λ p. few-none [] p (omega arith);
-  most = omega arith;
-  others = λ s lt le. absurd (omega arith);
-  last = λ lt. inl (omega arith);
-}
+searching-nothing = search (rules, few-none)
 
 -- four multiframes are found by the octet, or not at all
 none-more : (seen alone : ℕ) (c : List ℕ) (x : ℕ) → IsSearching seen alone c
     → ((p : ℕ) → p + 1984 ≡ length c → is_found (c ++ x ∷ []) p ≡ false)
     → (p : ℕ) → is_found (c ++ x ∷ []) p ≡ false
-none-more seen alone c x h quiet p = elim (cases_lt (p + 1984) (length c)) [
-  | inl lt ↦ found-append c (x ∷ []) p lt ∙ h.none p
-  | inr ge ↦ elim (cases_eq (p + 1984) (length c)) [
-    | inl e ↦ quiet p e
-    | inr ne ↦ few-none (c ++ x ∷ []) p (let l = length_push c x in omega arith)
-  ]
-]
+none-more seen alone c x h quiet p = search (rules, cases_lt, found-append, cases_eq, few-none, length_push)
 
 -- one octet more, too few for three
 pub searching-few : (seen alone : ℕ) (c : List ℕ) (x : ℕ) → IsSearching seen alone c → seen < 1488
     → IsSearching (seen + 1) 0 (c ++ x ∷ [])
-searching-few seen alone c x h few =
-    let l = length_push c x in
-    let n = h.counted in
-    record {
-      counted = omega arith;
-      none = λ p. few-none (c ++ x ∷ []) p (omega arith);
-      most = omega arith;
-      others = λ s lt le. absurd (omega arith);
-      last = λ lt. inl (omega arith);
-    }
+searching-few seen alone c x h few = search (rules, length_push, few-none)
 
 -- one behind three, which are not the last of four
 pub searching-whole : (seen alone : ℕ) (c : List ℕ) (x : ℕ) → IsSearching seen alone c → 1488 ≤ seen
@@ -74,9 +51,7 @@ searching-whole seen alone c x h enough whole few =
       ]);
       most = omega arith;
       others = λ s lt le. absurd (omega arith);
-      last = λ lt. inr (
-          let at : length (c ++ x ∷ []) - 0 - 1489 ≡ length c - 1488 = omega arith in
-          ap (is_whole (c ++ x ∷ [])) at ∙ whole);
+      last = λ lt. inr (grind (arith, common_steps));
     }
 
 -- and one that is not
@@ -84,28 +59,7 @@ pub searching-other : (seen alone : ℕ) (c : List ℕ) (x : ℕ) → IsSearchin
     → is_whole (c ++ x ∷ []) (length c - 1488) ≡ false
     → IsSearching (min seen 1983 + 1) (min alone 494 + 1) (c ++ x ∷ [])
 searching-other seen alone c x h enough other =
-    let l = length_push c x in
-    let n = h.counted in
-    record {
-      counted = omega arith;
-      none = none-more seen alone c x h (λ p e.
-          let at : p + 496 ≡ length c - 1488 = omega arith in
-          not-found (c ++ x ∷ []) p (ap (is_whole (c ++ x ∷ [])) at ∙ other));
-      most = omega arith;
-      others = λ s lt le. elim (cases_lt (s + 1488) (length c)) [
-        | inl less ↦ whole-append c (x ∷ []) s less ∙ h.others s less (omega arith)
-        | inr ge ↦
-            let at : s ≡ length c - 1488 = omega arith in
-            ap (is_whole (c ++ x ∷ [])) at ∙ other
-      ];
-      last = λ lt. elim (h.last (omega arith)) [
-        | inl le ↦ inl (omega arith)
-        | inr w ↦ inr (
-            let at : length (c ++ x ∷ []) - (min alone 494 + 1) - 1489 ≡ length c - alone - 1489 = omega arith in
-            ap (is_whole (c ++ x ∷ [])) at
-            ∙ whole-append c (x ∷ []) (length c - alone - 1489) (whole-parts c (length c - alone - 1489) w).0 ∙ w)
-      ];
-    }
+    search (rules, length_push, none-more, not-found, cases_lt, whole-append, whole-parts)
 
 -- slot 16 is found by the octet
 pub searching-found : (seen alone : ℕ) (c : List ℕ) (x : ℕ) → IsSearching seen alone c

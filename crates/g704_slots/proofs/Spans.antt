@@ -47,9 +47,7 @@ found-at sk al t age wrong zero h none =
 loss-at : (sk d : List ℕ) (o : Option ℕ) → IsLeast (is_second_in_error d) (length d) o
     → loss slot_16 (sk ++ d) (length sk) ≡ option_map (λ age. length sk + age) o
 unfolding loss
-loss-at sk d o h =
-    rw (drop_at sk d (length sk) refl)
-    (ap (option_map (λ age. length sk + age)) (least_equals (is_second_in_error d) (length d) o h))
+loss-at sk d o h = cc (drop_at sk d (length sk) refl, least_equals (is_second_in_error d) (length d) o h)
 
 -- a present alignment is the only one
 pub one-stands : (b : Option ℕ) (sk al : List ℕ) (age : ℕ) (wrong zero : Bool) → IsAlignedRun age wrong zero al
@@ -105,6 +103,4 @@ over-lost b sk al x age wrong zero h none second = record {
 pub age-present : (first start position : ℕ) (alignments : List AlignmentSpan)
     → alignments ≡ record { start = start; lost = None } ∷ [] → start + first ≤ position
     → age_in first alignments position ≡ Some (position - start)
-age-present a s n ds e h =
-    let standing : nat_le (s + a) n ≡ true = le-leb (s + a) n h in
-    rw (e, standing) refl
+age-present a s n ds e h = cc (le-leb (s + a) n h)

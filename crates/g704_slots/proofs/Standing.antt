@@ -1,13 +1,14 @@
 -- A mover with a history, one octet more.
-use Rattle.std.proofs.Common.{◌≡◌, ◌⊎◌, ℕ, ◌+◌, ◌-◌, ◌<◌, ◌≤◌, ◌%◌, min, List, [], ◌∷◌, ◌++◌, length, Bool, true, false}
-use Rattle.std.proofs.Common.{None, Some, refl, sym, ap, ◌∙◌, arith, append_assoc, subst, inl, inr}
+use Rattle.std.proofs.Common.{rules, ◌≡◌, ◌⊎◌, ℕ, ◌+◌, ◌-◌, ◌<◌, ◌≤◌, ◌%◌, min, List, [], ◌∷◌, ◌++◌, length, Bool, true}
+use Rattle.std.proofs.Common.{false, None, Some, refl, sym, ap, ◌∙◌, arith, append_assoc, subst, inl, inr}
+use Rattle.std.proofs.lemmas.Grind.{common_steps}
 use Rattle.std.specs.Prelude.{◌&&◌, nat_le, slice_index, slice_set, suc, option_map}
 use Rattle.std.proofs.lemmas.Bool.{and_cases, leb-false}
 use Rattle.std.proofs.lemmas.List.{length-append, length_push, append-nil, length-set}
 use Rattle.g704_framing.specs.Alignment.{alignments_from}
 use Rattle.g704_framing.specs.Age.{age_in}
 use Rattle.g704_framing.specs.Restart.{RestartsAfter, last_of}
-use Rattle.g704_framing.proofs.Standings.{since-nothing, since-more, since-anew}
+use Rattle.g704_framing.proofs.Standings.{since-nothing, since-anew}
 use Rattle.g704_framing.proofs.Ages.{age-over, age-at_over}
 use Rattle.g704_slots.specs.declared.mover.SlotMover.{SlotMover}
 use Rattle.g704_slots.specs.declared.mover.SearchState.{SearchState}
@@ -15,8 +16,8 @@ use Rattle.g704_slots.specs.declared.mover.SearchState.TheVariants.{Searching, A
 use Rattle.g704_slots.specs.Search.{is_whole, is_found}
 use Rattle.g704_slots.specs.Loss.{slot_16}
 use Rattle.g704_slots.specs.Shown.{age, delay, late_after, shown_at, silence, slots_reply}
-use Rattle.g704_slots.specs.Mover.{IsSearching, IsAlignedRun, IsFollowed, Describes, FollowsAlignment}
-use Rattle.g704_slots.specs.Mover.{Stands, HasHistory}
+use Rattle.g704_slots.specs.Mover.{IsSearching, IsAlignedRun, IsFollowed, Describes, FollowsAlignment, Stands}
+use Rattle.g704_slots.specs.Mover.{HasHistory}
 use Rattle.g704_slots.proofs.Wholes.{whole-behind, found-within, found-append}
 use Rattle.g704_slots.proofs.Memories.{kept-octet}
 use Rattle.g704_slots.proofs.Steps.{followed-passed}
@@ -34,19 +35,13 @@ stands-more : (phase after : SearchState) (pass next first : ℕ) (history : Lis
     → (s : Stands phase pass first history)
     → Describes after next first (length (history ++ octet ∷ [])) (s.since ++ octet ∷ [])
     → Stands after next first (history ++ octet ∷ [])
-stands-more phase after pass next first history x s d =
-    since-more slot_16 (λ before octets. Describes after next first (length (history ++ x ∷ [])) octets)
-    history s.earlier s.since x s.whole s.over d
+stands-more phase after pass next first history x s d = grind (arith, common_steps)
 
 -- what comes behind an alignment finds nothing before it
 none-longer : (sk al : List ℕ) (x age : ℕ) (wrong zero : Bool) → IsAlignedRun age wrong zero al
     → ((k : ℕ) → k < length sk → is_found (sk ++ al) k ≡ false)
     → (k : ℕ) → k < length sk → is_found (sk ++ (al ++ x ∷ [])) k ≡ false
-none-longer sk al x age wrong zero h none k lt =
-    let n = found-within al 0 h.found in
-    let l = length-append sk al in
-    ap (λ s. is_found s k) (sym (append_assoc sk al (x ∷ [])))
-    ∙ found-append (sk ++ al) (x ∷ []) k (omega arith) ∙ none k lt
+none-longer sk al x age wrong zero h none k lt = search (rules, found-within, length-append, append_assoc, found-append)
 
 -- an alignment goes on, or is lost
 pub stands-aligned : (frame pass next : ℕ) (wrong zero : Bool) (late first : ℕ) (history : List ℕ) (x : ℕ)
@@ -153,10 +148,7 @@ module _ (seen alone pass first : ℕ) (history : List ℕ) (x : ℕ) (s : Stand
 
     -- enough for three multiframes
     pub searched-long : 1488 ≤ seen → 1488 ≤ length history
-    searched-long enough =
-        let n = s.fields.1.counted in
-        let l = all-since in
-        omega arith
+    searched-long enough = grind (arith, all-since)
 
     -- how many came since the last restart
     enough-since : 1488 ≤ seen → 1488 ≤ length s.since
@@ -204,7 +196,6 @@ module _ (seen alone pass first : ℕ) (history : List ℕ) (x : ℕ) (s : Stand
         let p = length_push history x in
         let f = searching-found seen alone s.since x s.fields.1 enough apart
         (sym (whole-since history s.earlier s.since x s.whole (enough-since long)) ∙ whole) in
-        let len = f.1 in
         let same : place % 31 ≡ (first + (length (history ++ x ∷ []) - length f.0.aligned)) % 31 = omega arith in
         stands-more (Searching seen alone) (Aligned 0 false true late) pass 30 first history x s
         (f.0, is ∙ ap (λ n. (46 - n) % 31) same)
@@ -214,9 +205,7 @@ pub shown-searched : (seen alone pass first idle place : ℕ) (before : List ℕ
     → Stands (Searching seen alone) pass first (before ++ octet ∷ []) → place ≡ (first + length before) % 31
     → slots_reply idle first before octet ≡ silence idle (place + 1)
 shown-searched seen alone pass first idle place before x s at =
-    ap (shown_at idle first (before ++ x ∷ []) (length before))
-    (age-searched seen alone pass first (before ++ x ∷ []) (length before) (sym (length_push before x)) s)
-    ∙ ap (λ p. silence idle (p + 1)) (sym at)
+    cc (age-searched seen alone pass first (before ++ x ∷ []) (length before) (sym (length_push before x)) s)
 
 -- and while slot 16 is followed
 pub shown-followed : (frame pass : ℕ) (wrong zero : Bool) (late first idle at : ℕ) (memory before : List ℕ) (octet : ℕ)
@@ -235,7 +224,6 @@ shown-followed frame pass wrong zero late first idle at memory before x s is kep
     let long = found-within a.aligned 0 a.fields.run.found in
     let from : first + (length c - length a.aligned) ≡ first + (length before - (length a.aligned - 1)) = omega arith in
     let d : late ≡ delay (first + (length before - (length a.aligned - 1))) = s.fields.1 ∙ ap delay from in
-    let low : late < 31 = omega arith in
     let i : (at + (2047 - late)) % 65536 % 2048 ≡ (length before - late) % 2048 = omega arith in
     ap (slice_index memory) i ∙ kept (length before - late) (omega arith) (omega arith)
     ∙ ap (λ n. slice_index c (length before - n)) d
@@ -253,16 +241,7 @@ pub history-more : (mover next : SlotMover) (first : ℕ) (history : List ℕ) (
       place = place;
     }) first (history ++ octet ∷ [])
 history-more mover next first history x index place h m a p since here after =
-    let l = length_push history x in
-    let at = h.at in
-    let old = h.place in
-    record {
-      since = since;
-      at = omega arith;
-      place = after (omega arith) ∙ omega arith;
-      room = length-set next.memory index x ∙ ap length m ∙ h.room;
-      kept = rw m (kept-octet mover.memory history x index h.room (here ∙ ap (λ n. n % 2048) a ∙ h.at) h.kept);
-    }
+    search (rules, length_push, length-set, kept-octet)
 
 -- Others are not delayed in a search.
 pub late-searched : (seen alone pass first : ℕ) (history : List ℕ) → Stands (Searching seen alone) pass first history
@@ -270,9 +249,7 @@ pub late-searched : (seen alone pass first : ℕ) (history : List ℕ) → Stand
 unfolding alignments_from
 late-searched seen alone pass first [] s = refl
 late-searched seen alone pass first (x ∷ history) s =
-    let n = length (x ∷ history) in
-    ap (option_map (λ (age : ℕ). delay (first + (n - suc age))))
-    (sym (age-searched seen alone pass first (x ∷ history) (n - 1) (omega arith) s))
+    cc (age-searched seen alone pass first (x ∷ history) ((length (x ∷ history)) - 1) (omega arith) s)
 
 -- While slot 16 is followed they are by what the phase has.
 pub late-followed : (frame pass : ℕ) (wrong zero : Bool) (late first : ℕ) (history : List ℕ)

@@ -1,6 +1,7 @@
 -- An alignment, one octet more.
-use Rattle.std.proofs.Common.{◌≡◌, ℕ, suc, ◌+◌, ◌-◌, ◌*◌, ◌<◌, ◌≤◌, ◌%◌, ◌/◌, List, [], ◌∷◌, ◌++◌, length, Bool}
-use Rattle.std.proofs.Common.{true, false, not, refl, sym, ap, ◌∙◌, arith, inl, inr}
+use Rattle.std.proofs.Common.{rules, ◌≡◌, ℕ, suc, ◌+◌, ◌-◌, ◌*◌, ◌<◌, ◌≤◌, ◌%◌, ◌/◌, List, [], ◌∷◌, ◌++◌, length, Bool}
+use Rattle.std.proofs.Common.{true, false, not, refl, sym, ap, ◌∙◌, arith}
+use Rattle.std.proofs.lemmas.Grind.{common_steps}
 use Rattle.std.specs.Prelude.{◌≢◌, ◌&&◌, ◌||◌, slice_index}
 use Rattle.std.proofs.lemmas.List.{length_push, get_or_push}
 use Rattle.std.proofs.lemmas.Bool.{cases_eq, cases_lt, ne_eqb, not-true, lt-ltb}
@@ -10,9 +11,8 @@ use Rattle.g704_slots.specs.Search.{is_right, is_found}
 use Rattle.g704_slots.specs.Loss.{slot_16, is_only_signal, is_wrong, is_second_in_error}
 use Rattle.g704_slots.specs.Mover.{IsAlignedRun, IsFollowed}
 use Rattle.g704_slots.proofs.Wholes.{one-some, whole-parts, found-parts, found-within, found-append}
-use Rattle.g704_slots.proofs.Losses.{is_only_signal-none, is_only_signal-more, is_only_signal-append}
-use Rattle.g704_slots.proofs.Losses.{is_wrong-other, is_wrong-at}
-use Rattle.g704_slots.proofs.Losses.{is_wrong-append, second-early, second-other}
+use Rattle.g704_slots.proofs.Losses.{is_only_signal-none, is_only_signal-more, is_only_signal-append, is_wrong-other}
+use Rattle.g704_slots.proofs.Losses.{is_wrong-at, is_wrong-append, second-early, second-other}
 use Rattle.g704_slots.proofs.Framing.{slot_16_is_framed}
 
 -- what is right in a frame that has the signal
@@ -52,31 +52,11 @@ module _ (c : List ℕ) (len : length c ≡ 1985) (found : is_found c 0 ≡ true
 
   -- nor is it lost
   found-kept : (k : ℕ) → k < 1985 → is_second_in_error c k ≡ false
-  found-kept k lt = elim (cases_eq (k % 496) 0) [
-    | inr ne ↦ second-other c k (is_wrong-other c k ne)
-    | inl e ↦ elim (cases_lt 496 k) [
-      | inr le ↦ second-early c k le
-      | inl gt ↦ second-other c k (not-wrong k gt lt e)
-    ]
-  ]
+  found-kept k lt = search (rules, cases_eq, second-other, is_wrong-other, cases_lt, second-early, not-wrong)
 
   -- they are an alignment
   pub alignment-found : IsFollowed 0 30 false true c
-  alignment-found = record {
-    in_multiframe = omega arith;
-    in_frame = omega arith;
-    run = record {
-      found = found;
-      counted = rw len refl;
-      kept = λ k lt. found-kept k (omega arith);
-      last = λ s lt le e.
-          let here : s ≡ 1984 = omega arith in
-          let none : (length c - s - 1) / 31 ≡ 0 = omega arith in (
-            sym (not-wrong s (omega arith) (omega arith) e),
-            rw none (sym (is_only_signal-none c s)),
-          );
-    };
-  }
+  alignment-found = search (rules, found-kept, not-wrong, is_only_signal-none)
 
 -- an alignment after one octet more
 module _ (c : List ℕ) (x age : ℕ) (wrong zero : Bool) (h : IsAlignedRun age wrong zero c) where
@@ -92,25 +72,17 @@ module _ (c : List ℕ) (x age : ℕ) (wrong zero : Bool) (h : IsAlignedRun age 
     found = found-append c (x ∷ []) 0 n ∙ h.found;
     counted = omega arith;
     kept = kept-more slot_16 slot_16_is_framed c x h.kept now;
-    last = λ s lt le e.
-        let same : (length (c ++ x ∷ []) - s - 1) / 31 ≡ (length c - s) / 31 = omega arith in
-        rw same (l s (omega arith) (omega arith) e);
+    last = grind (arith, common_steps);
   }
 
   -- the last signal is the one before, with the octets of slot 16 since
   before : (s : ℕ) → s < length c → length c + 1 ≤ s + 496 → s % 496 ≡ 0
       → (wrong ≡ is_wrong (c ++ x ∷ []) s) × (zero ≡ is_only_signal (c ++ x ∷ []) s ((length c - s - 1) / 31))
-  before s lt le e =
-      let n = long in
-      let l = h.last s lt (omega arith) e in (
-        l.0 ∙ sym (is_wrong-append c (x ∷ []) s (omega arith) lt),
-        l.1 ∙ sym (is_only_signal-append c (x ∷ []) s ((length c - s - 1) / 31) (omega arith)),
-      )
+  before s lt le e = search (rules, long, is_wrong-append, is_only_signal-append)
 
   -- the octet is not in slot 16
   other-more : age % 31 ≢ 0 → IsAlignedRun ((age + 1) % 496) wrong zero (c ++ x ∷ [])
   other-more ne =
-      let a = h.counted in
       let apart : length c % 31 ≢ 0 = λ e. ne (omega (arith, e)) in
       let between : length c % 496 ≢ 0 = λ e. apart (omega (arith, e)) in
       more wrong zero (second-other (c ++ x ∷ []) (length c) (is_wrong-other (c ++ x ∷ []) (length c) between))
@@ -123,8 +95,6 @@ module _ (c : List ℕ) (x age : ℕ) (wrong zero : Bool) (h : IsAlignedRun age 
   -- it is there, and between two signals
   slot-more : age ≢ 0 → age % 31 ≡ 0 → IsAlignedRun ((age + 1) % 496) wrong (zero && is_mfas x) (c ++ x ∷ [])
   slot-more ne z =
-      let a = h.counted in
-      let whole : length c % 31 ≡ 0 = omega arith in
       let between : length c % 496 ≢ 0 = λ e. ne (omega (arith, e)) in
       more wrong (zero && is_mfas x)
       (second-other (c ++ x ∷ []) (length c) (is_wrong-other (c ++ x ∷ []) (length c) between))
@@ -141,7 +111,6 @@ module _ (c : List ℕ) (x age : ℕ) (wrong zero : Bool) (h : IsAlignedRun age 
   -- whether a signal is in error
   pub errored-is : age ≡ 0 → is_wrong (c ++ x ∷ []) (length c) ≡ (not (is_mfas x) || zero)
   errored-is z =
-      let a = h.counted in
       let n = long in
       let e : length c % 496 ≡ 0 = omega arith in
       let l = h.last (length c - 496) (omega arith) (omega arith) (omega arith) in
@@ -156,22 +125,12 @@ module _ (c : List ℕ) (x age : ℕ) (wrong zero : Bool) (h : IsAlignedRun age 
 
   -- and is the second
   second-now : age ≡ 0 → is_second_in_error (c ++ x ∷ []) (length c) ≡ ((not (is_mfas x) || zero) && wrong)
-  second-now z =
-      let a = h.counted in
-      let n = long in
-      let l = h.last (length c - 496) (omega arith) (omega arith) (omega arith) in
-      rw (
-        lt-ltb 496 (length c) (omega arith),
-        errored-is z,
-        is_wrong-append c (x ∷ []) (length c - 496) (omega arith) (omega arith),
-        ← l.0,
-      ) refl
+  second-now z = search (rules, long, lt-ltb, errored-is, is_wrong-append)
 
   -- the octet is a signal, by which it is not lost
   signal-more : (errored : Bool) → age ≡ 0 → errored ≡ (not (is_mfas x) || zero) → (errored && wrong) ≡ false
       → IsAlignedRun ((age + 1) % 496) errored true (c ++ x ∷ [])
   signal-more errored z is passed =
-      let a = h.counted in
       more errored true (second-now z ∙ ap (λ b. b && wrong) (sym is) ∙ passed)
       (λ s lt le e.
       let here : s ≡ length c = omega arith in
@@ -191,7 +150,6 @@ module _ (c : List ℕ) (x frame pass : ℕ) (wrong zero : Bool) (h : IsFollowed
   pub followed-passed : 0 < pass → IsFollowed frame (pass - 1) wrong zero (c ++ x ∷ [])
   followed-passed some =
       let f = h.in_multiframe in
-      let p = h.in_frame in
       let age = (31 * frame + (31 - pass)) % 496 in
       let apart : age % 31 ≢ 0 = λ e. (omega (arith, e)) in
       let next : (31 * frame + (31 - (pass - 1))) % 496 ≡ (age + 1) % 496 = omega arith in
@@ -218,7 +176,6 @@ module _ (c : List ℕ) (x frame pass : ℕ) (wrong zero : Bool) (h : IsFollowed
   pub followed-signal : (errored : Bool) → pass ≡ 0 → 15 ≤ frame → errored ≡ (not (is_mfas x) || zero)
       → (errored && wrong) ≡ false → IsFollowed 0 30 errored true (c ++ x ∷ [])
   followed-signal errored none last is passed =
-      let f = h.in_multiframe in
       let age = (31 * frame + (31 - pass)) % 496 in
       let start : age ≡ 0 = omega arith in
       let next : (31 * 0 + (31 - 30)) % 496 ≡ (age + 1) % 496 = omega arith in
@@ -231,8 +188,4 @@ module _ (c : List ℕ) (x frame pass : ℕ) (wrong zero : Bool) (h : IsFollowed
   -- or it is
   pub followed-lost : (errored : Bool) → pass ≡ 0 → 15 ≤ frame → errored ≡ (not (is_mfas x) || zero)
       → errored ≡ true → wrong ≡ true → is_second_in_error (c ++ x ∷ []) (length c) ≡ true
-  followed-lost errored none last is e w =
-      let f = h.in_multiframe in
-      let age = (31 * frame + (31 - pass)) % 496 in
-      let start : age ≡ 0 = omega arith in
-      signal-lost c x age wrong zero h.run errored start is e w
+  followed-lost errored none last is e w = search (rules, signal-lost)

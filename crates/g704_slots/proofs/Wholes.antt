@@ -1,5 +1,5 @@
 -- Three multiframes and four, in octets with others before or behind them.
-use Rattle.std.proofs.Common.{◌≡◌, ℕ, suc, ◌+◌, ◌*◌, ◌<◌, List, [], ◌∷◌, ◌++◌, length, Bool, true, false, not}
+use Rattle.std.proofs.Common.{rules, ◌≡◌, ℕ, suc, ◌+◌, ◌*◌, ◌<◌, List, [], ◌∷◌, ◌++◌, length, Bool, true, false, not}
 use Rattle.std.proofs.Common.{Option, Some, None, refl, sym, ap, ◌∙◌, arith}
 use Rattle.std.specs.Prelude.{◌&&◌, is_none, nat_lt, slice_index}
 use Rattle.std.proofs.lemmas.Bool.{and_parts, and_from, false≢true, not-false, not_from_true, ltb-true, lt-ltb}
@@ -63,9 +63,7 @@ pub parts-whole : (octets : List ℕ) (start : ℕ) → start + 1488 < length oc
     → ((frame : ℕ) → frame < 49 → is_right frame (slice_index octets (start + 31 * frame)) ≡ true)
     → is_whole octets start ≡ true
 unfolding is_whole
-parts-whole s k lt h =
-    and_from (nat_lt (k + 1488) (length s)) _ (lt-ltb (k + 1488) (length s) lt)
-    (each-none _ 49 (λ f less. not_from_true _ (h f less)))
+parts-whole s k lt h = search (rules, and_from, lt-ltb, each-none, not_from_true)
 
 -- one octet of slot 16 that is not right is enough
 pub not-whole : (octets : List ℕ) (start frame : ℕ) → frame < 49
@@ -82,11 +80,7 @@ not-whole s k f lt e =
 pub whole-append : (octets rest : List ℕ) (start : ℕ) → start + 1488 < length octets
     → is_whole (octets ++ rest) start ≡ is_whole octets start
 unfolding is_whole
-whole-append s t k lt =
-    let more : k + 1488 < length (s ++ t) = (let l = length-append s t in omega arith) in
-    both-same _ _ _ _ (lt-ltb (k + 1488) (length (s ++ t)) more ∙ sym (lt-ltb (k + 1488) (length s) lt))
-    (ap is_none (least-same _ _ 49 (λ f less. ap (λ o. not (is_right f o))
-    (get_or_append_left s t 0 (k + 31 * f) (omega arith)))))
+whole-append s t k lt = search (rules, length-append, both-same, lt-ltb, least-same, get_or_append_left)
 
 -- nor do others before
 pub whole-behind : (before octets : List ℕ) (start : ℕ)
@@ -134,19 +128,13 @@ not-alone s k j lt e =
 
 -- how many octets four have
 pub found-within : (octets : List ℕ) (start : ℕ) → is_found octets start ≡ true → start + 1984 < length octets
-found-within s k e =
-    let both = found-parts s k e in
-    let long = whole-parts s (k + 496) both.0 in
-    let enough = long.0 in
-    omega arith
+found-within s k e = grind (arith, (whole-parts s (k + 496) (found-parts s k e).0).0)
 
 -- later octets change nothing
 pub found-append : (octets rest : List ℕ) (start : ℕ) → start + 1984 < length octets
     → is_found (octets ++ rest) start ≡ is_found octets start
 unfolding is_found
-found-append s t k lt =
-    both-same _ _ _ _ (whole-append s t (k + 496) (omega arith))
-    (ap is_none (least-same _ _ 495 (λ j less. whole-append s t (k + 1 + j) (omega arith))))
+found-append s t k lt = search (rules, both-same, whole-append, least-same)
 
 -- nor do others before
 pub found-behind : (before octets : List ℕ) (start : ℕ)
@@ -166,6 +154,4 @@ found-behind s t k =
 -- nor does the number of the first octet
 pub found-later : (octet : ℕ) (octets : List ℕ) (start : ℕ)
     → is_found (octet ∷ octets) (suc start) ≡ is_found octets start
-found-later x s k =
-    let one : suc k ≡ length (x ∷ []) + k = omega arith in
-    ap (is_found (x ∷ s)) one ∙ found-behind (x ∷ []) s k
+found-later x s k = grind (arith, found-behind (x ∷ []) s k)

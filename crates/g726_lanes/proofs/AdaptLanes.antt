@@ -1,9 +1,9 @@
 -- The blocks of the adaptation in one lane.
-use Rattle.g726_lanes.proofs.Common.{◌≡◌, ◌<◌, ◌≤◌, ℕ, zero, suc, ◌+◌, ◌-◌, ◌*◌, ◌/◌, ◌%◌, ◌^◌, min, max, cond, not}
-use Rattle.g726_lanes.proofs.Common.{◌&&◌, ◌∙◌, ap, sym, pos, negsuc, neg_ℤ, ◌+ℤ◌, ◌-ℤ◌, ◌*ℤ◌, ◌≤ℤ◌, Bool, true, false}
-use Rattle.g726_lanes.proofs.Common.{to_z, w16, arith, refl, nat_le, nat_lt, ltb, inl, inr, unsigned_abs, bit_and}
-use Rattle.g726_lanes.proofs.Common.{int_shr, int_lt, ◌==◌, and_mask, ints, clamps, cases_lt, nat_tests, shr_z}
-use Rattle.g726_lanes.proofs.Common.{shr_bounds, least, at_least}
+use Rattle.g726_lanes.proofs.Common.{◌≡◌, ◌<◌, ◌≤◌, ℕ, suc, ◌+◌, ◌-◌, ◌*◌, ◌/◌, ◌%◌, ◌^◌, min, max, cond, not, rules}
+use Rattle.g726_lanes.proofs.Common.{common_steps, ◌&&◌, ◌∙◌, ap, sym, pos, negsuc, ◌+ℤ◌, ◌-ℤ◌, ◌*ℤ◌, ◌≤ℤ◌, Bool, true}
+use Rattle.g726_lanes.proofs.Common.{false, to_z, w16, arith, refl, nat_le, nat_lt, ltb, inl, inr, unsigned_abs}
+use Rattle.g726_lanes.proofs.Common.{bit_and, ◌==◌, and_mask, ints, clamps, cases_lt, nat_tests, shr_z, shr_bounds}
+use Rattle.g726_lanes.proofs.Common.{least, at_least}
 use Rattle.std.proofs.Math.Nat.{mul-le-mul}
 use Rattle.std.proofs.Math.Pow.{pow_mono}
 use Rattle.g726_tone.specs.Adaptation.{limb, filtd, filte, filtb, filtc, subtc, mix, lima, dqthr, thr2}
@@ -17,9 +17,7 @@ lane_short fi dms = ((dms + (65536 - (dms + 31) % 65536 / 32)) % 65536 + fi * 16
 -- it is FILTA of the numbers, and stays in the range of DMS
 pub short_is : (fi dms : ℕ) → fi ≤ 7 → dms ≤ 3584
     → (pos (lane_short fi dms) ≡ pos dms +ℤ shr_z (pos fi *ℤ pos 512 -ℤ pos dms) 32) × (lane_short fi dms ≤ 3584)
-short_is fi dms few low =
-    let b = shr_bounds (pos fi *ℤ pos 512 -ℤ pos dms) 32 (omega arith) in
-    (omega (arith, ints, b.0, b.1), omega arith)
+short_is fi dms few low = grind (arith, common_steps)
 
 -- FILTB
 abbrev pub lane_long : ℕ → ℕ → ℕ
@@ -28,9 +26,7 @@ lane_long fi dml = ((dml + (65536 - (dml + 127) % 65536 / 128)) % 65536 + fi * 1
 -- it is FILTB of the numbers, and stays in the range of DML
 pub long_is : (fi dml : ℕ) → fi ≤ 7 → dml ≤ 14336
     → (pos (lane_long fi dml) ≡ filtb (pos fi) (pos dml)) × (lane_long fi dml ≤ 14336)
-long_is fi dml few low =
-    let b = shr_bounds (pos fi *ℤ pos 2048 -ℤ pos dml) 128 (omega arith) in
-    (omega (arith, ints, b.0, b.1), omega arith)
+long_is fi dml few low = grind (arith, common_steps)
 
 -- FILTD and LIMB
 abbrev pub lane_fast : ℕ → ℕ → ℕ
@@ -71,20 +67,7 @@ pub record IsSlow (yu whole fraction : ℕ) : Type 0 where
 -- these are FILTE of the numbers, and stay in the range of YL
 pub slow_is : (yu whole fraction : ℕ) → 544 ≤ yu → yu ≤ 5120 → 544 ≤ whole → 64 * whole + fraction ≤ 327680
     → fraction < 64 → IsSlow yu whole fraction
-slow_is yu whole fraction yu_low yu_high low high few =
-    let some : least fraction 1 ≡ min fraction 1 = least_is fraction 1 in
-    let masked : lane_fraction yu whole fraction ≡ lane_moved yu whole fraction % 64 =
-    and_mask (lane_moved yu whole fraction) 6 in
-    let moved : lane_moved yu whole fraction + whole + min fraction 1 ≡ fraction + yu + 8192 = rw some (omega
-    arith) in
-    let b = shr_bounds (neg_ℤ (pos (64 * whole + fraction))) 64 (omega arith) in
-    record {
-      value = omega (arith, ints, masked, moved, b.0, b.1);
-      low = omega (arith, moved);
-      high = omega (arith, masked, moved);
-      few = omega (arith, masked);
-      whole_high = omega (arith, moved);
-    }
+slow_is yu whole fraction yu_low yu_high low high few = grind (arith, common_steps)
 
 -- SUBTC
 abbrev pub lane_rises : ℕ → ℕ → ℕ → ℕ → ℕ
@@ -96,26 +79,12 @@ lane_rises y dms dml tone =
 -- AX by the two tests and the tone flag
 by_tests : (steady near : Bool) (tone : ℕ)
     → nat_lt 0 (chosen steady (chosen (not near) 1 tone) 1) ≡ not ((steady && near) && not (nat_lt 0 tone))
-by_tests true true zero = refl
-by_tests true true (suc n) = let t : nat_lt 0 (suc n) ≡ true = grind (arith, nat_tests) in rw t refl
-by_tests true false tone = refl
-by_tests false near tone = refl
+by_tests steady near tone = search rules
 
 -- it is SUBTC of the numbers
 pub rises_is : (y dms dml tone : ℕ) → dms ≤ 3584 → dml ≤ 14336
     → nat_lt 0 (lane_rises y dms dml tone) ≡ subtc (pos y) (pos dms) (pos dml) (nat_lt 0 tone)
-rises_is y dms dml tone short_low long_low =
-    let short : dms * 4 % 65536 ≡ 4 * dms = omega arith in
-    let near = int_lt (pos (unsigned_abs (pos 4 *ℤ pos dms -ℤ pos dml))) (int_shr (pos dml) 3) in
-    let way : (at_least dml (4 * dms) + (65536 - least (4 * dms) dml)) % 65536 ≡ unsigned_abs (pos 4 *ℤ pos dms
-    -ℤ pos dml) =
-    rw (most_is dml (4 * dms), least_is (4 * dms) dml) (grind (arith, ints)) in
-    let far : nat_le (dml / 8) (unsigned_abs (pos 4 *ℤ pos dms -ℤ pos dml)) ≡ not near = grind (
-      arith,
-      ints,
-      nat_tests,
-    ) in
-    rw (short, way, far) (by_tests (nat_le 1536 y) near tone)
+rises_is y dms dml tone short_low long_low = search (rules, most_is, least_is, by_tests)
 
 -- FILTC and TRIGA
 abbrev pub lane_speed : ℕ → ℕ → ℕ → ℕ
@@ -126,17 +95,7 @@ lane_speed ax tr ap =
 pub speed_is : (ax tr ap : ℕ) → ap ≤ 512
     → (pos (lane_speed ax tr ap) ≡ cond (nat_lt 0 tr) (pos 256) (filtc (nat_lt 0 ax) (pos ap))) × (lane_speed ax
     tr ap ≤ 512)
-speed_is zero zero ap few =
-    let b = shr_bounds (pos 0 -ℤ pos ap) 16 (omega arith) in (omega (arith, ints, b.0, b.1), omega arith)
-speed_is (suc n) zero ap few =
-    let b = shr_bounds (pos 512 -ℤ pos ap) 16 (omega arith) in
-    let some : (suc n == 0) ≡ false = grind (arith, nat_tests) in
-    let set : nat_lt 0 (suc n) ≡ true = grind (arith, nat_tests) in
-    rw (some, set) (omega (arith, ints, b.0, b.1), omega arith)
-speed_is ax (suc n) ap few =
-    let some : (suc n == 0) ≡ false = grind (arith, nat_tests) in
-    let set : nat_lt 0 (suc n) ≡ true = grind (arith, nat_tests) in
-    rw (some, set) (refl, omega arith)
+speed_is ax tr ap few = search rules
 
 -- MIX
 abbrev pub lane_part : ℕ → ℕ → ℕ
@@ -161,11 +120,7 @@ part_is distance al few small =
 
 -- LIMA of a natural number
 lima_is : (ap : ℕ) → lima (pos ap) ≡ pos (least (ap / 4) 64)
-lima_is ap =
-    rw (least_is (ap / 4) 64) (elim (cases_lt ap 256) [
-      | inl low ↦ let t : nat_le 256 ap ≡ false = grind (arith, nat_tests) in rw t (omega (arith, ints))
-      | inr high ↦ let t : nat_le 256 ap ≡ true = grind (arith, nat_tests) in rw t (omega (arith, ints))
-    ])
+lima_is ap = grind (arith, least_is (ap / 4) 64, cases_lt)
 
 -- the lane is MIX of the numbers, for any YL with that whole part, within 544 to 5120
 pub mixed_is : (yu whole ap : ℕ) → 544 ≤ yu → yu ≤ 5120 → 544 ≤ whole → whole ≤ 5120 → (yl : ℕ) → yl / 64 ≡ whole
@@ -246,20 +201,8 @@ y_within yu whole ap yu_low yu_high low high =
 pub passes_is : (td threshold magnitude : ℕ)
     → nat_lt 0 (chosen (td == 0) 0 (chosen (nat_lt threshold magnitude) 1 0)) ≡ (nat_lt 0 td && nat_lt threshold
     magnitude)
-passes_is zero threshold magnitude = refl
-passes_is (suc n) threshold magnitude =
-    let some : (suc n == 0) ≡ false = grind (arith, nat_tests) in
-    let set : nat_lt 0 (suc n) ≡ true = grind (arith, nat_tests) in
-    rw (some, set) (flag_is (nat_lt threshold magnitude))
-  where
-    flag_is : (b : Bool) → nat_lt 0 (chosen b 1 0) ≡ b
-    flag_is true = refl
-    flag_is false = refl
+passes_is td threshold magnitude = search rules
 
 -- TRIGA: TD
 pub unset_is : (tr tone : ℕ) → nat_lt 0 (chosen (tr == 0) tone 0) ≡ cond (nat_lt 0 tr) false (nat_lt 0 tone)
-unset_is zero tone = refl
-unset_is (suc n) tone =
-    let some : (suc n == 0) ≡ false = grind (arith, nat_tests) in
-    let set : nat_lt 0 (suc n) ≡ true = grind (arith, nat_tests) in
-    rw (some, set) refl
+unset_is tr tone = search rules

@@ -6,8 +6,7 @@ unfoldable pub use Rattle.g726_codec.specs.Codec.{after_octets, after_words, dec
 pub use Rattle.g726_lanes.specs.Lanes.{EachLane, is_set, lane, lanes, minus, number, row_at}
 pub use Rattle.g726_lanes.specs.States.{adaptation, predictor, variables}
 pub use Rattle.g726_lanes.specs.declared.adaptations.Adaptations.TheInside.{Inside}
-pub use Rattle.g726_predict.proofs.LaneProducts.{at_least, at_least_above, at_least_below, fmult_fits, least}
-pub use Rattle.g726_predict.proofs.LaneProducts.{mantissa_below}
+pub use Rattle.g726_predict.proofs.LaneProducts.{at_least, fmult_fits, least, mantissa_below}
 pub use Rattle.g726_predict.proofs.Lanes.{all_lanes, each_of_eight, eight}
 pub use Rattle.g726_predict.specs.Coefficients.{held_within, is_zero, leaked, updated_a1, updated_a2, updated_b}
 unfoldable pub use Rattle.g726_predict.specs.Coefficients.{upa1_change, upa2_change, upb_change}
@@ -22,7 +21,7 @@ pub use Rattle.g726_quant.specs.Arithmetic.{signed, wrap16}
 unfoldable pub use Rattle.g726_quant.specs.Arithmetic.{number_of_bits}
 pub use Rattle.g726_quant.specs.Blocks.{adda, quan_word, subtb, word_is_negative, word_magnitude}
 unfoldable pub use Rattle.g726_quant.specs.Blocks.{antilog, exponent, log}
-pub use Rattle.g726_quant.specs.Tables.{RateTables, is_in_range, is_within, magnitudes}
+pub use Rattle.g726_quant.specs.Tables.{RateTables, is_in_range, magnitudes}
 pub use Rattle.std.proofs.Common.{All, Bool, Fits, List, SFits, Some, [], ap, arith, below_more, bit_and, cond, drop}
 pub use Rattle.std.proofs.Common.{false, get_or, inl, inr, length, ltb, max, min, nat_le, nat_lt, neg_ℤ, negsuc, not}
 pub use Rattle.std.proofs.Common.{of_z, pos, refl, replicate, rules, slice_set, subst, suc, sym, take, to_z, true}
@@ -30,13 +29,13 @@ pub use Rattle.std.proofs.Common.{unsigned_abs, w16, w32, w8, zero, ℕ, ℤ, �
 pub use Rattle.std.proofs.Common.{◌-◌, ◌/◌, ◌<◌, ◌^◌, ◌||◌, ◌∙◌, ◌∷◌, ◌≡◌, ◌≢◌, ◌≤ℤ◌, ◌≤◌, ◌⊎◌}
 pub use Rattle.std.proofs.lemmas.Bool.{agree_below, agree_below_at, and_parts, cases_eq, cases_lt, eqb-true, ltb-true}
 pub use Rattle.std.proofs.lemmas.Bool.Decides.{nat_tests}
-pub use Rattle.std.proofs.lemmas.Int.{clamps, int_rem_euclid_is, int_wrap-add_left, int_wrap_fits, ints, to_z-of_z}
-pub use Rattle.std.proofs.lemmas.Int.{to_z_pos, wrapping_add_onto}
+pub use Rattle.std.proofs.lemmas.Grind.{common_steps}
+pub use Rattle.std.proofs.lemmas.Int.{clamps, int_wrap-add_left, ints, to_z-of_z, to_z_pos, wrapping_add_onto}
 pub use Rattle.std.proofs.lemmas.List.{length-set, length-take}
 pub use Rattle.std.proofs.lemmas.Nat.{and_mask, pow_pos}
 pub use Rattle.std.specs.Int.{cast_signed, from_bool, int_shr, is_negative}
 pub use Rattle.std.specs.Int.RustNames.{int_le, int_lt}
-pub use Rattle.std.specs.List.{count_by, list_all}
+pub use Rattle.std.specs.List.{count_by}
 pub use Rattle.std.specs.Prelude.{IsTrue, bit_xor, slice_index_or, ◌==◌}
 pub use Rattle.std.specs.Simd.Lanes.{Each1, top}
 pub use lib.Signed.{shr_z}

@@ -1,20 +1,12 @@
 -- What holds of each of eight lanes.
-use Rattle.g726_lanes.proofs.Common.{◌≡◌, ◌≢◌, ◌<◌, ℕ, zero, suc, [], ◌∷◌, refl, arith, subst, sym, inl, inr, cases_eq}
+use Rattle.g726_lanes.proofs.Common.{◌≡◌, ◌≢◌, ◌<◌, ℕ, [], ◌∷◌, refl, subst, sym, inl, inr, cases_eq, rules}
 use Rattle.g726_lanes.proofs.Common.{each_of_eight, lane, lanes}
 use Rattle.std.proofs.Common.{slice_index_or}
 
 -- what holds of the eight, one by one, holds of each
 pub each_lane : (P : ℕ → Type 0) → P 0 × (P 1 × (P 2 × (P 3 × (P 4 × (P 5 × (P 6 × (P 7 × Unit {0})))))))
     → (k : ℕ) → k < 8 → P k
-each_lane P all zero h = all.0
-each_lane P all (suc zero) h = all.1.0
-each_lane P all (suc (suc zero)) h = all.1.1.0
-each_lane P all (suc (suc (suc zero))) h = all.1.1.1.0
-each_lane P all (suc (suc (suc (suc zero)))) h = all.1.1.1.1.0
-each_lane P all (suc (suc (suc (suc (suc zero))))) h = all.1.1.1.1.1.0
-each_lane P all (suc (suc (suc (suc (suc (suc zero)))))) h = all.1.1.1.1.1.1.0
-each_lane P all (suc (suc (suc (suc (suc (suc (suc zero))))))) h = all.1.1.1.1.1.1.1.0
-each_lane P all (suc (suc (suc (suc (suc (suc (suc (suc k)))))))) h = absurd (omega arith)
+each_lane P all h2 h = search rules
 
 -- what holds of one lane and of each other holds of each
 pub with_others : (P : ℕ → Type 0) (k : ℕ) → P k → ((j : ℕ) → j < 8 → j ≢ k → P j) → (j : ℕ) → j < 8 → P j

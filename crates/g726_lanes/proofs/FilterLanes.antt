@@ -1,46 +1,21 @@
 -- ACCUM, UPB and TRIGB in one lane.
 use Rattle.g726_lanes.proofs.Common.{◌≡◌, ◌<◌, ◌≤◌, ℕ, zero, suc, ◌+◌, ◌-◌, ◌*◌, ◌/◌, ◌%◌, ◌^◌, cond, not, nat_le}
-use Rattle.g726_lanes.proofs.Common.{nat_lt, ℤ, pos, negsuc, ◌+ℤ◌, ◌-ℤ◌, Bool, true, false, to_z, w16, refl, arith, ◌∙◌}
-use Rattle.g726_lanes.proofs.Common.{sym, inl, inr, ◌⊎◌, ◌≤ℤ◌, neg_ℤ, bit_and, unsigned_abs, is_negative, int_lt}
-use Rattle.g726_lanes.proofs.Common.{and_mask, ◌==◌, ints, to_z_pos, cases_lt, nat_tests, shr_z, shr_bounds, least}
-use Rattle.g726_lanes.proofs.Common.{signs_differ, updated_b, upb_change, trigb}
+use Rattle.g726_lanes.proofs.Common.{rules, common_steps, nat_lt, ℤ, pos, negsuc, ◌+ℤ◌, ◌-ℤ◌, Bool, true, false, to_z}
+use Rattle.g726_lanes.proofs.Common.{w16, arith, inl, inr, ◌⊎◌, ◌≤ℤ◌, neg_ℤ, bit_and, unsigned_abs, is_negative, int_lt}
+use Rattle.g726_lanes.proofs.Common.{◌==◌, ints, cases_lt, nat_tests, shr_z, shr_bounds, least, signs_differ, updated_b}
+use Rattle.g726_lanes.proofs.Common.{upb_change, trigb}
 use Rattle.std.specs.Int.{int_wrap}
-use Rattle.g726_lanes.proofs.Numbers.{raised, raised_is, less_is, wrap_is, least_is, sign_is, high_is}
+use Rattle.g726_lanes.proofs.Numbers.{raised, raised_is, wrap_is}
 use Rattle.g726_lanes.proofs.PoleLanes.{chosen}
 
 -- half of a sum
 pub half_is : (n : ℕ) → n < 65536 → to_z w16 ((raised n / 2 + 49152) % 65536) ≡ shr_z (to_z w16 n) 2
-half_is n below =
-    let b = shr_bounds (to_z w16 n) 2 (omega arith) in
-    rw (less_is (raised n / 2) 16384 (omega arith) (omega arith) (omega arith) (omega arith))
-    (omega (arith, ints, raised_is n below, b.0, b.1))
+half_is n below = grind (arith, common_steps)
 
 -- whether the signs of a word and of DQ are the same
 signs_are : (word negative : ℕ) → word < 2048 → negative < 2
     → (word / 1024 == negative) ≡ not (signs_differ (nat_lt 0 negative) (nat_le 1024 word))
-signs_are word zero word_below few =
-    elim (cases_lt word 1024) [
-      | inl low ↦
-          let t : nat_le 1024 word ≡ false = grind (arith, nat_tests) in
-          let s : (word / 1024 == 0) ≡ true = grind (arith, nat_tests) in
-          rw (t, s) refl
-      | inr high ↦
-          let t : nat_le 1024 word ≡ true = grind (arith, nat_tests) in
-          let s : (word / 1024 == 0) ≡ false = grind (arith, nat_tests) in
-          rw (t, s) refl
-    ]
-signs_are word (suc zero) word_below few =
-    elim (cases_lt word 1024) [
-      | inl low ↦
-          let t : nat_le 1024 word ≡ false = grind (arith, nat_tests) in
-          let s : (word / 1024 == 1) ≡ false = grind (arith, nat_tests) in
-          rw (t, s) refl
-      | inr high ↦
-          let t : nat_le 1024 word ≡ true = grind (arith, nat_tests) in
-          let s : (word / 1024 == 1) ≡ true = grind (arith, nat_tests) in
-          rw (t, s) refl
-    ]
-signs_are word (suc (suc n)) word_below few = absurd (omega arith)
+signs_are word negative word_below few = search rules
 
 -- U, plus a bias
 abbrev unit_of : ℕ → ℕ
@@ -55,19 +30,7 @@ change_of : (differ : Bool) (bias magnitude : ℕ) → 64 ≤ bias → bias ≤ 
     ≡ cond (magnitude == 0) (pos 0) (cond differ (negsuc 127) (pos 128)) +ℤ pos bias)
     ⊎ (pos (lane_change (not differ) bias (unit_of magnitude))
     ≡ cond (magnitude == 0) (pos 0) (cond differ (negsuc 127) (pos 128)) +ℤ pos (bias + 65536))
-change_of true bias zero low high = inl (omega (arith, ints))
-change_of false bias zero low high = inl (omega (arith, ints))
-change_of true bias (suc m) low high =
-    let some : (suc m == 0) ≡ false = grind (arith, nat_tests) in
-    let one : least (suc m) 1 ≡ 1 = least_is (suc m) 1 ∙ omega arith in
-    elim (cases_lt bias 128) [
-      | inl less ↦ inr (rw (some, one) (omega (arith, ints)))
-      | inr more ↦ inl (rw (some, one) (omega (arith, ints)))
-    ]
-change_of false bias (suc m) low high =
-    let some : (suc m == 0) ≡ false = grind (arith, nat_tests) in
-    let one : least (suc m) 1 ≡ 1 = least_is (suc m) 1 ∙ omega arith in
-    inl (rw (some, one) (omega (arith, ints)))
+change_of differ bias magnitude low high = search rules
 
 -- B of a lane, by the part that leaks
 moved_is : (b part change bias : ℕ) (z u : ℤ) → b < 65536 → part < 512 → bias ≤ 128
@@ -76,13 +39,9 @@ moved_is : (b part change bias : ℕ) (z u : ℤ) → b < 65536 → part < 512 �
     → (leaked : ℤ) → leaked +ℤ pos part ≡ z +ℤ pos bias → part ≤ raised b → negsuc 127 ≤ℤ u → u ≤ℤ pos 128
     → to_z w16 (((b + (65536 - part)) % 65536 + change) % 65536) ≡ int_wrap w16 (leaked +ℤ u)
 moved_is b part change bias z u b_below few small up (inl e) leaked l le low high =
-    let same : ((b + (65536 - part)) % 65536 + change) % 65536 ≡ (raised b - part + change + 98304) % 65536 =
-    omega arith
-    in rw same (wrap_is (leaked +ℤ u) (raised b - part + change + 98304) (omega (arith, ints, up, e, l)))
+    grind (arith, wrap_is (leaked +ℤ u) (raised b - part + change + 98304) (omega (arith, ints, up, e, l)))
 moved_is b part change bias z u b_below few small up (inr e) leaked l le low high =
-    let same : ((b + (65536 - part)) % 65536 + change) % 65536 ≡ (raised b - part + change + 32768) % 65536 =
-    omega arith
-    in rw same (wrap_is (leaked +ℤ u) (raised b - part + change + 32768) (omega (arith, ints, up, e, l)))
+    grind (arith, wrap_is (leaked +ℤ u) (raised b - part + change + 32768) (omega (arith, ints, up, e, l)))
 
 -- U is within 128 of 0
 change_bounds : (zero differ : Bool) → (negsuc 127 ≤ℤ cond zero (pos 0) (cond differ (negsuc 127) (pos 128)))
@@ -130,10 +89,7 @@ pub b_is : (leak b word magnitude negative tr : ℕ) → 8 ≤ leak → leak ≤
     ≡ trigb (nat_lt 0 tr) (updated_b leak (to_z w16 b) magnitude (nat_lt 0 negative) (nat_le 1024 word))
 b_is leak b word magnitude negative zero low high b_below word_below few =
     kept_is leak b word magnitude negative low high b_below word_below few
-b_is leak b word magnitude negative (suc t) low high b_below word_below few =
-    let some : (suc t == 0) ≡ false = grind (arith, nat_tests) in
-    let set : nat_lt 0 (suc t) ≡ true = grind (arith, nat_tests) in
-    rw (some, set) refl
+b_is leak b word magnitude negative (suc t) low high b_below word_below few = grind (arith, common_steps)
 
 -- ADDC
 abbrev pub lane_p : ℕ → ℕ → ℕ → ℕ
@@ -159,33 +115,12 @@ p_is (suc n) magnitude zeros below zeros_below =
 
 -- TRIGB
 pub cleared_is : (tr n : ℕ) → to_z w16 (chosen (tr == 0) n 0) ≡ trigb (nat_lt 0 tr) (to_z w16 n)
-cleared_is zero n = refl
-cleared_is (suc t) n =
-    let some : (suc t == 0) ≡ false = grind (arith, nat_tests) in
-    let set : nat_lt 0 (suc t) ≡ true = grind (arith, nat_tests) in
-    rw (some, set) refl
+cleared_is tr n = search rules
 
 -- TONE
 pub tone_is : (n : ℕ) → n < 65536
     → nat_lt 0 (chosen (nat_lt (raised n) 20992) 1 0) ≡ int_lt (to_z w16 n) (negsuc 11775)
-tone_is n below =
-    let r = raised_is n below in
-    elim (cases_lt (raised n) 20992) [
-      | inl less ↦
-          let t : nat_lt (raised n) 20992 ≡ true = grind (arith, nat_tests) in
-          let low : to_z w16 n ≤ℤ negsuc 11776 = omega (arith, ints, r) in
-          rw t (sym (under (to_z w16 n) low))
-      | inr more ↦
-          let t : nat_lt (raised n) 20992 ≡ false = grind (arith, nat_tests) in
-          let high : negsuc 11775 ≤ℤ to_z w16 n = omega (arith, ints, r) in
-          rw t (sym (not_under (to_z w16 n) high))
-    ]
-  where
-    under : (z : ℤ) → z ≤ℤ negsuc 11776 → int_lt z (negsuc 11775) ≡ true
-    under z h = grind (arith, ints)
-
-    not_under : (z : ℤ) → negsuc 11775 ≤ℤ z → int_lt z (negsuc 11775) ≡ false
-    not_under z h = grind (arith, ints)
+tone_is n below = grind (arith, raised_is n below, cases_lt (raised n) 20992)
 
 -- FLOATB: the magnitude of SR
 abbrev pub lane_magnitude : ℕ → ℕ
@@ -194,22 +129,4 @@ lane_magnitude n = bit_and (chosen (n / 32768 == 0) n ((0 + (65536 - n)) % 65536
 -- the top bit and this magnitude are those of the number
 pub part_is : (n : ℕ) → n < 65536 → (nat_lt 0 (n / 32768) ≡ is_negative (to_z w16 n))
     × ((lane_magnitude n ≡ unsigned_abs (to_z w16 n) % 32768) × ((n / 32768 < 2) × (lane_magnitude n < 32768)))
-part_is n below =
-    let masked : lane_magnitude n ≡ chosen (n / 32768 == 0) n ((0 + (65536 - n)) % 65536) % 32768 =
-    and_mask (chosen (n / 32768 == 0) n ((0 + (65536 - n)) % 65536)) 15 in
-    let few : lane_magnitude n < 32768 = omega (arith, masked) in
-    let sign : nat_lt 0 (n / 32768) ≡ is_negative (to_z w16 n) =
-    rw (sign_is n below) (grind (arith, nat_tests)) in (
-      sign,
-      (
-        rw masked (elim (cases_lt n 32768) [
-          | inl low ↦
-              let z : n / 32768 ≡ 0 = omega arith in
-              rw (z, to_z_pos w16 n low) refl
-          | inr high ↦
-              let z : n / 32768 ≡ 1 = omega arith in
-              rw (z, high_is n high below) (omega arith)
-        ]),
-        (omega arith, few),
-      ),
-    )
+part_is n below = grind (arith, common_steps)

@@ -1,22 +1,12 @@
 -- Frames of eight circuits that are coded one after another, by the octets and words of one circuit.
-use Rattle.g726_lanes.proofs.Common.{◌≡◌, ◌≢◌, ◌<◌, ◌+◌, ◌++◌, ◌∷◌, ◌∙◌, ℕ, suc, List, [], length, take, drop, get_or}
-use Rattle.g726_lanes.proofs.Common.{arith, slice_set, refl, sym, ap, ◌^◌, All, replicate, pow_pos, length-set}
-use Rattle.g726_lanes.proofs.Common.{length-take, Law, RateTables, Variables, sync, rest_kept, same_octet, row_at}
+use Rattle.g726_lanes.proofs.Common.{◌≡◌, ◌<◌, ◌+◌, ◌++◌, ◌∷◌, ◌∙◌, ℕ, suc, List, [], length, take, drop, get_or, arith}
+use Rattle.g726_lanes.proofs.Common.{slice_set, refl, sym, ap, ◌^◌, All, replicate, pow_pos, length-set, length-take}
+use Rattle.g726_lanes.proofs.Common.{Law, RateTables, Variables, sync, rest_kept, same_octet, row_at}
 use Rattle.std.proofs.lemmas.List.Elements.{All-replicate, All-take}
 use Rattle.std.proofs.Math.Seq.{take-suc, take-suc-set}
-use Rattle.std.proofs.lemmas.List.{get_or-replicate, get_or-take, get_or-set_same, get_or-set_other}
+use Rattle.std.proofs.lemmas.List.{get_or-replicate, get_or-take}
 use Rattle.g726_codec.specs.Codec as codec
 use Rattle.g726_codec.proofs.Histories.{octets_from_more, state_after_more}
-
--- a row that is replaced is the new one
-pub row-set-own : (rows : List (List ℕ)) (k : ℕ) (numbers : List ℕ) → k < length rows
-    → row_at (slice_set rows k numbers) k ≡ numbers
-row-set-own rows k numbers within = get_or-set_same rows k numbers [] within
-
--- and the others stay
-pub row-set-other : (rows : List (List ℕ)) (k j : ℕ) (numbers : List ℕ) → j ≢ k
-    → row_at (slice_set rows k numbers) j ≡ row_at rows j
-row-set-other rows k j numbers other = get_or-set_other rows k j numbers [] other
 
 -- what holds of the first numbers holds of each of them
 pub fits-at : (P : ℕ → Type 0) (numbers : List ℕ) (count i : ℕ) → All P (take count numbers) → i < count

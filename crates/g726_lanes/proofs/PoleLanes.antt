@@ -1,8 +1,9 @@
 -- UPA2, LIMC, UPA1 and LIMD in one lane.
 use Rattle.g726_lanes.proofs.Common.{◌≡◌, ◌<◌, ◌≤◌, ℕ, ◌+◌, ◌-◌, ◌/◌, ◌%◌, min, max, cond, not, ℤ, pos, negsuc, neg_ℤ}
-use Rattle.g726_lanes.proofs.Common.{◌+ℤ◌, ◌-ℤ◌, ◌*ℤ◌, ◌≤ℤ◌, Bool, true, false, to_z, w16, refl, arith, is_negative}
-use Rattle.g726_lanes.proofs.Common.{◌==◌, top, ints, clamps, shr_z, shr_bounds, least, at_least, signs_differ, is_zero}
-use Rattle.g726_lanes.proofs.Common.{held_within, leaked, upa2_change, upa1_change, updated_a1, updated_a2}
+use Rattle.g726_lanes.proofs.Common.{rules, ◌+ℤ◌, ◌-ℤ◌, ◌*ℤ◌, ◌≤ℤ◌, Bool, true, false, to_z, w16, refl, arith}
+use Rattle.g726_lanes.proofs.Common.{is_negative, ◌==◌, top, ints, clamps, shr_z, shr_bounds, least, at_least}
+use Rattle.g726_lanes.proofs.Common.{signs_differ, is_zero, held_within, leaked, upa2_change, upa1_change, updated_a1}
+use Rattle.g726_lanes.proofs.Common.{updated_a2}
 use Rattle.g726_lanes.proofs.Numbers.{raised, raised_is, less_is, same_sign, zero_is, least_is, most_is}
 
 -- what `select` takes by a comparison
@@ -60,13 +61,7 @@ lane_held own = least (at_least 24577 own) 40959
 held_is : (own : ℕ) (z : ℤ) → pos own ≡ z +ℤ pos 32768
     → (pos (lane_held own) ≡ held_within (negsuc 8190) (pos 8191) z +ℤ pos 32768)
     × ((24577 ≤ lane_held own) × (lane_held own ≤ 40959))
-held_is own z e =
-    let same : lane_held own ≡ min (max own 24577) 40959 = rw (
-      least_is (at_least 24577 own) 40959,
-      most_is
-          24577 own,
-    ) refl in
-    rw same (omega (arith, ints, clamps, e), (omega arith, omega arith))
+held_is own z e = grind (arith, least_is (at_least 24577 own) 40959, most_is 24577 own)
 
 -- A2 of a lane
 abbrev pub lane_a2 : ℕ → ℕ → ℕ → ℕ → ℕ → ℕ
@@ -121,9 +116,7 @@ lane_a1 a1 new_a2 p p1 =
 -- the change of UPA1, plus 192
 change1_is : (zero d1 : Bool) → (pos (chosen zero 192 (chosen (not d1) 384 0))
     ≡ cond zero (pos 0) (cond d1 (negsuc 191) (pos 192)) +ℤ pos 192) × (chosen zero 192 (chosen (not d1) 384 0) ≤ 384)
-change1_is true d1 = (refl, omega arith)
-change1_is false true = (refl, omega arith)
-change1_is false false = (refl, omega arith)
+change1_is zero d1 = search rules
 
 -- the sum within the limits that LIMD takes from A2
 limited1 : (left change new : ℕ) (z u a2 : ℤ) → pos left ≡ z +ℤ pos 32768 → pos change ≡ u +ℤ pos 192

@@ -1,33 +1,17 @@
 -- The blocks of the quantiser in one lane.
-use Rattle.g726_lanes.proofs.Common.{◌≡◌, ◌<◌, ◌≤◌, ℕ, zero, suc, ◌+◌, ◌-◌, ◌*◌, ◌/◌, ◌%◌, ◌^◌, cond, ◌||◌, ◌&&◌, ℤ}
-use Rattle.g726_lanes.proofs.Common.{pos, negsuc, ◌+ℤ◌, ◌≤ℤ◌, Bool, true, false, to_z, w16, arith, refl, ◌∙◌, ap}
-use Rattle.g726_lanes.proofs.Common.{nat_le, nat_lt, inl, inr, unsigned_abs, bit_and, List, [], ◌∷◌, length, take}
-use Rattle.g726_lanes.proofs.Common.{get_or, ◌==◌, IsTrue, and_mask, ints, int_rem_euclid_is, int_le, count_by}
-use Rattle.g726_lanes.proofs.Common.{list_all, length-take, cases_lt, and_parts, nat_tests, RateTables, magnitudes}
-use Rattle.g726_lanes.proofs.Common.{is_within, is_in_range, adda, word_magnitude, word_is_negative, quan_word, subtb}
-use Rattle.g726_lanes.proofs.Common.{least}
-use Rattle.std.proofs.Math.Nat.{div-lt_iff_lt-mul, le-div_iff_mul-le}
+use Rattle.g726_lanes.proofs.Common.{◌≡◌, ◌<◌, ◌≤◌, ℕ, zero, suc, ◌+◌, ◌-◌, ◌*◌, ◌/◌, ◌%◌, ◌^◌, cond, ℤ, common_steps}
+use Rattle.g726_lanes.proofs.Common.{pos, negsuc, ◌+ℤ◌, ◌≤ℤ◌, Bool, true, false, to_z, w16, arith, refl, ◌∙◌, nat_le}
+use Rattle.g726_lanes.proofs.Common.{nat_lt, bit_and, List, [], ◌∷◌, length, take, get_or, ◌==◌, IsTrue, ints, int_le}
+use Rattle.g726_lanes.proofs.Common.{count_by, length-take, nat_tests, RateTables, magnitudes, is_in_range, adda}
+use Rattle.g726_lanes.proofs.Common.{word_magnitude, word_is_negative, quan_word, subtb, least}
 use Rattle.std.proofs.lemmas.List.Sums.{sum_by-cons, count_by-le-length}
-use Rattle.g726_lanes.proofs.Numbers.{raised, raised_is, least_is}
 use Rattle.g726_lanes.proofs.PoleLanes.{chosen}
 
 -- RECONST: the magnitude of a word with few bits
 magnitude_for : (bits half word : ℕ) → 2 ^ bits ≡ 2 * half → half ≤ 16 → magnitudes bits ≡ half → word < 2 ^ bits
     → (least word ((2 ^ bits - 1 + (65536 - word)) % 65536) ≡ word_magnitude bits word)
     × (least word ((2 ^ bits - 1 + (65536 - word)) % 65536) < magnitudes bits)
-magnitude_for bits half word whole few same below =
-    let rest : (2 ^ bits - 1 + (65536 - word)) % 65536 ≡ 2 ^ bits - 1 - word = omega (arith, whole) in
-    rw (rest, least_is word (2 ^ bits - 1 - word), same)
-    (elim (cases_lt word half) [
-      | inl less ↦ let t : nat_le half word ≡ false = grind (arith, nat_tests) in rw t (
-        omega (arith, whole),
-        omega (arith, whole),
-      )
-      | inr more ↦ let t : nat_le half word ≡ true = grind (arith, nat_tests) in rw t (
-        omega (arith, whole),
-        omega (arith, whole),
-      )
-    ])
+magnitude_for bits half word whole few same below = grind (arith, common_steps)
 
 -- the parts of a number of bits
 pub record FewBits (bits : ℕ) : Type 0 where
@@ -55,22 +39,7 @@ magnitude_is bits word low high below =
 -- DQS
 pub sign_is : (bits word : ℕ) → 2 ≤ bits → bits ≤ 5 → word < 2 ^ bits
     → (nat_lt 0 (word / magnitudes bits) ≡ word_is_negative bits word) × (word / magnitudes bits < 2)
-sign_is bits word low high below =
-    let f = few_bits bits low high in
-    let some : 0 < magnitudes bits = omega (arith, f.some) in
-    elim (cases_lt word (magnitudes bits)) [
-      | inl less ↦
-          let q : word / magnitudes bits < 1 = (div-lt_iff_lt-mul some).1 (omega arith) in
-          let z : word / magnitudes bits ≡ 0 = omega arith in
-          let t : nat_le (magnitudes bits) word ≡ false = grind (arith, nat_tests) in
-          rw (z, t) (refl, omega arith)
-      | inr more ↦
-          let q : word / magnitudes bits < 2 = (div-lt_iff_lt-mul some).1 (omega (arith, f.whole)) in
-          let p : 1 ≤ word / magnitudes bits = (le-div_iff_mul-le some).1 (omega arith) in
-          let z : word / magnitudes bits ≡ 1 = omega arith in
-          let t : nat_le (magnitudes bits) word ≡ true = grind (arith, nat_tests) in
-          rw (z, t) (refl, omega arith)
-    ]
+sign_is bits word low high below = grind (arith, common_steps)
 
 -- ADDA
 abbrev pub lane_added : ℕ → ℕ → ℕ
@@ -81,42 +50,14 @@ pub added_is : (level y : ℕ) → level < 65536 → negsuc 2047 ≤ℤ to_z w16
     → 544 ≤ y → y ≤ 5120
     → (lane_added level y ≡ adda (to_z w16 level) y)
     × ((lane_added level y < 4096) × (lane_added level y < 2048 → lane_added level y < 1920))
-added_is level y below low high y_low y_high =
-    let r = raised_is level below in
-    let m : ℕ = raised level + y / 4 - 28672 in
-    let masked : lane_added level y ≡ (level + y / 4) % 65536 % 4096 = and_mask ((level + y / 4) % 65536) 12 in
-    let same : (level + y / 4) % 65536 % 4096 ≡ m % 4096 = omega (arith, ints, r) in
-    let is : adda (to_z w16 level) y ≡ m % 4096 =
-    ap unsigned_abs (int_rem_euclid_is (to_z w16 level +ℤ pos (y / 4)) (pos 4096) 4096 1 m (omega arith) refl
-    (omega (arith, ints, r))) in
-    let whole : m % 4096 < 2048 → m % 4096 < 1920 = λ h. omega (arith, ints, r) in
-    rw (masked, same, is) (refl, (omega arith, whole))
-
--- `select` takes the first where its comparison holds
-chosen_is : (b : Bool) (x y : ℕ) → chosen b x y ≡ cond b x y
-chosen_is true x y = refl
-chosen_is false x y = refl
+added_is level y below low high y_low y_high = grind (arith, common_steps)
 
 -- QUAN: the word
 pub word_is : (bits magnitude negative : ℕ) → 2 ≤ bits → bits ≤ 5 → magnitude < magnitudes bits
     → chosen (chosen (negative == 0) magnitude (cond (nat_lt 2 bits) 0 65535) == cond (nat_lt 2 bits) 0 65535)
     ((2 ^ bits - 1 + (65536 - magnitude)) % 65536) magnitude
     ≡ quan_word bits (nat_lt 0 negative) magnitude
-word_is bits magnitude zero low high below =
-    let f = few_bits bits low high in
-    let rest : (2 ^ bits - 1 + (65536 - magnitude)) % 65536 ≡ 2 ^ bits - 1 - magnitude = omega (
-      arith,
-      f.whole,
-      f.few,
-    ) in
-    let not_all : (magnitude == 65535) ≡ false = grind (arith, nat_tests, f.few) in
-    rw rest (by (nat_lt 2 bits) not_all)
-  where
-    by : (more : Bool) → (magnitude == 65535) ≡ false
-        → chosen (magnitude == cond more 0 65535) (2 ^ bits - 1 - magnitude) magnitude
-        ≡ cond (more && (magnitude == 0)) (2 ^ bits - 1 - magnitude) magnitude
-    by true h = chosen_is (magnitude == 0) _ _
-    by false h = rw h refl
+word_is bits magnitude zero low high below = grind (arith, few_bits bits low high)
 word_is bits magnitude (suc n) low high below =
     let f = few_bits bits low high in
     let rest : (2 ^ bits - 1 + (65536 - magnitude)) % 65536 ≡ 2 ^ bits - 1 - magnitude = omega (
@@ -166,25 +107,7 @@ count_next p (x ∷ xs) (suc i) h =
 pub lane_counts : (count level dln : ℕ) (t z : ℤ) → count < 65535 → pos level ≡ t +ℤ pos 2048 → pos dln ≡ z +ℤ
     pos 2048
     → (count + chosen (nat_le level dln) 1 0) % 65536 ≡ count + cond (int_le t z) 1 0
-lane_counts count level dln t z few e f =
-    elim (cases_lt dln level) [
-      | inl less ↦
-          let s : nat_le level dln ≡ false = grind (arith, nat_tests) in
-          let low : (z +ℤ pos 1) ≤ℤ t = omega (arith, ints, e, f) in
-          let u : int_le t z ≡ false = above t z low in
-          rw (s, u) (omega arith)
-      | inr more ↦
-          let s : nat_le level dln ≡ true = grind (arith, nat_tests) in
-          let low : t ≤ℤ z = omega (arith, ints, e, f) in
-          let u : int_le t z ≡ true = below t z low in
-          rw (s, u) (omega arith)
-    ]
-  where
-    above : (t z : ℤ) → (z +ℤ pos 1) ≤ℤ t → int_le t z ≡ false
-    above t z h = grind (arith, ints)
-
-    below : (t z : ℤ) → t ≤ℤ z → int_le t z ≡ true
-    below t z h = grind (arith, ints)
+lane_counts count level dln t z few e f = grind (arith, common_steps)
 
 -- fewer than 16 thresholds are counted in 16 bits
 pub counts_few : (p : ℤ → Bool) (xs : List ℤ) (i : ℕ) → length xs < 16 → count_by p (take i xs) < 65535
@@ -195,38 +118,14 @@ pub less_is : (dl y : ℕ) → dl < 1920 → y ≤ 5120
     → pos (((dl + 2048) % 65536 + (65536 - y / 4)) % 65536) ≡ subtb dl y +ℤ pos 2048
 less_is dl y dl_few y_few = omega (arith, ints)
 
--- a number that passes the test is in the range
-within : (low high z : ℤ) → is_within low high z ≡ true → (low ≤ℤ z) × (z ≤ℤ high)
-within low high z h =
-    let parts = and_parts (int_le low z) (int_le z high) h in
-    (grind (arith, ints, parts.0), grind (arith, ints, parts.1))
-
--- so is each number of a list whose numbers are tested
-each_within : (low high : ℤ) (zs : List ℤ) (i : ℕ) → list_all (is_within low high) zs ≡ true → i < length zs
-    → (low ≤ℤ get_or zs i (pos 0)) × (get_or zs i (pos 0) ≤ℤ high)
-each_within low high [] i h few = absurd (omega arith)
-each_within low high (z ∷ zs) zero h few = within low high z (and_parts (is_within low high z) _ h).0
-each_within low high (z ∷ zs) (suc i) h few =
-    each_within low high zs i (and_parts (is_within low high z) _ h).1 (omega arith)
-
 -- the thresholds of a rate are within twelve bits
 pub thresholds_within : (r : RateTables) → IsTrue (is_in_range r) → (i : ℕ) → i < length r.thresholds
     → (negsuc 2047 ≤ℤ get_or r.thresholds i (pos 0)) × (get_or r.thresholds i (pos 0) ≤ℤ pos 2047)
-thresholds_within r h i few =
-    let parts = and_parts _ _ (and_parts _ _ (and_parts _ _ (and_parts _ _ (and_parts _ _ h).0).0).0).0 in
-    each_within (negsuc 2047) (pos 2047) r.thresholds i parts.0 few
+thresholds_within r h i few = grind (arith, common_steps)
 
--- a magnitude or its complement has the bits of a word
-quan_below : (bits magnitude : ℕ) (b : Bool) → 2 ≤ bits → bits ≤ 5 → magnitude < magnitudes bits
-    → cond b (2 ^ bits - 1 - magnitude) magnitude < 2 ^ bits
-quan_below bits magnitude true low high below = let f = few_bits bits low high in omega (arith, f.whole, f.some)
-quan_below bits magnitude false low high below = let f = few_bits bits low high in omega (arith, f.whole, f.some)
-
--- so has the word of a lane
+-- the word of a lane has the bits of a word
 pub word_below : (bits magnitude negative all none : ℕ) → all ≡ 2 ^ bits - 1 → none ≡ cond (nat_lt 2 bits) 0 65535
     → 2 ≤ bits → bits ≤ 5 → magnitude < magnitudes bits
     → chosen (chosen (negative == 0) magnitude none == none) ((all + (65536 - magnitude)) % 65536) magnitude < 2
     ^ bits
-word_below bits magnitude negative all none e f low high below =
-    rw (word_by bits magnitude negative all none e f low high below)
-    (quan_below bits magnitude (nat_lt 0 negative || (nat_lt 2 bits && (magnitude == 0))) low high below)
+word_below bits magnitude negative all none e f low high below = grind (arith, common_steps)

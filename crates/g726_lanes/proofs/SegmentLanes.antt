@@ -1,8 +1,9 @@
 -- COMPRESS in one lane.
 use Rattle.g726_lanes.proofs.Common.{◌≡◌, ◌<◌, ◌≤◌, ℕ, zero, suc, ◌+◌, ◌-◌, ◌*◌, ◌/◌, ◌%◌, ◌^◌, min, Bool, true, false}
-use Rattle.g726_lanes.proofs.Common.{◌&&◌, ◌||◌, nat_le, nat_lt, inl, inr, refl, ap, sym, ◌∙◌, ℤ, Fits, w8, arith, ◌==◌}
-use Rattle.g726_lanes.proofs.Common.{bit_xor, agree_below, agree_below_at, and_parts, eqb-true, ltb-true, cases_lt}
-use Rattle.g726_lanes.proofs.Common.{nat_tests, number_of_bits, exponent, log, is_negative, Law, least, at_least}
+use Rattle.g726_lanes.proofs.Common.{rules, common_steps, ◌&&◌, ◌||◌, nat_le, nat_lt, inl, inr, refl, ap, sym, ◌∙◌, ℤ}
+use Rattle.g726_lanes.proofs.Common.{Fits, w8, arith, ◌==◌, bit_xor, agree_below, agree_below_at, and_parts, eqb-true}
+use Rattle.g726_lanes.proofs.Common.{ltb-true, cases_lt, nat_tests, number_of_bits, exponent, log, is_negative, Law}
+use Rattle.g726_lanes.proofs.Common.{least, at_least}
 use Rattle.std.proofs.lemmas.Bool.{leb-true, le-ltb}
 use Rattle.e1_g711.specs.Codes.{decision_value, zero_code, interval_contains}
 use Rattle.e1_g711.specs.Samples.{compress, fifteen_bits, magnitude_to_code, coded_magnitude}
@@ -58,28 +59,15 @@ a_number_is z dl high e =
     elim (cases_lt z 32) [
       | inl few ↦
           let t : nat_lt z 32 ≡ true = grind (arith, nat_tests) in
-          rw t (record {
-            bound = omega arith;
-            lower = omega (arith, a_first_values (z / 2) (omega arith));
-            upper = λ h. omega (arith, a_first_values (z / 2 + 1) (omega arith));
-          })
+          rw t (grind (arith, a_first_values (z / 2) (omega arith), a_first_values (z / 2 + 1) (omega arith)))
       | inr many ↦
           let t : nat_lt z 32 ≡ false = grind (arith, nat_tests) in
           let s = step_is z many (omega arith) in
           let n = by_log (log z) in
           let below : n < 128 =
-          elim (cases_lt n 128) [
-            | inl less ↦ less
-            | inr more ↦
-                let eighth : n / 16 ≡ 8 = omega (arith, s.high) in
-                absurd (omega (arith, rw eighth at s.lower))
-          ] in
+          grind (arith, cases_lt n 128) in
           let ends = a_ends n s.low below in
-          rw (t, e) (record {
-            bound = below;
-            lower = omega (arith, ends.0, s.lower);
-            upper = λ h. omega (arith, ends.1, s.upper);
-          })
+          rw (t, e) (grind (arith, common_steps))
     ]
 
 -- the last decision value of mu-law at or below a magnitude that is given with the bias
@@ -95,21 +83,12 @@ mu_number_is z dl low high e =
     let n = by_log (log z) in
     let ends = mu_ends n s.low s.high in
     let same : (log z / 8 + 65456) % 65536 ≡ n - 16 = omega (arith, s.low, s.high) in
-    rw (e, same) (record {
-      bound = omega (arith, s.high);
-      lower = omega (arith, ends.0, s.lower);
-      upper = λ h. omega (arith, ends.1, s.upper);
-    })
+    grind arith
 
 -- the last decision value at or below a magnitude that was held at the top is that of the magnitude
 pub held_last : (law : Law) (n z top : ℕ) → n < 128 → decision_value law n ≤ min z top
     → (n < 127 → min z top < decision_value law (n + 1)) → decision_value law 127 ≤ top → IsLast law n z
-held_last law n z top bound lower upper last =
-    record {
-      bound = bound;
-      lower = omega (arith, lower);
-      upper = λ h. omega (arith, upper h, rises_to law (n + 1) 127 (omega arith) (omega arith), last);
-    }
+held_last law n z top bound lower upper last = search (rules, rises_to)
 
 -- the last decision value at or below a magnitude to code in A-law
 pub a_interval : (negative m z n : ℕ) → negative < 2 → z ≡ min ((m - negative) / 2) 4095 → n < 128
@@ -149,10 +128,7 @@ coded_is law sample negative m n code s e bound inside is =
 -- the magnitudes that are held at the top
 pub a_held_is : (m negative : ℕ) → m < 65536 → negative < 2
     → least ((at_least negative m + (65536 - negative)) % 65536 / 2) 4095 ≡ min ((m - negative) / 2) 4095
-a_held_is m negative below few =
-    let less : (at_least negative m + (65536 - negative)) % 65536 ≡ m - negative =
-    rw (most_is negative m) (omega arith) in
-    rw less (least_is ((m - negative) / 2) 4095)
+a_held_is m negative below few = grind (arith, most_is negative m, least_is ((m - negative) / 2) 4095)
 
 -- the same in mu-law, with the bias
 pub mu_held_is : (m : ℕ) → (least m 8158 + 33) % 65536 ≡ min m 8158 + 33

@@ -1,5 +1,5 @@
 -- Circuits in the lanes of a bundle.
-use Rattle.gw_switch.proofs.Common.{◌≡◌, ◌≢◌, ◌<◌, ℕ, List, [], ◌∷◌, ◌++◌, length, inl, inr, arith, slice_index}
+use Rattle.gw_switch.proofs.Common.{◌≡◌, ◌≢◌, ◌<◌, ℕ, List, [], ◌∷◌, ◌++◌, length, inl, inr, arith, slice_index, rules}
 use Rattle.gw_switch.proofs.Common.{get_or-append_seam, cases_eq, get_or_append_left, BoxedCircuit}
 use Rattle.std.proofs.Common.{length-append}
 use Rattle.std.specs.Prelude.{slice_index_or}
@@ -17,11 +17,7 @@ pub each-goes : {P Q : CodedPacket → Bundle → ℕ → Type 0} {circuits : Li
     → ((c : CodedPacket) (j : ℕ) → j < length places → j < 8 → P c b j → Q c b' j) → EachPlace Q circuits places b'
 each-goes loaded goes =
     let few = loaded.few in
-    record {
-      few = few;
-      within = loaded.within;
-      each = λ j d h. goes _ j h (omega (arith, h, few)) (loaded.each j d h);
-    }
+    grind arith
 
 -- with one more place the others stay
 place-before : (places : List ℕ) (number j : ℕ) → j < length places
@@ -58,14 +54,7 @@ pub still-loaded : {circuits : List BoxedCircuit} (places : List ℕ) {b b' : Bu
     → (b'.law ≡ b.law) × (b'.kind ≡ b.kind)
     → EachLane (λ j. j ≢ length places → variables b'.lanes j ≡ variables b.lanes j)
     → EachLane (λ j. j ≢ length places → lane_octets b' j ≡ lane_octets b j) → AreLoaded circuits places b'
-still-loaded places loaded kept states frames =
-    each-goes loaded (λ c j within low h.
-    let other : j ≢ length places = λ e. absurd (omega (arith, within, e)) in
-    record {
-      front = h.front;
-      packet = rw (kept.0, kept.1, states j low other, frames j low other) h.packet;
-      encoder = rw (kept.0, kept.1, states j low other, frames j low other) h.encoder;
-    })
+still-loaded places loaded kept states frames = search (rules, each-goes)
 
 -- once the lanes are coded each circuit's work is done
 pub all-coded : {circuits : List BoxedCircuit} {places : List ℕ} {b b' : Bundle} → AreLoaded circuits places b
@@ -73,23 +62,13 @@ pub all-coded : {circuits : List BoxedCircuit} {places : List ℕ} {b b' : Bundl
     ≡ words_by (rate_tables b.kind) b.law (variables b.lanes k) (lane_octets b k))
     → EachLane (λ k. variables b'.lanes k
     ≡ after_by (rate_tables b.kind) (variables b.lanes k) (lane_octets b' k)) → AreCoded circuits places b'
-all-coded loaded words states =
-    each-goes loaded (λ c j within low h. record {
-      front = h.front;
-      packet = rw (words j low) h.packet;
-      encoder = rw (states j low, words j low) h.encoder;
-    })
+all-coded loaded words states = search (rules, each-goes)
 
 -- where the next lane is written the others keep their decoders
 pub still-decoders : {circuits : List BoxedCircuit} (places : List ℕ) {b b' : Bundle} → AreDecoders circuits places b
     → (b'.law ≡ b.law) × (b'.kind ≡ b.kind) → (AllFit b → AllFit b')
     → EachLane (λ j. j ≢ length places → variables b'.lanes j ≡ variables b.lanes j) → AreDecoders circuits places b'
-still-decoders places decoders kept fit states = record {
-  loaded = each-goes decoders.loaded (λ c j within low h.
-      let other : j ≢ length places = λ e. absurd (omega (arith, within, e)) in
-      record { law = rw kept.0 h.law; kind = rw kept.1 h.kind; decoder = rw (states j low other) h.decoder });
-  fit = fit decoders.fit;
-}
+still-decoders places decoders kept fit states = search (rules, each-goes)
 
 -- once the words are decoded each circuit has its next ones
 pub all-decoded : {circuits : List BoxedCircuit} {places : List ℕ} {b b' : Bundle} → AreDecoders circuits places b

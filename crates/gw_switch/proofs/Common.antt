@@ -8,7 +8,7 @@ pub use Rattle.g704_cas.specs.Numbers.{circuit_in, frame_with, slot_of}
 pub use Rattle.g704_cas.specs.Placing.{frame_of, multiframes}
 pub use Rattle.g704_cas.specs.declared.alignment.MfPlace.{MfPlace}
 pub use Rattle.g704_framing.specs.Places.{IsAlignedAlike, IsAlikeAlong, KeepsZero, alignments_in}
-pub use Rattle.gw_circuit.proofs.Loading.{read-three, three-parts}
+pub use Rattle.gw_circuit.proofs.Loading.{read-three}
 pub use Rattle.gw_circuit.specs.Items.{CircuitEvent}
 pub use Rattle.gw_circuit.specs.declared.circuit.Circuit.{Circuit}
 pub use Rattle.gw_circuit.specs.declared.config.CircuitConfig.{CircuitConfig}
@@ -19,7 +19,7 @@ pub use Rattle.gw_switch.specs.Hearing.{abcd, in_frame, in_slot, in_slot16, late
 pub use Rattle.gw_switch.specs.Hearing.{slot16_octets, speech, with_octet}
 unfoldable pub use Rattle.gw_switch.specs.Hearing.{heard, remote_frame, remote_multiframe, signalled}
 pub use Rattle.gw_switch.specs.Lending.{IsAt, with_circuit}
-pub use Rattle.gw_switch.specs.Lives.{config_after, items_since, life, lone, next_config, next_since, replies_from}
+pub use Rattle.gw_switch.specs.Lives.{config_after, items_since, life, next_config, next_since, replies_from}
 pub use Rattle.gw_switch.specs.Reconfigured.{AreRenewals, HasTaken, IsRenewal, RenewalsAreApart, RenewalsConfigure}
 pub use Rattle.gw_switch.specs.Saved.{AreAlike, AreConfiguredAlike, ChannelFits, GatewayFits, IsAlike, IsNibble, IsSame}
 pub use Rattle.gw_switch.specs.Saved.{saved_alarms, saved_channel, saved_circuits, saved_nibble, saved_nibbles}
@@ -36,17 +36,17 @@ pub use Rattle.gw_switch.specs.declared.gateway.Gateway.{Gateway}
 pub use Rattle.gw_switch.specs.declared.trunk.Trunk.{Trunk}
 pub use Rattle.saved_octets.specs.Numbers.{two_octets}
 pub use Rattle.std.proofs.Common.{All, Bool, IfSome, List, None, Option, Some, SomeIff, [], add-one, add-zero, ap}
-pub use Rattle.std.proofs.Common.{append-nil, append_assoc, arith, cond, drop, drop-cons, eqb, false, flat_map, get_or}
+pub use Rattle.std.proofs.Common.{append-nil, append_assoc, arith, cond, drop, eqb, false, flat_map, get_or}
 pub use Rattle.std.proofs.Common.{get_or-set_other, inl, inr, length, refl, rules, slice_index_or, slice_set, subst}
 pub use Rattle.std.proofs.Common.{suc, sym, take, true, vec_len, zero, zero-add, ℕ, ◌%◌, ◌*◌, ◌++◌, ◌+◌, ◌-◌, ◌/◌, ◌<◌}
 pub use Rattle.std.proofs.Common.{◌∙◌, ◌∷◌, ◌≡◌, ◌≢◌, ◌≤◌, ◌⊎◌}
 pub use Rattle.std.proofs.Math.ListN.{length-set}
 pub use Rattle.std.proofs.Math.Seq.{get_or-append_seam}
-pub use Rattle.std.proofs.lemmas.Bool.{cases_Bool, cases_eq, cases_lt, eq-eqb, eqb-true, false≢true, ne_eqb}
+pub use Rattle.std.proofs.lemmas.Bool.{cases_Bool, cases_eq, cases_lt, eq-eqb, false≢true, ne_eqb}
 pub use Rattle.std.proofs.lemmas.Bool.Decides.{nat_tests}
-pub use Rattle.std.proofs.lemmas.List.{get_or-drop, get_or-replicate, get_or-set_same, get_or_append_left}
-pub use Rattle.std.proofs.lemmas.List.{get_or_default, get_or_push, length-append, length-take-le, length_push}
-pub use Rattle.std.proofs.lemmas.List.{set-get_or, take_all}
+pub use Rattle.std.proofs.lemmas.Grind.{common_steps}
+pub use Rattle.std.proofs.lemmas.List.{get_or-drop, get_or-replicate, get_or_append_left, get_or_default, get_or_push}
+pub use Rattle.std.proofs.lemmas.List.{length-append, length-take-le, length_push, set-get_or, take_all}
 pub use Rattle.std.proofs.lemmas.List.Elements.{All-push, All-weaker, recursion_from_All}
 pub use Rattle.std.proofs.lemmas.List.Sums.{fold-append}
-pub use Rattle.std.specs.Prelude.{nat_le, option_map, slice_index, unwrap_or, vec_capacity, ◌&&◌, ◌==◌}
+pub use Rattle.std.specs.Prelude.{option_map, slice_index, unwrap_or, vec_capacity, ◌&&◌, ◌==◌}

@@ -1,27 +1,24 @@
 -- Searches for multiframe alignment, counted over the whole trunk.
 use Rattle.gw_switch.proofs.Common.{◌≡◌, ℕ, zero, suc, ◌+◌, ◌-◌, ◌<◌, ◌≤◌, Bool, true, false, cond, eqb, List, [], ◌∷◌}
-use Rattle.gw_switch.proofs.Common.{◌++◌, length, drop, get_or, Option, Some, None, refl, sym, ap, ◌∙◌, arith}
-use Rattle.gw_switch.proofs.Common.{append_assoc, append-nil, inl, inr, subst, ◌&&◌, option_map, nat_le, cases_Bool}
+use Rattle.gw_switch.proofs.Common.{rules, common_steps, ◌++◌, length, drop, get_or, Option, Some, None, refl, sym, ap}
+use Rattle.gw_switch.proofs.Common.{◌∙◌, arith, append_assoc, append-nil, inl, inr, subst, option_map, cases_Bool}
 use Rattle.gw_switch.proofs.Common.{cases_lt, false≢true, get_or-drop, recursion_from_All, All-weaker, alignments_in}
 use Rattle.gw_switch.proofs.Common.{IsAlikeAlong, IsAlignedAlike, Place, Hunting, Slot, place, place_alike, multiframes}
 use Rattle.gw_switch.proofs.Common.{with_octet, slot16_octets, octets}
 use Rattle.std.proofs.Common.{length-append}
 use Rattle.std.specs.Prelude.{All}
 use Rattle.std.specs.List.{AllByRecursion}
-use Rattle.std.proofs.lemmas.Bool.{and_left, lt-leb, le-leb, lt-ltb}
+use Rattle.std.proofs.lemmas.Bool.{and_left, lt-leb}
 use Rattle.std.proofs.lemmas.Option.{same_Some}
 use Rattle.g704_framing.specs.Least.{least}
-use Rattle.g704_framing.specs.Alignment.{AlignmentSpan, loss, alignments_from, alignments_of, after_search, after_loss}
-use Rattle.g704_framing.specs.Alignment.{search_ends_of}
-use Rattle.g704_framing.specs.Age.{is_standing, age_in}
+use Rattle.g704_framing.specs.Alignment.{AlignmentSpan, loss, alignments_from, after_search, after_loss, search_ends_of}
+use Rattle.g704_framing.specs.Age.{age_in}
 use Rattle.g704_framing.specs.Laws.{IsLostAlike}
 use Rattle.g704_framing.proofs.Leasts.{IsLeast, least-is}
 use Rattle.g704_framing.proofs.Turns.{alignments_turns}
-use Rattle.g704_framing.proofs.Ages.{age_in-over}
 use Rattle.g704_framing.proofs.Moves.{same_alignment}
 use Rattle.g704_framing.proofs.Agrees.{loss-alike, up_to_loss-earlier}
 use Rattle.g704_framing.proofs.Settles.{ages_are_settled, search-from, loss-not_before, age-after_loss}
-use Rattle.g704_cas.specs.Search.{is_mfas, is_found_at}
 use Rattle.g704_cas.specs.Loss.{is_second_wrong, multiframe_alignment}
 use Rattle.g704_cas.proofs.LeastSearch.{search_is_least}
 use Rattle.g704_cas.proofs.Searches.{multiframe_is_framing}
@@ -39,10 +36,7 @@ found_from s from = multiframe_alignment.search None s from
 
 -- a multiframe alignment begins at an octet of the list
 found_within : (s : List ℕ) (from m : ℕ) → found_from s from ≡ Some m → m < length s
-found_within s from m e =
-    let P : ℕ → Bool = λ position. nat_le from position && is_found_at s position in
-    let L : Option ℕ → Type 0 = λ o. IsLeast P (length s) o in
-    (subst L (sym (search_is_least s from) ∙ e) (least-is P (length s))).0
+found_within s from m e = search (rules, search_is_least, least-is)
 
 -- it is not lost by its first octet
 lost_later : (s : List ℕ) (m q : ℕ) → loss multiframe_alignment s m ≡ Some q → m < q
@@ -59,31 +53,12 @@ lost_later s m q e = go (least (is_second_wrong (drop m s)) (length (drop m s)))
 -- the octet at which an alignment begins is its first
 begins_at : (m : ℕ) (o : Option ℕ) (ds : List AlignmentSpan) → ((q : ℕ) → o ≡ Some q → m < q)
     → first_at (record { start = m; lost = o } ∷ ds) m ≡ true
-begins_at m None ds later =
-    let le = le-leb (m + 0) m (omega arith) in
-    let none : m - m ≡ 0 = omega arith in
-    rw (le, none) refl
-begins_at m (Some q) ds later =
-    let le = le-leb (m + 0) m (omega arith) in
-    let lt = lt-ltb m q (later q refl) in
-    let none : m - m ≡ 0 = omega arith in
-    rw (le, lt, none) refl
+begins_at m o ds later = search rules
 
 -- no octet before that is of it, or of those after it
 none_before : (t : List ℕ) (n k : ℕ) → k < n → age_in 0 (after_search multiframe_alignment None t (Some n)) k ≡ None
 unfolding after_search
-none_before t n k lt =
-    let F = multiframe_alignment in
-    let early : is_standing 0 (record { start = n; lost = loss multiframe_alignment t n }) k ≡ false
-    = and_left _ _ (lt-leb (n + 0) k (omega arith)) in
-    rw early (age-after_loss F multiframe_is_framing None t 0 n k (loss F t n)
-    (loss-not_before F multiframe_is_framing t n) (omega arith))
-
--- an alignment that is lost says nothing of the octets behind its loss
-behind_loss : (m q k : ℕ) (ds : List AlignmentSpan) → q < k
-    → first_at (record { start = m; lost = Some q } ∷ ds) k ≡ first_at ds k
-behind_loss m q k ds lt =
-    ap is_first (age_in-over 0 (suc q) k (record { start = m; lost = Some q } ∷ []) ds (omega arith) (omega arith, tt))
+none_before t n k lt = search (rules, and_left, lt-leb, age-after_loss, multiframe_is_framing, loss-not_before)
 
 module _ (s t : List ℕ) (len : length s ≡ length t) where
   -- where no octet is the first of an alignment there is none
@@ -108,15 +83,7 @@ module _ (s t : List ℕ) (len : length s ≡ length t) where
       → ds ≡ alignments_from multiframe_alignment None t g)
       → ds ≡ after_loss multiframe_alignment None t r
   unfolding after_loss
-  after_both from m ds None None e i later low firsts again = i
-  after_both from m ds None (Some r) e i later low firsts again = cc
-  after_both from m ds (Some q) None e i later low firsts again = cc
-  after_both from m ds (Some q) (Some r) e i later low firsts again =
-      let same : q ≡ r = same_Some q r e in
-      let high = later q refl in
-      again (suc r) (i ∙ ap (λ k. alignments_from multiframe_alignment None s (suc k)) same) (λ k le lt.
-      sym (behind_loss m q k ds (omega arith)) ∙ firsts k (omega arith) lt
-      ∙ behind_loss m r k (alignments_from multiframe_alignment None t (suc r)) (omega arith))
+  after_both from m ds q r e i later low firsts again = search rules
 
   -- an alignment of the first list, and what is found in the second
   found_so : (d : AlignmentSpan) (ds : List AlignmentSpan) (from : ℕ) → IsLostAlike multiframe_alignment s t d
@@ -155,9 +122,7 @@ module _ (s t : List ℕ) (len : length s ≡ length t) where
               let lost : loss F s m ≡ loss F t n
               = loss-alike F s t m len (subst (IsLostAlike F s t) first_is alike) ∙ ap (loss F t) same in
               let others : ds ≡ after_loss F None t (loss F t n) = after_both from m ds (loss F s m) (loss F t n) lost
-              rest_is (lost_later s m) low (λ k a b. ap (λ (x : AlignmentSpan). first_at (x ∷ ds) k) (sym first_is)
-              ∙ firsts k a b ∙ ap (λ (j : ℕ). first_at (record { start = j; lost = loss F t n }
-              ∷ after_loss F None t (loss F t n)) k) (sym same)) again in
+              rest_is (lost_later s m) low (grind (arith, common_steps)) again in
               let first : d ≡ record { start = n; lost = loss F t n } = first_is ∙ same_alignment m n (loss F s m)
               (loss F t n) same lost in
               cc
@@ -170,9 +135,7 @@ module _ (s t : List ℕ) (len : length s ≡ length t) where
       ≡ first_at (alignments_from multiframe_alignment None t from) k)
       → AllByRecursion (IsLostAlike multiframe_alignment s t) ds
       → ds ≡ alignments_from multiframe_alignment None t from
-  counted_from [] from e firsts all =
-      let turns = alignments_turns multiframe_alignment multiframe_is_framing None t from in
-      no_more from (found_from t from) refl (λ k a b. firsts k a b ∙ ap (λ es. first_at es k) turns) ∙ sym turns
+  counted_from [] from e firsts all = search (rules, alignments_turns, multiframe_is_framing, no_more)
   counted_from (d ∷ ds) from e firsts all =
       let turns = alignments_turns multiframe_alignment multiframe_is_framing None t from in
       found_so d ds from all.0 (λ g i f. counted_from ds g i f all.1) (found_from s from) (found_from t from) refl refl
@@ -182,10 +145,7 @@ module _ (s t : List ℕ) (len : length s ≡ length t) where
 -- lists whose octets of frame 0 are right or wrong alike lose an alignment alike
 kept_alike : (s t : List ℕ) (d : AlignmentSpan) → IsAlikeAlong multiframes s t d
     → IsLostAlike multiframe_alignment s t d
-kept_alike s t d alike k lt up = is_second_wrong-alike (drop d.start s) (drop d.start t) k (λ j le e.
-    ap is_mfas (get_or-drop d.start s j 0)
-    ∙ alike j (omega arith) e (omega arith) (up_to_loss-earlier (d.start + j) (d.start + k) d.lost (omega arith) up)
-    ∙ sym (ap is_mfas (get_or-drop d.start t j 0)))
+kept_alike s t d alike k lt up = search (rules, is_second_wrong-alike, get_or-drop, up_to_loss-earlier)
 
 -- lists of which the same octets are the first of alignments are aligned alike
 aligned_alike : (z w : List ℕ) → length z ≡ length w
@@ -272,14 +232,7 @@ place_of_octet s t same (suc m) k lt = by_place (λ early. place_of_octet s t sa
 first_by_then : (s : List ℕ) (n k : ℕ) (whole late : List ℕ) → whole ≡ slot16_octets s (suc n) ++ late
     → length (slot16_octets s n) ≡ k → length (slot16_octets s (suc n)) ≡ suc k → is_slot16 (place s n) ≡ true
     → first_at (alignments_in multiframes whole) k ≡ ends_search s n
-first_by_then s n k whole late e before within is =
-    let z = slot16_octets s (suc n) in
-    let X = is_first (age_in 0 (alignments_in multiframes z) (length (slot16_octets s n))) in
-    let settled : age_in 0 (alignments_of multiframe_alignment (z ++ late)) k
-    ≡ age_in 0 (alignments_of multiframe_alignment z) k
-    = ages_are_settled multiframe_alignment multiframe_is_framing z late 0 k (omega arith) (omega (arith, within)) in
-    ap (λ (w : List ℕ). first_at (alignments_in multiframes w) k) e ∙ ap is_first settled
-    ∙ ap (λ (j : ℕ). first_at (alignments_in multiframes z) j) (sym before) ∙ ap (λ (b : Bool). b && X) (sym is)
+first_by_then s n k whole late e before within is = search (rules, ages_are_settled, multiframe_is_framing)
 
 -- the same octets of the trunk end searches, so the same octets of slot 16 are the first of alignments
 firsts_of_trunk : (s t : List ℕ) → ((m : ℕ) → place s m ≡ place t m)

@@ -29,13 +29,7 @@ pub are-alike : (config other : GatewayConfig) (mine saved : Gateway) (before ev
     → GatewayFits saved → AreAlike mine.circuits.channels.items saved.circuits.channels.items
 unfolding HasHistory
 are-alike config other mine saved before events ours theirs alike fits = record {
-  many = omega (
-    arith,
-    mine.circuits.thirty,
-    mine.circuits.channels.ok.0,
-    saved.circuits.thirty,
-    saved.circuits.channels.ok.0,
-  );
+  many = cc;
   each = λ i d e less.
       let last : i + 1 ≤ 30 = omega (arith, mine.circuits.thirty, mine.circuits.channels.ok.0) in
       let there : i < length saved.circuits.channels.items =

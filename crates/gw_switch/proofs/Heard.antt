@@ -1,13 +1,13 @@
 -- One octet more is heard.
 use Rattle.gw_switch.proofs.Common.{◌≡◌, ◌≢◌, ℕ, suc, ◌+◌, ◌-◌, ◌%◌, ◌<◌, ◌≤◌, List, length, [], ◌∷◌, ◌++◌, Option}
-use Rattle.gw_switch.proofs.Common.{None, get_or, refl, ◌∙◌, arith, length_push, Place, place, slot_of, Trunk, latest}
-use Rattle.gw_switch.proofs.Common.{speech, abcd, slot16_octets, since, nibble_turn, HasHeard, AwaitsTurn, HasTurn}
-use Rattle.gw_switch.proofs.Common.{HearsAt}
+use Rattle.gw_switch.proofs.Common.{common_steps, None, get_or, refl, ◌∙◌, arith, length_push, Place, place, slot_of}
+use Rattle.gw_switch.proofs.Common.{Trunk, latest, speech, abcd, slot16_octets, since, nibble_turn, HasHeard}
+use Rattle.gw_switch.proofs.Common.{AwaitsTurn, HasTurn, HearsAt}
 use Rattle.g704_align.specs.declared.alignment.Aligner.{Aligner}
 use Rattle.g704_align.specs.Aligner as aligner
-use Rattle.gw_switch.proofs.Rounds.{next_in_round, slot_at}
-use Rattle.gw_switch.proofs.HearingLemmas.{octet_mid, nibble_mid, slot16_octets_now}
-use Rattle.gw_switch.proofs.HearingLemmas.{remote_frame_stands, remote_multiframe_stands}
+use Rattle.gw_switch.proofs.Rounds.{slot_at}
+use Rattle.gw_switch.proofs.HearingLemmas.{octet_mid, nibble_mid, slot16_octets_now, remote_frame_stands}
+use Rattle.gw_switch.proofs.HearingLemmas.{remote_multiframe_stands}
 
 -- the aligner told the place of an octet, and the octet was heard there
 pub hears_next : (old new : Trunk) (after : Aligner) (p : Place) (s : List ℕ) (o : ℕ) → HasHeard old s
@@ -47,13 +47,4 @@ pub turn_over : (t : Trunk) (s : List ℕ) (n : ℕ) (octets nibbles : List (Opt
       signalling = record t.signalling { nibbles = nibbles };
       position = (t.position + 1) % 65536;
     }) s
-turn_over t s n octets nibbles h speaks signals = record {
-  position = next_in_round n (length s) _ (omega (arith, h.awaited)) h.position;
-  awaited = omega arith;
-  frames = h.frames;
-  multiframes = h.multiframes;
-  octets = speaks;
-  nibbles = signals;
-  remote_frame = h.remote_frame;
-  remote_multiframe = h.remote_multiframe;
-}
+turn_over t s n octets nibbles h speaks signals = grind (arith, common_steps)

@@ -1,49 +1,35 @@
 -- Slots and nibbles as octets, and back.
 use Rattle.gw_switch.proofs.Common.{◌≡◌, ◌++◌, ◌∷◌, [], ◌<◌, ◌≤◌, ◌+◌, ℕ, List, length, All, flat_map, take, refl}
-use Rattle.gw_switch.proofs.Common.{arith, sym, ap, subst, ◌∙◌, append_assoc, slice_set, slice_index_or, drop, add-one}
-use Rattle.gw_switch.proofs.Common.{drop-cons, Option, Some, None, IfSome, take_all, length-take-le, All-push, Trunk}
-use Rattle.gw_switch.proofs.Common.{saved_slot, saved_nibble, saved_slots, saved_nibbles, saved_alarms, IsNibble}
-use Rattle.gw_switch.proofs.Common.{saved_signalling, saved_trunk, two_octets, three-parts, read-three}
+use Rattle.gw_switch.proofs.Common.{rules, common_steps, arith, sym, ap, subst, ◌∙◌, slice_set, slice_index_or, drop}
+use Rattle.gw_switch.proofs.Common.{Option, Some, None, IfSome, take_all, length-take-le, All-push, Trunk, saved_slot}
+use Rattle.gw_switch.proofs.Common.{saved_nibble, saved_slots, saved_nibbles, saved_alarms, IsNibble, saved_signalling}
+use Rattle.gw_switch.proofs.Common.{saved_trunk, two_octets}
 use Rattle.std.proofs.lemmas.Grind.{take-set_at, take_at_read}
 use Rattle.gw_switch.specs.declared.trunk.signalling.Signalling.{Signalling}
 use Rattle.gw_switch.specs.declared.trunk.saving.RemoteAlarms.{RemoteAlarms}
 use Rattle.g704_align.specs.Saved.{saved_aligner}
 use Rattle.g704_cas.specs.Saved.{saved_mf_aligner}
-use Rattle.saved_octets.proofs.Items.{Tells, saved-push, next-item, all-read}
+use Rattle.saved_octets.proofs.Items.{Tells, next-item, all-read}
 
 -- the octets of a slot, and of what is behind it, tell both
 pub slot-tells : Tells (λ slot. Unit {0}) saved_slot
-slot-tells None None r s p q e = (refl, cc)
-slot-tells None (Some w) r s p q e = absurd cc
-slot-tells (Some v) None r s p q e = absurd cc
-slot-tells (Some v) (Some w) r s p q e = let octet : v ≡ w = cc in (ap (λ (n : ℕ). Some n) octet, cc)
+slot-tells h0 h1 r s p q e = search rules
 
 -- the octet of a nibble, and what is behind it, tell both
 pub nibble-tells : Tells IsNibble saved_nibble
-nibble-tells None None r s p q e = (refl, cc)
-nibble-tells None (Some w) r s p q e = let same : 16 ≡ w = cc in absurd (omega arith)
-nibble-tells (Some v) None r s p q e = let same : v ≡ 16 = cc in absurd (omega arith)
-nibble-tells (Some v) (Some w) r s p q e = let nibble : v ≡ w = cc in (ap (λ (n : ℕ). Some n) nibble, cc)
+nibble-tells h0 h1 r s p q e = search rules
 
 -- one item more of an array is read
 pub one-read : {A : Type 0} (octets : A → List ℕ) (xs : List A) (i : ℕ) (x : A) (all now left : List ℕ)
     → all ≡ flat_map octets (take i xs) ++ now → now ≡ octets x ++ left → i < length xs
     → all ≡ flat_map octets (take (i + 1) (slice_set xs i x)) ++ left
-one-read {A = A} octets xs i x all now left e f less =
-    let with_it : take (i + 1) (slice_set xs i x) ≡ take i xs ++ x ∷ [] =
-    take-set_at xs i (i + 1) x refl (omega arith) in
-    e ∙ ap (λ (os : List ℕ). flat_map octets (take i xs) ++ os) f
-    ∙ sym (append_assoc (flat_map octets (take i xs)) (octets x) left)
-    ∙ ap (λ (os : List ℕ). os ++ left)
-    (sym (saved-push octets (take i xs) x) ∙ ap (λ (ys : List A). flat_map octets ys) (sym with_it))
+one-read {A = A} octets xs i x all now left e f less = grind (arith, common_steps)
 
 -- what holds of the items that were read holds with one more
 pub one-more : {A : Type 0} (P : A → Type 0) (xs : List A) (i : ℕ) (x : A) → All P (take i xs) → P x → i < length xs
     → All P (take (i + 1) (slice_set xs i x))
 one-more {A = A} P xs i x each p less =
-    let with_it : take (i + 1) (slice_set xs i x) ≡ take i xs ++ x ∷ [] =
-    take-set_at xs i (i + 1) x refl (omega arith) in
-    subst (λ (ys : List A). All P ys) (sym with_it) (All-push P (take i xs) x each p)
+    grind (arith, take-set_at xs i (i + 1) x refl (omega arith), All-push P (take i xs) x each p)
 
 -- the first items and the next one
 pub push-next : {A : Type 0} (xs : List A) (i : ℕ) (x d : A) → x ≡ slice_index_or xs i d → i < length xs
@@ -55,28 +41,19 @@ push-next {A = A} xs i x d is less =
 pub next-saved : {A : Type 0} (octets : A → List ℕ) (saved : List A) (i : ℕ) (d : A) (now rest : List ℕ)
     → now ≡ flat_map octets (drop i saved) ++ rest → i < length saved
     → now ≡ octets (slice_index_or saved i d) ++ (flat_map octets (drop (i + 1) saved) ++ rest)
-next-saved {A = A} octets saved i d now rest e less =
-    let cut : drop i saved ≡ slice_index_or saved i d ∷ drop (i + 1) saved = rw add-one (drop-cons saved i d less) in
-    e ∙ ap (λ (xs : List A). flat_map octets xs ++ rest) cut
-    ∙ append_assoc (octets (slice_index_or saved i d)) (flat_map octets (drop (i + 1) saved)) rest
+next-saved {A = A} octets saved i d now rest e less = grind (arith, common_steps)
 
 -- with one item more the first ones are those that were saved
 pub same-front : {A : Type 0} (mine saved : List A) (i : ℕ) (x : A) → take i mine ≡ take i saved
     → x ≡ slice_index_or saved i x → i < length mine → i < length saved
     → take (i + 1) (slice_set mine i x) ≡ take (i + 1) saved
-same-front {A = A} mine saved i x front is less less' =
-    take-set_at mine i (i + 1) x refl less ∙ ap (λ (xs : List A). xs ++ x ∷ []) front
-    ∙ push-next saved i x x is less'
+same-front {A = A} mine saved i x front is less less' = grind (arith, common_steps)
 
 -- one item more is saved
 pub one-saved : {A : Type 0} (octets : A → List ℕ) (xs : List A) (i : ℕ) (x d : A) (old now new : List ℕ)
     → now ≡ old ++ flat_map octets (take i xs) → new ≡ now ++ octets x → x ≡ slice_index_or xs i d → i < length xs
     → new ≡ old ++ flat_map octets (take (i + 1) xs)
-one-saved {A = A} octets xs i x d old now new e f is less =
-    let saved = flat_map octets (take i xs) in
-    f ∙ ap (λ (os : List ℕ). os ++ octets x) e ∙ append_assoc old saved (octets x)
-    ∙ ap (λ (os : List ℕ). old ++ os) (sym (saved-push octets (take i xs) x))
-    ∙ ap (λ (ys : List A). old ++ flat_map octets ys) (push-next xs i x d is less)
+one-saved {A = A} octets xs i x d old now new e f is less = grind (arith, common_steps)
 
 -- what holds of the items that were saved holds with one more
 pub one-fits : {A : Type 0} (P : A → Type 0) (xs : List A) (i : ℕ) (x d : A) → All P (take i xs)
@@ -107,52 +84,26 @@ pub signalling-octets : (s : Signalling) (all rest : List ℕ) → all ≡ saved
     → all ≡ saved_mf_aligner s.multiframe
     ++ (saved_nibbles s.nibbles ++ (saved_alarms s.remote_frame s.remote_multiframe ++ rest))
 unfolding saved_signalling
-signalling-octets s all rest e =
-    e ∙ three-parts (saved_mf_aligner s.multiframe) (saved_nibbles s.nibbles)
-    (saved_alarms s.remote_frame s.remote_multiframe) rest
+signalling-octets s all rest e = grind (arith, common_steps)
 
 -- signalling by its parts
 pub same-signalling : (one other : Signalling) (alarms : RemoteAlarms) → Some one.multiframe ≡ Some other.multiframe
     → one.nibbles ≡ other.nibbles
     → Some alarms ≡ Some (record { frame = other.remote_frame; multiframe = other.remote_multiframe })
     → one.remote_frame ≡ alarms.frame → one.remote_multiframe ≡ alarms.multiframe → one ≡ other
-same-signalling one other alarms multiframe nibbles told frame multi =
-    let both : alarms ≡ record { frame = other.remote_frame; multiframe = other.remote_multiframe } = cc told in
-    let first : one.remote_frame ≡ other.remote_frame = frame ∙ ap (λ (a : RemoteAlarms). a.frame) both in
-    let second : one.remote_multiframe ≡ other.remote_multiframe = multi
-    ∙ ap (λ (a : RemoteAlarms). a.multiframe) both in
-    let aligner : one.multiframe ≡ other.multiframe = cc multiframe in
-    λ i. record {
-      multiframe = aligner i;
-      nibbles = nibbles i;
-      remote_frame = first i;
-      remote_multiframe = second i;
-    }
+same-signalling one other alarms multiframe nibbles told frame multi = grind (arith, common_steps)
 
 -- the octets of a trunk, and what is behind them
 pub trunk-octets : (t : Trunk) (all rest : List ℕ) → all ≡ saved_trunk t ++ rest
     → all ≡ saved_aligner t.aligner
     ++ (two_octets t.position ++ (saved_slots t.octets ++ (saved_signalling t.signalling ++ rest)))
 unfolding saved_trunk
-trunk-octets t all rest e =
-    let tail = saved_slots t.octets ++ (saved_signalling t.signalling ++ rest) in
-    e
-    ∙ three-parts (saved_aligner t.aligner ++ two_octets t.position) (saved_slots t.octets)
-    (saved_signalling t.signalling) rest
-    ∙ append_assoc (saved_aligner t.aligner) (two_octets t.position) tail
+trunk-octets t all rest e = grind (arith, common_steps)
 
 -- a trunk by its parts
 pub same-trunk : (one other : Trunk) → Some one.aligner ≡ Some other.aligner → Some one.position ≡ Some other.position
     → one.octets ≡ other.octets → one.signalling ≡ other.signalling → one ≡ other
-same-trunk one other aligner position octets signalling =
-    let aligned : one.aligner ≡ other.aligner = cc aligner in
-    let counted : one.position ≡ other.position = cc position in
-    λ i. record {
-      aligner = aligned i;
-      octets = octets i;
-      signalling = signalling i;
-      position = counted i;
-    }
+same-trunk one other aligner position octets signalling = grind (arith, common_steps)
 
 -- the parts of a trunk are read one after the other
 pub trunk-read : (t : Trunk) (all one two three rest : List ℕ) → all ≡ saved_aligner t.aligner ++ one
@@ -161,8 +112,4 @@ pub trunk-read : (t : Trunk) (all one two three rest : List ℕ) → all ≡ sav
     → IfSome result (λ done. all ≡ saved_trunk t ++ rest)
 unfolding saved_trunk
 trunk-read t all one two three rest a p o None s = tt
-trunk-read t all one two three rest a p o (Some done) s =
-    read-three (saved_aligner t.aligner ++ two_octets t.position) (saved_slots t.octets) (saved_signalling t.signalling)
-    all two three rest
-    (a ∙ ap (λ (os : List ℕ). saved_aligner t.aligner ++ os) p
-    ∙ sym (append_assoc (saved_aligner t.aligner) (two_octets t.position) two)) o s
+trunk-read t all one two three rest a p o (Some done) s = grind (arith, common_steps)

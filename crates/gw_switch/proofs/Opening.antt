@@ -1,5 +1,5 @@
 -- Circuits that are opened one after another.
-use Rattle.gw_switch.proofs.Common.{◌≡◌, ◌<◌, ◌+◌, ℕ, List, [], ◌∷◌, ◌++◌, length, slice_index_or, inl, inr, arith}
+use Rattle.gw_switch.proofs.Common.{◌≡◌, ◌<◌, ◌+◌, ℕ, List, [], ◌∷◌, ◌++◌, length, slice_index_or, rules}
 use Rattle.gw_switch.proofs.Common.{get_or-append_seam, cases_eq, get_or_append_left, Law, CircuitConfig, BoxedCircuit}
 use Rattle.gw_circuit.specs.Standing.{HasHistory}
 
@@ -12,8 +12,5 @@ pub one-more-open : (items : List BoxedCircuit) (configs : List CircuitConfig) (
     → HasHistory new.circuit law config []
     → (i : ℕ) (d : BoxedCircuit) (e : CircuitConfig) → i < n + 1
     → HasHistory (slice_index_or (items ++ new ∷ []) i d).circuit law (slice_index_or configs i e) []
-one-more-open items configs law new config n many is before now i d e h = elim (cases_eq i n) [
-  | inl same ↦ rw (same, is e, ← many, get_or-append_seam items new [] d) now
-  | inr other ↦ rw (get_or_append_left items (new ∷ []) d i (omega (arith, h, other, many)))
-      (before i d e (omega (arith, h, other)))
-]
+one-more-open items configs law new config n many is before now i d e h =
+    search (rules, cases_eq, get_or-append_seam, get_or_append_left)

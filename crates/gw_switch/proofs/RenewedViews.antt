@@ -55,11 +55,7 @@ seen-next old new events after last n seen (inr other) = rw other.1 (record {
 -- the first circuits have seen what happens to them
 seen-all : (old new : GatewayConfig) (events more : List Event) (n : ℕ) → AreRenewals old new n more
     → HaveSeen old new events (events ++ more) n
-seen-all old new events more zero are = rw (are, append-nil events) (record {
-  trunk = refl;
-  done = λ c low high. absurd (omega arith);
-  left = λ c low. refl;
-})
+seen-all old new events more zero are = grind (arith, append-nil events)
 seen-all old new events more (suc n) (before, last, are, is, joined) =
     rw (joined, ← append_assoc events before last)
     (seen-next old new events (events ++ before) last n (seen-all old new events before n are) is)

@@ -1,9 +1,9 @@
 -- A gateway whose circuits are configured one after the other.
 use Rattle.gw_switch.proofs.Common.{◌≡◌, ◌≢◌, ◌⊎◌, ℕ, zero, suc, ◌+◌, ◌-◌, ◌<◌, ◌≤◌, List, [], ◌∷◌, ◌++◌, inl, inr}
-use Rattle.gw_switch.proofs.Common.{refl, sym, ap, ◌∙◌, append_assoc, append-nil, arith, slice_index_or, length, Option}
-use Rattle.gw_switch.proofs.Common.{Some, None, SomeIff, get_or_default, cases_eq, fold-append, CircuitConfig}
-use Rattle.gw_switch.proofs.Common.{CircuitEvent, GatewayConfig, Gateway, Event, view, next_config, config_of}
-use Rattle.gw_switch.proofs.Common.{config_in, spare_config, IsRenewal, AreRenewals, HasTaken, RenewalsConfigure}
+use Rattle.gw_switch.proofs.Common.{rules, refl, sym, ◌∙◌, append_assoc, append-nil, arith, slice_index_or, length}
+use Rattle.gw_switch.proofs.Common.{Option, Some, SomeIff, get_or_default, fold-append, CircuitConfig, CircuitEvent}
+use Rattle.gw_switch.proofs.Common.{GatewayConfig, Gateway, Event, view, config_of, config_in, spare_config, IsRenewal}
+use Rattle.gw_switch.proofs.Common.{AreRenewals, HasTaken, RenewalsConfigure}
 use Rattle.gw_switch.proofs.Views.{view-given}
 
 -- the configuration of a circuit after a configuration that is its own, or another's
@@ -11,14 +11,7 @@ config-push : (first : GatewayConfig) (events : List Event) (c d : ℕ) (new : C
     → ((d ≡ c) × (config_in first (events ++ Event.Given d (CircuitEvent.Configure new) ∷ []) c ≡ new))
     ⊎ ((d ≢ c) × (config_in first (events ++ Event.Given d (CircuitEvent.Configure new) ∷ []) c
     ≡ config_in first events c))
-config-push first events c d new = elim (view-given c d (CircuitEvent.Configure new) events) [
-  | inl own ↦ inl (
-    own.0,
-    rw own.1
-        (fold-append next_config (config_of first c) (view c events) (CircuitEvent.Configure new ∷ [])),
-  )
-  | inr other ↦ inr (other.0, rw other.1 refl)
-]
+config-push first events c d new = search (rules, view-given, fold-append)
 
 -- circuits up to this one are configured by the new configuration, and those behind it as they were
 record AreUpTo (first : GatewayConfig) (events : List Event) (old new : GatewayConfig) (n : ℕ) : Type 0 where
@@ -35,23 +28,8 @@ up-next : (first : GatewayConfig) (events last : List Event) (old new : GatewayC
     → AreUpTo first events old new n → n < 30
     → IsRenewal (suc n) (config_of old (suc n)) (config_of new (suc n)) last
     → AreUpTo first (events ++ last) old new (suc n)
-up-next first events last old new n up less (inl same) = rw (same.1, append-nil events) (record {
-  done = λ c low high. elim (cases_eq (suc n) c) [
-    | inl e ↦ rw e at (up.left (suc n) (omega arith) (omega arith) ∙ same.0)
-    | inr ne ↦ up.done c low (omega (arith, ne))
-  ];
-  left = λ c low high. up.left c (omega arith) high;
-})
-up-next first events last old new n up less (inr other) = rw other.1 (record {
-  done = λ c low high. elim (config-push first events c (suc n) (config_of new (suc n))) [
-    | inl own ↦ own.1 ∙ ap (config_of new) own.0
-    | inr ne ↦ ne.1 ∙ up.done c low (omega (arith, ne.0))
-  ];
-  left = λ c low high. elim (config-push first events c (suc n) (config_of new (suc n))) [
-    | inl own ↦ absurd (omega (arith, own.0))
-    | inr ne ↦ ne.1 ∙ up.left c (omega arith) high
-  ];
-})
+up-next first events last old new n up less (inl same) = grind (arith, append-nil events)
+up-next first events last old new n up less (inr other) = search (rules, config-push)
 
 -- the first circuits are configured by the new configuration after what happens to them
 all-up : (first : GatewayConfig) (events more : List Event) (old new : GatewayConfig) (n : ℕ)
@@ -88,14 +66,9 @@ more-are old new n more last are is = (more, last, are, is, refl)
 -- the configuration of the circuit behind the first n
 pub config-behind : (config : GatewayConfig) (n : ℕ) (k : CircuitConfig) → n < length config.circuits
     → slice_index_or config.circuits n k ≡ config_of config (suc n)
-config-behind config n k less =
-    let number : suc n - 1 ≡ n = omega arith in
-    rw number (get_or_default config.circuits n k spare_config less)
+config-behind config n k less = grind (arith, get_or_default config.circuits n k spare_config less)
 
 -- the number of the circuit behind the first n
 pub some-number : (found : Option ℕ) (n number : ℕ) → SomeIff found ((1 ≤ n + 1) × (n + 1 ≤ 30)) (n + 1)
     → found ≡ Some number → n < 30 → number ≡ suc n
-some-number None n number is e less = absurd (cc e)
-some-number (Some k) n number is e less =
-    let same : k ≡ number = cc e in
-    omega (arith, is.1, same)
+some-number found n number is e less = search rules

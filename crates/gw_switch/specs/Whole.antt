@@ -1,7 +1,6 @@
 -- What a gateway replies to each event, after the events before it.
-use Rattle.std.specs.Prelude.{ℕ, ◌+◌, ◌-◌, ◌*◌, ◌/◌, ◌%◌, ◌==◌, ◌||◌, if◌then◌else◌, Bool}
-use Rattle.std.specs.Prelude.{List, [], ◌∷◌, ◌++◌, length, slice_index_or}
-use Rattle.std.specs.Prelude.{Option, Some, None, option_map, Result}
+use Rattle.std.specs.Prelude.{ℕ, ◌+◌, ◌-◌, ◌*◌, ◌/◌, ◌%◌, ◌==◌, ◌||◌, if◌then◌else◌, Bool, List, [], ◌∷◌}
+use Rattle.std.specs.Prelude.{◌++◌, length, slice_index_or, Option, Some, None, option_map, Result}
 use Rattle.std.proofs.Common.{refl, lit<, lit≤}
 use Rattle.g704_align.specs.Placing as frames
 use Rattle.g704_cas.specs.Placing as multiframes

@@ -1,8 +1,8 @@
 -- A playout with a history, one call later.
-use Rattle.std.proofs.Common.{◌≡◌, inl, inr, ℕ, zero, suc, ◌+◌, ◌-◌, ◌%◌, ◌^◌, ◌≤◌, ◌<◌, Bool, true, cond}
-use Rattle.std.proofs.Common.{List, [], ◌∷◌, ◌++◌, length, take, drop, min, max, Option, Some, None, is_some}
-use Rattle.std.proofs.Common.{slice_set, get_or, refl, sym, ap, subst, ◌∙◌, arith, length-set, length-drop}
-use Rattle.std.proofs.Common.{length-append, append_assoc}
+use Rattle.std.proofs.Common.{rules, ◌≡◌, ℕ, zero, suc, ◌+◌, ◌-◌, ◌^◌, ◌≤◌, ◌<◌, Bool, true, cond, List, [], ◌∷◌, ◌++◌}
+use Rattle.std.proofs.Common.{length, take, drop, min, max, Option, Some, None, is_some, slice_set, get_or, refl, sym}
+use Rattle.std.proofs.Common.{ap, subst, ◌∙◌, arith, length-set, length-drop, length-append, append_assoc}
+use Rattle.std.proofs.lemmas.Grind.{common_steps}
 use Rattle.std.proofs.lemmas.Bool.{cases_lt}
 use Rattle.std.proofs.lemmas.List.{take-append-drop, length-take-le}
 use Rattle.std.proofs.lemmas.Option.{slice_get-get_or, slice_get_past}
@@ -14,7 +14,7 @@ use Rattle.satop_playout.specs.declared.playout.SatopPlayout.{SatopPlayout}
 use Rattle.satop_playout.specs.declared.slot.PacketSlot.{PacketSlot}
 use Rattle.satop_playout.specs.Calls.{PlayoutCall, Begins, Arrives, Plays}
 use Rattle.satop_playout.specs.Replacement.{fill_of}
-use Rattle.satop_playout.specs.Plays.{PlacedPacket, PlayoutState, at_first, packet_at, number_after, ahead, refusal}
+use Rattle.satop_playout.specs.Plays.{PlacedPacket, PlayoutState, packet_at, number_after, ahead, refusal}
 use Rattle.satop_playout.specs.Plays.{after_beginning, after_play, due_now, octets_or_fill, octets_now, filled_for}
 use Rattle.satop_playout.specs.Plays.{stream, is_there, play_octets}
 use Rattle.satop_playout.specs.Standing.{Wraps, packet_in, packet_from, packet_of, IsNext, Represents, HasHistory}
@@ -28,9 +28,7 @@ pub at_own : (playout : SatopPlayout) (calls : List PlayoutCall) (P : Settings �
     → (HasHistory playout playout.settings calls → P playout.settings) → (settings : Settings)
     → HasHistory playout settings calls → P settings
 unfolding HasHistory
-at_own playout calls P own settings k =
-    subst P k.settings_are (own (subst (λ (t : Settings). Represents playout t (stream t calls))
-    (sym k.settings_are) k))
+at_own playout calls P own settings k = grind (arith, common_steps)
 
 -- .. and of its state
 pub keeps_own : (playout : SatopPlayout) (s : PlayoutState) (P : Settings → Type 0)
@@ -61,18 +59,12 @@ empty-push (first ∷ slots) slot none all size (suc p) =
 -- .. and so do those that were emptied one by one
 pub emptied-all : (slots : List PacketSlot) (i : ℕ) → length slots ≤ i
     → ((size p : ℕ) → p < i → packet_of size slots p ≡ None) → AllEmpty slots
-emptied-all slots i all before size p =
-    elim (cases_lt p i) as (λ _. packet_of size slots p ≡ None) [
-      | inl h ↦ before size p h
-      | inr h ↦ ap (packet_from size) (slice_get_past slots p (omega arith))
-    ]
+emptied-all slots i all before size p = search (rules, cases_lt, slice_get_past)
 
 -- slots that are all written anew are those that were written
 pub rewritten : (count : ℕ) (slots was : List PacketSlot) → length slots ≡ count
     → take count (slots ++ drop (length slots) was) ≡ slots
-rewritten count slots was size =
-    ap (λ (n : ℕ). take n (slots ++ drop (length slots) was)) (sym size)
-    ∙ take-append_seam slots (drop (length slots) was)
+rewritten count slots was size = cc (take-append_seam slots (drop (length slots) was))
 
 -- a playout whose stream begins with this number
 pub keeps-begun : (playout after : SatopPlayout) (s : PlayoutState) (sequence : ℕ)
@@ -82,36 +74,7 @@ pub keeps-begun : (playout after : SatopPlayout) (s : PlayoutState) (sequence : 
     → after.reach ≡ 0 → after.given ≡ playout.given → after.filled ≡ playout.filled
     → Represents after playout.settings (after_beginning s sequence)
 keeps-begun playout after s sequence k settings room empty head fits next reach given filled =
-    let start = k.start in
-    let number : sequence ≡ (sequence + 0) % 2 ^ 16 = omega arith in
-    record {
-      settings_are = settings;
-      room = room;
-      start = omega arith;
-      held = λ j p h wraps. empty playout.settings.size p;
-      none = λ place h. refl;
-      next_is = next ∙ ap Some number;
-      reach_is = reach;
-      recent = ap (λ (b : Buffer ℕ). b.items) given ∙ k.recent;
-      filled_is = filled ∙ k.filled_is;
-    }
-
--- a new playout
-pub keeps-new : (playout : SatopPlayout) → length playout.slots.items ≡ playout.settings.window
-    → AllEmpty playout.slots.items → playout.head < playout.settings.window → playout.next ≡ None
-    → playout.reach ≡ 0 → playout.given ≡ buffer [] 512 → playout.filled ≡ 0
-    → Represents playout playout.settings at_first
-keeps-new playout room empty start next reach given filled = record {
-  settings_are = refl;
-  room = room;
-  start = start;
-  held = λ j p h wraps. empty playout.settings.size p;
-  none = λ place h. refl;
-  next_is = (next, refl);
-  reach_is = reach;
-  recent = ap (λ (b : Buffer ℕ). b.items) given;
-  filled_is = filled;
-}
+    grind (arith, common_steps)
 
 -- a packet more leaves the number of the next one
 next-kept : (was next first : Option ℕ) (placed : List PlacedPacket) (now : ℕ) (q : PlacedPacket)
@@ -134,7 +97,6 @@ keeps-put playout after s place p slot octets k settings slots head next reach g
     let room = k.room in
     let start = k.start in
     let more = reach-push s.placed (placed_at (s.now + place) octets) s.now in
-    let was = k.reach_is in
     let far : suc (s.now + place) - s.now ≡ place + 1 = omega arith in
     record {
       settings_are = settings;
@@ -155,10 +117,7 @@ keeps-put playout after s place p slot octets k settings slots head next reach g
 -- the number of the next packet after a play
 next-moved : (next first : Option ℕ) (placed : List PlacedPacket) (now : ℕ) → IsNext next first placed now
     → IsNext (number_after next) first placed (now + 1)
-next-moved next None placed now is = (ap number_after is.0, is.1)
-next-moved next (Some first) placed now is =
-    let number : ((first + now) % 2 ^ 16 + 1) % 2 ^ 16 ≡ (first + (now + 1)) % 2 ^ 16 = omega arith in
-    ap number_after is ∙ ap Some number
+next-moved next first placed now is = search rules
 
 -- to keep the last of what was kept and more is to keep the last of all
 keep-more : (n : ℕ) (xs ys : List ℕ) → keep_last n (keep_last n xs ++ ys) ≡ keep_last n (xs ++ ys)
@@ -173,9 +132,7 @@ keep-more n xs ys =
     let sum = length-append xs ys in
     let rest = length-append kept ys in
     let cut : length (xs ++ ys) - n ≡ length before + (length (kept ++ ys) - n) = omega arith in
-    sym (ap (λ (m : ℕ). drop m (xs ++ ys)) cut
-    ∙ ap (λ (zs : List ℕ). drop (length before + (length (kept ++ ys) - n)) zs) whole
-    ∙ drop-append-add before (kept ++ ys) (length (kept ++ ys) - n))
+    sym (grind (arith, drop-append-add before (kept ++ ys) (length (kept ++ ys) - n)))
 
 -- a playout after a play
 pub keeps-play : (playout after : SatopPlayout) (s : PlayoutState) (slot : PacketSlot)
@@ -203,10 +160,7 @@ keeps-play playout after s slot k settings slots empty moved next reach given fi
       none = λ place h. k.none place (omega arith);
       next_is = rw next (next-moved playout.next s.first s.placed s.now k.next_is);
       reach_is = omega arith;
-      recent = ap (λ (b : Buffer ℕ). b.items) given
-          ∙ ap (λ (n : ℕ). keep_last n (playout.given.items ++ octets_now playout.settings s)) playout.memory.1
-          ∙ ap (λ (xs : List ℕ). keep_last 512 (xs ++ octets_now playout.settings s)) k.recent
-          ∙ keep-more 512 s.given (octets_now playout.settings s);
+      recent = grind (arith, keep-more 512 s.given (octets_now playout.settings s));
       filled_is = filled;
     }
 
@@ -218,11 +172,7 @@ pub stands-begun : (playout after : SatopPlayout) (settings : Settings) (calls :
     → after.filled ≡ playout.filled → HasHistory after settings (calls ++ Begins sequence ∷ [])
 unfolding HasHistory
 stands-begun playout after settings calls sequence k is room empty head fits next reach given filled =
-    at_own playout calls (λ (t : Settings). HasHistory after t (calls ++ Begins sequence ∷ []))
-    (λ own. subst (λ (s : PlayoutState). Represents after playout.settings s)
-    (sym (stream-push playout.settings calls (Begins sequence)))
-    (keeps-begun playout after (stream playout.settings calls) sequence own is room empty head fits next reach given
-    filled)) settings k
+    search (rules, at_own, stream-push, keeps-begun)
 
 -- .. and after a packet that is refused
 pub stands-refused : (playout : SatopPlayout) (settings : Settings) (calls : List PlayoutCall) (sequence : ℕ)
@@ -230,10 +180,7 @@ pub stands-refused : (playout : SatopPlayout) (settings : Settings) (calls : Lis
     → refusal settings (stream settings calls) sequence octets ≡ Some fault
     → HasHistory playout settings (calls ++ Arrives sequence octets ∷ [])
 unfolding HasHistory
-stands-refused playout settings calls sequence octets fault k why =
-    subst (λ (s : PlayoutState). Represents playout settings s)
-    (sym (stream-push settings calls (Arrives sequence octets)
-    ∙ after-refused settings (stream settings calls) sequence octets fault why)) k
+stands-refused playout settings calls sequence octets fault k why = search (rules, stream-push, after-refused)
 
 -- .. and after one that is accepted and put into its slot
 pub stands-put : (playout after : SatopPlayout) (settings : Settings) (calls : List PlayoutCall) (sequence : ℕ)
@@ -266,11 +213,7 @@ stands-put playout after settings calls sequence octets place p slot k told is s
 due-in : (playout : SatopPlayout) (s : PlayoutState) (slot : PacketSlot) → Represents playout playout.settings s
     → slot ≡ get_or playout.slots.items playout.head slot → packet_in playout.settings.size slot ≡ due_now s
 due-in playout s slot k is =
-    let room = k.room in
-    let start = k.start in
-    let now : s.now + 0 ≡ s.now = omega arith in
-    sym (slot-read playout.settings.size playout.slots.items playout.head slot is (omega arith))
-    ∙ k.held 0 playout.head (omega arith) (start, inl (omega arith)) ∙ ap (λ (n : ℕ). packet_at s.placed n) now
+    grind (arith, slot-read playout.settings.size playout.slots.items playout.head slot is (omega arith))
 
 -- the octets of a packet that is there, or those that replace it
 either-octets : (o : Option (List ℕ)) (there : Bool) (room taken given fill : List ℕ) → there ≡ is_some o
@@ -311,15 +254,7 @@ played-octets : (playout : SatopPlayout) (slot : PacketSlot) (there : Bool) (giv
     (s : PlayoutState)
     → Played playout slot there given filled → Represents playout playout.settings s
     → given ≡ octets_now playout.settings s
-played-octets playout slot there given filled s p k =
-    let due = due-in playout s slot k p.read in
-    either-octets (due_now s) there p.room p.taken given
-    (fill_of playout.settings.fill playout.settings.size s.given s.filled)
-    (played-there playout slot there given filled s p k)
-    (p.octets ∙ ap (λ (n : ℕ). octets_or_fill (packet_in n slot) p.room) p.size
-    ∙ ap (λ (o : Option (List ℕ)). octets_or_fill o p.room) due)
-    (p.replaced s.given s.filled k.recent k.filled_is
-    ∙ ap (λ (n : ℕ). cond there p.taken (fill_of playout.settings.fill n s.given s.filled)) (p.taken_size ∙ p.size))
+played-octets playout slot there given filled s p k = search (rules, due-in, either-octets, played-there)
 
 -- what a play answers
 pub there-answer : (playout : SatopPlayout) (settings : Settings) (calls : List PlayoutCall) (slot : PacketSlot)
@@ -362,7 +297,5 @@ stands-play playout after settings calls slot emptied there given filled p k is 
     (keeps-play playout after s emptied own is slots (empty playout.settings.size) moved next reach
     (kept ∙ ap (λ (xs : List ℕ). buffer (keep_last playout.given.capacity (playout.given.items ++ xs))
     playout.given.capacity) octets)
-    (full ∙ p.filled_is s.filled own.filled_is
-    ∙ ap (λ (n : ℕ). min (cond there 0 (s.filled + n)) 2048) (p.taken_size ∙ p.size)
-    ∙ ap (λ (n : ℕ). min n 2048) (either-filled (due_now s) there playout.settings.size s.filled here))))
+    (grind (arith, either-filled (due_now s) there playout.settings.size s.filled here))))
     settings k

@@ -1,8 +1,7 @@
 -- The order in which packets arrive does not matter to what plays give.
-use Rattle.std.proofs.Common.{◌≡◌, ℕ, zero, suc, ◌+◌, ◌^◌, ◌≤◌, ◌<◌, Bool, true, false, cond}
-use Rattle.std.proofs.Common.{List, [], ◌∷◌, ◌++◌, map, Option, Some, None, is_some, All, IsPermutation, ◌==◌}
-use Rattle.std.proofs.Common.{refl, sym, ap, subst, ◌∙◌, arith, append_assoc, append-nil}
-use Rattle.std.proofs.lemmas.Bool.{eqb-true}
+use Rattle.std.proofs.Common.{rules, ◌≡◌, ℕ, zero, suc, ◌+◌, ◌^◌, ◌≤◌, ◌<◌, Bool, true, false, cond, List, [], ◌∷◌}
+use Rattle.std.proofs.Common.{◌++◌, map, Option, Some, None, is_some, All, IsPermutation, ◌==◌, refl, sym, ap, subst}
+use Rattle.std.proofs.Common.{◌∙◌, arith, append_assoc, append-nil}
 use Rattle.std.proofs.lemmas.List.Sums.{fold-append}
 use Rattle.std.proofs.lemmas.List.Elements.{All-nil, All-cons, All-append, All-head, All-tail}
 use Rattle.std.proofs.lemmas.List.Sorted.{IsPermutation-map, IsPermutation-append_right, IsPermutation-sym}
@@ -11,9 +10,8 @@ use Rattle.satop_playout.specs.declared.Settings.{Settings}
 use Rattle.satop_playout.specs.Calls.{PlayoutCall, Begins, Arrives, Plays}
 use Rattle.satop_playout.specs.Replacement.{fill_of}
 use Rattle.satop_playout.specs.Plays.{PlacedPacket, PlayoutState, at_first, packet_at, ahead_of, ahead, refusal}
-use Rattle.satop_playout.specs.Plays.{after_arrival}
-use Rattle.satop_playout.specs.Plays.{after_beginning, after_play, after_call, octets_or_fill, filled_for, stream}
-use Rattle.satop_playout.specs.Plays.{arrival_answer, given_octets}
+use Rattle.satop_playout.specs.Plays.{after_arrival, after_beginning, after_play, after_call, octets_or_fill}
+use Rattle.satop_playout.specs.Plays.{filled_for, stream, arrival_answer, given_octets}
 use Rattle.satop_playout.specs.Laws.{plays_in, NoBeginning, arrivals_of, AllAccepted, OrderDoesNotMatter}
 use Rattle.satop_playout.proofs.Placing.{stream-push, packet_at-kept, packet_at-free, packet_at-apart, placed_at}
 use Rattle.satop_playout.proofs.Placing.{with_packet, after-accepted, after-refused, not-refused}
@@ -64,11 +62,7 @@ found-kept placed (p ∷ among) q all =
 found-push : (placed : List PlacedPacket) (place : ℕ) (octets : List ℕ) → AllFound placed
     → packet_at placed place ≡ None
     → AllFound (placed ++ placed_at place octets ∷ [])
-found-push placed place octets all free =
-    let q = placed_at place octets in
-    All-append (λ p. IsFound (placed ++ q ∷ []) p) placed (q ∷ []) (found-kept placed placed q all)
-    (All-cons (λ p. IsFound (placed ++ q ∷ []) p) q [] (packet_at-free placed place octets free)
-    (All-nil (λ p. IsFound (placed ++ q ∷ []) p)))
+found-push placed place octets all free = search (rules, All-append, found-kept, All-cons, packet_at-free, All-nil)
 
 -- after any calls
 found-after : (settings : Settings) (s : PlayoutState) (calls : List PlayoutCall) → AllFound s.placed
@@ -94,9 +88,7 @@ found-first : (placed : List PlacedPacket) (p : PlacedPacket) (k : ℕ) (rest : 
     (b : Bool)
     → (p.place == k) ≡ b → IsFound placed p → (rest ≡ Some octets → packet_at placed k ≡ Some octets)
     → cond b (Some p.octets) rest ≡ Some octets → packet_at placed k ≡ Some octets
-found-first placed p k rest octets true at found others e =
-    ap (λ (n : ℕ). packet_at placed n) (sym (eqb-true p.place k at)) ∙ found ∙ e
-found-first placed p k rest octets false at found others e = others e
+found-first placed p k rest octets b at found others e = search rules
 
 -- a packet that is the one of its place among some is the one among others of the same packets
 found-among : (placed among : List PlacedPacket) (k : ℕ) (octets : List ℕ) → All (λ p. IsFound placed p) among
@@ -109,9 +101,7 @@ found-among placed (p ∷ among) k octets all e =
 -- two packets that may be there are the same if each is the other wherever it is there
 same-option : (a b : Option (List ℕ)) → ((o : List ℕ) → a ≡ Some o → b ≡ Some o)
     → ((o : List ℕ) → b ≡ Some o → a ≡ Some o) → a ≡ b
-same-option None None there back = refl
-same-option None (Some o) there back = back o refl
-same-option (Some o) b there back = sym (there o refl)
+same-option a b there back = search rules
 
 -- the same packets in any order have the same one at each place
 same-packets : (one other : List PlacedPacket) (k : ℕ) → IsPermutation one other → AllFound one → AllFound other
@@ -134,14 +124,7 @@ ran settings placed now given filled (suc count) =
 ran-same : (settings : Settings) (one other : List PlacedPacket) (now : ℕ) (given : List ℕ) (filled count : ℕ)
     → ((k : ℕ) → packet_at one k ≡ packet_at other k)
     → ran settings one now given filled count ≡ ran settings other now given filled count
-ran-same settings one other now given filled zero same = refl
-ran-same settings one other now given filled (suc count) same =
-    ap (λ (o : Option (List ℕ)). ran settings one (now + 1)
-    (given ++ octets_or_fill o (fill_of settings.fill settings.size given filled))
-    (filled_for o settings.size filled) count) (same now)
-    ∙ ran-same settings one other (now + 1)
-    (given ++ octets_or_fill (packet_at other now) (fill_of settings.fill settings.size given filled))
-    (filled_for (packet_at other now) settings.size filled) count same
+ran-same settings one other now given filled count same = search rules
 
 module _ (settings : Settings) where
   either-past : (b : Bool) (s : PlayoutState) (place k : ℕ) (octets : List ℕ) → k < place
@@ -212,7 +195,6 @@ placed-by_number settings first now plays s (Arrives sequence octets ∷ calls) 
     let begun : is_some first ≡ true = ap is_some (sym f) ∙ a.begun in
     let is : ahead s sequence ≡ ahead_of first (now + plays) sequence =
     ap (λ (o : Option ℕ). ahead_of o s.now sequence) f ∙ ap (λ (n : ℕ). ahead_of first n sequence) at in
-    let on_time = a.on_time in
     let fixed = number-fixed first now plays sequence begun (omega arith) (omega arith) in
     let place : s.now + ahead s sequence ≡ now + ahead_of first now sequence = omega arith in
     let same : after_arrival settings s sequence octets

@@ -1,7 +1,6 @@
 -- The packet of a place, how far the accepted ones reach, and the state one call later.
-use Rattle.std.proofs.Common.{◌≡◌, ◌≢◌, ℕ, suc, ◌+◌, ◌-◌, Bool, true, false, cond}
-use Rattle.std.proofs.Common.{List, [], ◌∷◌, ◌++◌, Option, Some, None, is_some, max, ◌==◌}
-use Rattle.std.proofs.Common.{refl, ap, arith, eq-eqb, Ok, Err}
+use Rattle.std.proofs.Common.{◌≡◌, ◌≢◌, ℕ, suc, ◌+◌, ◌-◌, Bool, true, false, cond, List, [], ◌∷◌, ◌++◌, Option, Some}
+use Rattle.std.proofs.Common.{None, is_some, max, ◌==◌, refl, ap, arith, eq-eqb, Ok, Err}
 use Rattle.std.proofs.lemmas.Bool.{ne_eqb}
 use Rattle.std.proofs.lemmas.List.Sums.{fold_push}
 use Rattle.satop_playout.specs.declared.ArrivalFault.{ArrivalFault}
@@ -9,8 +8,7 @@ use Rattle.satop_playout.specs.declared.ArrivalFault.TheVariants.{OtherSize, Not
 use Rattle.satop_playout.specs.declared.Settings.{Settings}
 use Rattle.satop_playout.specs.Calls.{PlayoutCall, first_fault, answer_for}
 use Rattle.satop_playout.specs.Plays.{PlacedPacket, PlayoutState, at_first, packet_at, reach_from, ahead, refusal}
-use Rattle.satop_playout.specs.Plays.{after_arrival}
-use Rattle.satop_playout.specs.Plays.{after_call, stream}
+use Rattle.satop_playout.specs.Plays.{after_arrival, after_call, stream}
 
 -- one call more
 pub stream-push : (settings : Settings) (calls : List PlayoutCall) (call : PlayoutCall)
@@ -72,16 +70,6 @@ reach-next (q ∷ placed) place = let rest = reach-next placed place in omega ar
 abbrev pub told : Bool → Bool → Bool → Bool → Bool → Option ArrivalFault
 told o n l t r = first_fault
     ((o, OtherSize) ∷ (n, NotBegun) ∷ (l, Late) ∷ (t, TooFar) ∷ (r, Repeat) ∷ [])
-
--- with no fault there is no cause
-pub none-told : (o n l t r : Bool) → told o n l t r ≡ None
-    → (o ≡ false) × (n ≡ false) × (l ≡ false) × (t ≡ false) × (r ≡ false)
-none-told true n l t r e = cc
-none-told false true l t r e = cc
-none-told false false true t r e = cc
-none-told false false false true r e = cc
-none-told false false false false true e = cc
-none-told false false false false false e = (refl, refl, refl, refl, refl)
 
 abbrev pub with_packet : PlayoutState → ℕ → List ℕ → PlayoutState
 with_packet s place octets = record s { placed = s.placed ++ placed_at place octets ∷ [] }

@@ -1,5 +1,5 @@
 -- Octets repeated from a multiframe before, as those of the last multiframe in turn.
-use Rattle.std.proofs.Common.{◌≡◌, ℕ, zero, suc, ◌+◌, ◌-◌, ◌%◌, ◌≤◌, ◌<◌, List, [], ◌∷◌, ◌++◌, length, drop}
+use Rattle.std.proofs.Common.{rules, ◌≡◌, ℕ, zero, suc, ◌+◌, ◌-◌, ◌%◌, ◌≤◌, ◌<◌, List, [], ◌∷◌, ◌++◌, length, drop}
 use Rattle.std.proofs.Common.{slice_index, slice_set, drop-cons, length-drop, refl, sym, ap, ◌∙◌, arith, inl, inr}
 use Rattle.std.proofs.Common.{append_assoc, append-nil, length-append}
 use Rattle.std.proofs.Math.Seq.{set-append_seam}
@@ -41,10 +41,7 @@ pub again-turns : (count k : ℕ) (given : List ℕ) → 512 ≤ length given �
     → slice_index (given ++ again count given) (length given - 512 + k)
     ≡ slice_index given (length given - 512 + k % 512)
 unfolding again
-again-turns zero k given many near =
-    let turn : length given - 512 + k ≡ length given - 512 + k % 512 = omega arith in
-    ap (λ (xs : List ℕ). slice_index xs (length given - 512 + k)) (append-nil given)
-    ∙ ap (λ (n : ℕ). slice_index given n) turn
+again-turns zero k given many near = grind (arith, append-nil given)
 again-turns (suc count) k given many near =
     let all = given ++ again count given in
     let last = next_again all in
@@ -69,12 +66,7 @@ again-turns (suc count) k given many near =
 -- .. so the next one is the octet of its turn among the last 512
 pub again-next : (count : ℕ) (given : List ℕ) → 512 ≤ length given
     → next_again (given ++ again count given) ≡ slice_index (keep_last 512 given) (count % 512)
-again-next count given many =
-    let size = given-size count given in
-    let back : length (given ++ again count given) - 512 ≡ length given - 512 + count = omega arith in
-    ap (λ (n : ℕ). slice_index (given ++ again count given) n) back
-    ∙ again-turns count count given many (omega arith)
-    ∙ sym (get_or-drop (length given - 512) given (count % 512) 0)
+again-next count given many = search (rules, given-size, again-turns, get_or-drop)
 
 -- if the last 512 octets are 512, as many were given
 pub last-many : (given : List ℕ) (count : ℕ) → count ≡ length (keep_last 512 given) → 512 ≤ count → 512 ≤ length given
@@ -85,13 +77,11 @@ pub repeated-more : (i : ℕ) (given room was : List ℕ) (octet : ℕ) → i < 
     → room ≡ again i given ++ drop i was → octet ≡ next_again (given ++ again i given)
     → slice_set room i octet ≡ again (i + 1) given ++ drop (i + 1) was
 repeated-more i given room was octet within is e =
-    let size = length-again i given in
-    let next : suc i ≡ i + 1 = omega arith in
-    ap (λ (xs : List ℕ). slice_set xs i octet) is
-    ∙ ap (λ (xs : List ℕ). slice_set (again i given ++ xs) i octet) (drop-cons was i 0 within)
-    ∙ ap (λ (n : ℕ). slice_set (again i given ++ slice_index was i ∷ drop (suc i) was) n octet) (sym size)
-    ∙ set-append_seam (again i given) (slice_index was i) (drop (suc i) was) octet
-    ∙ ap (λ (o : ℕ). again i given ++ o ∷ drop (suc i) was) e
-    ∙ sym (append_assoc (again i given) (next_again (given ++ again i given) ∷ []) (drop (suc i) was))
-    ∙ ap (λ (xs : List ℕ). xs ++ drop (suc i) was) (sym (again-push i given))
-    ∙ ap (λ (n : ℕ). again n given ++ drop n was) next
+    grind (
+      arith,
+      length-again i given,
+      drop-cons was i 0 within,
+      set-append_seam (again i given) (slice_index was i) (drop (suc i) was) octet,
+      append_assoc (again i given) (next_again (given ++ again i given) ∷ []) (drop (suc i) was),
+      again-push i given,
+    )

@@ -1,6 +1,6 @@
 -- The slots of a ring, and the packets in them.
-use Rattle.std.proofs.Common.{◌≡◌, ◌≢◌, inl, inr, ℕ, ◌+◌, ◌<◌, List, [], ◌∷◌, ◌++◌, length}
-use Rattle.std.proofs.Common.{Some, None, slice_set, sym, ap, ◌∙◌, arith}
+use Rattle.std.proofs.Common.{rules, ◌≡◌, ◌≢◌, inl, inr, ℕ, ◌+◌, ◌<◌, List, [], ◌∷◌, ◌++◌, length, Some, None}
+use Rattle.std.proofs.Common.{slice_set, sym, ap, ◌∙◌, arith}
 use Rattle.std.proofs.lemmas.Bool.{cases_eq, cases_lt}
 use Rattle.circular_buffer.proofs.Places.{slice_get-set_same, slice_get-set_other}
 use Rattle.satop_playout.specs.declared.slot.PacketSlot.{PacketSlot}
@@ -10,32 +10,20 @@ use Rattle.satop_playout.proofs.Placing.{placed_at, packet_at-free, packet_at-ap
 
 -- a place has one slot
 pub wraps-same : (start k n p q : ℕ) → Wraps start k n p → Wraps start k n q → p ≡ q
-wraps-same start k n p q (a, inl f) (b, inl g) = omega arith
-wraps-same start k n p q (a, inl f) (b, inr g) = omega arith
-wraps-same start k n p q (a, inr f) (b, inl g) = omega arith
-wraps-same start k n p q (a, inr f) (b, inr g) = omega arith
+wraps-same start k n p q h5 h6 = search rules
 
 -- .. and a slot has one place
 pub wraps-apart : (start k j n p q : ℕ) → k < n → j < n → k ≢ j → Wraps start k n p → Wraps start j n q → q ≢ p
-wraps-apart start k j n p q h l other (a, inl f) (b, inl g) e = other (omega arith)
-wraps-apart start k j n p q h l other (a, inl f) (b, inr g) e = omega arith
-wraps-apart start k j n p q h l other (a, inr f) (b, inl g) e = omega arith
-wraps-apart start k j n p q h l other (a, inr f) (b, inr g) e = other (omega arith)
+wraps-apart start k j n p q h l other h9 h10 e = search rules
 
 -- a place behind the next slot is one more behind this one
 pub wraps-next : (start next k n q : ℕ) → start < n → k + 1 < n → Wraps start 1 n next → Wraps next k n q
     → Wraps start (k + 1) n q
-wraps-next start next k n q s h (a, inl f) (b, inl g) = (b, inl (omega arith))
-wraps-next start next k n q s h (a, inl f) (b, inr g) = (b, inr (omega arith))
-wraps-next start next k n q s h (a, inr f) (b, inl g) = (b, inr (omega arith))
-wraps-next start next k n q s h (a, inr f) (b, inr g) = absurd (omega arith)
+wraps-next start next k n q s h h7 h8 = search rules
 
 -- the last place behind the next slot is this slot
 pub wraps-last : (start next k n q : ℕ) → start < n → k + 1 ≡ n → Wraps start 1 n next → Wraps next k n q → q ≡ start
-wraps-last start next k n q s h (a, inl f) (b, inl g) = omega arith
-wraps-last start next k n q s h (a, inl f) (b, inr g) = omega arith
-wraps-last start next k n q s h (a, inr f) (b, inl g) = omega arith
-wraps-last start next k n q s h (a, inr f) (b, inr g) = omega arith
+wraps-last start next k n q s h h7 h8 = search rules
 
 -- the packet in a slot that was written
 pub packet-written : (size : ℕ) (slots : List PacketSlot) (p : ℕ) (slot : PacketSlot) → p < length slots

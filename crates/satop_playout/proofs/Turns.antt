@@ -1,27 +1,22 @@
 -- An accepted packet is played in its turn, and its number is not accepted again.
-use Rattle.std.proofs.Common.{◌≡◌, inl, inr, ℕ, ◌+◌, ◌^◌, ◌≤◌, ◌<◌, Bool, true, false, cond, not, List, [], ◌∷◌, ◌++◌}
-use Rattle.std.proofs.Common.{length, Option, Some, None, is_some, fold, nat_le, ◌==◌, refl, ap, ◌∙◌, arith}
-use Rattle.std.proofs.lemmas.Bool.{cases_lt, leb-false}
-use Rattle.std.proofs.lemmas.List.Sums.{fold-append}
+use Rattle.std.proofs.Common.{rules, ◌≡◌, inl, inr, ℕ, ◌+◌, ◌^◌, ◌≤◌, ◌<◌, Bool, true, false, cond, List, [], ◌∷◌, ◌++◌}
+use Rattle.std.proofs.Common.{Option, Some, None, is_some, fold, refl, ap, ◌∙◌, arith}
+use Rattle.std.proofs.lemmas.Grind.{common_steps}
+use Rattle.std.proofs.lemmas.Bool.{cases_lt}
 use Rattle.satop_playout.specs.declared.Settings.{Settings}
 use Rattle.satop_playout.specs.Calls.{PlayoutCall, Begins, Arrives, Plays}
-use Rattle.satop_playout.specs.Replacement.{fill_of}
-use Rattle.satop_playout.specs.Plays.{PlayoutState, at_first, packet_at, ahead_of, ahead, refusal, after_arrival}
-use Rattle.satop_playout.specs.Plays.{after_play, after_call, octets_or_fill, stream, arrival_answer, is_there}
-use Rattle.satop_playout.specs.Plays.{play_octets, given_octets}
+use Rattle.satop_playout.specs.Plays.{PlayoutState, packet_at, ahead_of, ahead, refusal, after_arrival, after_play}
+use Rattle.satop_playout.specs.Plays.{after_call, stream, arrival_answer, is_there, play_octets, given_octets}
 use Rattle.satop_playout.specs.Laws.{plays_in, NoBeginning, AcceptedIsPlayed, NothingIsAcceptedTwice}
 use Rattle.satop_playout.specs.Laws.{RefusalsChangeNothing, NothingIsGiven, BeginningsGiveNothing, ArrivalsGiveNothing}
 use Rattle.satop_playout.specs.Laws.{PlaysGiveTheirOctets}
-use Rattle.satop_playout.proofs.Placing.{stream-push, packet_at-kept, packet_at-free, placed_at, none-told, with_packet}
-use Rattle.satop_playout.proofs.Placing.{after-accepted, after-refused, not-refused, refused-by}
+use Rattle.satop_playout.proofs.Placing.{stream-push, packet_at-kept, packet_at-free, placed_at, with_packet}
+use Rattle.satop_playout.proofs.Placing.{after-refused, not-refused, refused-by}
 
 -- the law of refused packets
 pub refusals_change_nothing : RefusalsChangeNothing
 unfolding arrival_answer
-refusals_change_nothing settings calls sequence octets fault e =
-    let s = stream settings calls in
-    stream-push settings calls (Arrives sequence octets)
-    ∙ after-refused settings s sequence octets fault (refused-by (refusal settings s sequence octets) fault e)
+refusals_change_nothing settings calls sequence octets fault e = search (rules, stream-push, after-refused, refused-by)
 
 -- what an accepted packet is
 pub record Accepted (settings : Settings) (s : PlayoutState) (sequence : ℕ) (octets : List ℕ) : Type 0 where
@@ -30,29 +25,10 @@ pub record Accepted (settings : Settings) (s : PlayoutState) (sequence : ℕ) (o
   pub near : ahead s sequence < settings.window
   pub free : packet_at s.placed (s.now + ahead s sequence) ≡ None
 
--- a test that is not met is met otherwise
-from-not : (b : Bool) → not b ≡ false → b ≡ true
-from-not true e = refl
-from-not false e = cc
-
--- a packet that is not there is none
-none-from : (o : Option (List ℕ)) → is_some o ≡ false → o ≡ None
-none-from None e = refl
-none-from (Some v) e = cc
-
 -- a packet that nothing refuses is accepted
 pub accepted : (settings : Settings) (s : PlayoutState) (sequence : ℕ) (octets : List ℕ)
     → refusal settings s sequence octets ≡ None → Accepted settings s sequence octets
-accepted settings s sequence octets e =
-    let t = none-told (not (length octets == settings.size)) (not (is_some s.first))
-    (nat_le (2 ^ 15) (ahead s sequence)) (nat_le settings.window (ahead s sequence))
-    (is_some (packet_at s.placed (s.now + ahead s sequence))) e in
-    record {
-      begun = from-not (is_some s.first) t.1;
-      on_time = leb-false (2 ^ 15) (ahead s sequence) t.2;
-      near = leb-false settings.window (ahead s sequence) t.3;
-      free = none-from (packet_at s.placed (s.now + ahead s sequence)) t.4;
-    }
+accepted settings s sequence octets e = grind (arith, common_steps)
 
 module _ (settings : Settings) where
   abbrev pub after : PlayoutState → List PlayoutCall → PlayoutState
@@ -90,12 +66,8 @@ module _ (settings : Settings) where
   now-after s [] none = omega arith
   now-after s (Begins sequence ∷ calls) none = absurd none
   now-after s (Arrives sequence octets ∷ calls) none =
-      let same = now-arrival s sequence octets in
-      let rest = now-after (after_arrival settings s sequence octets) calls none in
-      omega arith
-  now-after s (Plays ∷ calls) none =
-      let rest = now-after (after_play settings s) calls none in
-      omega arith
+      cc (now-arrival s sequence octets, now-after (after_arrival settings s sequence octets) calls none)
+  now-after s (Plays ∷ calls) none = grind (arith, now-after (after_play settings s) calls none)
 
   -- .. and its first number stays
   pub first-after : (s : PlayoutState) (calls : List PlayoutCall) → NoBeginning calls → (after s calls).first ≡ s.first
@@ -127,9 +99,7 @@ module _ (settings : Settings) where
 
     pub whole : stream settings (before ++ Arrives sequence octets ∷ later) ≡ after begun later
     unfolding stream
-    whole =
-        fold-append (after_call settings) at_first before (Arrives sequence octets ∷ later)
-        ∙ ap (λ (s : PlayoutState). after s later) (after-accepted settings start sequence octets is)
+    whole = grind (arith, common_steps)
 
     pub place-later : packet_at (stream settings (before ++ Arrives sequence octets ∷ later)).placed
         (start.now + ahead start sequence) ≡ Some octets
@@ -149,15 +119,7 @@ module _ (settings : Settings) where
 pub accepted_is_played : AcceptedIsPlayed
 unfolding arrival_answer is_there play_octets
 accepted_is_played settings before later sequence octets answer none turn =
-    let s = stream settings before in
-    let t = stream settings (before ++ Arrives sequence octets ∷ later) in
-    let is = not-refused (refusal settings s sequence octets) answer in
-    let now = now-later settings before later sequence octets is none in
-    let at : t.now ≡ s.now + ahead s sequence = omega arith in
-    let due : packet_at t.placed t.now ≡ Some octets =
-    ap (λ (n : ℕ). packet_at t.placed n) at ∙ place-later settings before later sequence octets is none in
-    let fill = fill_of settings.fill settings.size t.given t.filled in
-    (ap is_some due, ap (λ (o : Option (List ℕ)). octets_or_fill o fill) due)
+    search (rules, not-refused, now-later, place-later)
 
 -- a number this many places ahead is the rest of them ahead after some plays
 ahead-later : (first : Option ℕ) (now plays sequence : ℕ) → is_some first ≡ true
@@ -220,10 +182,7 @@ beginnings_give_nothing settings calls sequence =
 -- .. nor does a packet that arrives
 pub arrivals_give_nothing : ArrivalsGiveNothing
 unfolding given_octets
-arrivals_give_nothing settings calls sequence octets =
-    let s = stream settings calls in
-    ap (λ (s : PlayoutState). s.given) (stream-push settings calls (Arrives sequence octets))
-    ∙ either-given (is_some (refusal settings s sequence octets)) s (s.now + ahead s sequence) octets
+arrivals_give_nothing settings calls sequence octets = search (rules, stream-push, either-given)
 
 -- a play gives its octets
 pub plays_give_their_octets : PlaysGiveTheirOctets

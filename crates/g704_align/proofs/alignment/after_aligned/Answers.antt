@@ -1,4 +1,4 @@
-use Rattle.std.proofs.Common.{◌≡◌, ℕ, ◌+◌, ◌%◌, ◌<◌, List, ◌∷◌, [], ◌++◌, Option, Bool, sym, ap, ◌∙◌, subst}
+use Rattle.std.proofs.Common.{rules, ◌≡◌, ℕ, ◌+◌, ◌%◌, ◌<◌, List, ◌∷◌, [], ◌++◌, Option, Bool, sym, ap, ◌∙◌, subst}
 use Rattle.g704_align.specs.Aligner.{IsAlignedRun, count_after}
 use Rattle.g704_align.proofs.Steps.{age-below, fas-more, fas-lost, nfas-more, nfas-lost, other-more}
 use Rattle.g704_align.proofs.alignment.after_aligned.Goals as goal
@@ -36,6 +36,4 @@ returns-in-None-count_after c before octets h =
     (counted _ _ _ _ c.in-None-count_after.ensures c.is_nfas.ensures)
 
 pub returns-else-age-eq-FRAME : goal.returns-else-age-eq-FRAME
-returns-else-age-eq-FRAME c before octets h =
-    with_age octets c.args.octet _ _ _ _ _ _ h c.next_age-next.ensures
-    (other-more octets c.args.octet _ _ _ h c.if-age-eq0.false c.if-age-eq-FRAME.false)
+returns-else-age-eq-FRAME c before octets h = search (rules, with_age, other-more)

@@ -1,15 +1,10 @@
 use Rattle.std.proofs.Common.{sym, ◌∙◌}
-use Rattle.g704_align.proofs.Steps.{candidate-refuted, candidate-more, candidate-found}
+use Rattle.g704_align.proofs.Steps.{candidate-refuted, candidate-found}
 use Rattle.g704_align.proofs.alignment.after_candidate.Goals as goal
 
 pub returns-then-refutes : goal.returns-then-refutes
 returns-then-refutes c before octets h =
     candidate-refuted before octets c.args.octet c.args.age h (sym c.refutes.ensures ∙ c.if-refutes.true)
-
-pub returns-then-age-lt-TWO_FRAMES : goal.returns-then-age-lt-TWO_FRAMES
-returns-then-age-lt-TWO_FRAMES c before octets h =
-    candidate-more octets c.args.octet c.args.age h
-    (sym c.refutes.ensures ∙ c.if-refutes.false) c.if-age-lt-TWO_FRAMES.true
 
 pub returns-else-age-lt-TWO_FRAMES : goal.returns-else-age-lt-TWO_FRAMES
 returns-else-age-lt-TWO_FRAMES c before octets h =

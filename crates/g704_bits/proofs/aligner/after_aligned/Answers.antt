@@ -1,3 +1,4 @@
+use Rattle.std.proofs.Common.{rules}
 use Rattle.std.proofs.Common.{◌≡◌, ℕ, ◌+◌, ◌%◌, ◌<◌, List, ◌∷◌, [], ◌++◌, Option, Bool, sym, ap, ◌∙◌, subst, refl}
 use Rattle.g704_align.specs.Aligner.{count_after}
 use Rattle.g704_bits.specs.Aligner.{IsAlignedRun}
@@ -41,6 +42,4 @@ returns-in-None-count_after c windows h = (
 )
 
 pub returns-else-age-eq-FRAME : goal.returns-else-age-eq-FRAME
-returns-else-age-eq-FRAME c windows h =
-    with_age windows c.args.window _ _ _ _ _ _ h c.next_age-next.ensures
-    (other-more windows c.args.window _ _ _ h c.if-age-eq0.false c.if-age-eq-FRAME.false)
+returns-else-age-eq-FRAME c windows h = search (rules, with_age, other-more)

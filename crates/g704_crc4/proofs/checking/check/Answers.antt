@@ -1,4 +1,4 @@
-use Rattle.g704_crc4.proofs.Common.{◌+◌, take, drop, sym, ap, ◌∙◌, subst, counts_with, counts_after, ChecksAfter}
+use Rattle.g704_crc4.proofs.Common.{take, subst, ChecksAfter, arith}
 use Rattle.g704_crc4.proofs.Counted.{count-more, next-octet, count-all}
 use Rattle.g704_crc4.proofs.checking.check.Goals as goal
 
@@ -10,13 +10,8 @@ loop-octet-preserved c =
     record {
       stands = subst (ChecksAfter c.octet.new.self) (next-octet octets i c.loop-octet-test.true)
           (c.octet.ensures.stands (take i octets) so.stands);
-      counted = ap (λ k. counts_after k (take (i + 1) octets) (drop (i + 1) octets))
-          (c.counts_with-counts.ensures
-          ∙ ap (counts_with c.loop-octet.counts) (c.octet.ensures.reply (take i octets) so.stands))
-          ∙ count-more octets i c.loop-octet.counts c.loop-octet-test.true ∙ so.counted;
+      counted = grind (arith, count-more octets i c.loop-octet.counts c.loop-octet-test.true);
     }
 
 pub returns : goal.returns
-returns c =
-    sym (count-all c.args.octets.now c.loop-octet.octet-index c.loop-octet.counts c.loop-octet-test.false)
-    ∙ c.loop-octet.invariant.counted
+returns c = cc (count-all c.args.octets.now c.loop-octet.octet-index c.loop-octet.counts c.loop-octet-test.false)

@@ -2,16 +2,6 @@ use Rattle.g726_lanes.proofs.Common.{◌≡◌, ◌<◌, ◌+◌, ◌%◌, ℕ, 
 use Rattle.g726_lanes.proofs.Common.{slice_index_or, cases_lt, nat_tests, lane}
 use Rattle.g726_lanes.proofs.entries.small_entries.Goals as goal
 
-pub returns-then-table-le-LANES : goal.returns-then-table-le-LANES
-returns-then-table-le-LANES c = λ k h.
-    let p = lane c.args.places k in
-    let few : p < 8 = omega (arith, c.requires.places k h) in
-    let is : lane c.picked-first.result k ≡ lane c.eight_small_entries.result (p % 8) =
-    c.picked-first.ensures k h ∙ ap (lane c.eight_small_entries.result) (c.half_places-within.ensures k h) in
-    let place : 0 + p % 8 ≡ p = omega arith in
-    is ∙ c.eight_small_entries.ensures (p % 8) (omega arith)
-    ∙ ap (λ (n : ℕ). slice_index_or c.args.table.now n 0) place
-
 pub returns : goal.returns
 returns c = λ k h.
     let p = lane c.args.places k in

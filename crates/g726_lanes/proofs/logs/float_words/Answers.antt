@@ -17,9 +17,7 @@ float_to_bits-floats c =
     (all_lanes (λ i h. number (lane c.args.magnitudes i) (c.requires.magnitudes i h)))
 
 pub overflow_cast-halves : goal.overflow_cast-halves
-overflow_cast-halves c =
-    rw (eight 0 c.args.magnitudes (search rules))
-    (all_lanes (λ i h. half_fits (lane c.args.magnitudes i) (c.requires.magnitudes i h)))
+overflow_cast-halves c = search (rules, eight, all_lanes, half_fits)
 
 -- the word of a lane
 packed_is : (negative m : ℕ) → negative < 2 → m < 32768
@@ -35,18 +33,12 @@ packed_is (suc (suc n)) m few below = absurd (omega arith)
 
 is : (negative m : ℕ) → negative < 2 → m < 32768
     → unpacked ((half_word (lane_half m) + negative * 1024 % 65536) % 65536) ≡ float_word (nat_lt 0 negative) m
-is negative m few below =
-    rw (packed_is negative m few below) (unpacked-packed (nat_lt 0 negative) (number_of_bits m) (mantissa_of m)
-    (number_of_bits_least m 15 below) (mantissa_below m))
+is negative m few below = search (rules, packed_is, unpacked-packed, number_of_bits_least, mantissa_below)
 
 bound : (negative m : ℕ) → negative < 2 → m < 32768
     → (half_word (lane_half m) + negative * 1024 % 65536) % 65536 < 2048
-bound zero m few below =
-    let bits = number_of_bits_least m 15 below in
-    rw (packed_is zero m few below) (omega (arith, bits, mantissa_below m))
-bound (suc zero) m few below =
-    let bits = number_of_bits_least m 15 below in
-    rw (packed_is 1 m few below) (omega (arith, bits, mantissa_below m))
+bound zero m few below = grind (arith, number_of_bits_least m 15 below, packed_is zero m few below, mantissa_below m)
+bound (suc zero) m few below = grind (arith, number_of_bits_least m 15 below, packed_is 1 m few below, mantissa_below m)
 bound (suc (suc n)) m few below = absurd (omega arith)
 
 pub returns : goal.returns

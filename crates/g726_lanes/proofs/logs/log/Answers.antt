@@ -15,9 +15,7 @@ float_to_bits-floats c =
     (c.requires i h)))
 
 pub overflow_cast-halves : goal.overflow_cast-halves
-overflow_cast-halves c =
-    rw (eight 0 c.args.magnitudes (search rules))
-    (all_lanes (λ i h. half_fits (lane c.args.magnitudes i) (c.requires i h)))
+overflow_cast-halves c = search (rules, eight, all_lanes, half_fits)
 
 is : (m : ℕ) → m < 32768 → half_log (lane_half m) ≡ log m
 is m below = rw (half_is m below) (float_is m below).log

@@ -1,15 +1,13 @@
 use Rattle.g726_lanes.proofs.Common.{◌≡◌, ◌<◌, ◌%◌, ℕ, ℤ, Bool, ap, ◌∙◌, arith, unsigned_abs, is_negative, int_le}
-use Rattle.g726_lanes.proofs.Common.{quan_word, subtb, log, few_bits, thresholds_count, few_magnitudes, lane, number}
+use Rattle.g726_lanes.proofs.Common.{rules, quan_word, subtb, log, few_bits, thresholds_count, few_magnitudes, lane}
+use Rattle.g726_lanes.proofs.Common.{number}
 use Rattle.std.proofs.lemmas.List.Sums.{count_by-le-length}
 use Rattle.g726_quant.specs.Blocks.{quantised, quan_magnitude}
 use Rattle.g726_lanes.proofs.QuantLanes.{thresholds_within}
 use Rattle.g726_lanes.proofs.quantiser.quantise.Goals as goal
 
 pub quan_magnitude-requires-clause-count : goal.quan_magnitude-requires-clause-count
-quan_magnitude-requires-clause-count g c =
-    let laws = g.met.R.Rate.laws in
-    let few = few_magnitudes g.R.Rate.tables.bits (few_bits g.R.Rate.tables laws.places).high in
-    rw c.thresholds.ensures (omega (arith, few, thresholds_count g.R.Rate.tables laws.places))
+quan_magnitude-requires-clause-count g c = search (rules, few_magnitudes, few_bits, thresholds_count)
 
 pub quan_magnitude-requires-clause-low : goal.quan_magnitude-requires-clause-low
 quan_magnitude-requires-clause-low g c =

@@ -1,16 +1,8 @@
-use Rattle.g726_lanes.proofs.Common.{places, ranges, few_bits, few_magnitudes}
+use Rattle.g726_lanes.proofs.Common.{places, ranges, few_bits, few_magnitudes, rules}
 use Rattle.g726_lanes.proofs.quantiser.reconst.Goals as goal
 
-pub entries-requires-clause-places : goal.entries-requires-clause-places
-entries-requires-clause-places g c =
-    let laws = g.met.R.Rate.laws in
-    rw (c.log_levels.ensures, (places g.R.Rate.tables laws.places).log_levels) c.requires
-
 pub entries-requires-clause-few : goal.entries-requires-clause-few
-entries-requires-clause-few g c =
-    let laws = g.met.R.Rate.laws in
-    rw (c.log_levels.ensures, (places g.R.Rate.tables laws.places).log_levels)
-    (few_magnitudes g.R.Rate.tables.bits (few_bits g.R.Rate.tables laws.places).high)
+entries-requires-clause-few g c = search (rules, places, few_magnitudes, few_bits)
 
 pub returns : goal.returns
 returns g c =

@@ -1,4 +1,4 @@
-use Rattle.std.proofs.Common.{None, ◌∙◌}
+use Rattle.std.proofs.Common.{arith, rules, None}
 use Rattle.g704_framing.specs.Restart.{last_of}
 use Rattle.g704_framing.proofs.Standings.{place-history}
 use Rattle.g704_align.specs.Placing.{frames}
@@ -7,12 +7,7 @@ use Rattle.g704_align.proofs.alignment.Aligner.follow.Goals as goal
 
 pub returns-clause-placed : goal.returns-clause-placed
 returns-clause-placed c history h =
-    let before = last_of None h.earlier in
-    c.place_between.ensures.placed before h.since c.args.octet h.fields
-    (c.phase_after-self.ensures before h.since h.fields)
-    ∙ place-history frames history h.earlier h.since c.args.octet h.whole h.over
+    grind (arith, place-history frames history h.earlier h.since c.args.octet h.whole h.over, last_of None h.earlier)
 
 pub returns-clause-stands : goal.returns-clause-stands
-returns-clause-stands c history h =
-    stands-follows c.phase_after-self.result history h.earlier h.since c.args.octet h.whole h.over
-    (c.phase_after-self.ensures (last_of None h.earlier) h.since h.fields)
+returns-clause-stands c history h = search (rules, stands-follows)

@@ -1,4 +1,4 @@
-use Rattle.std.proofs.Common.{sym}
+use Rattle.std.proofs.Common.{rules}
 use Rattle.g704_bits.proofs.Windows.{last_octet-push}
 use Rattle.g704_bits.proofs.Octets.{stands-octet, reply-octet}
 use Rattle.g704_bits.proofs.bits.BitAligner.octet.Goals as goal
@@ -12,8 +12,4 @@ returns-clause-reply c history s =
     c.offset.ensures c.window_at.ensures
 
 pub returns-clause-stands : goal.returns-clause-stands
-returns-clause-stands c history s = record {
-  bits = stands-octet c.take_octet.new.aligner history c.args.self.now.before c.args.octet s.before
-      (c.take_octet.ensures history s.bits);
-  before = sym (last_octet-push 255 history c.args.octet);
-}
+returns-clause-stands c history s = search (rules, stands-octet, last_octet-push)

@@ -5,7 +5,6 @@ use Rattle.g704_crc4.proofs.checking.Checker.octet.Goals as goal
 
 pub returns-then-self-eq0-2-clause-reply : goal.returns-then-self-eq0-2-clause-reply
 returns-then-self-eq0-2-clause-reply c history s =
-    let p = s.place in
     let m = c.args.self.now in
     c.end_submultiframe.ensures.reply
     ∙ ap (λ w. block_event m.begun (same w m.before)) (bits-kept m history c.args.octet s c.if-self-eq0.false)
@@ -13,7 +12,6 @@ returns-then-self-eq0-2-clause-reply c history s =
 
 pub returns-then-self-eq0-2-clause-stands : goal.returns-then-self-eq0-2-clause-stands
 returns-then-self-eq0-2-clause-stands c history s =
-    let p = s.place in
     let m = c.args.self.now in
     let kept = c.end_submultiframe.ensures.kept in
     let anew = c.end_submultiframe.ensures.anew in
@@ -24,7 +22,6 @@ returns-then-self-eq0-2-clause-stands c history s =
 
 pub returns-clause-reply : goal.returns-clause-reply
 returns-clause-reply c history s =
-    let p = s.place in
     let m = c.args.self.now in
     let next : (m.place + 1) % 65536 % 512 ≡ (m.place + 1) % 512 = omega arith in
     none_reported m history c.args.octet s (nat_le 128 c.args.octet) c.if-self-eq0.false
@@ -32,7 +29,6 @@ returns-clause-reply c history s =
 
 pub returns-clause-stands : goal.returns-clause-stands
 returns-clause-stands c history s =
-    let p = s.place in
     let m = c.args.self.now in
     checks-within m history c.args.octet s _ _ _ (omega arith)
     (counted-more m history c.args.octet s c.args.octet _ (taken-whole m history c.args.octet s c.if-self-eq0.false)

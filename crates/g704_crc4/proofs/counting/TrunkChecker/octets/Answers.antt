@@ -1,5 +1,5 @@
-use Rattle.g704_crc4.proofs.Common.{◌≡◌, ◌+◌, ◌<◌, ◌++◌, ◌∷◌, ◌∙◌, ℕ, List, [], length, take, drop, get_or, ap, sym}
-use Rattle.g704_crc4.proofs.Common.{subst, arith, append_assoc, length-drop, take_all}
+use Rattle.g704_crc4.proofs.Common.{◌≡◌, ◌+◌, ◌<◌, ◌++◌, ◌∷◌, ℕ, List, [], length, take, drop, get_or, rules, subst}
+use Rattle.g704_crc4.proofs.Common.{arith, append_assoc, length-drop, take_all}
 use Rattle.std.proofs.Math.Seq.{take-add}
 use Rattle.std.proofs.lemmas.List.{take_rest}
 use Rattle.g704_crc4.specs.Receivers.{ChecksTrunk}
@@ -11,11 +11,7 @@ use Rattle.g704_crc4.proofs.counting.TrunkChecker.octets.Goals as goal
 taken : (history octets : List ℕ) (i n : ℕ) → i < length octets
     → ((history ++ take i octets) ++ get_or octets i 0 ∷ []) ++ take n (drop (i + 1) octets)
     ≡ history ++ take (i + 1 + n) octets
-taken history octets i n lt =
-    ap (λ xs. xs ++ take n (drop (i + 1) octets)) (append_assoc history (take i octets) (get_or octets i 0 ∷ [])
-    ∙ ap (λ xs. history ++ xs) (next-octet octets i lt))
-    ∙ append_assoc history (take (i + 1) octets) (take n (drop (i + 1) octets))
-    ∙ ap (λ xs. history ++ xs) (sym (take-add (i + 1) n octets))
+taken history octets i n lt = search (rules, append_assoc, next-octet, take-add)
 
 pub loop-at-preserved : goal.loop-at-preserved
 loop-at-preserved c =

@@ -1,6 +1,6 @@
 use Rattle.g704_crc4.proofs.Common.{◌≡◌, ◌++◌, ◌∷◌, [], ◌-◌, length, refl, sym, ap, ◌∙◌, arith, None, inl, inr}
-use Rattle.g704_crc4.proofs.Common.{cases_Bool, length_push, get_or_push, last_of, since-more, since-anew}
-use Rattle.g704_crc4.proofs.Common.{learned_of, aligned_octets, is_given_up, parts, part_before}
+use Rattle.g704_crc4.proofs.Common.{cases_Bool, length_push, get_or_push, last_of, since-more, since-anew, learned_of}
+use Rattle.g704_crc4.proofs.Common.{aligned_octets, is_given_up, parts, part_before}
 use Rattle.g704_crc4.proofs.Alignments.{aligned-none, aligned-nil, slot-goes_on, part-begun}
 use Rattle.g704_crc4.proofs.Parts.{part-is, part-over, part-kept, learned-is}
 use Rattle.g704_crc4.proofs.Searched.{short-kept}
@@ -24,10 +24,7 @@ returns-in-Hunting-clause-stands c history h =
     since-more parts _ history h.earlier h.since x h.whole h.over (record {
       aligner = rw c.hunt.ensures.aligner (c.octet.ensures.stands h.since f.aligner);
       room = c.hunt.ensures.room ∙ f.room;
-      stage = rw c.hunt.ensures.stage (
-        none,
-        λ lt. c.hunt.ensures.last ∙ rw last (sym (get_or_push h.since x 0 (length h.since) refl)),
-      );
+      stage = rw c.hunt.ensures.stage (grind (arith, get_or_push h.since x 0 (length h.since) refl));
       kept = part-kept h.since x f.kept (ap is_given_up none ∙ short-kept [] (omega arith));
     })
 

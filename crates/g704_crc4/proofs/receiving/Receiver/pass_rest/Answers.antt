@@ -2,7 +2,7 @@ use Rattle.g704_crc4.proofs.Common.{◌≡◌, ◌++◌, ℕ, List, refl, arith,
 use Rattle.std.specs.Prelude.{is_some}
 use Rattle.g704_crc4.specs.declared.receiving.MultiframeSync.TheVariants as stages
 use Rattle.g704_crc4.specs.Receivers.{ReceivesAfter}
-use Rattle.g704_crc4.proofs.Quiet.{received-none, received-rest}
+use Rattle.g704_crc4.proofs.Quiet.{received-rest}
 use Rattle.g704_crc4.proofs.receiving.Receiver.pass_rest.Goals.{After-pass_quiet}
 use Rattle.g704_crc4.proofs.receiving.Receiver.pass_rest.Goals as goal
 
@@ -38,9 +38,6 @@ returns-in-SubmultiframeCheck-clause-silent c history h =
 pub returns-in_default-clause-silent : goal.returns-in_default-clause-silent
 unfolding times_after
 returns-in_default-clause-silent c history h = refl
-
-pub returns-in_default-2-clause-stands : goal.returns-in_default-2-clause-stands
-returns-in_default-2-clause-stands c history h = received-none c.args.self.now history h
 
 pub returns-in_default-2-clause-silent : goal.returns-in_default-2-clause-silent
 unfolding times_after

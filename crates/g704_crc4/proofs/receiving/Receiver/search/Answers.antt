@@ -1,5 +1,5 @@
-use Rattle.g704_crc4.proofs.Common.{◌≡◌, ◌≤◌, ◌<◌, ◌++◌, ◌∷◌, [], ℕ, ◌+◌, List, refl, sym, ap, ◌∙◌, arith, length, drop}
-use Rattle.g704_crc4.proofs.Common.{slice_set, false≢true, length_push, take_all, take_more_set, drop-append-le}
+use Rattle.g704_crc4.proofs.Common.{◌≡◌, ◌≤◌, ◌<◌, ◌++◌, ◌∷◌, [], ℕ, ◌+◌, List, refl, sym, ◌∙◌, arith, length, drop}
+use Rattle.g704_crc4.proofs.Common.{rules, slice_set, false≢true, length_push, take_all, take_more_set, drop-append-le}
 use Rattle.g704_crc4.proofs.Common.{IsSearched}
 use Rattle.g704_crc4.proofs.Searched.{short-learned, short-kept, found-is, found-learned, found-kept, none-is}
 use Rattle.g704_crc4.proofs.Searched.{none-learned, none-given_up}
@@ -8,39 +8,25 @@ use Rattle.g704_crc4.proofs.receiving.Receiver.search.Goals as goal
 -- When all of the 8 ms have come.
 all_come : (count : ℕ) (searched octets : List ℕ) → length searched ≡ 2048 → IsSearched count searched octets
     → 2048 ≤ count → (length octets ≡ 2112) × (searched ≡ drop 64 octets)
-all_come count searched octets room s le =
-    let n = s.counted in
-    let m = s.limit in
-    let same : count ≡ 2048 = omega arith in (
-      omega arith,
-      sym (take_all count searched (omega arith)) ∙ s.kept,
-    )
+all_come count searched octets room s le = grind (arith, take_all count searched (omega arith))
 
 -- One more of their octets.
 one_come : (count x : ℕ) (searched octets : List ℕ) → length searched ≡ 2048 → IsSearched count searched octets
     → count < 2048 → IsSearched (count + 1) (slice_set searched count x) (octets ++ x ∷ [])
 one_come count x searched octets room s lt =
-    let n = s.counted in
-    let b = s.begun in
-    record {
-      counted = omega (arith, length_push octets x);
-      begun = omega arith;
-      limit = omega arith;
-      kept = take_more_set searched count x (omega arith) ∙ ap (λ xs. xs ++ x ∷ []) s.kept
-          ∙ sym (drop-append-le 64 octets (x ∷ []) (omega arith));
-    }
+    grind (
+      arith,
+      length_push octets x,
+      take_more_set searched count x (omega arith),
+      drop-append-le 64 octets (x ∷ []) (omega arith),
+    )
 
 pub returns-then-count-lt-SEARCHED-clause-reply : goal.returns-then-count-lt-SEARCHED-clause-reply
-returns-then-count-lt-SEARCHED-clause-reply c octets s room =
-    short-learned octets (octets ++ c.args.octet ∷ []) (omega (arith, s.counted, c.if-count-lt-SEARCHED.true))
-    (omega (arith, s.counted, c.if-count-lt-SEARCHED.true, length_push octets c.args.octet))
+returns-then-count-lt-SEARCHED-clause-reply c octets s room = search (rules, short-learned, length_push)
 
 pub returns-then-count-lt-SEARCHED-clause-goes_on : goal.returns-then-count-lt-SEARCHED-clause-goes_on
-returns-then-count-lt-SEARCHED-clause-goes_on c part octets s room kept = (
-  refl,
-  rw (c.from.ensures) (one_come c.args.count c.args.octet c.args.self.now.searched octets room s
-      c.if-count-lt-SEARCHED.true),
-)
+returns-then-count-lt-SEARCHED-clause-goes_on c part octets s room kept =
+    grind (arith, one_come c.args.count c.args.octet c.args.self.now.searched octets room s c.if-count-lt-SEARCHED.true)
 
 pub returns-then-count-lt-SEARCHED-clause-anew : goal.returns-then-count-lt-SEARCHED-clause-anew
 returns-then-count-lt-SEARCHED-clause-anew c octets s room given_up =

@@ -1,4 +1,4 @@
-use Rattle.g704_crc4.proofs.Common.{sym, ◌∙◌}
+use Rattle.g704_crc4.proofs.Common.{sym, ◌∙◌, rules}
 use Rattle.g704_crc4.proofs.Reports.{without-bit, with-bit}
 use Rattle.g704_crc4.proofs.reporting.EBitReporter.octet.Goals as goal
 
@@ -11,10 +11,7 @@ returns-then-not-has_bit-clause-stands c history s e =
     (without-bit c.args.self.now history c.args.octet s (sym e ∙ c.if-not-has_bit.true)).1
 
 pub returns-clause-reply : goal.returns-clause-reply
-returns-clause-reply c history s e =
-    c.with_si.ensures
-    ∙ (with-bit c.args.self.now history c.args.octet _ s (sym e ∙ c.if-not-has_bit.false)
-    c.saturating_sub-self.ensures).0
+returns-clause-reply c history s e = search (rules, with-bit)
 
 pub returns-clause-stands : goal.returns-clause-stands
 returns-clause-stands c history s e =

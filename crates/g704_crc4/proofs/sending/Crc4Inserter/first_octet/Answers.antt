@@ -8,7 +8,6 @@ pub returns-clause-reply : goal.returns-clause-reply
 unfolding sent_octet
 returns-clause-reply c history s e =
     let next = c.begin_submultiframe.ensures history s in
-    let p = next.place in
     let bits = check_bits_after history in
     let n : c.begin_submultiframe.new.self.place / 32 % 16 ≡ length history / 32 % 16 = omega arith in
     c.with_si-2.ensures
@@ -19,7 +18,6 @@ returns-clause-reply c history s e =
 pub returns-clause-stands : goal.returns-clause-stands
 returns-clause-stands c history s e =
     let next = c.begin_submultiframe.ensures history s in
-    let p = next.place in
     let n : c.begin_submultiframe.new.self.place / 32 % 16 ≡ length history / 32 % 16 = omega arith in
     sends-more c.begin_submultiframe.new.self history c.args.octet _ _ _ next
     (c.with_si.ensures

@@ -1,4 +1,4 @@
-use Rattle.g726_lanes.proofs.Common.{◌≡◌, ◌<◌, ◌^◌, length, arith, same_octet, row_at}
+use Rattle.g726_lanes.proofs.Common.{◌<◌, ◌^◌, length, arith, same_octet, row_at}
 use Rattle.g726_lanes.proofs.Frames.{decoded_one_more, fits-at}
 use Rattle.g726_lanes.proofs.lanes.Lanes.decode_rows.Goals as goal
 
@@ -25,9 +25,3 @@ loop-i-preserved g c =
     (c.frame_of.ensures.within k h)
     (rw (c.widened.ensures k h, c.frame_of.ensures.value k h) at (c.decode-octets.ensures.octets k h))
     (rw (c.widened.ensures k h, c.frame_of.ensures.value k h) at (c.decode-octets.ensures.state k h)))
-
-pub returns : goal.returns
-returns g c =
-    let all : c.loop-i.i ≡ c.args.count = omega arith in
-    let done = rw all at c.loop-i.invariant in
-    record { octets = λ k h. (done k h).octets; state = λ k h. (done k h).state }

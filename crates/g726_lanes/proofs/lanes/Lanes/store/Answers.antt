@@ -1,4 +1,4 @@
-use Rattle.g726_lanes.proofs.Common.{sym, ◌∙◌, rules, SFits, w16, to_z-of_z}
+use Rattle.g726_lanes.proofs.Common.{rules, SFits, w16, to_z-of_z}
 use Rattle.g726_lanes.proofs.Steps.{made_same, is_in_lane}
 use Rattle.g726_lanes.proofs.lanes.Lanes.store.Goals as goal
 
@@ -9,6 +9,4 @@ of_filter-predictor-requires-clause-zeros c =
     (c.self.invariant.zeros_are c.args.k c.requires)
 
 pub returns : goal.returns
-returns c =
-    c.new.ensures ∙ made_same c.store-2.ensures (c.of_filter-predictor.ensures ∙ c.store.ensures)
-    ∙ sym (is_in_lane c.self.inside.adaptations c.self.inside.predictions c.self.view_is c.args.k c.requires)
+returns c = search (rules, made_same, is_in_lane)

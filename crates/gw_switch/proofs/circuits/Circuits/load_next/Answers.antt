@@ -1,4 +1,4 @@
-use Rattle.gw_switch.proofs.Common.{◌≡◌, ◌<◌, length, slice_index_or, slice_set, sym, ap, ◌∙◌, arith, get_or_default}
+use Rattle.gw_switch.proofs.Common.{◌≡◌, ◌<◌, length, slice_index_or, slice_set, ap, ◌∙◌, arith, get_or_default}
 use Rattle.gw_switch.proofs.Common.{set-get_or, Circuit, BoxedCircuit}
 use Rattle.gw_switch.proofs.BundleLanes.{still-loaded, one-more}
 use Rattle.gw_switch.proofs.circuits.Circuits.load_next.Goals as goal

@@ -1,20 +1,18 @@
+use Rattle.std.proofs.lemmas.Grind.{common_steps}
 use Rattle.std.proofs.Common.{◌≡◌, Some, None, sym, ap, ◌∙◌, arith, cond, Bool}
 use Rattle.satop_playout.specs.declared.ArrivalFault.TheVariants.{Repeat}
 use Rattle.satop_playout.specs.declared.Settings.{Settings}
 use Rattle.satop_playout.specs.Plays.{PlayoutState, refusal, ahead}
 use Rattle.satop_playout.specs.Standing.{Represents}
 use Rattle.satop_playout.proofs.Keeping.{keeps_own}
-use Rattle.satop_playout.proofs.Refusing.{Asked, asked, repeats}
+use Rattle.satop_playout.proofs.Refusing.{Asked, repeats}
 use Rattle.satop_playout.proofs.playout.SatopPlayout.admission.Goals as goal
 use Rattle.satop_playout.proofs.playout.SatopPlayout.admission.Goals.{After-is_held}
 
 -- the packet whose slot was looked at has the size, and its place is in the window
 is_asked : (c : After-is_held) (s : PlayoutState) → Represents c.args.self.now c.args.self.now.settings s
     → Asked c.args.self.now s c.args.sequence c.args.octets.now c.from-place.result
-is_asked c s k =
-    let place = c.from-place.ensures in
-    asked c.args.self.now s c.args.sequence c.args.octets.now c.in-Some.next c.from-place.result k (omega arith)
-    c.in-Some.is (omega arith) (omega arith) (omega arith)
+is_asked c s k = grind (arith, common_steps)
 
 -- .. so it is a repeat or none
 is_told : (c : After-is_held) (s : PlayoutState) → Represents c.args.self.now c.args.self.now.settings s

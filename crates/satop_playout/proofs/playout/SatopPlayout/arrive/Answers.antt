@@ -1,6 +1,4 @@
-use Rattle.std.proofs.Common.{refl, sym, ap}
-use Rattle.std.proofs.lemmas.Result.{err_from_is_err_and}
-use Rattle.satop_playout.specs.Calls.{answer_for}
+use Rattle.std.proofs.Common.{rules, refl, sym}
 use Rattle.satop_playout.specs.Plays.{arrival_answer, stream}
 use Rattle.satop_playout.specs.Standing.{HasHistory}
 use Rattle.satop_playout.proofs.Keeping.{stands-refused, stands-put}
@@ -8,9 +6,7 @@ use Rattle.satop_playout.proofs.playout.SatopPlayout.arrive.Goals as goal
 
 pub returns-in_err-place-clause-reply : goal.returns-in_err-place-clause-reply
 unfolding HasHistory arrival_answer
-returns-in_err-place-clause-reply c = λ settings calls k.
-    let p = err_from_is_err_and c.from_residual.result c.from_residual.ensures.1 in
-    rw (p.1, p.2) (sym (ap answer_for (c.in_err-place.ensures.why settings (stream settings calls) k)))
+returns-in_err-place-clause-reply c = search rules
 
 pub returns-in_err-place-clause-stands : goal.returns-in_err-place-clause-stands
 unfolding HasHistory
@@ -20,8 +16,7 @@ returns-in_err-place-clause-stands c = λ settings calls k.
 
 pub returns-clause-reply : goal.returns-clause-reply
 unfolding HasHistory arrival_answer
-returns-clause-reply c = λ settings calls k.
-    sym (ap answer_for (c.in_ok-place.ensures.why settings (stream settings calls) k).0)
+returns-clause-reply c = search rules
 
 pub returns-clause-stands : goal.returns-clause-stands
 returns-clause-stands c = λ settings calls k.
