@@ -7,12 +7,12 @@ ghost use Rattle.gw_machine.specs.System.{LacksTapeOrPorts};
 ghost use Rattle.gw_system.specs.Lacking.{IsOfCommand};
 ghost use Rattle.gw_system.specs.LocalCalls.{CallsFiles, CallsIn};
 
-use crate::fileless::Fileless;
 use crate::local::{Local, local_of};
 use clap::ArgMatches;
 use gw_command::path_of;
 use gw_files::FileSystem;
-use gw_machine::System;
+use gw_machine::{Machine, System};
+use gw_trunk::{Doors, LocalDoors};
 use std::marker::PhantomData;
 
 /// What gives a command its system. A generic caller knows of it only what the command line names.
@@ -25,12 +25,18 @@ pub trait Systems<'a> {
     /// The system that is given.
     type Given: System<Files = Self::Files> + Drop;
 
+    /// Where doors are opened.
+    type Doors: Doors + Drop;
+
     /// The command line.
     ghost command: { Self → CommandLine };
 
     /// What `clap` found in the command line.
     fn matches(&self) -> &ArgMatches<'a>
         ensures { subcommand_rows_of result.now ≡ command self.now };
+
+    /// Where doors are opened.
+    fn doors(&self) -> Self::Doors;
 
     /// The system that the command line asks for, if it names a configuration. `waits` says whether its
     /// recording is waited for.
@@ -55,17 +61,23 @@ pub struct LocalSystems<'m, 'a, R, F> {
     pub files: PhantomData<F>,
 }
 
-impl<'m, 'a, R: Fileless, F: FileSystem + Drop> Systems<'a> for LocalSystems<'m, 'a, R, F> {
+impl<'m, 'a, R: Machine, F: FileSystem + Drop> Systems<'a> for LocalSystems<'m, 'a, R, F> {
     ghost use Rattle.clap.specs.Words.{subcommand_rows_of};
 
     type Files = F;
 
     type Given = Local<'m, R, F>;
 
+    type Doors = LocalDoors<'m, R>;
+
     ghost command = { λ s. subcommand_rows_of s.matches.now };
 
     fn matches(&self) -> &ArgMatches<'a> {
         self.matches
+    }
+
+    fn doors(&self) -> LocalDoors<'m, R> {
+        LocalDoors::new(self.rt)
     }
 
     fn system(&self, waits: bool) -> Option<Local<'m, R, F>> {

@@ -12,9 +12,10 @@ ghost use Rattle.gw_satop.specs.Session.{HasSettings};
 
 use crate::asked::{CircuitAsked, circuit_asked};
 use crate::ends::{open_clock, open_far_end, open_receiver, open_stdin, open_stdout, start_of};
+use crate::fileless::Fileless;
 use crate::sealed::{CircuitClock, FarEnd, TrunkDevice, TrunkSource};
 use clap::ArgMatches;
-use gw_machine::{Machine, ProgramFault};
+use gw_machine::ProgramFault;
 use gw_records::{NO_TOTALS, RunFault, Totals};
 use gw_satop::{Clock, Peer, PlayClock, SatopCircuit, Sender, carry_satop};
 use gw_trunk::{TrunkInput, TrunkOutput};
@@ -73,7 +74,7 @@ fn emulate_between<
     P: Peer + FarEnd + Drop,
     M: Clock + CircuitClock + Drop,
 >(
-    rt: &impl Machine,
+    rt: &impl Fileless,
     asked: CircuitAsked,
     ends: CircuitEnds<I, O, P, M>,
 ) -> Result<Totals, ProgramFault>
@@ -103,7 +104,7 @@ fn emulate_between<
 
 // Carries an emulated circuit between standard input and output and the far end.
 fn emulate_over<P: Peer + FarEnd + Drop, M: Clock + CircuitClock + Drop>(
-    rt: &impl Machine,
+    rt: &impl Fileless,
     asked: CircuitAsked,
     peer: P,
     clock: M,
@@ -136,7 +137,7 @@ fn emulate_over<P: Peer + FarEnd + Drop, M: Clock + CircuitClock + Drop>(
 /// is no size of a packet, [`ProgramFault::FarEnd`] if there is no socket, [`ProgramFault::Trunk`] if a
 /// stream can't be waited for, [`ProgramFault::OutOfMemory`], or [`ProgramFault::Session`] if the trunk
 /// fails.
-pub fn emulate<R: Machine>(
+pub fn emulate<R: Fileless>(
     rt: &R,
     matches: &ArgMatches<'_>,
     input: Stdin,

@@ -9,9 +9,10 @@ ghost use Rattle.run_satop.specs.Satop.{FailsToOpen, HasFarEnd, LacksStream, Rep
 ghost use Rattle.run_satop.specs.Satop.{IsDrawn16, IsDrawn32, SystemFills};
 ghost use Rattle.gw_satop.specs.Line.{HasPlayed};
 
+use crate::fileless::Fileless;
 use clap::ArgMatches;
 use gw_command::{satop_local_of, satop_peer_of};
-use gw_machine::{Machine, ProgramFault};
+use gw_machine::ProgramFault;
 use gw_satop::{
     Receiver, SenderSettings, SystemClock, UdpPeer, WhenReady, open_input, open_output,
 };
@@ -29,14 +30,14 @@ const STDOUT: i32 = 1;
 
 // Draws octets at random.
 #[tactic(auto, unfolding(crate::specs::Satop::SystemFills))]
-fn draw(rt: &impl Machine, octets: &mut [u8])
+fn draw(rt: &impl Fileless, octets: &mut [u8])
     ensures { SystemFills octets.old octets.new }
 {
     let _ = rt.fill_bytes(octets);
 }
 
 // A random number of 16 bits; 0 if the system has none.
-fn draw_16(rt: &impl Machine) -> u16
+fn draw_16(rt: &impl Fileless) -> u16
     ensures { IsDrawn16 result }
 {
     let mut octets = [0u8; 2];
@@ -45,7 +46,7 @@ fn draw_16(rt: &impl Machine) -> u16
 }
 
 // A random number of 32 bits; 0 if the system has none.
-fn draw_32(rt: &impl Machine) -> u32
+fn draw_32(rt: &impl Fileless) -> u32
     ensures { IsDrawn32 result }
 {
     let mut octets = [0u8; 4];
@@ -54,7 +55,7 @@ fn draw_32(rt: &impl Machine) -> u32
 }
 
 // The number of the first packet: the one that is asked for, if one is, else a random one.
-fn first_number(rt: &impl Machine, asked: Option<u16>) -> u16
+fn first_number(rt: &impl Fileless, asked: Option<u16>) -> u16
     ensures { MatchOption asked (IsDrawn16 result) (λ n. result ≡ n) }
 {
     match asked {
@@ -66,7 +67,7 @@ fn first_number(rt: &impl Machine, asked: Option<u16>) -> u16
 // How the packets of an emulated circuit begin: at random numbers (RFC 3550, 5.1), but for one that is asked
 // for.
 pub(crate) fn start_of(
-    rt: &impl Machine,
+    rt: &impl Fileless,
     size: usize,
     rtp: Option<u8>,
     sequence: Option<u16>,
@@ -88,7 +89,7 @@ pub(crate) fn start_of(
 
 // Opens the socket of the SAToP far end that the matches name.
 pub(crate) fn open_far_end(
-    rt: &impl Machine,
+    rt: &impl Fileless,
     matches: &ArgMatches<'_>,
 ) -> Result<UdpPeer<SystemSocket>, ProgramFault>
     ensures ok { IfOk result (λ p. HasFarEnd (subcommand_rows_of matches.now) p.opened.value p.address) }
@@ -110,7 +111,7 @@ pub(crate) fn open_far_end(
 
 // Opens the trunk of `satop` at standard input, read only when ready.
 pub(crate) fn open_stdin(
-    rt: &impl Machine,
+    rt: &impl Fileless,
     input: Stdin,
 ) -> Result<WhenReady<FromDevice<Stdin>, Waiting>, ProgramFault>
     ensures came { IfOk result (λ r. r.incoming.reader.log.octets ≡ []) }
@@ -125,7 +126,7 @@ pub(crate) fn open_stdin(
 
 // Opens the trunk of `satop` at standard output.
 pub(crate) fn open_stdout(
-    rt: &impl Machine,
+    rt: &impl Fileless,
     output: Stdout,
 ) -> Result<ToDevice<Stdout>, ProgramFault>
     ensures went { IfOk result (λ d. d.log.octets ≡ []) }
@@ -139,7 +140,7 @@ pub(crate) fn open_stdout(
 }
 
 // Opens the clock of `satop`, which waits for both of its ends.
-pub(crate) fn open_clock<'r, R: Machine>(
+pub(crate) fn open_clock<'r, R: Fileless>(
     rt: &'r R,
     peer: &mut UdpPeer<SystemSocket>,
 ) -> Result<SystemClock<'r, R>, ProgramFault>
@@ -169,7 +170,7 @@ fn receiver_of(alloc: Global, settings: Settings, rtp: bool) -> Result<Receiver,
 
 // Takes memory for the received half of a circuit.
 pub(crate) fn open_receiver(
-    rt: &impl Machine,
+    rt: &impl Fileless,
     settings: Settings,
     rtp: bool,
 ) -> Result<Receiver, ProgramFault>

@@ -4,6 +4,8 @@
 mod asked;
 mod carrying;
 mod ends;
+mod fileless;
 mod sealed;
 
 pub use carrying::emulate;
+pub use fileless::Fileless;

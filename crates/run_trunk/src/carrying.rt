@@ -24,13 +24,13 @@ use clap::ArgMatches;
 use gw_command::{control_of, end_of, wants_totals};
 use gw_config::Config;
 use gw_filtered::{Phase, Switch};
-use gw_machine::{ErrorLines, Machine, ProgramFault, StandardError, System, tell_discarded};
+use gw_machine::{ErrorLines, ProgramFault, StandardError, System, tell_discarded};
 use gw_session::{RunFault, Totals};
 use gw_slots::DeviceSlots;
 use gw_switch::Gateway;
 use gw_trunk::{
-    DeviceFault, Doors, FromDevice, LocalDoors, NoClients, ToDevice, TrunkInput, TrunkOutput,
-    TrunkRecordSink, TrunkRecordSource, WithClients, open_clients,
+    DeviceFault, Doors, FromDevice, NoClients, ToDevice, TrunkInput, TrunkOutput, TrunkRecordSink,
+    TrunkRecordSource, WithClients, open_clients,
 };
 use mio::net::UnixStream;
 use std::marker::Brand;
@@ -390,8 +390,9 @@ fn serve_at<R: Fileless, D: Doors, Y: System>(
 /// [`ProgramFault::Control`] if that can't be opened, [`ProgramFault::Trunk`] if a stream of
 /// the trunk or the descriptor can't be waited for, what the system lacks, or [`ProgramFault::Session`] if
 /// the trunk fails.
-pub fn serve<R: Machine, Y: System>(
+pub fn serve<R: Fileless, D: Doors, Y: System>(
     rt: &R,
+    doors: &mut D,
     matches: &ArgMatches<'_>,
     system: &Y,
     files: &mut Y::Files,
@@ -404,19 +405,13 @@ pub fn serve<R: Machine, Y: System>(
         (λ fault. LacksSession (files_in (subcommand_rows_of matches.now))
         (λ config. LacksServing (Y.lacks_tape system.now) (Y.lacks_ports system.now config)
         (Y.lacks_watch system.now)) fault ⊎ Y.lacks_lock system.now fault) result }
+    ensures calls { (doors.new ≡ doors.old) ⊎ OpensAt D.has_made doors.old doors.new
+        (text_in (codes "control") (subcommand_rows_of matches.now)) }
     ensures asked { MakesSuch (Y.has_asked system.now) files.old files.new (TrunkAsks (Y.files system.now)) }
 {
     let _lock = match system.lock_log(files) {
         Ok(lock) => lock,
         Err(fault) => return Err(fault),
     };
-    serve_at(
-        rt,
-        &mut LocalDoors::new(rt),
-        matches,
-        system,
-        files,
-        input,
-        output,
-    )
+    serve_at(rt, doors, matches, system, files, input, output)
 }

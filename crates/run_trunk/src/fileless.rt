@@ -6,7 +6,7 @@ use std::rt::Stderr;
 
 /// What a trunk uses of a machine beside its streams and its door. Who is given no more makes no call on
 /// files, nor does it see a clock.
-pub(crate) trait Fileless: Net + Eprint + AllocGlobal {
+pub trait Fileless: Net + Eprint + AllocGlobal {
     /// Standard error.
     fn error_stream(&self) -> Stderr;
 }

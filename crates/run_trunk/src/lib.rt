@@ -9,3 +9,4 @@ mod sealed;
 mod serving;
 
 pub use carrying::serve;
+pub use fileless::Fileless;

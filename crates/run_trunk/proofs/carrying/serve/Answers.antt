@@ -17,3 +17,9 @@ returns-clause-asked g c = let more = c.serve_at.ensures.asked in record {
   are = inr (more.calls, more.are, refl);
   made = λ before asked. more.made _ (c.in-Ok.ensures.asked before asked);
 }
+
+pub returns-in-Err-clause-calls : goal.returns-in-Err-clause-calls
+returns-in-Err-clause-calls g c = inl refl
+
+pub returns-clause-calls : goal.returns-clause-calls
+returns-clause-calls g c = inr c.serve_at.ensures.calls
