@@ -1,5 +1,5 @@
 -- The laws of places, of the frames of a multiframe.
-use Rattle.std.proofs.Common.{◌≡◌, ℕ, Option, Some, None, refl, arith}
+use Rattle.std.proofs.Common.{rules, ◌≡◌, ℕ, Option, Some, None, refl}
 use Rattle.g704_framing.specs.Laws.{IsRead}
 use Rattle.g704_framing.specs.Places.{IsPlacing, PlacesAreSettled, PlacesAreAlike, OtherPlacesAreNotRead}
 use Rattle.g704_framing.proofs.Placings.{places_are_settled, places_are_alike, other_places_are_not_read}
@@ -15,12 +15,7 @@ frame_zero (Some age) read = read
 
 -- the frames of a multiframe are places as the laws need them
 multiframes_are_placed : IsPlacing multiframes
-multiframes_are_placed = record {
-  framing = multiframe_is_framing;
-  found = omega arith;
-  lost = λ octets others last alike. is_second_wrong-alike octets others last (λ age le. alike age le (omega arith));
-  zero = frame_zero;
-}
+multiframes_are_placed = search (rules, multiframe_is_framing, is_second_wrong-alike, frame_zero)
 
 -- no later octet moves the frame of an octet, or changes the alarm that stood
 pub place_append : PlacesAreSettled multiframes

@@ -1,7 +1,7 @@
 -- A search finds the least position at which alignment can be found.
-use Rattle.std.proofs.Common.{◌≡◌, ℕ, zero, suc, ◌-◌, ◌<◌, List, [], ◌∷◌, length, Bool, true, false}
-use Rattle.std.proofs.Common.{Option, Some, None, refl, sym, ap, ◌∙◌, arith, get_or, inl, inr}
-use Rattle.std.specs.Prelude.{nat_le, nat_lt, ◌&&◌, slice_index}
+use Rattle.std.proofs.Common.{◌≡◌, ℕ, zero, suc, ◌-◌, ◌<◌, List, [], ◌∷◌, length, Bool, false, Option, Some, None, refl}
+use Rattle.std.proofs.Common.{sym, ap, ◌∙◌, arith, get_or, inl, inr}
+use Rattle.std.specs.Prelude.{nat_le, ◌&&◌, slice_index}
 use Rattle.std.proofs.lemmas.Bool.{cases_Bool, le-leb, lt-leb, lt-ltb, le-ltb, and_left, and_right}
 use Rattle.g704_framing.proofs.Leasts.{IsLeast, least_equals, least_alike, le-suc, least-later}
 use Rattle.g704_framing.proofs.Agrees.{within_reach}
@@ -43,13 +43,8 @@ octet_before-at b (x ∷ s) (suc k) lt = octet_before-at (Some x) s k (omega ari
 
 -- with no octet before the first, the test is that of `is_found_at`
 finds-is : (s : List ℕ) (from k : ℕ) → k < length s → finds None s from k ≡ (nat_le from k && is_found_at s k)
-finds-is s from zero lt =
-    let never : nat_lt 0 0 ≡ false = le-ltb 0 0 (omega arith) in
-    rw never (ap (λ found. nat_le from 0 && found) (and_right (is_mfas (slice_index s 0)) false refl))
-finds-is s from (suc k) lt =
-    let after : nat_lt 0 (suc k) ≡ true = lt-ltb 0 (suc k) (omega arith) in
-    let one : suc k - 1 ≡ k = omega arith in
-    rw (after, one, octet_before-at None s k (omega arith)) refl
+finds-is s from zero lt = cc (le-ltb 0 0 (omega arith), and_right (is_mfas (slice_index s 0)) false refl)
+finds-is s from (suc k) lt = grind (arith, lt-ltb 0 (suc k) (omega arith), octet_before-at None s k (omega arith))
 
 -- the law
 pub search_is_least : SearchIsLeast

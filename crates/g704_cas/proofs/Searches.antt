@@ -1,6 +1,6 @@
 -- Searches in octets that go on.
-use Rattle.std.proofs.Common.{◌≡◌, ℕ, zero, suc, ◌<◌, List, [], ◌∷◌, ◌++◌, length, true}
-use Rattle.std.proofs.Common.{Option, Some, refl, arith, get_or, inl, inr}
+use Rattle.std.proofs.Common.{◌≡◌, ℕ, zero, suc, ◌<◌, List, [], ◌∷◌, ◌++◌, length, true, Option, Some, refl, arith}
+use Rattle.std.proofs.Common.{get_or}
 use Rattle.std.specs.Prelude.{◌&&◌}
 use Rattle.std.proofs.lemmas.Bool.{cases_Bool}
 use Rattle.g704_framing.specs.Laws.{IsFraming}
@@ -15,12 +15,8 @@ unfolding search
 search-append b [] t from p e = cc
 search-append b (x ∷ s) t (suc from) p e =
     later-found (search (Some x) s from) (search (Some x) (s ++ t) from) (search-append (Some x) s t from) p e
-search-append b (x ∷ s) t zero p e = elim (cases_Bool (is_mfas x && is_not_zero b)) [
-  | inl found ↦ rw found (rw found at e)
-  | inr passed ↦
-      rw passed (later-found (search (Some x) s 0) (search (Some x) (s ++ t) 0) (search-append (Some x) s t 0) p
-      (rw passed at e))
-]
+search-append b (x ∷ s) t zero p e =
+    grind (arith, cases_Bool (is_mfas x && is_not_zero b), search-append (Some x) s t 0)
 
 -- later octets bring what they find themselves
 search-after : (b : Option ℕ) (s t : List ℕ) (from : ℕ)
@@ -29,12 +25,7 @@ unfolding search
 search-after b [] t from e = few-after 0 0 (search b t from) (omega arith)
 search-after b (x ∷ s) t (suc from) e =
     later-after 0 (length s) (search (Some x) s from) (search (Some x) (s ++ t) from) (search-after (Some x) s t from) e
-search-after b (x ∷ s) t zero e = elim (cases_Bool (is_mfas x && is_not_zero b)) [
-  | inl found ↦ let n = rw found at e in cc
-  | inr passed ↦
-      rw passed (later-after 0 (length s) (search (Some x) s 0) (search (Some x) (s ++ t) 0)
-      (search-after (Some x) s t 0) (rw passed at e))
-]
+search-after b (x ∷ s) t zero e = grind (arith, cases_Bool (is_mfas x && is_not_zero b), search-after (Some x) s t 0)
 
 -- multiframe alignment is an alignment of the kind that the laws speak of
 pub multiframe_is_framing : IsFraming multiframe_alignment

@@ -1,6 +1,6 @@
 -- The answers of a multiframe aligner with a history, and its next history.
-use Rattle.std.proofs.Common.{◌≡◌, ℕ, ◌-◌, ◌%◌, List, [], ◌∷◌, ◌++◌, length, Bool, true, false}
-use Rattle.std.proofs.Common.{Option, Some, None, refl, sym, ap, ◌∙◌, subst, arith}
+use Rattle.std.proofs.Common.{rules, ◌≡◌, ℕ, ◌-◌, ◌%◌, List, [], ◌∷◌, ◌++◌, length, Bool, true, false, Option, Some}
+use Rattle.std.proofs.Common.{None, refl, sym, ap, ◌∙◌, subst, arith}
 use Rattle.std.specs.Prelude.{is_none}
 use Rattle.g704_framing.specs.Alignment.{alignments_from}
 use Rattle.g704_framing.specs.Age.{age_in}
@@ -21,11 +21,7 @@ use Rattle.g704_cas.proofs.Searches.{multiframe_is_framing, search-found}
 -- the age of an octet of a present alignment
 age-aligned : (b : Option ℕ) (c : List ℕ) (n frame : ℕ) (wrong : Bool) → IsAlignedRun b frame wrong c
     → age_in 0 (alignments_from multiframe_alignment b c 0) n ≡ Some n
-age-aligned b c n frame wrong h =
-    age-standing 0 n (alignments_from multiframe_alignment b c 0)
-    (alignments-standing multiframe_alignment multiframe_is_framing b c
-    (λ t. search-found b c t h.begun h.after_nonzero h.first) h.kept)
-    (omega arith)
+age-aligned b c n frame wrong h = search (rules, age-standing, alignments-standing, multiframe_is_framing, search-found)
 
 -- the octet by which alignment is found
 pub place-first : (b : Option ℕ) (c : List ℕ) (x frame : ℕ) (wrong after : Bool) → (c ≡ []) × (after ≡ is_not_zero b)
@@ -38,18 +34,13 @@ pub place-next : (b : Option ℕ) (c : List ℕ) (x frame frame' : ℕ) (wrong w
     → IsAlignedRun b frame' wrong' (c ++ x ∷ [])
     → Frame (frame % 16) ≡ place_since multiframes b (c ++ x ∷ []) (length c)
 unfolding place_since
-place-next b c x frame frame' wrong wrong' h g =
-    let a = h.counted in
-    let e : frame % 16 ≡ length c % 16 = omega arith in
-    rw (age-aligned b (c ++ x ∷ []) (length c) frame' wrong' g) (ap Frame e)
+place-next b c x frame frame' wrong wrong' h g = grind (arith, age-aligned b (c ++ x ∷ []) (length c) frame' wrong' g)
 
 -- the aligner has the history with one more octet
 pub stands-follows : (phase : SyncState) (history earlier since : List ℕ) (x : ℕ) → history ≡ earlier ++ since
     → RestartsAfter multiframe_alignment None earlier → Follows phase (last_of None earlier) (since ++ x ∷ [])
     → HasHistory (record { phase = phase }) (history ++ x ∷ [])
-stands-follows (Searching after) history earlier since x e over f =
-    since-anew multiframe_alignment _ history earlier since x e over f.0
-    (refl, f.1 ∙ ap is_not_zero (sym (last_of-append None earlier (since ++ x ∷ []))))
+stands-follows (Searching after) history earlier since x e over f = search (rules, since-anew, last_of-append)
 stands-follows (Aligned frame wrong) history earlier since x e over f =
     since-more multiframe_alignment _ history earlier since x e over f
 
@@ -60,10 +51,7 @@ stands-new = since-nothing multiframe_alignment _ (refl, refl)
 -- the alarm while it hunts
 pub alarm-searching : (phase : SyncState) (history : List ℕ) (after : Bool) → phase ≡ Searching after
     → HasHistory (record { phase = phase }) history → true ≡ alarm_after history
-alarm-searching phase history after e h =
-    let d : Describes (Searching after) (last_of None h.earlier) h.since
-    = subst (λ p. Describes p (last_of None h.earlier) h.since) e h.fields in
-    rw (h.whole, d.0) (alarm-over multiframes h.earlier h.over)
+alarm-searching phase history after e h = grind (arith, alarm-over multiframes h.earlier h.over)
 
 -- and while it is aligned
 pub alarm-aligned : (phase : SyncState) (history : List ℕ) (frame : ℕ) (wrong : Bool) → phase ≡ Aligned frame wrong

@@ -1,28 +1,20 @@
 -- One octet more, in each phase.
-use Rattle.std.proofs.Common.{◌≡◌, ℕ, ◌+◌, ◌-◌, ◌<◌, ◌≤◌, ◌%◌, List, [], ◌∷◌, ◌++◌, length, Bool, true, false}
-use Rattle.std.proofs.Common.{Option, refl, sym, ◌∙◌, arith, not, inl, inr}
+use Rattle.std.proofs.Common.{◌≡◌, ℕ, ◌+◌, ◌-◌, ◌<◌, ◌≤◌, ◌%◌, List, [], ◌∷◌, ◌++◌, length, Bool, true, false, Option}
+use Rattle.std.proofs.Common.{refl, sym, ◌∙◌, arith, not}
 use Rattle.std.specs.Prelude.{◌≢◌, ◌&&◌}
 use Rattle.std.proofs.lemmas.List.{get_or_append_left, length_push}
-use Rattle.std.proofs.lemmas.Bool.{lt-ltb, le-ltb, ne_eqb, and_left, and_right, cases_eq, true≢false}
+use Rattle.std.proofs.lemmas.Bool.{lt-ltb, and_left, and_right, cases_eq}
 use Rattle.g704_framing.specs.Restart.{RestartsAfter, last_of}
 use Rattle.g704_framing.proofs.Ends.{RestartsAfter-passed, kept-more, RestartsAfter-lost, last_of-push}
 use Rattle.g704_cas.specs.Search.{is_mfas, is_not_zero, search}
 use Rattle.g704_cas.specs.Loss.{is_wrong, is_second_wrong, multiframe_alignment}
 use Rattle.g704_cas.specs.Aligner.{IsAlignedRun}
-use Rattle.g704_cas.proofs.Wrongs.{is_wrong-append, is_wrong-other, is_wrong-first}
-use Rattle.g704_cas.proofs.Wrongs.{is_wrong-last}
+use Rattle.g704_cas.proofs.Wrongs.{is_wrong-append, is_wrong-other, is_wrong-first, is_wrong-last}
 use Rattle.g704_cas.proofs.Searches.{multiframe_is_framing, search-found}
 
 -- an octet by which alignment is found
 pub first_octet : (b : Option ℕ) (x : ℕ) → is_not_zero b ≡ true → is_mfas x ≡ true → IsAlignedRun b 1 false (x ∷ [])
-first_octet b x h r = record {
-  after_nonzero = h;
-  begun = omega arith;
-  first = r;
-  counted = refl;
-  kept = λ k lt. and_left _ _ (le-ltb 0 k (omega arith));
-  last = λ k ge lt e. let z : k - 16 ≡ 0 = omega arith in rw z (sym (is_wrong-first (x ∷ []) r));
-}
+first_octet b x h r = grind (arith, is_wrong-first (x ∷ []) r)
 
 -- and one by which it is not
 pub RestartsAfter-other : (b : Option ℕ) (x : ℕ) → (is_mfas x && is_not_zero b) ≡ false
@@ -34,10 +26,7 @@ RestartsAfter-other b x h = RestartsAfter-passed multiframe_alignment multiframe
 pub not_zero-wrong : (b : Option ℕ) (c : List ℕ) (x : ℕ) → is_mfas x ≡ false
     → true ≡ is_not_zero (last_of b (c ++ x ∷ []))
 unfolding is_mfas
-not_zero-wrong b c x r = rw (last_of-push b c x) (elim (cases_eq x 0) [
-  | inl e ↦ absurd (true≢false (rw e at r))
-  | inr ne ↦ rw (ne_eqb x 0 ne) refl
-])
+not_zero-wrong b c x r = grind (arith, last_of-push b c x, cases_eq x 0)
 
 -- an alignment after one octet more
 module _ (b : Option ℕ) (c : List ℕ) (x frame : ℕ) (wrong : Bool) (h : IsAlignedRun b frame wrong c) where
@@ -60,7 +49,6 @@ module _ (b : Option ℕ) (c : List ℕ) (x frame : ℕ) (wrong : Bool) (h : IsA
   pub other-more : frame ≢ 0 → IsAlignedRun b ((frame + 1) % 16) wrong (c ++ x ∷ [])
   other-more ne =
       let a = h.counted in
-      let s = h.begun in
       let p = length_push c x in
       let other : length c % 16 ≢ 0 = λ e. ne (a ∙ e) in
       more ((frame + 1) % 16) wrong (omega arith)
@@ -80,20 +68,17 @@ module _ (b : Option ℕ) (c : List ℕ) (x frame : ℕ) (wrong : Bool) (h : IsA
   -- whether it is the second wrong one in a row
   second_now : frame ≡ 0 → is_second_wrong (c ++ x ∷ []) (length c) ≡ (not (is_mfas x) && wrong)
   second_now e =
-      let s = h.begun in
-      rw (
-        lt-ltb 0 (length c) s,
+      cc (
+        lt-ltb 0 (length c) h.begun,
         is_wrong-last c x (at_zero e),
-        is_wrong-append c (x ∷ []) (length c - 16)
-            (omega arith),
-        ← last_wrong e,
-      ) refl
+        is_wrong-append c (x ∷ []) (length c - 16) (omega arith),
+        last_wrong e,
+      )
 
   -- by one of frame 0 that is right, or the first in a row that is wrong
   pub zero-more : (right : Bool) → frame ≡ 0 → is_mfas x ≡ right → (not right && wrong) ≡ false
       → IsAlignedRun b 1 (not right) (c ++ x ∷ [])
   zero-more right e r passed =
-      let a = h.counted in
       let p = length_push c x in
       more 1 (not right) (omega arith) (second_now e ∙ rw r passed)
       (λ k ge lt m. let n : k - 16 ≡ length c = omega arith in rw (n, is_wrong-last c x (at_zero e), r) refl)

@@ -1,7 +1,7 @@
 -- Wrong octets of frame 0, and the loss.
-use Rattle.std.proofs.Common.{◌≡◌, ℕ, ◌-◌, ◌<◌, ◌≤◌, ◌%◌, List, [], ◌∷◌, ◌++◌, length, true, false, refl, sym, ap, ◌∙◌}
-use Rattle.std.proofs.Common.{arith, not, inl, inr}
-use Rattle.std.specs.Prelude.{slice_index, ◌==◌, ◌&&◌, ◌≢◌}
+use Rattle.std.proofs.Common.{rules, ◌≡◌, ℕ, ◌-◌, ◌<◌, ◌≤◌, ◌%◌, List, [], ◌∷◌, ◌++◌, length, true, false, refl, ap}
+use Rattle.std.proofs.Common.{arith, not}
+use Rattle.std.specs.Prelude.{slice_index, ◌≢◌}
 use Rattle.std.proofs.lemmas.List.{get_or_append_left, get_or_push}
 use Rattle.std.proofs.lemmas.Bool.{ne_eqb, and_left, cases_eq}
 use Rattle.g704_cas.specs.Search.{is_mfas}
@@ -27,20 +27,13 @@ pub is_wrong-alike : (octets others : List ℕ) (k : ℕ)
     → (k % 16 ≡ 0 → is_mfas (slice_index octets k) ≡ is_mfas (slice_index others k))
     → is_wrong octets k ≡ is_wrong others k
 unfolding is_wrong
-is_wrong-alike octets others k alike = elim (cases_eq (k % 16) 0) [
-  | inr other ↦ is_wrong-other octets k other ∙ sym (is_wrong-other others k other)
-  | inl e ↦ ap (λ right. (k % 16 == 0) && not right) (alike e)
-]
+is_wrong-alike octets others k alike = grind (arith, cases_eq (k % 16) 0)
 
 -- up to a place
 pub is_second_wrong-alike : (octets others : List ℕ) (k : ℕ)
     → ((j : ℕ) → j ≤ k → j % 16 ≡ 0 → is_mfas (slice_index octets j) ≡ is_mfas (slice_index others j))
     → is_second_wrong octets k ≡ is_second_wrong others k
-is_second_wrong-alike octets others k alike =
-    rw (
-      is_wrong-alike octets others k (alike k (omega arith)),
-      is_wrong-alike octets others (k - 16) (alike (k - 16) (omega arith)),
-    ) refl
+is_second_wrong-alike octets others k alike = search (rules, is_wrong-alike)
 
 -- an alignment is lost by octets of frame 0 only
 pub is_second_wrong-reads : (octets others : List ℕ) (k : ℕ)

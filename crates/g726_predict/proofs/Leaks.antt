@@ -1,6 +1,5 @@
 -- What is left of a number without a part of it.
-use Rattle.g726_predict.proofs.Common.{ℕ, ◌≤◌, ◌/◌, ℤ, pos, negsuc, ◌-ℤ◌, ◌≤ℤ◌, w16, w32, SFits, arith, ints, shr_z}
-use Rattle.std.proofs.Math.Nat.{div-le_self}
+use Rattle.g726_predict.proofs.Common.{ℕ, ◌≤◌, ℤ, pos, negsuc, ◌-ℤ◌, ◌≤ℤ◌, w16, w32, SFits, shr_z, rules}
 
 -- the part and what is left have 32 bits, and what is left is at most 32767 on either side
 pub record Left (z : ℤ) (divisor : ℕ) : Type 0 where
@@ -11,19 +10,4 @@ pub record Left (z : ℤ) (divisor : ℕ) : Type 0 where
 
 -- so it is of a number of 16 bits
 pub left : (z : ℤ) (divisor : ℕ) → SFits w16 z → Left z divisor
-left (pos a) n h =
-    let less : a / n ≤ a = div-le_self a n in
-    record {
-      part = omega (arith, ints, less);
-      fits = omega (arith, ints, less);
-      low = omega (arith, ints, less);
-      high = omega (arith, ints, less);
-    }
-left (negsuc a) n h =
-    let less : a / n ≤ a = div-le_self a n in
-    record {
-      part = omega (arith, ints, less);
-      fits = omega (arith, ints, less);
-      low = omega (arith, ints, less);
-      high = omega (arith, ints, less);
-    }
+left z n h = search rules

@@ -1,7 +1,7 @@
 -- The variables as numbers of 16 bits, and back.
 use Rattle.g726_predict.proofs.Common.{◌≡◌, refl, sym, ap, ◌∙◌, subst, ℕ, ◌+◌, ◌<◌, ◌≤◌, ℤ, pos, Bool, true, false}
-use Rattle.g726_predict.proofs.Common.{nat_le, nat_lt, ◌-◌, take, drop, List, [], ◌∷◌, ◌++◌, length, map, get_or, All}
-use Rattle.g726_predict.proofs.Common.{arith, SFits, w16, to_z, of_z, nat_tests, to_z-of_z, Prediction, packed}
+use Rattle.g726_predict.proofs.Common.{rules, common_steps, nat_lt, ◌-◌, take, drop, List, [], ◌∷◌, ◌++◌, length, map}
+use Rattle.g726_predict.proofs.Common.{get_or, All, arith, SFits, w16, to_z, of_z, nat_tests, to_z-of_z, Prediction}
 use Rattle.g726_predict.proofs.Common.{unpacked}
 use Rattle.std.proofs.lemmas.Int.{of_z-to_z}
 use Rattle.std.proofs.lemmas.List.{ext_get_or, get_or-take, get_or-drop, length-take-le, length-drop, take_all}
@@ -31,11 +31,7 @@ listed {A = A} d n xs long =
 
 -- a number below 2048 is that of its word
 pub packed-unpacked : (n : ℕ) → n < 2048 → word_number (unpacked n) ≡ n
-packed-unpacked n few = go (nat_le 1024 n) refl
-  where
-    go : (b : Bool) → nat_le 1024 n ≡ b → word_number (unpacked n) ≡ n
-    go true is = let above : 1024 ≤ n = grind (arith, nat_tests) in rw is (omega arith)
-    go false is = let below : n < 1024 = grind (arith, nat_tests) in rw is (omega arith)
+packed-unpacked n few = grind (arith, common_steps)
 
 -- the variables of sixteen numbers
 abbrev pub numbered : (ℕ → ℕ) → Bool → Bool → Prediction
@@ -78,11 +74,7 @@ word-again w fits = unpacked-packed w.negative w.exponent w.mantissa fits.0 fits
 
 -- the number of a word has 11 bits
 pub number-below : (w : FloatWord) → WordFits w → word_number w < 2048
-number-below w fits = go w.negative fits.0 fits.1
-  where
-    go : (negative : Bool) → w.exponent ≤ 15 → w.mantissa ≤ 63 → packed negative w.exponent w.mantissa < 2048
-    go true e m = omega arith
-    go false e m = omega arith
+number-below w fits = grind (arith, common_steps)
 
 -- Variables by their items: those of their numbers are they.
 abbrev pub varied : (ℕ → ℤ) → ℤ → ℤ → (ℕ → FloatWord) → (ℕ → FloatWord) → Bool → Bool → Prediction
@@ -95,24 +87,7 @@ numbered-varied : (b : ℕ → ℤ) (a1 a2 : ℤ) (dq sr : ℕ → FloatWord) (p
     → ((i : ℕ) → i < 6 → WordFits (dq i)) → ((i : ℕ) → i < 2 → WordFits (sr i))
     → numbered (λ i. get_or (saved_numbers (varied b a1 a2 dq sr pk1 pk2)) i 0) pk1 pk2
     ≡ varied b a1 a2 dq sr pk1 pk2
-numbered-varied b a1 a2 dq sr pk1 pk2 b_fits a1_fits a2_fits dq_fits sr_fits = rw (
-  to_z-of_z w16 (b 0) (b_fits 0 (omega arith)),
-  to_z-of_z w16 (b 1) (b_fits 1 (omega arith)),
-  to_z-of_z w16 (b 2) (b_fits 2 (omega arith)),
-  to_z-of_z w16 (b 3) (b_fits 3 (omega arith)),
-  to_z-of_z w16 (b 4) (b_fits 4 (omega arith)),
-  to_z-of_z w16 (b 5) (b_fits 5 (omega arith)),
-  to_z-of_z w16 a1 a1_fits,
-  to_z-of_z w16 a2 a2_fits,
-  word-again (dq 0) (dq_fits 0 (omega arith)),
-  word-again (dq 1) (dq_fits 1 (omega arith)),
-  word-again (dq 2) (dq_fits 2 (omega arith)),
-  word-again (dq 3) (dq_fits 3 (omega arith)),
-  word-again (dq 4) (dq_fits 4 (omega arith)),
-  word-again (dq 5) (dq_fits 5 (omega arith)),
-  word-again (sr 0) (sr_fits 0 (omega arith)),
-  word-again (sr 1) (sr_fits 1 (omega arith)),
-) refl
+numbered-varied b a1 a2 dq sr pk1 pk2 b_fits a1_fits a2_fits dq_fits sr_fits = search (rules, to_z-of_z, word-again)
 
 -- variables of their width are those of their items
 pub is-varied : (s : Prediction) → PredictionFits s
@@ -183,9 +158,7 @@ of-two P x y p q = All-cons P x (y ∷ []) p (All-cons P y [] q (λ k d less. ab
 -- and of six
 pub of-six : {A : Type 0} (P : A → Type 0) (a b c d e f : A) → P a → P b → P c → P d → P e → P f
     → All P (a ∷ b ∷ c ∷ d ∷ e ∷ f ∷ [])
-of-six P a b c d e f one two three four five six =
-    All-cons P a (b ∷ c ∷ d ∷ e ∷ f ∷ []) one (All-cons P b (c ∷ d ∷ e ∷ f ∷ []) two
-    (All-cons P c (d ∷ e ∷ f ∷ []) three (All-cons P d (e ∷ f ∷ []) four (of-two P e f five six))))
+of-six P a b c d e f one two three four five six = grind (arith, common_steps)
 
 -- the numbers of variables of their width are sixteen of 16 bits
 pub numbers-fit : (s : Prediction) → PredictionFits s

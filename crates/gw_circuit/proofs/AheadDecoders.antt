@@ -1,6 +1,6 @@
 -- Decoders that are ahead of the words that were played.
-use Rattle.gw_circuit.proofs.Common.{◌≡◌, ◌≤◌, ◌<◌, ◌+◌, ℕ, Bool, List, [], ◌∷◌, length, take, cond, refl, sym, ap, ◌∙◌}
-use Rattle.gw_circuit.proofs.Common.{arith, slice_index, take_all, Law, Variables, CodecKind, CodecState, rate_tables}
+use Rattle.gw_circuit.proofs.Common.{◌≡◌, ◌≤◌, ◌<◌, ◌+◌, ℕ, List, [], ◌∷◌, length, take, refl, sym, ap, ◌∙◌, arith}
+use Rattle.gw_circuit.proofs.Common.{slice_index, take_all, Law, Variables, CodecKind, CodecState, rate_tables}
 use Rattle.gw_circuit.proofs.Common.{octet_by, after_by, after_decoding, DecodersContinue}
 use Rattle.std.proofs.Common.{inl, inr}
 use Rattle.std.proofs.lemmas.Bool.{lt-ltb, le-ltb, cases_lt}
@@ -14,18 +14,12 @@ Continue = (kind : CodecKind) (law : Law) (s : Variables) → DecodersContinue (
 pub some-left : (codec : CodecState) (base : Variables) (words : List ℕ) (played : ℕ) → played < length words
     → as_played codec base words played
     ≡ record codec { decoder = after_by (rate_tables codec.kind) base (take played words) }
-some-left codec base words played left =
-    ap (λ (b : Bool). record codec {
-      decoder = cond b (after_by (rate_tables codec.kind) base (take played words)) codec.decoder;
-    }) (lt-ltb played (length words) left)
+some-left codec base words played left = cc (lt-ltb played (length words) left)
 
 -- once none is left, nothing is ahead
 pub none-left : (codec : CodecState) (base : Variables) (words : List ℕ) (played : ℕ) → length words ≤ played
     → as_played codec base words played ≡ codec
-none-left codec base words played all =
-    ap (λ (b : Bool). record codec {
-      decoder = cond b (after_by (rate_tables codec.kind) base (take played words)) codec.decoder;
-    }) (le-ltb played (length words) all)
+none-left codec base words played all = cc (le-ltb played (length words) all)
 
 -- the octet that is kept of the next word is its octet
 pub kept-octet : Continue → (codec : CodecState) (base : Variables) (words octets : List ℕ) (played word : ℕ)
@@ -59,8 +53,7 @@ one-more-played continue codec base words octets played word ahead left same =
           ∙ ap (λ (s : Variables). record codec { decoder = s }) (ahead.decoder
           ∙ ap (after_by t base) (sym (take_all (played + 1) words none)))
     ] in
-    then ∙ ap (λ (s : Variables). record codec { decoder = s }) more
-    ∙ ap (λ (c : CodecState). after_decoding c (word ∷ [])) (sym now)
+    grind arith
 
 -- a decoder that begins from a state, before the first of its words
 pub none-decoded : Continue → (codec : CodecState) (base start : Variables) → start ≡ base
@@ -82,6 +75,4 @@ one-more-decoded continue codec now base words i is within =
 pub all-decoded : (codec now : CodecState) (base : Variables) (words : List ℕ) (i : ℕ)
     → now ≡ record codec { decoder = after_by (rate_tables codec.kind) base (take i words) } → length words ≤ i
     → now ≡ record codec { decoder = after_by (rate_tables codec.kind) base words }
-all-decoded codec now base words i is all =
-    is
-    ∙ ap (λ (ws : List ℕ). record codec { decoder = after_by (rate_tables codec.kind) base ws }) (take_all i words all)
+all-decoded codec now base words i is all = cc (take_all i words all)

@@ -1,8 +1,9 @@
 -- Octets that wait behind the words of a packet.
 use Rattle.gw_circuit.proofs.Common.{◌≡◌, ◌≤◌, ◌+◌, ℕ, List, [], ◌∷◌, ◌++◌, length, take, drop, refl, sym, ap, ◌∙◌}
-use Rattle.gw_circuit.proofs.Common.{append_assoc, append-nil, length-append, length-drop, arith, drop-append-le}
-use Rattle.gw_circuit.proofs.Common.{take_all, length-take-le, Law, Variables, CodecKind, CodecState, rate_tables}
-use Rattle.gw_circuit.proofs.Common.{word_by, after_by, after_encoding, EncodersContinue, next_word, with_word}
+use Rattle.gw_circuit.proofs.Common.{rules, common_steps, append_assoc, append-nil, length-append, length-drop, arith}
+use Rattle.gw_circuit.proofs.Common.{drop-append-le, take_all, length-take-le, Law, Variables, CodecKind, CodecState}
+use Rattle.gw_circuit.proofs.Common.{rate_tables, word_by, after_by, after_encoding, EncodersContinue, next_word}
+use Rattle.gw_circuit.proofs.Common.{with_word}
 use Rattle.std.proofs.Math.Seq.{take-append_seam, drop-append_seam}
 use Rattle.std.specs.List.{refill}
 use Rattle.std.proofs.lemmas.List.{take-append-le, drop_all, take-append-drop}
@@ -34,16 +35,12 @@ one-more-waits continue codec items count octet few =
 
 -- where nothing is in the packet nothing waits
 pub none-waits : Continue → (codec : CodecState) → as_coded codec [] 0 ≡ record { codec = codec; packet = [] }
-none-waits continue codec =
-    let none = (continue codec.kind codec.law codec.encoder).none in
-    rw (none.0, none.1) refl
+none-waits continue codec = grind (arith, common_steps)
 
 -- once all is coded nothing waits
 pub all-coded : Continue → (codec : CodecState) (items : List ℕ) (count : ℕ) → length items ≤ count
     → as_coded codec items count ≡ record { codec = codec; packet = items }
-all-coded continue codec items count all =
-    let none = (continue codec.kind codec.law codec.encoder).none in
-    rw (take_all count items all, drop_all count items all, none.0, none.1, append-nil items) refl
+all-coded continue codec items count all = grind (arith, common_steps)
 
 -- what waits is the work of a lane
 pub loaded-is : (codec : CodecState) (items : List ℕ) (count : ℕ) (kind : CodecKind) (law : Law) (s : Variables)
@@ -55,12 +52,7 @@ loaded-is codec items count kind law s octets k l e o =
 -- the words at the end of two lists that are equal, if they are as many
 same-end : (xs ys us vs : List ℕ) → xs ++ ys ≡ us ++ vs → length ys ≡ length vs → vs ≡ ys
 same-end xs ys us vs e n =
-    let all : length (xs ++ ys) ≡ length (us ++ vs) = ap length e in
-    let first = length-append xs ys in
-    let second = length-append us vs in
-    let front : length us ≡ length xs = omega arith in
-    sym (drop-append_seam us vs) ∙ ap (λ (n : ℕ). drop n (us ++ vs)) front ∙ ap (drop (length xs)) (sym e)
-    ∙ drop-append_seam xs ys
+    grind (arith, length-append xs ys, length-append us vs, drop-append_seam us vs, drop-append_seam xs ys)
 
 -- a state and words from a lane that say what the codec was to code change nothing
 pub stored-is : Continue → (codec codec' : CodecState) (items items' words front : List ℕ) (s : Variables)
@@ -69,11 +61,7 @@ pub stored-is : Continue → (codec codec' : CodecState) (items items' words fro
     → codec' ≡ record codec { encoder = s } → items' ≡ take count items ++ words → length items' ≤ count'
     → as_coded codec' items' count' ≡ as_coded codec items count
 stored-is continue codec codec' items items' words front s count count' few many packet encoder is put all =
-    let later = next_words codec (drop count items) in
-    let counted = (continue codec.kind codec.law codec.encoder).counted (drop count items) in
-    let left = length-drop count items in
-    let same : words ≡ later = same-end (take count items) later front words packet (omega arith) in
-    all-coded continue codec' items' count' all ∙ rw (is, put, same, ← encoder) refl
+    search (rules, length-drop, same-end, all-coded)
 
 -- the words of octets in the middle, and the octets behind them, say the same
 pub part-coded : Continue → (codec codec' : CodecState) (front middle last words items' : List ℕ) (count end : ℕ)
@@ -81,7 +69,6 @@ pub part-coded : Continue → (codec codec' : CodecState) (front middle last wor
     → codec' ≡ after_encoding codec words → items' ≡ front ++ (words ++ last)
     → as_coded codec' items' end ≡ as_coded codec (front ++ (middle ++ last)) count
 part-coded continue codec codec' front middle last words items' count end begins ends coded is put =
-    let t = rate_tables codec.kind in
     let before = continue codec.kind codec.law codec.encoder in
     let counted = before.counted middle in
     let many = length-append front middle in

@@ -7,7 +7,7 @@ unfoldable pub use Rattle.g726_codec.specs.Kinds.{dec, enc}
 pub use Rattle.g726_codec.specs.Laws.{DecodersContinue, EncodersContinue, HistoriesContinue, NothingIsCoded}
 pub use Rattle.g726_codec.specs.Laws.{OneWordAnOctet}
 pub use Rattle.g726_codec.specs.declared.CodecKind.{CodecKind}
-pub use Rattle.g726_codec.specs.declared.CodecKind.TheVariants.{G16, G24, G32, G40, G711}
+pub use Rattle.g726_codec.specs.declared.CodecKind.TheVariants.{G32, G711}
 pub use Rattle.gw_circuit.specs.Coder.{CodedPacket, next_word, with_word}
 pub use Rattle.gw_circuit.specs.Coding.{PayloadFormat, changes, is_change, latest}
 unfoldable pub use Rattle.gw_circuit.specs.Coding.{codec_reply, fits, format_after}
@@ -47,5 +47,4 @@ pub use Rattle.std.proofs.Common.{◌++◌, ◌+◌, ◌-◌, ◌<◌, ◌^◌, 
 pub use Rattle.std.proofs.lemmas.Grind.{common_steps}
 pub use Rattle.std.proofs.lemmas.List.{drop-append-le, length-take-le, take_all}
 pub use Rattle.std.specs.List.{list_all}
-pub use Rattle.std.specs.Prelude.{Err, MatchOption, Ok, Result, is_err, is_ok, min, nat_lt, slice_index, unwrap_or}
-pub use Rattle.std.specs.Prelude.{◌&&◌, ◌==◌}
+pub use Rattle.std.specs.Prelude.{Err, MatchOption, Ok, Result, min, nat_lt, slice_index, unwrap_or, ◌&&◌, ◌==◌}

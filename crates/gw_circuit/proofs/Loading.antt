@@ -1,7 +1,7 @@
 -- Speech and circuits as octets, and back.
 use Rattle.gw_circuit.proofs.Common.{◌≡◌, ◌<◌, ◌≤◌, ◌*◌, ◌%◌, ◌^◌, ℕ, true, List, [], ◌∷◌, ◌++◌, length, refl, sym, ap}
-use Rattle.gw_circuit.proofs.Common.{◌∙◌, append_assoc, Option, Some, None, Bool, false, arith, nat_lt, Result, Ok, Err}
-use Rattle.gw_circuit.proofs.Common.{list_all, CodecKind, G711, G16, G24, G32, G40, bits_of, saved_playout, Law, Line}
+use Rattle.gw_circuit.proofs.Common.{rules, common_steps, ◌∙◌, append_assoc, Option, Some, None, Bool, false, arith}
+use Rattle.gw_circuit.proofs.Common.{nat_lt, Result, Ok, Err, list_all, CodecKind, bits_of, saved_playout, Law, Line}
 use Rattle.gw_circuit.proofs.Common.{saved_line, CircuitConfig, Circuit, Speech, CircuitEvent, CodedPacket}
 use Rattle.gw_circuit.proofs.Common.{format_after, SpeechHistory, packet_size, saved_coding, saved_packet, saved_speech}
 use Rattle.gw_circuit.proofs.Common.{saved_numbers, saved_circuit, HasHistory}
@@ -48,20 +48,14 @@ read-three a b c all one two rest e f g =
 
 -- the bound of words of this many bits, made by a shift
 pub bound-of : (kind : CodecKind) → 1 * 2 ^ bits_of kind % 65536 ≡ 2 ^ bits_of kind
-bound-of G711 = refl
-bound-of G16 = refl
-bound-of G24 = refl
-bound-of G32 = refl
-bound-of G40 = refl
+bound-of kind = search rules
 
 -- the octets of speech begin with its codec; the packet is next, then the playout
 pub speech-octets : (s : Speech) (rest : List ℕ) → saved_speech s ++ rest
     ≡ saved_coding s.kind s.payload_type s.coder.codec
     ++ (saved_packet s.coder.packet ++ (saved_playout s.playout ++ rest))
 unfolding saved_speech
-speech-octets s rest =
-    three-parts (saved_coding s.kind s.payload_type s.coder.codec) (saved_packet s.coder.packet)
-    (saved_playout s.playout) rest
+speech-octets s rest = grind (arith, common_steps)
 
 -- speech by its parts
 pub same-speech : (one other : Speech) → one.kind ≡ other.kind → one.payload_type ≡ other.payload_type
@@ -97,33 +91,13 @@ pub numbers-told : (n : Numbers) (clock sequence sent received dropped : ℕ)
       counts = record { sent = sent; received = received; dropped = dropped };
     }) → (n.clocks.clock ≡ clock) × (n.clocks.sequence ≡ sequence) × (n.counts.sent ≡ sent)
     × (n.counts.received ≡ received) × (n.counts.dropped ≡ dropped)
-numbers-told n clock sequence sent received dropped e =
-    let same : n ≡ record {
-      clocks = record { clock = clock; sequence = sequence };
-      counts = record { sent = sent; received = received; dropped = dropped };
-    } = cc e in (
-      ap (λ (m : Numbers). m.clocks.clock) same,
-      ap (λ (m : Numbers). m.clocks.sequence) same,
-      ap (λ (m : Numbers). m.counts.sent) same,
-      ap (λ (m : Numbers). m.counts.received) same,
-      ap (λ (m : Numbers). m.counts.dropped) same,
-    )
+numbers-told n clock sequence sent received dropped e = grind (arith, common_steps)
 
 -- a circuit by its parts
 pub same-circuit : (one other : Circuit) → one.law ≡ other.law → one.config ≡ other.config → one.line ≡ other.line
     → one.speech ≡ other.speech → one.clock ≡ other.clock → one.sequence ≡ other.sequence
     → one.sent_count ≡ other.sent_count → one.received ≡ other.received → one.dropped ≡ other.dropped → one ≡ other
-same-circuit one other law config line speech clock sequence sent received dropped = λ i. record {
-  law = law i;
-  config = config i;
-  line = line i;
-  speech = speech i;
-  clock = clock i;
-  sequence = sequence i;
-  sent_count = sent i;
-  received = received i;
-  dropped = dropped i;
-}
+same-circuit one other law config line speech clock sequence sent received dropped = grind (arith, common_steps)
 
 -- a circuit whose coder is the same, and all else
 pub same-coder : (one other : Circuit) → one.speech.coder ≡ other.speech.coder
@@ -153,9 +127,7 @@ pub stands-cleared : (c : Circuit) (law : Law) (config : CircuitConfig) (items :
       received = 0;
       dropped = 0;
     }) law config []
-stands-cleared c law config items l s stands at speaks small =
-    let keeps = keeps-of c law config items stands in
-    rw (← keeps.law_is, ← keeps.config_is) (stands-new c.law c.config l s at speaks small)
+stands-cleared c law config items l s stands at speaks small = search (rules, keeps-of, stands-new)
 
 -- so does a circuit that stands there, with these parts
 with-parts : (c : Circuit) (law : Law) (config : CircuitConfig) (l : Line) (s : Speech) → HasHistory c law config []
@@ -163,18 +135,7 @@ with-parts : (c : Circuit) (law : Law) (config : CircuitConfig) (l : Line) (s : 
     → SpeechHistory s law (format_after law config []) (packet_size config) config.prefill [] []
     → HasHistory (with_parts c l s) law config []
 unfolding HasHistory
-with-parts c law config l s keeps at speaks = record {
-  law_is = keeps.law_is;
-  config_is = keeps.config_is;
-  line = at;
-  speech = rw (stretch-none law config) speaks;
-  within = keeps.within;
-  clock = keeps.clock;
-  sequence = keeps.sequence;
-  sent_count = keeps.sent_count;
-  received = keeps.received;
-  dropped = keeps.dropped;
-}
+with-parts c law config l s keeps at speaks = grind (arith, stretch-none law config)
 
 -- the same where its line was read already
 pub stands-reset : (k c : Circuit) (law : Law) (config : CircuitConfig) (l : Line) (s : Speech)
@@ -191,9 +152,7 @@ stands-reset k c law config l s is stands at speaks =
 -- where a result is tested to be none, what it says of that holds
 pub none-says : (result : Option (Unit {0})) (P : Type 0) (b : Bool) → IfNone result P → is_some result ≡ not b
     → b ≡ true → P
-none-says None P b p e f = p
-none-says (Some done) P true p e f = absurd (cc e)
-none-says (Some done) P false p e f = absurd (cc f)
+none-says result P b p e f = search rules
 
 -- a result that is there is not tested to be none
 pub some-is-there : (result : Option (Unit {0})) (b : Bool) → result ≡ Some tt → is_some result ≡ not b → b ≡ true → ⊥
@@ -207,6 +166,4 @@ none-holds (Some done) P p = tt
 -- where a result is not tested to be none, what it says if it is there holds
 pub some-says : (result : Option (Unit {0})) (P : Type 0) (b : Bool) → IfSome result (λ done. P)
     → is_some result ≡ not b → b ≡ false → P
-some-says (Some done) P b p e f = p
-some-says None P true p e f = absurd (cc f)
-some-says None P false p e f = absurd (cc e)
+some-says result P b p e f = search rules

@@ -1,7 +1,7 @@
 -- A codec with the packet that it fills.
 use Rattle.std.specs.Prelude.{◌≡◌, ℕ, List, [], ◌∷◌, ◌++◌, take, drop}
-use Rattle.g726_codec.specs.Kinds.{CodecState, rate_tables, word_by, words_by, after_by}
-use Rattle.g726_codec.specs.Kinds.{after_encoding, codec_after}
+use Rattle.g726_codec.specs.Kinds.{CodecState, rate_tables, word_by, words_by, after_by, after_encoding}
+use Rattle.g726_codec.specs.Kinds.{codec_after}
 use Rattle.g726_codec.specs.Codec.{Variables}
 use Rattle.g726_codec.specs.declared.CodecKind.{CodecKind}
 use Rattle.e1_g711.specs.declared.Law.{Law}

@@ -1,5 +1,5 @@
 -- Octets of commands and codecs, there and back.
-use Rattle.gw_records.proofs.Common.{◌≡◌, ◌≤◌, ℕ, refl, arith, nat_tests, command_of, octet_of_command, codec_of}
+use Rattle.gw_records.proofs.Common.{◌≡◌, ◌≤◌, ℕ, arith, nat_tests, command_of, octet_of_command, codec_of, rules}
 use Rattle.gw_records.proofs.Common.{octet_of_codec}
 use Rattle.q421_line.specs.declared.Cmd.{Cmd}
 use Rattle.q421_line.specs.declared.Cmd.TheVariants as commands
@@ -8,20 +8,11 @@ use Rattle.g726_codec.specs.declared.CodecKind.TheVariants as codecs
 
 -- the octet of a command is read as this command
 pub command_again : (command : Cmd) → command_of (octet_of_command command) ≡ command
-command_again commands.Seize = refl
-command_again commands.Clear = refl
-command_again commands.Answer = refl
-command_again commands.ClearBack = refl
-command_again commands.Block = refl
-command_again commands.Unblock = refl
+command_again command = search rules
 
 -- the octet of a codec is read as this codec
 pub codec_again : (codec : CodecKind) → codec_of (octet_of_codec codec) ≡ codec
-codec_again codecs.G711 = refl
-codec_again codecs.G16 = refl
-codec_again codecs.G24 = refl
-codec_again codecs.G32 = refl
-codec_again codecs.G40 = refl
+codec_again codec = search rules
 
 -- an octet from 1 to 6 is that of its command
 pub octet_of_command_again : (n : ℕ) → 1 ≤ n → n ≤ 6 → octet_of_command (command_of n) ≡ n

@@ -1,8 +1,8 @@
 -- Octets in a buffer.
 use Rattle.gw_records.proofs.Common.{◌≡◌, ◌+◌, ◌-◌, ◌<◌, ◌≤◌, ℕ, true, List, ◌++◌, length, take, drop, sym, ap, ◌∙◌}
-use Rattle.gw_records.proofs.Common.{inl, inr, length-take-le, length-drop, arith, copy_within, Some, slice_index}
-use Rattle.gw_records.proofs.Common.{Reader, held, take_at, take-append-le, drop-take, paste, take-append-add}
-use Rattle.gw_records.proofs.Common.{nat_tests, common_steps, AcceptedKinds, RecordsEnd, end_of, is_open, is_cut}
+use Rattle.gw_records.proofs.Common.{length-take-le, length-drop, arith, copy_within, Some, slice_index, Reader, held}
+use Rattle.gw_records.proofs.Common.{take_at, take-append-le, drop-take, paste, take-append-add, common_steps}
+use Rattle.gw_records.proofs.Common.{AcceptedKinds, RecordsEnd, end_of, is_open, is_cut}
 use Rattle.std.proofs.lemmas.List.Edits.{take-paste}
 use Rattle.gw_records.specs.declared.records.RecordsEnd.TheVariants as endings
 use Rattle.gw_records.proofs.Firsts.{found_in}
@@ -29,16 +29,9 @@ pub open_is_short : (kinds : AcceptedKinds) (octets : List ℕ) (ending : Record
     → ((i : ℕ) → slice_index octets i < 256)
     → end_of kinds octets ≡ Some ending → is_open ending ≡ true → length octets < 65540
 unfolding is_cut
-open_is_short kinds octets endings.End bytes e o =
-    let none = found_in kinds octets (Some endings.End) e in
-    grind (arith, nat_tests)
+open_is_short kinds octets endings.End bytes e o = grind (arith, found_in kinds octets (Some endings.End) e)
 open_is_short kinds octets endings.Truncated bytes e o =
-    let high = bytes 2 in
-    let low = bytes 3 in
-    elim (found_in kinds octets (Some endings.Truncated) e) [
-      | inl h ↦ grind (arith, nat_tests)
-      | inr h ↦ grind (arith, nat_tests)
-    ]
+    grind (arith, found_in kinds octets (Some endings.Truncated) e, bytes 2, bytes 3)
 open_is_short kinds octets _ bytes e o = cc
 
 -- what is held fits the buffer

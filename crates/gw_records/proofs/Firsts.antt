@@ -1,7 +1,7 @@
 -- The first record of octets.
 use Rattle.gw_records.proofs.Common.{◌≡◌, ◌≢◌, ◌+◌, ◌*◌, ◌<◌, ◌≤◌, ◌^◌, ◌⊎◌, inl, inr, ℕ, suc, true, false, List, []}
-use Rattle.gw_records.proofs.Common.{◌∷◌, Bool, cond, Option, Some, None, nat_lt, ◌==◌, SomeIff, Ok, ok_or, length}
-use Rattle.gw_records.proofs.Common.{take, get_or, refl, sym, ◌∙◌, length-take-le, arith, slice_index, nat_tests}
+use Rattle.gw_records.proofs.Common.{rules, ◌∷◌, Bool, cond, Option, Some, None, nat_lt, ◌==◌, SomeIff, Ok, ok_or}
+use Rattle.gw_records.proofs.Common.{length, take, get_or, sym, ◌∙◌, length-take-le, arith, slice_index, nat_tests}
 use Rattle.gw_records.proofs.Common.{common_steps, AcceptedKinds, spelled, IsGood, body_len, has_bad_kind}
 use Rattle.gw_records.proofs.Common.{has_bad_circuit, has_bad_length, has_bad_command, is_cut, end_of, IsCircuit}
 use Rattle.gw_records.proofs.Common.{IsFirst, head_of, named, RecordsEnd, command_of, codec_of}
@@ -26,23 +26,14 @@ first_found : (none few kind circuit len cut command : Bool) → Found none few 
     (cond none (Some endings.End) (cond few (Some endings.Truncated) (cond kind (Some endings.BadKind) (cond circuit
     (Some endings.BadCircuit) (cond len (Some endings.BadCommand) (cond cut (Some endings.Truncated) (cond command
     (Some endings.BadCommand) None)))))))
-first_found true few kind circuit len cut command = refl
-first_found false true kind circuit len cut command = inl refl
-first_found false false true circuit len cut command = tt
-first_found false false false true len cut command = tt
-first_found false false false false true cut command = (refl, inl refl)
-first_found false false false false false true command = inr refl
-first_found false false false false false false true = (refl, inr refl)
-first_found false false false false false false false = (refl, refl, refl, refl, refl, refl)
+first_found none few kind circuit len cut command = search rules
 
 -- .. of octets that end so
 pub found_in : (kinds : AcceptedKinds) (octets : List ℕ) (o : Option RecordsEnd) → end_of kinds octets ≡ o
     → Found (length octets == 0) (nat_lt (length octets) 4) (has_bad_kind kinds octets) (has_bad_circuit octets)
     (has_bad_length octets) (is_cut octets) (has_bad_command octets) o
 unfolding end_of
-found_in kinds octets o e =
-    rw (← e) (first_found (length octets == 0) (nat_lt (length octets) 4) (has_bad_kind kinds octets)
-    (has_bad_circuit octets) (has_bad_length octets) (is_cut octets) (has_bad_command octets))
+found_in kinds octets o e = search (rules, first_found)
 
 -- the kind of a record that is not of a bad kind
 pub kinds_are : (kinds : AcceptedKinds) (octets : List ℕ) → has_bad_kind kinds octets ≡ false
@@ -77,10 +68,7 @@ command_is : (octets : List ℕ) → has_bad_command octets ≡ false
     × (slice_index octets 0 ≡ 75 → (1 ≤ slice_index octets 4) × (slice_index octets 4 ≤ 5)
     × (slice_index octets 5 ≤ 127))
 unfolding has_bad_command
-command_is octets h = (
-  λ p. (grind (arith, nat_tests), grind (arith, nat_tests)),
-  λ p. (grind (arith, nat_tests), grind (arith, nat_tests), grind (arith, nat_tests)),
-)
+command_is octets h = grind (arith, common_steps)
 
 -- two octets that spell a length
 length_spelled : (h l n : ℕ) → h < 256 → l < 256 → n ≡ h * 256 + l → big_bytes 2 n ≡ h ∷ l ∷ []

@@ -1,11 +1,9 @@
 -- Octets are read in one way.
-use Rattle.gw_records.proofs.Common.{◌≡◌, ◌+◌, ◌*◌, ◌/◌, ◌%◌, ℕ, List, [], ◌∷◌, ◌++◌, length, take, drop, refl, sym, ap}
-use Rattle.gw_records.proofs.Common.{◌∙◌, append_assoc, append-nil, length-append, arith, Some, None, flat_map}
-use Rattle.gw_records.proofs.Common.{AllByRecursion, take-append_seam, drop-append_seam, nat_tests, AcceptedKinds}
-use Rattle.gw_records.proofs.Common.{RecordsEnd, Record, spelled, IsGood, body_len, has_bad_kind, has_bad_circuit}
-use Rattle.gw_records.proofs.Common.{has_bad_length, is_cut, has_bad_command, end_of, named, head_of, AtMostOneReading}
-use Rattle.gw_records.proofs.Common.{MoreKeepsRecords}
-use Rattle.gw_records.proofs.Again.{octet_of_command_again, octet_of_codec_again}
+use Rattle.gw_records.proofs.Common.{◌≡◌, ◌+◌, ℕ, List, [], ◌∷◌, ◌++◌, take, drop, refl, sym, ap, rules, common_steps}
+use Rattle.gw_records.proofs.Common.{◌∙◌, append_assoc, append-nil, arith, Some, None, flat_map, AllByRecursion}
+use Rattle.gw_records.proofs.Common.{AcceptedKinds, RecordsEnd, Record, spelled, IsGood, body_len, has_bad_kind}
+use Rattle.gw_records.proofs.Common.{has_bad_circuit, has_bad_length, is_cut, has_bad_command, end_of, named, head_of}
+use Rattle.gw_records.proofs.Common.{AtMostOneReading, MoreKeepsRecords}
 
 -- the record that the first octets say
 abbrev said : List ℕ → Record
@@ -18,37 +16,16 @@ after octets = drop (body_len octets) (drop 4 octets)
 unspelled : (kinds : AcceptedKinds) (r : Record) (x : List ℕ) → IsGood kinds r
     → (end_of kinds (spelled r ++ x) ≡ None) × (said (spelled r ++ x) ≡ r) × (after (spelled r ++ x) ≡ x)
 unfolding end_of has_bad_kind has_bad_circuit has_bad_length is_cut has_bad_command head_of
-unspelled kinds (Record.Trunk octets) x good =
-    let len : length octets / 256 % 256 * 256 + length octets % 256 ≡ length octets = omega (arith, good.1) in (
-      grind (arith, nat_tests, good.0, good.1, length-append octets x),
-      rw (len, take-append_seam octets x) refl,
-      rw (len, drop-append_seam octets x) refl,
-    )
-unspelled kinds (Record.Datagram circuit octets) x good =
-    let len : length octets / 256 % 256 * 256 + length octets % 256 ≡ length octets = omega (arith, good.1) in (
-      grind (arith, nat_tests, good.0, good.1, good.2.0, good.2.1, length-append octets x),
-      rw (len, take-append_seam octets x) refl,
-      rw (len, drop-append_seam octets x) refl,
-    )
-unspelled kinds (Record.Command circuit command) x good = (
-  grind (arith, nat_tests, good.0, good.1.0, good.1.1, good.2, good.3),
-  ap (Record.Command circuit) (octet_of_command_again command good.2 good.3),
-  refl,
-)
-unspelled kinds (Record.Codec circuit codec payload_type) x good = (
-  grind (arith, nat_tests, good.0, good.1.0, good.1.1, good.2, good.3, good.4),
-  ap (λ (n : ℕ). Record.Codec circuit n payload_type) (octet_of_codec_again codec good.2 good.3),
-  refl,
-)
+unspelled kinds (Record.Trunk octets) x good = grind (arith, common_steps)
+unspelled kinds (Record.Datagram circuit octets) x good = grind (arith, common_steps)
+unspelled kinds (Record.Command circuit command) x good = grind (arith, common_steps)
+unspelled kinds (Record.Codec circuit codec payload_type) x good = grind (arith, common_steps)
 
 -- a good record does not end octets
 no_end : (kinds : AcceptedKinds) (r : Record) (rs : List Record) (octets rest : List ℕ) (ending : RecordsEnd)
     → IsGood kinds r
     → octets ≡ flat_map spelled (r ∷ rs) ++ rest → end_of kinds octets ≡ Some ending → ⊥
-no_end kinds r rs octets rest ending good e h =
-    let none = (unspelled kinds r (flat_map spelled rs ++ rest) good).0 in
-    let same : end_of kinds octets ≡ None = rw (e, append_assoc) none in
-    cc
+no_end kinds r rs octets rest ending good e h = search (rules, unspelled, append_assoc)
 
 -- records that come first in octets come first in all that is read of them
 more_go : (kinds : AcceptedKinds) (rs rs' : List Record) (rest rest' : List ℕ) (ending' : RecordsEnd)
@@ -62,7 +39,6 @@ more_go kinds (r ∷ rs) (r' ∷ rs') rest rest' ending' e g g' h' =
     let f = simp append_assoc at e in
     let u = unspelled kinds r (flat_map spelled rs ++ rest) g.0 in
     let u' = unspelled kinds r' (flat_map spelled rs' ++ rest') g'.0 in
-    let first : r ≡ r' = sym u.1 ∙ ap said f ∙ u'.1 in
     let others : flat_map spelled rs ++ rest ≡ flat_map spelled rs' ++ rest' = sym u.2 ∙ ap after f ∙ u'.2 in
     let all = more_go kinds rs rs' rest rest' ending' others g.1 g'.1 h' in
     (all.0, let same : rs' ≡ rs ++ all.0 = all.1 in cc, all.2, all.3)
@@ -71,19 +47,13 @@ more_go kinds (r ∷ rs) (r' ∷ rs') rest rest' ending' e g g' h' =
 same_end : (kinds : AcceptedKinds) (rs others : List Record) (rest rest' : List ℕ) (ending ending' : RecordsEnd)
     → rest ≡ flat_map spelled others ++ rest' → AllByRecursion (IsGood kinds) others
     → end_of kinds rest ≡ Some ending → end_of kinds rest' ≡ Some ending' → (rs ≡ rs ++ others) × (ending ≡ ending')
-same_end kinds rs [] rest rest' ending ending' e g h h' = (
-  sym (append-nil rs),
-  let same : Some ending ≡ Some ending' = sym h ∙ ap (end_of kinds) e ∙ h' in cc,
-)
+same_end kinds rs [] rest rest' ending ending' e g h h' = grind (arith, append-nil rs)
 same_end kinds rs (r ∷ others) rest rest' ending ending' e g h h' =
     absurd (no_end kinds r others rest rest' ending g.0 e h)
 
 -- octets are read as records in one way
 pub one_reading : AtMostOneReading
-one_reading kinds octets records records' ending ending' a b =
-    let more = more_go kinds records records' a.rest b.rest ending' (sym a.whole ∙ b.whole) a.good b.good b.ends in
-    let same = same_end kinds records more.0 a.rest b.rest ending ending' more.2 more.3 a.ends b.ends in
-    (same.0 ∙ sym more.1, same.1)
+one_reading kinds octets records records' ending ending' a b = search (rules, more_go, same_end)
 
 -- more octets keep the whole records that are there
 pub more_keeps : MoreKeepsRecords

@@ -1,16 +1,14 @@
 -- What sessions have in common that act on one record after another.
 use Rattle.gw_records.proofs.Common.{◌≡◌, ◌+◌, ◌^◌, ◌<◌, ◌≤◌, inl, inr, ℕ, true, List, [], ◌∷◌, ◌++◌, length, drop}
-use Rattle.gw_records.proofs.Common.{refl, sym, ap, ◌∙◌, append_assoc, append-nil, length-append, arith}
-use Rattle.gw_records.proofs.Common.{take-append-drop, Some, Result, Ok, Err, IfOk, IfErr, IsErrAnd, flat_map}
-use Rattle.gw_records.proofs.Common.{AllByRecursion, IsAtEnd, Reader, AcceptedKinds, FirstRecord, RecordsEnd, Record}
-use Rattle.gw_records.proofs.Common.{spelled, IsGood, IsFirst, record_at, end_of, is_open, SourceState, SinkState}
-use Rattle.gw_records.proofs.Common.{GivesOctets, GivesUp, held, Brings, RunsOut, FailsToRead}
-use Rattle.std.proofs.lemmas.List.Concat.{flat_map-append}
+use Rattle.gw_records.proofs.Common.{common_steps, refl, ◌∙◌, arith, Some, Result, Ok, Err, IfOk, IfErr, IsErrAnd}
+use Rattle.gw_records.proofs.Common.{flat_map, AllByRecursion, IsAtEnd, Reader, AcceptedKinds, FirstRecord, RecordsEnd}
+use Rattle.gw_records.proofs.Common.{Record, spelled, IsGood, IsFirst, record_at, end_of, is_open, SourceState}
+use Rattle.gw_records.proofs.Common.{SinkState, GivesOctets, GivesUp, held, Brings, RunsOut, FailsToRead}
 use Rattle.gw_records.specs.declared.outcome.Totals.{Totals}
 use Rattle.gw_records.specs.declared.outcome.RunFault.{RunFault}
 use Rattle.gw_records.specs.declared.records.RecordsEnd.TheVariants as endings
 use Rattle.gw_records.specs.Outcome.{answer_of, SessionTo, Ends, EndsAll, EndsUntil, FailsToWrite}
-use Rattle.gw_records.proofs.Writes.{GivesOctets-none, GivesOctets-join, GivesOctets-end}
+use Rattle.gw_records.proofs.Writes.{GivesOctets-none, GivesOctets-end}
 
 abbrev pub made : ℕ → ℕ → ℕ → ℕ → ℕ → Totals
 made a b c d e = record { records = a; octets = b; datagrams = c; dropped = d; port_faults = e }
@@ -40,23 +38,13 @@ pub record Stage (kinds : AcceptedKinds) (source source' : SourceState) (sink si
 -- before the first record
 pub starts : {kinds : AcceptedKinds} (a : SourceState) (c : SinkState) (reader : Reader) → held reader ≡ []
     → reader.reads_left ≡ 2 ^ 62 → Stage kinds a a c c reader [] []
-starts a c reader none left = record {
-  gives = GivesOctets-none a;
-  whole = sym none;
-  good = tt;
-  no_read = refl;
-  no_write = refl;
-  turns = omega (arith, left);
-  calls = omega (arith, left);
-}
+starts a c reader none left = grind (arith, GivesOctets-none a)
 
 -- the first record is taken
 take_record : (kinds : AcceptedKinds) (octets held : List ℕ) (records : List Record) (f : FirstRecord)
     → octets ≡ flat_map spelled records ++ held → IsFirst kinds f held
     → octets ≡ flat_map spelled (records ++ record_at f held ∷ []) ++ drop f.len held
-take_record kinds octets held records f e first =
-    let more = flat_map-append spelled records (record_at f held ∷ []) in
-    rw (more, append-nil, append_assoc, ← first.whole, take-append-drop) e
+take_record kinds octets held records f e first = grind (arith, common_steps)
 
 -- what holds of the items of two lists holds of those of both
 pub All-join : {X : Type 0} (P : X → Type 0) (xs ys : List X) → AllByRecursion P xs → AllByRecursion P ys
@@ -77,17 +65,7 @@ pub record_taken : {kinds : AcceptedKinds} {a b : SourceState} {c d d' : SinkSta
     → held reader' ≡ drop f.len (held reader) → reader'.reads_left ≡ reader.reads_left → d'.failures ≡ d.failures
     → Stage kinds a b c d' reader' octets (records ++ record_at f (held reader) ∷ [])
 record_taken {kinds} {reader = reader} {octets = octets} {records = records} f w first passed left kept =
-    let it = record_at f (held reader) in
-    record {
-      gives = w.gives;
-      whole = take_record kinds octets (held reader) records f w.whole first
-          ∙ ap (λ (xs : List ℕ). flat_map spelled (records ++ it ∷ []) ++ xs) (sym passed);
-      good = All-join (IsGood kinds) records (it ∷ []) w.good (first.good, tt);
-      no_read = w.no_read;
-      no_write = kept ∙ w.no_write;
-      turns = omega (arith, w.turns, left);
-      calls = omega (arith, w.calls, left);
-    }
+    grind (arith, common_steps)
 
 -- a write failed in a record
 pub stops_in : {kinds : AcceptedKinds} {a b : SourceState} {c d e : SinkState} {reader : Reader} {octets : List ℕ}
@@ -95,48 +73,25 @@ pub stops_in : {kinds : AcceptedKinds} {a b : SourceState} {c d e : SinkState} {
     → Stage kinds a b c d reader octets records
     → IsFirst kinds f (held reader) → d.failures < e.failures
     → Begun (records ++ record_at f (held reader) ∷ []) → FailsToWrite kinds a b c e Begun
-stops_in {kinds} {reader = reader} {octets = octets} {records = records} f w first failed begun = record {
-  octets = octets;
-  gives = w.gives;
-  records = records ++ record_at f (held reader) ∷ [];
-  begins = record {
-    rest = drop f.len (held reader);
-    whole = take_record kinds octets (held reader) records f w.whole first;
-    good = All-join (IsGood kinds) records (record_at f (held reader) ∷ []) w.good (first.good, tt);
-  };
-  begun = begun;
-  counted = omega (arith, w.no_write, failed);
-  no_read = w.no_read;
-}
+stops_in {kinds} {reader = reader} {octets = octets} {records = records} f w first failed begun =
+    grind (
+      arith,
+      take_record kinds octets (held reader) records f w.whole first,
+      All-join (IsGood kinds) records (record_at f (held reader) ∷ []) w.good (first.good, tt),
+    )
 
 -- .. or behind the records
 pub stops_behind : {kinds : AcceptedKinds} {a b : SourceState} {c d e : SinkState} {reader : Reader} {octets : List ℕ}
     {records : List Record} {Begun : List Record → Type 0} → Stage kinds a b c d reader octets records
     → d.failures < e.failures → Begun records → FailsToWrite kinds a b c e Begun
-stops_behind {reader = reader} {octets = octets} {records = records} w failed begun = record {
-  octets = octets;
-  gives = w.gives;
-  records = records;
-  begins = record { rest = held reader; whole = w.whole; good = w.good };
-  begun = begun;
-  counted = omega (arith, w.no_write, failed);
-  no_read = w.no_read;
-}
+stops_behind {reader = reader} {octets = octets} {records = records} w failed begun = grind (arith, common_steps)
 
 -- the source gave more octets
 pub reads_more : {kinds : AcceptedKinds} {a b b' : SourceState} {c d d' : SinkState} {reader reader' : Reader}
     {octets : List ℕ} {records : List Record} → Stage kinds a b c d reader octets records
     → (r : Brings b b' reader reader') → a.reads < 2 ^ 63 → d'.failures ≡ d.failures
     → Stage kinds a b' c d' reader' (octets ++ r.octets) records
-reads_more {reader = reader} {octets = octets} {records = records} w r few kept = record {
-  gives = GivesOctets-join _ _ _ octets r.octets w.gives r.gives;
-  whole = rw (w.whole, r.holds) (append_assoc (flat_map spelled records) (held reader) r.octets);
-  good = w.good;
-  no_read = r.same ∙ w.no_read;
-  no_write = kept ∙ w.no_write;
-  turns = omega (arith, w.turns, r.turns, length-append octets r.octets);
-  calls = omega (arith, w.calls, r.counted, r.turn, few);
-}
+reads_more {reader = reader} {octets = octets} {records = records} w r few kept = grind (arith, common_steps)
 
 -- what is held ends so, and nothing came behind it
 unfoldable session_to : {kinds : AcceptedKinds} {a b b' : SourceState} {c d d' : SinkState} {reader : Reader}
@@ -144,15 +99,8 @@ unfoldable session_to : {kinds : AcceptedKinds} {a b b' : SourceState} {c d d' :
     (totals : Totals) → Stage kinds a b c d reader octets records → GivesOctets b b' [] → slice ≡ held reader
     → end_of kinds slice ≡ Some ending → d'.failures ≡ d.failures → Done totals records
     → SessionTo kinds a b' c d' Done ending
-session_to {kinds} {reader = reader} {octets = octets} {records = records} totals w gives same ends kept done = record {
-  octets = octets;
-  gives = GivesOctets-end _ _ _ _ [] refl w.gives gives;
-  records = records;
-  reads = record { rest = held reader; whole = w.whole; good = w.good; ends = rw same at ends };
-  totals = totals;
-  done = done;
-  no_write = kept ∙ w.no_write;
-}
+session_to {kinds} {reader = reader} {octets = octets} {records = records} totals w gives same ends kept done =
+    grind (arith, GivesOctets-end _ _ _ _ [] refl w.gives gives)
 
 -- the records end so
 pub ended : {kinds : AcceptedKinds} {a b b' : SourceState} {c d d' : SinkState} {reader reader' : Reader}

@@ -22,9 +22,7 @@ readings : (n : ℕ) (kinds : AcceptedKinds) (octets : List ℕ) (o : Option Rec
     → (records : List Record) × (ending : RecordsEnd) × Reads kinds octets records ending
 readings n kinds octets (Some ending) e h bytes =
     ([], ending, record { rest = octets; whole = refl; good = tt; ends = e })
-readings zero kinds octets None e h bytes =
-    let f = first_of_none kinds octets bytes e in
-    absurd (omega (arith, f.1.more, f.1.fits))
+readings zero kinds octets None e h bytes = grind (arith, first_of_none kinds octets bytes e)
 readings (suc n) kinds octets None e h bytes =
     let f = first_of_none kinds octets bytes e in
     let rest = drop f.0.len octets in

@@ -1,9 +1,8 @@
 -- Writes one after another, and their result if octets are known.
 use Rattle.gw_records.proofs.Common.{◌+◌, ◌≡◌, ◌-◌, ◌<◌, ◌≤◌, ◌^◌, ◌==◌, ◌&&◌, cond, ℕ, List, [], ◌∷◌, ◌++◌, length}
 use Rattle.gw_records.proofs.Common.{take, drop, Option, refl, sym, append_assoc, append-nil, nat_lt, arith}
-use Rattle.gw_records.proofs.Common.{Consumes-nil, Consumes-trans, common_steps, Appends, length-append, ap, ◌∙◌}
-use Rattle.gw_records.proofs.Common.{SourceState, SinkState, GivesOctets, at_most, AppendsPrefix, AppendsBut}
-use Rattle.gw_records.proofs.Common.{TakesAllButWaiting}
+use Rattle.gw_records.proofs.Common.{Consumes-nil, common_steps, Appends, length-append, SourceState, SinkState}
+use Rattle.gw_records.proofs.Common.{GivesOctets, at_most, AppendsPrefix, AppendsBut, TakesAllButWaiting}
 use Rattle.gw_records.proofs.Common.{FailsAfterPrefix}
 -- nothing appended and nothing lost, and two appends that are one
 pub use Rattle.std.proofs.KnownBytes.{Appends-nil as Appends-none, Appends-trans as Appends-join}
@@ -39,22 +38,12 @@ TakesAllButWaiting-same a b waiting xs ys e p = rw (← e) p
 -- an append, and then a prefix
 pub AppendsPrefix-join : (a b c : Option (List ℕ)) (xs ys all : List ℕ) → Appends a b xs → AppendsPrefix b c ys
     → all ≡ xs ++ ys → AppendsPrefix a c all
-AppendsPrefix-join a b c xs ys all p q e = record {
-  written = xs ++ q.written;
-  rest = q.rest;
-  whole = rw (e, q.whole, append_assoc) refl;
-  appended = Appends-join a b c xs q.written p q.appended;
-}
+AppendsPrefix-join a b c xs ys all p q e = grind (arith, append_assoc)
 
 -- a prefix of octets is one of more octets
 pub AppendsPrefix-more : (a b : Option (List ℕ)) (octets more : List ℕ) → AppendsPrefix a b octets
     → AppendsPrefix a b (octets ++ more)
-AppendsPrefix-more a b octets more q = record {
-  written = q.written;
-  rest = q.rest ++ more;
-  whole = rw (q.whole, append_assoc) refl;
-  appended = q.appended;
-}
+AppendsPrefix-more a b octets more q = grind (arith, append_assoc)
 
 -- octets of which some are buffered, then a prefix of the buffered ones and of more
 pub AppendsPrefix-behind : (a b c : Option (List ℕ)) (waiting before more : List ℕ)
@@ -68,14 +57,12 @@ pub AppendsBut-behind : (late : ℕ) (a b c : Option (List ℕ)) (waiting before
     → AppendsBut late a c before (before ++ more)
 unfolding AppendsPrefix-behind AppendsPrefix-join
 AppendsBut-behind late a b c waiting before more few p q =
-    let len = ap length p.whole ∙ length-append p.written waiting in
-    record {
-      written = p.written ++ q.written;
-      rest = q.rest;
-      whole = (AppendsPrefix-behind a b c waiting before more p q).whole;
-      appended = Appends-join a b c p.written q.written p.appended q.appended;
-      few = omega (arith, few, len, length-append p.written q.written);
-    }
+    grind (
+      arith,
+      length-append p.written waiting,
+      AppendsPrefix-behind a b c waiting before more p q,
+      length-append p.written q.written,
+    )
 
 -- a prefix of octets is one of equal octets
 pub AppendsBut-same : {late : ℕ} {a b : Option (List ℕ)} {first ones xs ys : List ℕ} → first ≡ ones → xs ≡ ys
@@ -85,13 +72,7 @@ AppendsBut-same e f p = rw (← e, ← f) p
 -- .. and one of more octets
 pub AppendsBut-more : {late : ℕ} {a b : Option (List ℕ)} {first octets : List ℕ} (more : List ℕ)
     → AppendsBut late a b first octets → AppendsBut late a b first (octets ++ more)
-AppendsBut-more more p = record {
-  written = p.written;
-  rest = p.rest ++ more;
-  whole = rw (p.whole, append_assoc) refl;
-  appended = p.appended;
-  few = p.few;
-}
+AppendsBut-more more p = grind (arith, append_assoc)
 
 -- what waited is written, and then other octets pass
 pub TakesAllButWaiting-after : (a b c : Option (List ℕ)) (before waiting octets : List ℕ)
@@ -134,29 +115,19 @@ TakesAllButWaiting-none a waiting = record { written = []; whole = append-nil wa
 pub FailsAfterPrefix-after : (a b c : SinkState) (before octets : List ℕ)
     → Appends a.taken b.taken before → b.failures ≡ a.failures → FailsAfterPrefix b c octets
     → FailsAfterPrefix a c (before ++ octets)
-FailsAfterPrefix-after a b c before octets p e q = record {
-  counted = omega (arith, e, q.counted);
-  took = AppendsPrefix-join _ _ _ before octets _ p q.took refl;
-}
+FailsAfterPrefix-after a b c before octets p e q = grind (arith, AppendsPrefix-join _ _ _ before octets _ p q.took refl)
 
 -- a prefix of octets is one of more octets
 pub FailsAfterPrefix-more : (a b : SinkState) (octets more : List ℕ) → FailsAfterPrefix a b octets
     → FailsAfterPrefix a b (octets ++ more)
-FailsAfterPrefix-more a b octets more q = record {
-  counted = q.counted;
-  took = AppendsPrefix-more _ _ octets more
-      q.took;
-}
+FailsAfterPrefix-more a b octets more q = grind (arith, AppendsPrefix-more _ _ octets more q.took)
 
 -- octets that break off behind others
 pub FailsAfterPrefix-join : (a b c : SinkState) (waiting before more : List ℕ)
     → TakesAllButWaiting a.taken b.taken waiting before → b.failures ≡ a.failures
     → FailsAfterPrefix b c (waiting ++ more)
     → FailsAfterPrefix a c (before ++ more)
-FailsAfterPrefix-join a b c waiting before more p e q = record {
-  counted = omega (arith, e, q.counted);
-  took = AppendsPrefix-behind _ _ _ waiting before more p q.took;
-}
+FailsAfterPrefix-join a b c waiting before more p e q = grind (arith, common_steps)
 
 -- writing the buffer fails
 pub FailsAfterPrefix-waiting : (a b c : SinkState) (waiting octets : List ℕ)
@@ -172,10 +143,7 @@ GivesOctets-none a = record { gave = Appends-none a.given; consumed = Consumes-n
 -- a source that gave octets, and then more
 pub GivesOctets-join : (a b c : SourceState) (xs ys : List ℕ) → GivesOctets a b xs → GivesOctets b c ys
     → GivesOctets a c (xs ++ ys)
-GivesOctets-join a b c xs ys p q = record {
-  gave = Appends-join a.given b.given c.given xs ys p.gave q.gave;
-  consumed = Consumes-trans a.to_come b.to_come c.to_come xs ys p.consumed q.consumed;
-}
+GivesOctets-join a b c xs ys p q = grind (arith, common_steps)
 
 -- .. and then nothing
 pub GivesOctets-end : (a b c : SourceState) (xs ys : List ℕ) → length ys ≡ 0 → GivesOctets a b xs

@@ -1,6 +1,6 @@
 -- The octets of a reader, and the result of reading on (module `reader`).
-use Rattle.std.specs.Prelude.{◌≡◌, ◌⊎◌, ◌+◌, ◌*◌, ◌<◌, ◌≤◌, ◌++◌}
-use Rattle.std.specs.Prelude.{ℕ, Bool, true, false, List, [], length, take, drop}
+use Rattle.std.specs.Prelude.{◌≡◌, ◌⊎◌, ◌+◌, ◌*◌, ◌<◌, ◌≤◌, ◌++◌, ℕ, Bool, true, false, List, [], length}
+use Rattle.std.specs.Prelude.{take, drop}
 use Rattle.std.specs.Io.KnownBytes.{IsAtEnd}
 use Rattle.gw_records.specs.declared.records.RecordsEnd.{RecordsEnd}
 use Rattle.gw_records.specs.declared.reader.Reader.{Reader}

@@ -1,6 +1,6 @@
 -- What sources and sinks report, and how reads and writes change it.
-use Rattle.std.specs.Prelude.{◌≡◌, ◌==◌, ◌⊎◌, ◌+◌, ◌-◌, ◌<◌, ◌≤◌, ◌^◌, ◌&&◌, if◌then◌else◌, ◌++◌}
-use Rattle.std.specs.Prelude.{ℕ, min, nat_lt, List, [], length, MatchResult, Option, Some, None, Result}
+use Rattle.std.specs.Prelude.{◌≡◌, ◌==◌, ◌⊎◌, ◌+◌, ◌-◌, ◌<◌, ◌≤◌, ◌^◌, ◌&&◌, if◌then◌else◌, ◌++◌, ℕ, min}
+use Rattle.std.specs.Prelude.{nat_lt, List, [], length, MatchResult, Option, Some, None, Result}
 use Rattle.std.specs.Io.KnownBytes.{Appends, Consumes, IsAtEnd}
 use Rattle.gw_records.specs.declared.outcome.RunFault.{RunFault}
 use Rattle.gw_records.specs.declared.outcome.RunFault.TheVariants.{Write}

@@ -1,38 +1,29 @@
 -- Inputs one after another.
 use Rattle.gw_session.proofs.Common.{◌≡◌, ◌⊎◌, inl, inr, ◌+◌, ◌-◌, ◌<◌, ◌≤◌, ℕ, zero, suc, Option, List, [], ◌∷◌, ◌++◌}
-use Rattle.gw_session.proofs.Common.{length, take, drop, refl, ap, ◌∙◌, append_assoc, append-nil, length-append, arith}
-use Rattle.gw_session.proofs.Common.{Appends, map_push, flat_map_more, GatewayConfig, Event, octets, HasHistory}
-use Rattle.gw_session.proofs.Common.{AcceptedKinds, Record, IsGood, record_at, SinkState, TakesAllButWaiting}
-use Rattle.gw_session.proofs.Common.{FailsAfterPrefix}
-use Rattle.gw_session.proofs.Common.{AppendsBut, AppendsPrefix, TakesAllButWaiting-appended, TakesAllButWaiting-empty}
-use Rattle.gw_session.proofs.Common.{TakesAllButWaiting-join, Appends-join, AppendsBut-behind, all_kinds, PacketOutput}
-use Rattle.gw_session.proofs.Common.{SessionInput}
+use Rattle.gw_session.proofs.Common.{rules, common_steps, length, take, drop, refl, ap, ◌∙◌, append_assoc, append-nil}
+use Rattle.gw_session.proofs.Common.{length-append, arith, Appends, map_push, flat_map_more, GatewayConfig, Event}
+use Rattle.gw_session.proofs.Common.{octets, HasHistory, AcceptedKinds, Record, IsGood, record_at, SinkState}
+use Rattle.gw_session.proofs.Common.{TakesAllButWaiting, FailsAfterPrefix, AppendsBut, AppendsPrefix}
+use Rattle.gw_session.proofs.Common.{TakesAllButWaiting-appended, TakesAllButWaiting-empty, TakesAllButWaiting-join}
+use Rattle.gw_session.proofs.Common.{Appends-join, AppendsBut-behind, all_kinds, PacketOutput, SessionInput}
 use Rattle.gw_session.proofs.Common.{input_record, turns_of, turns, events_in, events_through, Follows, but_last}
-use Rattle.gw_session.proofs.Common.{WatchedTrace}
-use Rattle.gw_session.proofs.Common.{OfFirstInputs, written_for, written_by, ActsOn, StopsAt, CutTrace, TapeState}
-use Rattle.gw_session.proofs.Common.{SessionState}
-use Rattle.gw_session.proofs.Common.{Output, drop-take, named, TakesAllButWaiting-start, InputTrace}
+use Rattle.gw_session.proofs.Common.{WatchedTrace, OfFirstInputs, written_for, written_by, ActsOn, StopsAt, CutTrace}
+use Rattle.gw_session.proofs.Common.{TapeState, SessionState, Output, drop-take, named, TakesAllButWaiting-start}
+use Rattle.gw_session.proofs.Common.{InputTrace, Bool, PortCall, AreCalls, AreCallsFor, are_held, Act, AreActs}
+use Rattle.gw_session.proofs.Common.{acts_for, Recorded, Gateway, StandsBehind, Learns, keeps_at, events_of_turns}
 use Rattle.gw_records.specs.declared.records.FirstRecord.{FirstRecord}
-use Rattle.gw_session.proofs.Common.{Bool, PortCall, AreCalls, AreCallsFor, are_held, Act, AreActs, acts_for, Recorded}
-use Rattle.gw_session.proofs.Common.{Gateway, StandsBehind, Learns, keeps_at, events_of_turns}
 use Rattle.gw_session.proofs.Turns.{TurnsTrace-none, TurnsTrace-join, Extends-none, Extends-join, counted-more}
-use Rattle.gw_session.proofs.Turns.{octets-append, turns_have_octets}
-use Rattle.gw_session.proofs.Turns.{through-append}
+use Rattle.gw_session.proofs.Turns.{octets-append, turns_have_octets, through-append}
 use Rattle.gw_session.proofs.Taping.{recorded_none, recorded_join, told_recorded}
 
 -- the record that stands first, by its body in what is held
 pub record_is : (f : FirstRecord) (held slice : List ℕ) → 4 ≤ f.len → slice ≡ held
     → named f.head (take (f.len - 4) (drop 4 slice)) ≡ record_at f held
-record_is f held slice more e =
-    let len : 4 + (f.len - 4) ≡ f.len = omega arith in
-    rw (e, ← drop-take 4 (f.len - 4) held, len)
+record_is f held slice more e = grind (arith, drop-take 4 (f.len - 4) held)
 
 -- a record of some kinds is one of all
 pub good_in_all : (kinds : AcceptedKinds) (r : Record) → IsGood kinds r → IsGood all_kinds r
-good_in_all kinds (Record.Trunk octets) good = (refl, good.1)
-good_in_all kinds (Record.Datagram circuit octets) good = (refl, good.1, good.2)
-good_in_all kinds (Record.Command circuit command) good = (refl, good.1, good.2, good.3)
-good_in_all kinds (Record.Codec circuit codec payload_type) good = (refl, good.1, good.2, good.3, good.4)
+good_in_all kinds r good = search rules
 
 -- the octets of inputs are those of their turns
 input_octets : (input : SessionInput) → length (octets (events_in input)) ≡ length (turns_of input)
@@ -125,19 +116,7 @@ less_written spells config before (a ∷ b ∷ inputs) = omega (
 waiting_cut : (late : ℕ) (o : Option (List ℕ)) (s s' : SinkState) (w first xs : List ℕ) → length w ≤ late
     → length first ≤ length xs → TakesAllButWaiting o s.taken w xs → FailsAfterPrefix s s' w
     → AppendsBut late o s'.taken first xs
-waiting_cut late o s s' w first xs few less took breaks = record {
-  written = took.written ++ breaks.took.written;
-  rest = breaks.took.rest;
-  whole = rw (took.whole, breaks.took.whole, append_assoc) refl;
-  appended = Appends-join _ _ _ took.written breaks.took.written took.appended breaks.took.appended;
-  few = omega (
-    arith,
-    few,
-    less,
-    ap length took.whole ∙ length-append took.written w,
-    length-append took.written breaks.took.written,
-  );
-}
+waiting_cut late o s s' w first xs few less took breaks = search (rules, append_assoc, Appends-join, length-append)
 
 -- before the first record
 pub through_none : (spells : PacketOutput) (Seen : List SessionInput → Type 0)
@@ -198,9 +177,7 @@ module _ (spells : PacketOutput) (Seen : List SessionInput → List Event → Ty
         (λ inputs. Seen inputs []) records → Appends p q w → w' ≡ []
         → WatchedTrace (written_by spells) s s' x y (λ first xs. TakesAllButWaiting o q w' xs)
         (λ inputs. Seen inputs []) records
-    through_on h wrote none = through_as (λ inputs. Seen inputs [])
-        (λ first xs less took. TakesAllButWaiting-empty _ _ _ none (TakesAllButWaiting-appended _ _ _ _ _ took wrote))
-        (λ inputs seen. seen) h
+    through_on h wrote none = search (rules, through_as, TakesAllButWaiting-empty, TakesAllButWaiting-appended)
 
     -- .. or a write of what waits failed
     pub waiting_failed : (late : ℕ) {o : Option (List ℕ)} {b c : SinkState} {w : List ℕ} → length w ≤ late
@@ -237,9 +214,7 @@ module _ (spells : PacketOutput) (Seen : List SessionInput → List Event → Ty
               through-append (written_for spells) config before p.0.inputs (q.input ∷ []),
               append-nil,
             )
-                (more config (before ++ events_through p.0.inputs) ((p.0.follows.goes.hears config before at).stands)
-                (written_by spells config before (but_last p.0.inputs)) (written_by spells config before p.0.inputs)
-                (p.0.took config before at));
+                (grind (arith, common_steps));
           },
           known p.0.inputs p.0.follows p.1,
         )

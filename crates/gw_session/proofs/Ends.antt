@@ -1,7 +1,7 @@
 -- Ends of sessions, by what is known of them.
 use Rattle.gw_session.proofs.Common.{List, Result, IfErr, Totals, RunFault, AcceptedKinds, Record, SinkState, IfOk}
-use Rattle.gw_session.proofs.Common.{IfOk-weaker, IfErr-weaker, SourceState, SessionTo, EndsAll, EndsUntil, OrNoMemory}
-use Rattle.gw_session.proofs.Common.{MatchResult, Ok, Err}
+use Rattle.gw_session.proofs.Common.{arith, common_steps, IfOk-weaker, IfErr-weaker, SourceState, SessionTo, EndsAll}
+use Rattle.gw_session.proofs.Common.{EndsUntil, OrNoMemory, MatchResult, Ok, Err}
 use Rattle.gw_records.specs.declared.outcome.RunFault.TheVariants as faults
 use Rattle.gw_records.specs.declared.records.RecordsEnd.{RecordsEnd}
 
@@ -10,15 +10,7 @@ module _ (kinds : AcceptedKinds) (a b : SourceState) (c d : SinkState) {P Q : To
   where
     -- what is known of the totals and records of a session, and what follows from it
     session_as : {ending : RecordsEnd} → SessionTo kinds a b c d P ending → SessionTo kinds a b c d Q ending
-    session_as s = record {
-      octets = s.octets;
-      gives = s.gives;
-      records = s.records;
-      reads = s.reads;
-      totals = s.totals;
-      done = f s.totals s.records s.done;
-      no_write = s.no_write;
-    }
+    session_as s = grind (arith, common_steps)
 
     -- a session that ended well
     pub all_as : (result : Result Totals RunFault) → IfOk result (EndsAll kinds a b c d P)
@@ -33,15 +25,7 @@ module _ (kinds : AcceptedKinds) (a b : SourceState) (c d : SinkState) {P Q : To
     unfolding session_as
     fault_as kept faults.Truncated begun e = ((session_as e.0.0, e.0.1), e.1)
     fault_as kept faults.Read begun e = (e.0, session_as e.1, e.2, e.3)
-    fault_as kept faults.Write begun e = record {
-      octets = e.octets;
-      gives = e.gives;
-      records = e.records;
-      begins = e.begins;
-      begun = begun e.records e.begun;
-      counted = e.counted;
-      no_read = e.no_read;
-    }
+    fault_as kept faults.Write begun e = grind (arith, common_steps)
     fault_as kept faults.OutOfMemory begun e = absurd e
     fault_as kept _ begun e = (session_as e.0, e.1)
 

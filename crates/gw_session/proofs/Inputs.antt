@@ -1,18 +1,17 @@
 -- Records that are acted on.
 use Rattle.gw_session.proofs.Common.{◌≡◌, inl, ◌+◌, ◌-◌, ◌^◌, ◌<◌, ℕ, min, List, [], ◌∷◌, ◌++◌, length, Result, Ok, Err}
-use Rattle.gw_session.proofs.Common.{refl, sym, ap, ◌∙◌, append_assoc, arith, length-map, big_bytes, GatewayConfig}
-use Rattle.gw_session.proofs.Common.{Gateway, Event, HasHistory, reply_to, Totals, RunFault, Record, TakesAllButWaiting}
-use Rattle.gw_session.proofs.Common.{at_most, Appends-none, TakesAllButWaiting-join, AppendsPrefix-behind, PacketOutput}
-use Rattle.gw_session.proofs.Common.{counted, Written, written_out, code_of, SessionInput, input_record, turns_of}
-use Rattle.gw_session.proofs.Common.{events_in}
-use Rattle.gw_session.proofs.Common.{events_of_turns, octet_of, answer_to, packets_for, dropped_for, TakesEvent}
-use Rattle.gw_session.proofs.Common.{spelled_for}
-use Rattle.gw_session.proofs.Common.{written_for, Exchanges, ActsOn, TapeState, Recorded, Output, World, Puts}
-use Rattle.gw_session.proofs.Common.{TakesAllButWaiting-same, AppendsPrefix-same, sent_with_octets, Inputs, OnOk}
-use Rattle.gw_session.proofs.Common.{map, held_in, Learns, sends_at, answers_at, Extends}
+use Rattle.gw_session.proofs.Common.{common_steps, refl, sym, ap, ◌∙◌, append_assoc, arith, length-map, big_bytes}
+use Rattle.gw_session.proofs.Common.{GatewayConfig, Gateway, Event, HasHistory, reply_to, Totals, RunFault, Record}
+use Rattle.gw_session.proofs.Common.{TakesAllButWaiting, at_most, Appends-none, TakesAllButWaiting-join}
+use Rattle.gw_session.proofs.Common.{AppendsPrefix-behind, PacketOutput, counted, Written, written_out, code_of}
+use Rattle.gw_session.proofs.Common.{SessionInput, input_record, turns_of, events_in, events_of_turns, octet_of}
+use Rattle.gw_session.proofs.Common.{answer_to, packets_for, dropped_for, TakesEvent, spelled_for, written_for}
+use Rattle.gw_session.proofs.Common.{Exchanges, ActsOn, TapeState, Recorded, Output, World, Puts}
+use Rattle.gw_session.proofs.Common.{TakesAllButWaiting-same, AppendsPrefix-same, sent_with_octets, Inputs, OnOk, map}
+use Rattle.gw_session.proofs.Common.{held_in, Learns, sends_at, answers_at, Extends, Bool, true, false, append-nil}
+use Rattle.gw_session.proofs.Common.{HaveCalls, AreCalls, are_held, state_with}
 use Rattle.gw_session.proofs.Taping.{recorded_told}
 use Rattle.gw_session.proofs.Turns.{PortTrace-none, Extends-none, Extends-join, LeavesOut_none, counted_is}
-use Rattle.gw_session.proofs.Common.{Bool, true, false, append-nil, HaveCalls, AreCalls, are_held, state_with}
 
 -- an input was done, and behind what passes the rest of all that is put for it was put, or a write failed
 inputs_put : (spells : PacketOutput) (Shown : List Event → Type 0) (w w' : World) (o : Output) (out : List ℕ)
@@ -49,10 +48,7 @@ inputs_put spells Shown w w' o out (Err e) on shown first kept puts = (
 -- the tape was told of packets, and then of an answer
 answer_told : (a b c : TapeState) (ps : List (ℕ × List ℕ)) → Extends a.acts b.acts (map (sends_at b) ps)
     → Learns b c (answers_at b ∷ []) → Extends a.acts c.acts (map (sends_at c) ps ++ answers_at c ∷ [])
-answer_told a b c ps p q =
-    let ended : c.ended ≡ b.ended = ap (λ (t : TapeState). t.ended) q.same in
-    let taken : c.taken ≡ b.taken = ap (λ (t : TapeState). t.taken) q.same in
-    rw (ended, taken) (Extends-join a.acts b.acts c.acts _ _ p q.told)
+answer_told a b c ps p q = grind (arith, Extends-join a.acts b.acts c.acts _ _ p q.told)
 
 -- octets were exchanged, and the record of them was put
 pub trunk_inputs : {spells : PacketOutput} (Shown : List Event → Type 0) (w w' : World) (tape : TapeState) (r n : ℕ)
@@ -82,15 +78,7 @@ trunk_inputs Shown w w' tape r n o result x told holds fronts same counts trunk 
         trades = p.goes.trades;
         datagrams = p.goes.datagrams;
         faults = p.goes.faults;
-        hears = λ config before h.
-            let heard = p.goes.hears config before h in
-            record {
-              stands = heard.stands;
-              in_turn = heard.in_turn;
-              packets = heard.packets;
-              sends = heard.sends;
-              dropped = heard.dropped;
-            };
+        hears = grind (arith, common_steps);
       };
       records = p.kept.0 ∙ counts;
       octets = p.kept.1 ∙ trunk ∙ rw len (counted_is w.state.totals.octets _ fits);
@@ -98,11 +86,7 @@ trunk_inputs Shown w w' tape r n o result x told holds fronts same counts trunk 
       acts = answer_told w.tape tape w'.tape _ x.5 told;
       calls = x.4;
       same = holds;
-    }) x.6 (λ config before h. (
-      _,
-      p.passes config before h,
-      rw (append_assoc, same, x.2, fronts, p.sent_are config before h, p.lengths),
-    )) p.no_failure puts
+    }) x.6 (grind (arith, append_assoc)) p.no_failure puts
 
 -- no packets are held of no turns
 none_held : (holds : Bool) → held_in holds [] ≡ []

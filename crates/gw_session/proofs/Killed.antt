@@ -1,17 +1,15 @@
 -- However a session is cut off, what it did is the beginning of what answers its log.
-use Rattle.gw_session.proofs.Common.{◌≡◌, ◌⊎◌, inl, inr, ℕ, suc, List, [], ◌∷◌, ◌++◌, length, refl, sym, ap}
-use Rattle.gw_session.proofs.Common.{◌∙◌, append_assoc, append-nil, map, flat_map, Option, Some, Bool}
-use Rattle.gw_session.proofs.Common.{false, AllByRecursion, GatewayConfig, Event, HasHistory, Record, Reads, Reply}
-use Rattle.gw_session.proofs.Common.{spelled, events, events_of, octets, all_kinds, whole_from, given_by}
-use Rattle.gw_session.proofs.Common.{SessionInput, Turn, packets_of, packet_in, packets_in, sent_with, turns}
-use Rattle.gw_session.proofs.Common.{turns_of, events_in, events_through, packets_for, sent_with_octets}
-use Rattle.gw_session.proofs.Common.{acts_for, written, answer_to, Recorded, TapeState, Act, keeps_at, sends_at}
-use Rattle.gw_session.proofs.Common.{answers_at}
-use Rattle.gw_session.proofs.Common.{AreActs, Gateway, StandsBehind, length-map, map-append}
-use Rattle.gw_session.proofs.Common.{flat_map-append, append_cancel_left, take, drop, take_at, drop_at}
-use Rattle.gw_session.specs.Killed.{sent_in, answers_in, had_taken, IsGoing, taken_at_last}
-use Rattle.gw_session.specs.Killed.{taken_at_next, new_tape, AreOfNext, HoldsPackets}
-use Rattle.gw_session.specs.Killed.{CutSessionsAnswerTheirLogs}
+use Rattle.gw_session.proofs.Common.{◌≡◌, ◌⊎◌, inl, inr, ℕ, suc, List, [], ◌∷◌, ◌++◌, length, refl, sym, ap, arith}
+use Rattle.gw_session.proofs.Common.{rules, ◌∙◌, append_assoc, append-nil, map, flat_map, Option, Some, Bool, false}
+use Rattle.gw_session.proofs.Common.{AllByRecursion, GatewayConfig, Event, HasHistory, Record, Reads, Reply, spelled}
+use Rattle.gw_session.proofs.Common.{events, events_of, octets, all_kinds, whole_from, given_by, SessionInput, Turn}
+use Rattle.gw_session.proofs.Common.{packets_of, packet_in, packets_in, sent_with, turns, turns_of, events_in}
+use Rattle.gw_session.proofs.Common.{events_through, packets_for, sent_with_octets, acts_for, written, answer_to}
+use Rattle.gw_session.proofs.Common.{Recorded, TapeState, Act, keeps_at, sends_at, answers_at, AreActs, Gateway}
+use Rattle.gw_session.proofs.Common.{StandsBehind, length-map, map-append, flat_map-append, append_cancel_left, take}
+use Rattle.gw_session.proofs.Common.{drop, take_at, drop_at}
+use Rattle.gw_session.specs.Killed.{sent_in, answers_in, had_taken, IsGoing, taken_at_last, taken_at_next, new_tape}
+use Rattle.gw_session.specs.Killed.{AreOfNext, HoldsPackets, CutSessionsAnswerTheirLogs}
 use Rattle.gw_session.specs.Serve.{packet_of}
 use Rattle.gw_records.specs.declared.records.RecordsEnd.{RecordsEnd}
 use Rattle.gw_records.specs.declared.records.RecordsEnd.TheVariants as endings
@@ -204,18 +202,7 @@ module _ (tape b tape' : TapeState) (gateway : Gateway) (input : SessionInput)
         ⊎ (Sending (input ∷ inputs) (events_in input) b part
         × (taken_at_last tape.taken (map (sends_at b) part) ≡ b.taken))
     at_sends [] unsent all h = inl (refl, refl)
-    at_sends (p ∷ part) unsent all h = inr (
-      record {
-        input = input;
-        rest = inputs;
-        others_are = refl;
-        fresh_are = refl;
-        going = h.0;
-        unsent = unsent;
-        all = all;
-      },
-      taken_of_sends tape.taken b p part,
-    )
+    at_sends (p ∷ part) unsent all h = inr (grind (arith, taken_of_sends tape.taken b p part))
 
     -- the acts are cut in the packets of an input
     cut_in : (acts later rest : List Act) (part unsent : List (ℕ × List ℕ))
@@ -276,13 +263,9 @@ cut_at : (holds : Bool) (Stands : List Event → Gateway → Type 0) (tape tape'
     (acts later all : List Act) → tape.ended ≡ false → AllByRecursion (HoldsPackets holds) inputs
     → AreActs holds Stands tape tape' inputs all → acts ++ later ≡ all → AllByRecursion IsGoing acts
     → CutAt tape tape' inputs acts later
-cut_at holds Stands tape tape' [] [] later all going held are e h =
-    let none : later ≡ [] = e ∙ are.1 in
-    cut_first tape tape' [] later going (rw (none, are.0) refl)
+cut_at holds Stands tape tape' [] [] later all going held are e h = search (rules, cut_first)
 cut_at holds Stands tape tape' [] (x ∷ acts) later all going held are e h = absurd (cc (e, are.1))
-cut_at holds Stands tape tape' (input ∷ inputs) [] later all going held are e h =
-    let first : later ≡ keeps_at tape are.0 ∷ (acts_for holds are.1 input ++ are.2) = e ∙ are.5 in
-    cut_first tape tape' (input ∷ inputs) later going (rw first refl)
+cut_at holds Stands tape tape' (input ∷ inputs) [] later all going held are e h = search (rules, cut_first)
 cut_at holds Stands tape tape' (input ∷ inputs) (x ∷ acts) later all going held are e h =
     let b = are.1 in
     let ps = packets_of (turns_of input) in
@@ -305,10 +288,7 @@ of_next_first : (es first later : List Event) (others : List SessionInput) → A
     → AreOfNext first others
 of_next_first es [] later others of e = none_of_next others
 of_next_first es (x ∷ first) later [] of e = absurd (cc (of, e))
-of_next_first es (x ∷ first) later (input ∷ others) of e = (
-  later ++ of.0,
-  of.1 ∙ ap (λ (xs : List Event). xs ++ of.0) e ∙ append_assoc (x ∷ first) later of.0,
-)
+of_next_first es (x ∷ first) later (input ∷ others) of e = grind (arith, append_assoc (x ∷ first) later of.0)
 
 -- where the octets of a log are cut between two places of a tape that had not ended at the first, the events of its
 -- whole records are all of those at the first, and the first of those up to the second

@@ -1,7 +1,7 @@
 -- Octets of good records that are cut off end as octets do to which more may come.
 use Rattle.gw_session.proofs.Common.{◌≡◌, ◌==◌, ℕ, Bool, true, false, cond, List, [], ◌∷◌, ◌++◌, length, refl, arith}
-use Rattle.gw_session.proofs.Common.{None, Some, AcceptedKinds, end_of, has_bad_kind, has_bad_circuit, has_bad_length}
-use Rattle.gw_session.proofs.Common.{is_cut, has_bad_command}
+use Rattle.gw_session.proofs.Common.{rules, None, Some, AcceptedKinds, end_of, has_bad_kind, has_bad_circuit}
+use Rattle.gw_session.proofs.Common.{has_bad_length, is_cut, has_bad_command}
 use Rattle.gw_records.specs.declared.records.RecordsEnd.{RecordsEnd}
 use Rattle.gw_records.specs.declared.records.RecordsEnd.TheVariants as endings
 use Rattle.gw_records.specs.Records.{is_open}
@@ -15,16 +15,7 @@ open_by : (none few kind circuit len cut command : Bool) (ending : RecordsEnd)
     (Some endings.BadCircuit) (cond len (Some endings.BadCommand) (cond cut (Some endings.Truncated) (cond command
     (Some endings.BadCommand) None)))))) ≡ Some ending
     → kind ≡ false → circuit ≡ false → len ≡ false → (cut ≡ false → command ≡ false) → is_open ending ≡ true
-open_by true few kind circuit len cut command ending h k c l m = let same : ending ≡ endings.End = cc in rw same refl
-open_by false true kind circuit len cut command ending h k c l m =
-    let same : ending ≡ endings.Truncated = cc in rw same refl
-open_by false false true circuit len cut command ending h k c l m = absurd cc
-open_by false false false true len cut command ending h k c l m = absurd cc
-open_by false false false false true cut command ending h k c l m = absurd cc
-open_by false false false false false true command ending h k c l m =
-    let same : ending ≡ endings.Truncated = cc in rw same refl
-open_by false false false false false false true ending h k c l m = let wrong : true ≡ false = m refl in absurd cc
-open_by false false false false false false false ending h k c l m = absurd cc
+open_by none few kind circuit len cut command ending h k c l m = search rules
 
 -- a command that is whole is as good as with more octets behind it
 same_command : (a b c d : ℕ) (t more : List ℕ) → has_bad_length (a ∷ b ∷ c ∷ d ∷ t) ≡ false

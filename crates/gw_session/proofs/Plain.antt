@@ -1,20 +1,18 @@
 -- Sessions in which datagrams come as records alone, and packets go out as records.
-use Rattle.gw_session.proofs.Common.{◌≡◌, inl, inr, ◌<◌, ◌==◌, cond, ℕ, true, false, Option, None, Some, List, [], ◌∷◌}
-use Rattle.gw_session.proofs.Common.{◌++◌, length, take, drop, map, flat_map, refl, sym, ap, ◌∙◌, append_assoc}
-use Rattle.gw_session.proofs.Common.{append-nil, length-append, arith, AllByRecursion, Appends, map-append, map_push}
-use Rattle.gw_session.proofs.Common.{length-map, flat_map_more, flat_map-append, GatewayConfig, Gateway, Event}
-use Rattle.gw_session.proofs.Common.{HasHistory}
-use Rattle.gw_session.proofs.Common.{Reply, whole_from, Totals, Record, SinkState, AppendsBut, at_most, nothing_counted}
-use Rattle.gw_session.proofs.Common.{Waiting, counted, AppendsBut-behind, Written, written_out, packets_in, as_record}
-use Rattle.gw_session.proofs.Common.{answers, events_of, events, render, replies_to, is_refusal, SessionInput, Turn}
-use Rattle.gw_session.proofs.Common.{input_record}
-use Rattle.gw_session.proofs.Common.{octet_of, turns_of, turns, events_in, events_through, events_of_turns, of_circuit}
-use Rattle.gw_session.proofs.Common.{arrivals, behind_four, FirstFour, PortTrace, Follows, given_by, octets_for}
-use Rattle.gw_session.proofs.Common.{dropped_for, answer_to, but_last, SessionTrace, TapeState, SessionState, state_of}
-use Rattle.gw_session.proofs.Common.{world_of, spelled_for, written_for, written_by, CutTrace, TraceToWriteError}
-use Rattle.gw_session.proofs.Common.{count_by, take_all, take_at, record_of, AppendsBut-same, AppendsBut-more, five}
-use Rattle.gw_session.proofs.Common.{trunk_octets, run_totals, RunsThrough, AreFirst, RunsUntilWrite, in_record}
-use Rattle.gw_session.proofs.Common.{no_ports, first_four, Shows, RecordsShown, InputsShown, OfFirst, WatchedTrace}
+use Rattle.gw_session.proofs.Common.{◌≡◌, inl, inr, ◌<◌, ℕ, Option, None, Some, List, [], ◌∷◌, common_steps, ◌++◌}
+use Rattle.gw_session.proofs.Common.{length, map, flat_map, refl, sym, ap, ◌∙◌, append_assoc, append-nil, length-append}
+use Rattle.gw_session.proofs.Common.{arith, AllByRecursion, Appends, map-append, map_push, length-map, flat_map_more}
+use Rattle.gw_session.proofs.Common.{flat_map-append, GatewayConfig, Gateway, Event, HasHistory, Reply, whole_from}
+use Rattle.gw_session.proofs.Common.{Totals, Record, SinkState, AppendsBut, at_most, nothing_counted, Waiting, counted}
+use Rattle.gw_session.proofs.Common.{AppendsBut-behind, Written, written_out, packets_in, as_record, answers, events_of}
+use Rattle.gw_session.proofs.Common.{events, render, replies_to, is_refusal, SessionInput, Turn, input_record, octet_of}
+use Rattle.gw_session.proofs.Common.{turns_of, turns, events_in, events_through, events_of_turns, of_circuit, arrivals}
+use Rattle.gw_session.proofs.Common.{behind_four, FirstFour, PortTrace, Follows, given_by, octets_for, dropped_for}
+use Rattle.gw_session.proofs.Common.{answer_to, but_last, SessionTrace, TapeState, SessionState, state_of, world_of}
+use Rattle.gw_session.proofs.Common.{spelled_for, written_for, written_by, CutTrace, TraceToWriteError, count_by}
+use Rattle.gw_session.proofs.Common.{take_all, take_at, record_of, AppendsBut-same, AppendsBut-more, five, trunk_octets}
+use Rattle.gw_session.proofs.Common.{run_totals, RunsThrough, AreFirst, RunsUntilWrite, in_record, no_ports, first_four}
+use Rattle.gw_session.proofs.Common.{Shows, RecordsShown, InputsShown, OfFirst, WatchedTrace}
 use Rattle.gw_session.proofs.Turns.{PortTrace-join, LeavesOut_all, counted_is}
 use Rattle.gw_session.proofs.Attending.{but_last_more}
 use Rattle.gw_session.proofs.Cutting.{answered_first}
@@ -30,10 +28,7 @@ Plain ts = AllByRecursion (λ t. arrivals t ≡ []) ts
 none_comes : (v : Waiting) (circuit : Option ℕ) (came : List (List ℕ)) → ((c : ℕ) → v c ≡ [])
     → came ≡ first_four v circuit → (of_circuit circuit came ≡ []) × ((c : ℕ) → behind_four v circuit c ≡ [])
 none_comes v None came e h = (refl, e)
-none_comes v (Some circuit) came e h = (
-  ap (of_circuit (Some circuit)) (h ∙ ap (take 4) (e circuit)),
-  λ c. elim (c == circuit) as (λ b. cond b (drop 4 (v c)) (v c) ≡ []) [ true ↦ ap (drop 4) (e c) | false ↦ e c ],
-)
+none_comes v (Some circuit) came e h = (grind (arith, common_steps))
 
 -- where nothing waits, nothing comes in any turn
 none_came : (v w : Waiting) (ts : List Turn) → ((c : ℕ) → v c ≡ []) → FirstFour v w ts → Plain ts
@@ -268,9 +263,7 @@ cut_until begun p =
       all = p.all;
       acted = map Event.Octet heard;
       first = (length heard, ap (map Event.Octet) (rw (z.split, take_at heard z.rest (length heard) refl)));
-      stands = λ config before at.
-          rw (inputs_events k.inputs plain.0, k.told_are, turns_events z.turns plain.1, append_assoc) at
-          (z.stands config (before ++ events_through k.inputs) (later config before at));
+      stands = grind (arith, inputs_events k.inputs plain.0, turns_events z.turns plain.1, append_assoc);
       took = λ config before at.
           let w = cut_written config before k.inputs z.turns z.rest plain.0 plain.1 in
           let cut = AppendsBut-behind 65536 _ _ _ _ _ _ p.few (k.took config before at)
@@ -311,12 +304,7 @@ seen_first : {W : Type 0} {shows : Shows W} {w w' : W} {g g' : Gateway} {x y : T
 seen_first records first last p all seen =
     let plain = plain_trades (turns p.inputs) p.follows.goes.trades in
     let parts = plain_parts (turns first) (turns_of last) (rw (all, ← flat_map_more turns_of [] first last) at plain) in
-    inr (
-      map input_record first,
-      input_record last,
-      sym p.told_are ∙ ap (map input_record) all ∙ map_push input_record first last,
-      rw (input_events last parts.1) at (shown_plain first parts.0 seen),
-    )
+    inr (grind (arith, map_push input_record first last, input_events last parts.1, shown_plain first parts.0 seen))
 
 -- where a write failed in the first octets of a record, a watch was shown the records before it
 seen_before : {W : Type 0} {shows : Shows W} {w w' : W} {g g' : Gateway} {x y : TapeState} {t : Totals}

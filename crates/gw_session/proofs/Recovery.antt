@@ -1,20 +1,16 @@
 -- A replay of a recording that was cut at any octet recovers the state behind its whole records.
-use Rattle.gw_session.proofs.Common.{◌≡◌, ℕ, true, false, List, [], ◌∷◌, ◌++◌, refl, sym, ap}
-use Rattle.gw_session.proofs.Common.{◌∙◌, append_assoc, append-nil, arith}
-use Rattle.gw_session.proofs.Common.{AllByRecursion, flat_map, flat_map-append, append_cancel_left, Result, Ok, Err}
-use Rattle.gw_session.proofs.Common.{Option, Some, None}
-use Rattle.gw_session.proofs.Common.{Appends, GatewayConfig, Gateway, Event, HasHistory, Totals, RunFault}
-use Rattle.gw_session.proofs.Common.{Record, IsGood}
-use Rattle.gw_session.proofs.Common.{spelled, Reads, end_of, events, events_of, events_through, render, replies_to}
-use Rattle.gw_session.proofs.Common.{all_kinds, SourceState, SinkState, Recorded, TapeState, RunsThrough, SessionTo}
-use Rattle.gw_session.proofs.Common.{MatchResult}
+use Rattle.gw_session.proofs.Common.{◌≡◌, ℕ, true, false, List, [], ◌∷◌, ◌++◌, refl, sym, ap, common_steps, ◌∙◌}
+use Rattle.gw_session.proofs.Common.{append_assoc, append-nil, arith, AllByRecursion, flat_map, flat_map-append}
+use Rattle.gw_session.proofs.Common.{append_cancel_left, Result, Ok, Err, Option, Some, None, Appends, GatewayConfig}
+use Rattle.gw_session.proofs.Common.{Gateway, Event, HasHistory, Totals, RunFault, Record, IsGood, spelled, Reads}
+use Rattle.gw_session.proofs.Common.{end_of, events, events_of, events_through, render, replies_to, all_kinds}
+use Rattle.gw_session.proofs.Common.{SourceState, SinkState, Recorded, TapeState, RunsThrough, SessionTo, MatchResult}
 use Rattle.gw_session.specs.Running.{RunsAll, RunsUntil}
 use Rattle.gw_records.specs.declared.outcome.RunFault.TheVariants as faults
 use Rattle.gw_records.specs.declared.records.RecordsEnd.{RecordsEnd}
 use Rattle.gw_records.specs.declared.records.RecordsEnd.TheVariants as endings
 use Rattle.gw_records.specs.Records.{is_open}
 use Rattle.gw_records.proofs.Readings.{one_reading, more_keeps}
-use Rattle.gw_records.proofs.Sessions.{All-join}
 use Rattle.std.proofs.KnownBytes.{Appends-nil}
 use Rattle.gw_session.specs.Recovery.{HasRecorded, IsGivenOnly, CutRecordingsRecover}
 use Rattle.gw_session.proofs.ReadBack.{reads_all}
@@ -37,14 +33,7 @@ module _ {octets : List ℕ} {gateway gateway' : Gateway} {source source' : Sour
     session_went : (ending : RecordsEnd)
         → SessionTo all_kinds source source' sink sink' (RunsThrough gateway gateway' sink sink') ending
         → WentThrough octets gateway gateway' sink sink'
-    session_went ending s =
-        let same : octets ≡ s.octets = rw (only.begun, only.given) at s.gives.gave in
-        record {
-          records = s.records;
-          ending = ending;
-          reads = rw same s.reads;
-          done = λ config before stood. let d = s.done config before stood in (d.stands, d.took);
-        }
+    session_went ending s = grind (arith, common_steps)
 
     -- so did a run, whatever ended it
     went : (end : Result Totals RunFault) → MatchResult end (RunsAll gateway gateway' source source' sink sink')
@@ -64,10 +53,7 @@ module _ {octets : List ℕ} {gateway gateway' : Gateway} {source source' : Sour
           records = [];
           ending = endings.End;
           reads = rw empty (record { rest = []; whole = refl; good = tt; ends = refl });
-          done = λ config before stood. (
-            rw (append-nil, h.0) stood,
-            rw (h.2) (Appends-nil sink.taken),
-          );
+          done = λ config before stood. (grind (arith, append-nil, Appends-nil sink.taken));
         }
 
 -- octets behind good records are read behind them
@@ -75,14 +61,7 @@ reads_behind : (passed records : List Record) (octets : List ℕ) (ending : Reco
     → AllByRecursion (IsGood all_kinds) passed
     → Reads all_kinds octets records ending
     → Reads all_kinds (flat_map spelled passed ++ octets) (passed ++ records) ending
-reads_behind passed records octets ending good r = record {
-  rest = r.rest;
-  whole = ap (λ (xs : List ℕ). flat_map spelled passed ++ xs) r.whole
-      ∙ sym (append_assoc (flat_map spelled passed) (flat_map spelled records) r.rest)
-      ∙ ap (λ (xs : List ℕ). xs ++ r.rest) (sym (flat_map-append spelled passed records));
-  good = All-join (IsGood all_kinds) passed records good r.good;
-  ends = r.ends;
-}
+reads_behind passed records octets ending good r = grind (arith, common_steps)
 
 -- the last of good records are good
 good_behind : (records later : List Record) → AllByRecursion (IsGood all_kinds) (records ++ later)
@@ -97,7 +76,6 @@ no_end_there octets r rs None reads e = refl
 no_end_there octets r rs (Some ending) reads e =
     let none : Reads all_kinds octets [] ending = record { rest = octets; whole = refl; good = tt; ends = e } in
     let once = one_reading all_kinds octets [] (r ∷ rs) ending endings.End none reads in
-    let same : [] ≡ r ∷ rs = once.0 in
     absurd cc
 
 -- the first octets of good records end as octets do to which more may come

@@ -1,8 +1,8 @@
 -- Worked rows, of records and of what is written for them by given replies.
 use Rattle.gw_session.proofs.Common.{◌≡◌, ℕ, List, [], ◌∷◌, ◌++◌, take, refl, arith, Some, None, Ok, Err, map, Reply}
 use Rattle.gw_session.proofs.Common.{Record, Reads, end_of, render, all_kinds, replicate, has_bad_kind, has_bad_circuit}
-use Rattle.gw_session.proofs.Common.{has_bad_length, is_cut, has_bad_command, Answers, Obeys, Changes}
-use Rattle.gw_session.proofs.Common.{Act, Gateway, false, length, drop}
+use Rattle.gw_session.proofs.Common.{has_bad_length, is_cut, has_bad_command, Answers, Obeys, Changes, Act, Gateway}
+use Rattle.gw_session.proofs.Common.{false, length, drop}
 use Rattle.gw_session.specs.Killed.{sent_in, answers_in, taken_at_last, taken_at_next}
 use Rattle.q421_line.specs.declared.LineFault.TheVariants as line
 use Rattle.q421_line.specs.Commands.{fault_number}

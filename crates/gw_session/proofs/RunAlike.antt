@@ -1,11 +1,10 @@
 -- A session that was recorded and a run over what was recorded are alike.
-use Rattle.gw_session.proofs.Common.{◌≡◌, ◌<◌, ℕ, List, [], ◌++◌, refl, sym, ◌∙◌, append-nil, arith, Option, Result, Ok}
-use Rattle.gw_session.proofs.Common.{Err, Appends, GatewayConfig, Gateway, Event, HasHistory, Totals, RunFault, Record}
-use Rattle.gw_session.proofs.Common.{AppendsPrefix, AppendsBut, Extends, counted, events, answered, replies_to}
-use Rattle.gw_session.proofs.Common.{SessionInput}
-use Rattle.gw_session.proofs.Common.{events_through, packets_for, given_by, written, but_last, LeavesOut, Recorded}
-use Rattle.gw_session.proofs.Common.{all_answers, MatchResult, SessionStreams, Served, ServesAll, ServesUntil}
-use Rattle.gw_session.proofs.Common.{RecordedSessionsRunAlike}
+use Rattle.gw_session.proofs.Common.{◌≡◌, ◌<◌, ℕ, List, [], ◌++◌, sym, ◌∙◌, append-nil, arith, Option, Result, Ok}
+use Rattle.gw_session.proofs.Common.{rules, common_steps, Err, Appends, GatewayConfig, Gateway, Event, HasHistory}
+use Rattle.gw_session.proofs.Common.{Totals, RunFault, Record, AppendsPrefix, AppendsBut, Extends, counted, events}
+use Rattle.gw_session.proofs.Common.{answered, replies_to, SessionInput, events_through, packets_for, given_by, written}
+use Rattle.gw_session.proofs.Common.{but_last, LeavesOut, Recorded, all_answers, MatchResult, SessionStreams, Served}
+use Rattle.gw_session.proofs.Common.{ServesAll, ServesUntil, RecordedSessionsRunAlike}
 use Rattle.std.proofs.KnownBytes.{Appends-nil}
 use Rattle.gw_records.specs.declared.outcome.RunFault.TheVariants as faults
 use Rattle.gw_records.specs.declared.records.RecordsEnd.TheVariants as endings
@@ -41,22 +40,7 @@ module _ {config : GatewayConfig} {before : List Event} {gateway live : Gateway}
         → AppendsPrefix a.sink.taken a'.sink.taken (written config before s.inputs)
         × (a'.sink.failures ≡ a.sink.failures
         → Appends a.sink.taken a'.sink.taken (written config before s.inputs))) → Lived config before live a a'
-    lived_through s taken =
-        let goes = s.follows.goes in
-        let hears = goes.hears config before stood in
-        let known = taken (s.took config before stood) in
-        record {
-          inputs = s.inputs;
-          stands = hears.stands;
-          recorded = s.follows.recorded;
-          took = known.0;
-          whole = known.1;
-          sent = goes.trades.took;
-          takes = goes.trades.takes;
-          failed = goes.trades.failed_sends;
-          sends = goes.trades.sends;
-          packets = rw append-nil at hears.packets;
-        }
+    lived_through s taken = grind (arith, append-nil, taken (s.took config before stood))
 
     -- .. where no write failed
     lived_well : {totals : Totals} {records : List Record}
@@ -68,28 +52,15 @@ module _ {config : GatewayConfig} {before : List Event} {gateway live : Gateway}
     lived_to_write : {totals : Totals} {records : List Record} → a.sink.failures < a'.sink.failures
         → Served a a' gateway live (AppendsBut 0 a.sink.taken a'.sink.taken) totals records
         → Lived config before live a a'
-    lived_to_write counted s = lived_through s (λ p. (
-      record { written = p.written; rest = p.rest; whole = p.whole; appended = p.appended },
-      λ e. absurd (omega (arith, e, counted)),
-    ))
+    lived_to_write counted s = lived_through s (grind (arith, common_steps))
 
 -- .. where nothing was done
 lived_idly : (config : GatewayConfig) (before : List Event) (live : Gateway) (a : SessionStreams)
     → HasHistory config live before
     → Lived config before live a a
 unfolding given_by
-lived_idly config before live a stood = record {
-  inputs = [];
-  stands = rw append-nil stood;
-  recorded = recorded_none a.tape;
-  took = prefix_of_all a.sink.taken a.sink.taken [] (Appends-nil a.sink.taken);
-  whole = λ e. Appends-nil a.sink.taken;
-  sent = [];
-  takes = Extends-none a.ports.taken;
-  failed = 0;
-  sends = refl;
-  packets = (refl, refl);
-}
+lived_idly config before live a stood =
+    search (rules, append-nil, recorded_none, prefix_of_all, Appends-nil, Extends-none)
 
 -- whatever ended a session that was recorded, it did so
 pub lived : (a a' : SessionStreams) (gateway live : Gateway) (end : Result Totals RunFault) (config : GatewayConfig)

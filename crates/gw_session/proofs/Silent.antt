@@ -1,8 +1,7 @@
 -- Sessions whose packets put nothing in front of the answers.
 use Rattle.gw_session.proofs.Common.{◌≡◌, inl, inr, ℕ, List, [], ◌∷◌, ◌++◌, flat_map, refl, arith, GatewayConfig, Event}
-use Rattle.gw_session.proofs.Common.{Totals, Record, SinkState, AppendsBut, SessionInput, events_in, packets_for}
-use Rattle.gw_session.proofs.Common.{written}
-use Rattle.gw_session.proofs.Common.{but_last, SessionTrace, spelled_for, written_for, written_by, TraceToWriteError}
+use Rattle.gw_session.proofs.Common.{rules, Totals, Record, SinkState, AppendsBut, SessionInput, events_in, packets_for}
+use Rattle.gw_session.proofs.Common.{written, SessionTrace, spelled_for, written_for, written_by, TraceToWriteError}
 use Rattle.gw_session.proofs.Common.{TapeState, SessionState, silent, output_of, OfFirstInputs}
 
 -- packets that put nothing give no octets
@@ -25,14 +24,7 @@ answers_alone config before (input ∷ inputs) =
 -- records were served
 pub serves : {s s' : SessionState} {x y : TapeState} {Took : List ℕ → List ℕ → Type 0} (records : List Record)
     → SessionTrace (written_by silent) s s' x y Took records → SessionTrace written s s' x y Took records
-serves records p = record {
-  inputs = p.inputs;
-  told_are = p.told_are;
-  follows = p.follows;
-  took = λ config before at.
-      rw (answers_alone config before (but_last p.inputs), answers_alone config before p.inputs) at
-      (p.took config before at);
-}
+serves records p = search (rules, answers_alone)
 
 -- .. and this is known of them
 pub serves_watched : {s s' : SessionState} {x y : TapeState} {Took : List ℕ → List ℕ → Type 0}

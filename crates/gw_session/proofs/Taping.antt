@@ -1,15 +1,12 @@
 -- Events recorded one after another.
-use Rattle.gw_session.proofs.Common.{◌≡◌, ◌^◌, ◌<◌, ◌≤◌, ℕ, Bool, true, false, inl, inr, None, Result, Ok, Err, List}
-use Rattle.gw_session.proofs.Common.{Some}
-use Rattle.gw_session.proofs.Common.{[], ◌∷◌, ◌++◌, length, drop, map, IfErr, refl, sym, ap, ◌∙◌, append_assoc}
-use Rattle.gw_session.proofs.Common.{append-nil, arith, Appends, map-append, drop_all, flat_map-append, Event, Record}
-use Rattle.gw_session.proofs.Common.{IsGood, spelled, RunFault, SinkState, AppendsPrefix, FailsAfterPrefix}
+use Rattle.gw_session.proofs.Common.{◌≡◌, ◌^◌, ◌≤◌, ℕ, Bool, true, false, inl, inr, None, Result, List, rules}
+use Rattle.gw_session.proofs.Common.{common_steps, Some, [], ◌∷◌, ◌++◌, length, drop, map, IfErr, refl, sym, ap, ◌∙◌}
+use Rattle.gw_session.proofs.Common.{append_assoc, append-nil, arith, Appends, map-append, drop_all, flat_map-append}
+use Rattle.gw_session.proofs.Common.{Event, Record, IsGood, spelled, RunFault, SinkState, FailsAfterPrefix}
 use Rattle.gw_session.proofs.Common.{Appends-none, Appends-join, events, events_of, all_kinds, Turn, of_circuit}
 use Rattle.gw_session.proofs.Common.{arrivals, coming, events_of_turns, RecordsBehind, TapeState, Recorded, RecordedBut}
-use Rattle.gw_session.proofs.Common.{OnOk, is_err, AppendsPrefix-join, HasEnded, HasLong, AreSpelled, WritesRecords}
-use Rattle.gw_session.proofs.Common.{Taping, taping, Batches, RecordsAll, flat_map, Datagram, Act, Learns, sends_at}
-use Rattle.gw_session.proofs.Common.{map_push}
-use Rattle.gw_session.proofs.Turns.{Extends-join}
+use Rattle.gw_session.proofs.Common.{OnOk, is_err, AppendsPrefix-join, HasEnded, HasLong, WritesRecords, Taping, taping}
+use Rattle.gw_session.proofs.Common.{Batches, RecordsAll, flat_map, Datagram, Act, Learns, sends_at}
 use Rattle.std.proofs.lemmas.List.Elements.{Contains-append_left, Contains-append_right, Contains-push}
 use Rattle.gw_session.proofs.Receiving.{of_more}
 use Rattle.gw_records.proofs.Sessions.{All-join}
@@ -19,16 +16,7 @@ took_none : (a b : TapeState) (es : List Event) → b.taken ≡ a.taken
     → (b.ended ≡ false → (es ≡ []) × (b.failures ≡ a.failures))
     → (a.ended ≡ false → b.ended ≡ true → HasLong es) → (a.ended ≡ true → b ≡ record a { acts = b.acts })
     → Recorded a b es
-took_none a b es same whole cause stays = record {
-  records = [];
-  good = tt;
-  lost = es;
-  events_are = refl;
-  took = rw same (record { written = []; rest = []; whole = refl; appended = Appends-none a.taken });
-  whole = λ f. ((whole f).0, rw same (Appends-none a.taken), (whole f).1);
-  cause = λ e f. inr (cause e f);
-  stays = stays;
-}
+took_none a b es same whole cause stays = grind (arith, Appends-none a.taken)
 
 -- nothing happened
 pub recorded_none : (a : TapeState) → Recorded a a []
@@ -42,31 +30,13 @@ recorded_over a es over = took_none a a es refl (λ f. cc) (λ e f. cc) (λ e. r
 pub recorded_long : (a b : TapeState) (circuit : ℕ) (bytes : List ℕ) → HasEnded a b → 2 ^ 16 ≤ length bytes
     → Recorded a b (Event.Given circuit (Datagram bytes) ∷ [])
 recorded_long a b circuit bytes p long =
-    let ended = p.0 in
     took_none a b _ p.1 (λ f. cc)
     (λ e f. (circuit, bytes, Contains-push [] (Event.Given circuit (Datagram bytes)), long)) (λ e. rw (p.3 e) refl)
 
 -- events, and then others
 joined : (a b c : TapeState) (es fs : List Event) (ended : Bool) → b.ended ≡ ended → Recorded a b es → Recorded b c fs
     → Recorded a c (es ++ fs)
-joined a b c es fs true e p q =
-    let same = q.stays e in
-    let ended : c.ended ≡ b.ended = ap (λ (t : TapeState). t.ended) same in
-    let failures : c.failures ≡ b.failures = ap (λ (t : TapeState). t.failures) same in
-    let taken : c.taken ≡ b.taken = ap (λ (t : TapeState). t.taken) same in
-    record {
-      records = p.records;
-      good = p.good;
-      lost = p.lost ++ fs;
-      events_are = ap (λ (xs : List Event). xs ++ fs) p.events_are ∙ append_assoc (events p.records) p.lost fs;
-      took = rw taken p.took;
-      whole = λ f. cc;
-      cause = λ x y. elim (p.cause x e) [
-        | inl failed ↦ inl (rw failures failed)
-        | inr long ↦ inr (long.0, long.1, Contains-append_left es fs _ long.2, long.3)
-      ];
-      stays = λ s. same ∙ ap (λ (t : TapeState). record t { acts = c.acts }) (p.stays s);
-    }
+joined a b c es fs true e p q = search (rules, append_assoc, Contains-append_left)
 joined a b c es fs false e p q =
     let w = p.whole e in
     let here : es ≡ events p.records = rw w.0 at p.events_are ∙ append-nil (events p.records) in
@@ -84,9 +54,7 @@ joined a b c es fs false e p q =
         | inl failed ↦ inl (omega (arith, failed, w.2))
         | inr long ↦ inr (long.0, long.1, Contains-append_right es fs _ long.2, long.3)
       ];
-      stays = λ s.
-          let same : b.ended ≡ a.ended = ap (λ (t : TapeState). t.ended) (p.stays s) in
-          cc;
+      stays = grind (arith, common_steps);
     }
 
 -- events that were recorded, and then others
@@ -97,48 +65,17 @@ recorded_join a b c es fs p q = joined a b c es fs b.ended refl p q
 -- events were recorded, and then the tape was told of acts
 pub recorded_told : (a b c : TapeState) (es : List Event) (acts : List Act) → Recorded a b es → Learns b c acts
     → Recorded a c es
-recorded_told a b c es acts p q =
-    let ended : c.ended ≡ b.ended = ap (λ (t : TapeState). t.ended) q.same in
-    let failures : c.failures ≡ b.failures = ap (λ (t : TapeState). t.failures) q.same in
-    let taken : c.taken ≡ b.taken = ap (λ (t : TapeState). t.taken) q.same in
-    let none : Recorded b c [] = took_none b c [] taken (λ e. (refl, failures)) (λ e f. cc) (λ e. q.same) in
-    rw (append-nil es) at (recorded_join a b c es [] p none)
+recorded_told a b c es acts p q = grind (arith, append-nil es)
 
 -- a tape was told of acts, and then events were recorded
 pub told_recorded : (a b c : TapeState) (es : List Event) (acts : List Act) → Learns a b acts → Recorded b c es
     → Recorded a c es
-told_recorded a b c es acts p q =
-    let failures : b.failures ≡ a.failures = ap (λ (t : TapeState). t.failures) p.same in
-    let taken : b.taken ≡ a.taken = ap (λ (t : TapeState). t.taken) p.same in
-    recorded_join a b c [] es (took_none a b [] taken (λ e. (refl, failures)) (λ e f. cc) (λ e. p.same)) q
+told_recorded a b c es acts p q = grind (arith, common_steps)
 
 -- a tape was told of sends, and then of one more
 pub told_more : (a b c : TapeState) (ps : List (ℕ × List ℕ)) (p : ℕ × List ℕ) → Learns a b (map (sends_at a) ps)
     → Learns b c (sends_at b p ∷ []) → Learns a c (map (sends_at a) (ps ++ p ∷ []))
-told_more a b c ps p x y =
-    let ended : b.ended ≡ a.ended = ap (λ (t : TapeState). t.ended) x.same in
-    let taken : b.taken ≡ a.taken = ap (λ (t : TapeState). t.taken) x.same in
-    record {
-      same = y.same ∙ ap (λ (t : TapeState). record t { acts = c.acts }) x.same;
-      told = rw (map_push (sends_at a) ps p)
-          (Extends-join a.acts b.acts c.acts _ _ x.told (rw (ended, taken) at y.told));
-    }
-
--- octets of records were written, or a prefix of them: their events were recorded, or the tape ended in them
-recorded_all : (a b : TapeState) (records : List Record) (octets : List ℕ) → AreSpelled records octets
-    → a.ended ≡ false → AppendsPrefix a.taken b.taken octets
-    → (b.ended ≡ false → Appends a.taken b.taken octets × (b.failures ≡ a.failures))
-    → (b.ended ≡ true → a.failures < b.failures) → Recorded a b (events records)
-recorded_all a b records octets s going took whole failed = record {
-  records = records;
-  good = s.good;
-  lost = [];
-  events_are = sym (append-nil (events records));
-  took = rw (← s.octets_are) took;
-  whole = λ f. (refl, rw (← s.octets_are) (whole f).0, (whole f).1);
-  cause = λ e f. inl (failed f);
-  stays = λ s. cc;
-}
+told_more a b c ps p x y = grind (arith, common_steps)
 
 -- the octets of records were written whole, or not, and the tape ended
 pub records_written : (old new : Bool) (s s' : SinkState) (octets : List ℕ)
@@ -147,12 +84,7 @@ pub records_written : (old new : Bool) (s s' : SinkState) (octets : List ℕ)
     → IfErr result (λ e. (e ≡ fault) × FailsAfterPrefix s s' octets)
     → WritesRecords (record { ended = old; failures = s.failures; taken = s.taken; acts = None })
     (record { ended = new; failures = s'.failures; taken = s'.taken; acts = None }) octets
-records_written old new s s' octets (Ok u) fault going up took same broke = λ records spelled-are.
-    recorded_all _ _ records octets spelled-are going
-    (record { written = octets; rest = []; whole = sym (append-nil octets); appended = took })
-    (λ f. (took, same)) (λ f. cc)
-records_written old new s s' octets (Err x) fault going up took same broke = λ records spelled-are.
-    recorded_all _ _ records octets spelled-are going broke.1.took (λ f. cc) (λ f. broke.1.counted)
+records_written old new s s' octets result fault going up took same broke = search rules
 
 -- a tape that has ended writes no records
 pub records_over : (a : TapeState) (octets : List ℕ) → a.ended ≡ true → WritesRecords a a octets
@@ -194,38 +126,19 @@ batches_more tape batch batch' r good e = λ before s. record {
   recorded = recorded_none tape;
   acts = refl;
   after = before ++ r ∷ [];
-  batch_is = record {
-    good = All-join (IsGood all_kinds) before (r ∷ []) s.good (good, tt);
-    octets_are = e ∙ ap (λ (xs : List ℕ). xs ++ spelled r) s.octets_are ∙ rw (flat_map-append, append-nil) refl;
-  };
+  batch_is = grind (arith, All-join (IsGood all_kinds) before (r ∷ []) s.good (good, tt), flat_map-append, append-nil);
   all = rw (flat_map-append, append-nil) refl;
 }
 
 -- the batch was recorded, and nothing is in it
 pub batches_written : (a b : TapeState) (batch batch' : List ℕ) → WritesRecords a b batch → b.acts ≡ a.acts
     → batch' ≡ [] → Batches (taping a batch) (taping b batch') []
-batches_written a b batch batch' w acts none = λ before s. record {
-  first = events before;
-  recorded = w before s;
-  acts = acts;
-  after = [];
-  batch_is = record { good = tt; octets_are = none };
-  all = refl;
-}
+batches_written a b batch batch' w acts none = grind (arith, common_steps)
 
 -- events were recorded while nothing was in the batch
 pub batches_recorded : (a b : TapeState) (batch batch' : List ℕ) (es : List Event) → batch ≡ [] → batch' ≡ []
     → Recorded a b es → b.acts ≡ a.acts → Batches (taping a batch) (taping b batch') es
-batches_recorded a b batch batch' es none none' p acts = λ before s.
-    let empty = spells_none before (sym s.octets_are ∙ none) in
-    record {
-      first = es;
-      recorded = p;
-      acts = acts;
-      after = [];
-      batch_is = record { good = tt; octets_are = none' };
-      all = rw empty (sym (append-nil es));
-    }
+batches_recorded a b batch batch' es none none' p acts = search (rules, spells_none, append-nil)
 
 -- events, and then others
 pub batches_join : (t u v : Taping) (es fs : List Event) → Batches t u es → Batches u v fs → Batches t v (es ++ fs)
@@ -255,10 +168,8 @@ records_all t u c es p w acts = λ before s.
 -- no datagram came yet
 pub behind_none : (a : Taping) (heard : List ℕ) (recorded : ℕ) → recorded ≤ length heard
     → RecordsBehind a a heard recorded recorded []
-behind_none a heard recorded within = record {
-  within = within;
-  but = ([], batches_none a.tape a.batch a.batch refl, append-nil (map Event.Octet (drop recorded heard)));
-}
+behind_none a heard recorded within =
+    grind (arith, batches_none a.tape a.batch a.batch refl, append-nil (map Event.Octet (drop recorded heard)))
 
 -- one datagram more came
 pub behind_more : (a b c : Taping) (heard fresh : List ℕ) (r r' n : ℕ) (circuit : ℕ) (came : List (List ℕ))
@@ -284,18 +195,7 @@ behind_more a b c heard fresh r r' n circuit came d p e all q =
 pub turn_recorded : (a b : Taping) (heard : List ℕ) (r r' : ℕ) (t : Turn)
     → RecordsBehind a b heard r r' (coming (arrivals t))
     → RecordedBut a b (map Event.Octet (drop r heard) ++ events_of_turns (t ∷ [])) (drop r' heard ++ t.octet ∷ [])
-turn_recorded a b heard r r' t p =
-    let O = Event.Octet t.octet ∷ [] in (
-      p.but.0,
-      p.but.1,
-      rw (
-        append-nil (coming (arrivals t) ++ O),
-        map-append Event.Octet (drop r' heard) (t.octet ∷ []),
-        ← append_assoc (map Event.Octet (drop r heard)) (coming (arrivals t)) O,
-        p.but.2,
-        append_assoc,
-      ),
-    )
+turn_recorded a b heard r r' t p = grind (arith, common_steps)
 
 -- events, and then others, with octets that were recorded later
 pub but_more : (a b c : Taping) (es fs : List Event) (fresh left : List ℕ) → RecordedBut a b es fresh

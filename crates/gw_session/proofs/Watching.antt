@@ -1,10 +1,10 @@
 -- What a watch of a session is shown.
-use Rattle.gw_session.proofs.Common.{◌≡◌, ◌+◌, ◌++◌, ◌∷◌, ℕ, List, [], length, map, flat_map, refl, ap, append_assoc}
-use Rattle.gw_session.proofs.Common.{suc, append-nil, arith, add-zero, map_push, flat_map-append}
-use Rattle.gw_session.proofs.Common.{GatewayConfig, Gateway, Event, octets, HasHistory, Record, SessionState, TapeState}
-use Rattle.gw_session.proofs.Common.{SessionInput, input_record, Datagram, code_of, reply_to}
-use Rattle.gw_session.proofs.Common.{events_in, events_through, ActsOn, Follows, Shows, Look, shown_in, IsCalled}
-use Rattle.gw_session.proofs.Common.{code_after, IsCodeAfter, AreTrue, AreShown, InputsShown, Watched, looks_at}
+use Rattle.gw_session.proofs.Common.{◌≡◌, ◌+◌, ◌++◌, ◌∷◌, ℕ, List, [], length, map, refl, append_assoc, rules, suc}
+use Rattle.gw_session.proofs.Common.{append-nil, arith, add-zero, map_push, flat_map-append, GatewayConfig, Gateway}
+use Rattle.gw_session.proofs.Common.{Event, octets, HasHistory, Record, SessionState, TapeState, SessionInput}
+use Rattle.gw_session.proofs.Common.{input_record, Datagram, code_of, reply_to, events_in, events_through, ActsOn}
+use Rattle.gw_session.proofs.Common.{Follows, Shows, Look, IsCalled, IsCodeAfter, AreTrue, AreShown, InputsShown}
+use Rattle.gw_session.proofs.Common.{Watched, looks_at}
 
 -- a watch was called, and then more
 called_join : {W : Type 0} (shows : Shows W) (looks more : List Look) (w v v' : W) → IsCalled shows w v looks
@@ -67,26 +67,14 @@ pub shown_join : {W : Type 0} {shows : Shows W} {g g' : Gateway} {w v w' : W} {h
     → ((config : GatewayConfig) (before : List Event) → HasHistory config g before
     → HasHistory config g' (before ++ xs)) → n ≡ heard + length (octets xs)
     → AreShown shows g w v heard xs → AreShown shows g' v w' n ys → AreShown shows g w w' heard (xs ++ ys)
-shown_join {shows = shows} {w = w} {v = v} {w' = w'} {heard = heard} {xs = xs} {ys = ys} stands count p q = record {
-  looks = p.looks ++ q.looks;
-  calls = called_join shows p.looks q.looks w v w' p.calls q.calls;
-  no_record = rw (flat_map-append, p.no_record, q.no_record) refl;
-  looks_are = λ config before h.
-      rw (looks_join config before heard xs ys, ← count, ← p.looks_are config before h)
-      (ap (λ (looks : List Look). p.looks ++ looks) (q.looks_are config (before ++ xs) (stands config before h)));
-}
+shown_join {shows = shows} {w = w} {v = v} {w' = w'} {heard = heard} {xs = xs} {ys = ys} stands count p q =
+    search (rules, called_join, flat_map-append, looks_join)
 
 -- .. and then an octet, of which nothing is shown
 pub shown_heard : {W : Type 0} {shows : Shows W} {g : Gateway} {w w' : W} {heard : ℕ} (octet : ℕ) (es : List Event)
     → AreShown shows g w w' heard es → AreShown shows g w w' heard (es ++ Event.Octet octet ∷ [])
 unfolding looks_at
-shown_heard {heard = heard} octet es p = record {
-  looks = p.looks;
-  calls = p.calls;
-  no_record = p.no_record;
-  looks_are = λ config before h.
-      rw (looks_join config before heard es (Event.Octet octet ∷ []), append-nil) (p.looks_are config before h);
-}
+shown_heard {heard = heard} octet es p = search (rules, looks_join, append-nil)
 
 -- before the first record
 pub none_shown : {W : Type 0} {shows : Shows W} {gateway : Gateway} {w : W} → InputsShown shows gateway w w [] []
@@ -130,14 +118,7 @@ shown_more {shows = shows} {w = w} {u = u} {v = v} {v' = v'} {s'' = s''} {inputs
       looks = seen.looks ++ (came.looks ++ l ∷ []);
       calls = called_join shows seen.looks (came.looks ++ l ∷ []) w u v' seen.calls
           (called_join shows came.looks (l ∷ []) u v v' came.calls (v', call, refl));
-      shown_are = rw (
-        flat_map-append,
-        flat_map-append,
-        came.no_record,
-        seen.shown_are,
-        map_push input_record inputs q.input,
-        q.told_is,
-      ) refl;
+      shown_are = grind (arith, flat_map-append, map_push input_record inputs q.input);
       are_true = λ config before new.
           let now = before ++ events_through inputs in
           let stands = (follows.goes.hears config before new).stands in
@@ -184,10 +165,4 @@ pub shown_alike : {W : Type 0} {shows : Shows W} {gateway : Gateway} {w w' : W} 
     {happened : List (List Event)} (last last' : List Event)
     → ((config : GatewayConfig) (now : List Event) → looks_at config now 0 last ≡ looks_at config now 0 last')
     → Watched shows gateway w w' records happened last → Watched shows gateway w w' records happened last'
-shown_alike {happened = happened} last last' same seen = record {
-  looks = seen.looks;
-  calls = seen.calls;
-  shown_are = seen.shown_are;
-  are_true = λ config before new.
-      true_alike config before happened last last' seen.looks (same config) (seen.are_true config before new);
-}
+shown_alike {happened = happened} last last' same seen = search (rules, true_alike)

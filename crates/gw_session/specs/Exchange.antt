@@ -12,10 +12,9 @@ use Rattle.gw_session.specs.Answers.{code_of, packet_in}
 use Rattle.gw_session.specs.PacketPorts.{PacketOutput}
 use Rattle.gw_records.specs.Ports.{TakesOut, KeepsSends, KeepsReceives}
 use Rattle.gw_session.specs.Serve.{SessionInput, Turn, input_record, octet_of, turns_of, events_in}
-use Rattle.gw_session.specs.Serve.{events_of_turns, answer_to}
-use Rattle.gw_session.specs.Serve.{TurnsTrace, SessionTrace, PortTrace, Stop, StopsSo, as_call, receives_of}
-use Rattle.gw_session.specs.Serve.{HaveCalls, AreCalls, AreSends, are_held, held_in, acts_for}
-use Rattle.gw_session.specs.Serve.{of_circuit, coming, first_four, behind_four, LeavesOut}
+use Rattle.gw_session.specs.Serve.{events_of_turns, answer_to, TurnsTrace, SessionTrace, PortTrace, Stop}
+use Rattle.gw_session.specs.Serve.{StopsSo, as_call, receives_of, HaveCalls, AreCalls, AreSends, are_held}
+use Rattle.gw_session.specs.Serve.{held_in, acts_for, of_circuit, coming, first_four, behind_four, LeavesOut}
 use Rattle.gw_session.specs.Serve.{packets_for, octets_for, dropped_for, through, but_last, OfFirstInputs}
 use Rattle.gw_session.specs.Tape.{TapeState, Recorded, Taping, RecordedBut, sends_at}
 use Rattle.gw_session.specs.Watch.{Shows, Look, shown_in, IsCalled, looks_at}

@@ -11,9 +11,8 @@ use Rattle.gw_session.specs.Answers.{Written, written_out, answers, answered, tr
 use Rattle.gw_session.specs.Answers as records_of
 use Rattle.gw_session.specs.Running.{all_kinds, replies_to, RunsAll}
 use Rattle.gw_session.specs.Serve.{SessionInput, input_record, events_through, events_in, events_of_turns}
-use Rattle.gw_session.specs.Serve.{octets_for}
-use Rattle.gw_session.specs.Serve.{packets_for, written, through, LeavesOut, SessionStreams, ServesAll}
-use Rattle.gw_session.specs.Serve.{ServesUntil}
+use Rattle.gw_session.specs.Serve.{octets_for, packets_for, written, through, LeavesOut, SessionStreams}
+use Rattle.gw_session.specs.Serve.{ServesAll, ServesUntil}
 use Rattle.gw_session.specs.Tape.{TapeState, Recorded}
 
 -- What was recorded is read as records whose events are the first of those that happened; where the tape has

@@ -1,6 +1,6 @@
 -- What tapes tell of themselves, and how events are recorded on them.
-use Rattle.std.specs.Prelude.{Contains, ◌≡◌, ◌⊎◌, ◌^◌, ◌<◌, ◌≤◌, ◌++◌, Bool, true, false, List, [], ℕ}
-use Rattle.std.specs.Prelude.{Option, None, Some, length, map, flat_map}
+use Rattle.std.specs.Prelude.{Contains, ◌≡◌, ◌⊎◌, ◌^◌, ◌<◌, ◌≤◌, ◌++◌, Bool, true, false, List, [], ℕ, Option}
+use Rattle.std.specs.Prelude.{None, Some, length, map, flat_map}
 use Rattle.std.specs.Io.KnownBytes.{Appends}
 use Rattle.std.specs.List.{AllByRecursion}
 use Rattle.gw_session.specs.Prelude.{Datagram, Event, Gateway, Record, IsGood, AppendsPrefix, Extends}

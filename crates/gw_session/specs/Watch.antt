@@ -23,8 +23,8 @@ use Rattle.std.specs.Io.KnownBytes.{Appends}
 use Rattle.gw_switch.specs.Whole.{reply_to}
 use Rattle.gw_session.specs.Answers.{code_of, events_of}
 use Rattle.gw_session.specs.Running.{all_kinds, RunsThrough, RunsUntilWrite}
-use Rattle.gw_session.specs.Serve.{SessionInput, input_record, events_in, SessionStreams}
-use Rattle.gw_session.specs.Serve.{OfFirstInputs, Served, served_kinds}
+use Rattle.gw_session.specs.Serve.{SessionInput, input_record, events_in, SessionStreams, OfFirstInputs}
+use Rattle.gw_session.specs.Serve.{Served, served_kinds}
 
 -- What a watch is shown in one call: a datagram that the gateway was given when this many octets of its
 -- record were heard, and 0 or the number of its refusal; or a record, with the code of its answer, and the

@@ -3,15 +3,13 @@ pub use Rattle.e1_g711.specs.Law.{idle_code}
 pub use Rattle.g726_codec.specs.Kinds.{CodecState, codec_after}
 pub use Rattle.g726_codec.specs.Laws.{OneWordAnOctet, PrefixesComeFirst, SpeechIsItsOwnWords}
 pub use Rattle.g726_codec.specs.declared.CodecKind.TheVariants.{G711}
-pub use Rattle.gw_records.proofs.Sessions.{five, goes_up, starts, first_held, record_taken, stops_in, stops_behind}
+pub use Rattle.gw_records.proofs.Sessions.{goes_up, starts, first_held, record_taken, stops_in, stops_behind}
 pub use Rattle.gw_records.proofs.Sessions.{reads_more, ended, gives_up, Stage}
 pub use Rattle.gw_records.proofs.Writes.{GivesOctets-end, TakesAllButWaiting-start, TakesAllButWaiting-empty}
-pub use Rattle.gw_records.proofs.Writes.{TakesAllButWaiting-join}
-pub use Rattle.gw_records.proofs.Writes.{TakesAllButWaiting-appended, AppendsPrefix-behind, FailsAfterPrefix-waiting}
-pub use Rattle.gw_records.proofs.Writes.{TakesAllButWaiting-none, FailsAfterPrefix-join, FailsAfterPrefix-more}
-pub use Rattle.gw_records.proofs.Writes.{Appends-none}
-pub use Rattle.gw_records.proofs.Writes.{Appends-join, GivesOctets-none, GivesOctets-join, FailsAfterPrefix-after}
-pub use Rattle.gw_records.proofs.Writes.{read_failed}
+pub use Rattle.gw_records.proofs.Writes.{TakesAllButWaiting-join, TakesAllButWaiting-appended, AppendsPrefix-behind}
+pub use Rattle.gw_records.proofs.Writes.{FailsAfterPrefix-waiting, TakesAllButWaiting-none, FailsAfterPrefix-join}
+pub use Rattle.gw_records.proofs.Writes.{FailsAfterPrefix-more, Appends-none, Appends-join, GivesOctets-none}
+pub use Rattle.gw_records.proofs.Writes.{GivesOctets-join, FailsAfterPrefix-after, read_failed}
 pub use Rattle.gw_records.specs.Reader.{held, work_left}
 pub use Rattle.gw_records.specs.Records.{Record, IsGood, IsFirst, is_open, end_of, named, record_at}
 unfoldable pub use Rattle.gw_records.specs.Records.{has_bad_kind, has_bad_length, has_bad_command}
@@ -27,7 +25,8 @@ pub use Rattle.gw_speech.specs.declared.stream_spec.StreamSpec.{StreamSpec}
 pub use Rattle.std.proofs.Common.{◌≡◌, ◌+◌, ◌-◌, ◌≤◌, ◌++◌, ◌∙◌, ℕ, List, length, take, drop, refl, sym, ap, arith}
 pub use Rattle.std.proofs.Common.{length-take, length-take-le, length-drop, ◌*◌, ◌%◌, ◌<◌, ◌^◌, zero, suc, []}
 pub use Rattle.std.proofs.Common.{replicate, append_assoc, append-nil, length-append, take-append-drop, drop-drop, ◌∷◌}
-pub use Rattle.std.proofs.Common.{min, true, cond, rules, inl, inr}
+pub use Rattle.std.proofs.Common.{true, rules, inl, inr}
+pub use Rattle.std.proofs.lemmas.Grind.{common_steps}
 pub use Rattle.std.proofs.lemmas.List.{take-take, take_at, drop-take, drop_at, length-replicate, drop-append-le}
 pub use Rattle.std.proofs.lemmas.List.{take-append-le, nil_from_length}
 pub use Rattle.std.proofs.lemmas.List.Elements.{All-append, All-drop, All-from_get_or, All-tail, All-nil}
@@ -36,6 +35,5 @@ pub use Rattle.std.proofs.lemmas.Result.{err_from_is_err_and}
 pub use Rattle.std.proofs.lemmas.Slice.{take-put_mid, take-put_mid_below, between-put_mid}
 pub use Rattle.std.specs.Io.KnownBytes.{Appends, IsAtEnd}
 pub use Rattle.std.specs.List.{All, copy_within}
-pub use Rattle.std.specs.Prelude.{slice_index, Option, Some, None, Result, IfOk, IfErr, unwrap_or, count_by, is_none}
-pub use Rattle.std.specs.Prelude.{is_some}
+pub use Rattle.std.specs.Prelude.{slice_index, Option, Some, Result, IfOk, IfErr, unwrap_or, is_some}
 pub use borrow.Rule.Slice.PartMut.{put_mid, same_len_mid}

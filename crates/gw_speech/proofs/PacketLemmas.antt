@@ -1,13 +1,14 @@
 -- The packets of a stream.
 use Rattle.gw_speech.proofs.Common.{◌≡◌, ◌+◌, ◌*◌, ◌-◌, ◌%◌, ◌<◌, ◌≤◌, ◌^◌, ℕ, zero, suc, List, [], ◌++◌, length, take}
-use Rattle.gw_speech.proofs.Common.{drop, replicate, refl, sym, ap, ◌∙◌, append_assoc, append-nil, length-append}
-use Rattle.gw_speech.proofs.Common.{length-drop, length-take, length-take-le, take-append-drop, drop-drop, arith}
-use Rattle.gw_speech.proofs.Common.{div-mul-add, mod-mul-add, le-div, length-replicate, drop-append-le, take-append-le}
-use Rattle.gw_speech.proofs.Common.{drop_at, All-append, All-drop, All, copy_within, Appends, put_mid, idle_code}
-use Rattle.gw_speech.proofs.Common.{CodecState, OneWordAnOctet, PrefixesComeFirst, SourceState, SinkState, GivesOctets}
-use Rattle.gw_speech.proofs.Common.{GivesUp, Refills, GivesOctets-end, StreamSpec, packet_len, word_bits, words_for}
-use Rattle.gw_speech.proofs.Common.{packet_record, records_from, full_packets, filled, packets, records_of}
-use Rattle.gw_speech.proofs.Common.{full_records_of, header_with, HasEncoded, IsPacket, IsEncoding, EncodesUntilRead}
+use Rattle.gw_speech.proofs.Common.{rules, common_steps, drop, replicate, refl, sym, ap, ◌∙◌, append_assoc, append-nil}
+use Rattle.gw_speech.proofs.Common.{length-append, length-drop, length-take, length-take-le, take-append-drop}
+use Rattle.gw_speech.proofs.Common.{drop-drop, arith, div-mul-add, mod-mul-add, le-div, length-replicate}
+use Rattle.gw_speech.proofs.Common.{drop-append-le, take-append-le, drop_at, All-append, All-drop, All, copy_within}
+use Rattle.gw_speech.proofs.Common.{Appends, put_mid, idle_code, CodecState, OneWordAnOctet, PrefixesComeFirst}
+use Rattle.gw_speech.proofs.Common.{SourceState, SinkState, GivesOctets, GivesUp, Refills, GivesOctets-end, StreamSpec}
+use Rattle.gw_speech.proofs.Common.{packet_len, word_bits, words_for, packet_record, records_from, full_packets, filled}
+use Rattle.gw_speech.proofs.Common.{packets, records_of, full_records_of, header_with, HasEncoded, IsPacket, IsEncoding}
+use Rattle.gw_speech.proofs.Common.{EncodesUntilRead}
 use Rattle.std.proofs.Math.Nat.{div-add-mod, mod-lt, mod-eq_of_lt, mod_self, sub-zero}
 use Rattle.gw_records.proofs.Buffers.{moved}
 use Rattle.gw_speech.specs.declared.encode.NextPacket.{NextPacket}
@@ -19,17 +20,13 @@ pub one_more_packet : (s : StreamSpec) (progress : NextPacket) (k count len : �
     → packet ≡ take len rest
     → records_from s k octets (count + 1) ≡ records_from s k octets count ++ packet_record s
     (header_with s progress) packet
-one_more_packet s progress k count len octets rest packet at l e f =
-    let next : count + 1 ≡ suc count = omega arith in
-    rw (next, f, l, e, ← at.header) refl
+one_more_packet s progress k count len octets rest packet at l e f = grind (arith, common_steps)
 
 -- the records of i packets and of n more are those of the first i, and those of the words behind them
 records_split : (s : StreamSpec) (k i n : ℕ) (words : List ℕ)
     → records_from s k words (i + n) ≡ records_from s k words i
     ++ records_from s (k + i) (drop (packet_len s * i) words) n
-records_split s k i zero words =
-    let none : i + 0 ≡ i = omega arith in
-    rw (none, append-nil (records_from s k words i)) refl
+records_split s k i zero words = grind (arith, append-nil (records_from s k words i))
 records_split s k i (suc n) words =
     let next : i + suc n ≡ suc (i + n) = omega arith in
     let number : k + (i + n) ≡ k + i + n = omega arith in
@@ -39,24 +36,18 @@ records_split s k i (suc n) words =
 -- the records of the first i packets are the front of those of n, if i is at most n
 pub first_packets : (s : StreamSpec) (k : ℕ) (words : List ℕ) (i n : ℕ) → i ≤ n
     → (rest : List ℕ) × (records_from s k words n ≡ records_from s k words i ++ rest)
-first_packets s k words i n h =
-    let whole : n ≡ i + (n - i) = omega arith in
-    (_, ap (records_from s k words) whole ∙ records_split s k i (n - i) words)
+first_packets s k words i n h = grind (arith, records_split s k i (n - i) words)
 
 -- the packets that are full, by what is left over
 pub full_are : (s : StreamSpec) (octets : List ℕ) (count left : ℕ) → length octets ≡ packet_len s * count + left
     → left < packet_len s → full_packets s octets ≡ count
-full_are s octets count left e h =
-    let whole : length octets ≡ count * packet_len s + left = omega (arith, e) in
-    rw (whole, div-mul-add count (packet_len s) left h) refl
+full_are s octets count left e h = grind (arith, div-mul-add count (packet_len s) left h)
 
 -- the begin of the packet after this one
 pub next_place : (s : StreamSpec) (octets rest others : List ℕ) (count len : ℕ) → len ≡ packet_len s
     → rest ≡ drop (packet_len s * count) octets → others ≡ drop len rest
     → others ≡ drop (packet_len s * (count + 1)) octets
-next_place s octets rest others count len l e f =
-    let place : packet_len s * count + packet_len s ≡ packet_len s * (count + 1) = omega arith in
-    rw (f, l, e, drop-drop, place) refl
+next_place s octets rest others count len l e f = grind (arith, drop-drop)
 
 -- the records of whole packets stay as they are
 records_from-append : (s : StreamSpec) (k : ℕ) (xs ys : List ℕ) (count : ℕ) → packet_len s * count ≤ length xs
@@ -72,11 +63,7 @@ records_from-append s k xs ys (suc count) h =
 -- the records of whole packets, and then those of the packets behind
 records_from-behind : (s : StreamSpec) (sent window : List ℕ) (count k : ℕ) → length sent ≡ packet_len s * count
     → records_from s 0 (sent ++ window) (count + k) ≡ records_from s 0 sent count ++ records_from s count window k
-records_from-behind s sent window count k e =
-    let number : 0 + count ≡ count = omega arith in
-    let front = records_from-append s 0 sent window count (omega (arith, e)) in
-    let behind = drop_at sent window (packet_len s * count) e in
-    rw (records_split s 0 count k (sent ++ window), number, behind, front) refl
+records_from-behind s sent window count k e = search (rules, records_from-append, drop_at, records_split)
 
 -- how many octets were given, by the words that are sent and held
 given_len : {s : StreamSpec} {codec : CodecState} {given sent held : List ℕ} {count : ℕ} → OneWordAnOctet
@@ -96,13 +83,8 @@ full_behind {s} {given = given} {sent = sent} {held = held} {count = count} coun
 -- the number of idle octets that the last packet lacks
 missing : (size left end : ℕ) → left < size → (left ≡ 0 → end ≡ 0) → (0 < left → end ≡ size)
     → (size - left) % size ≡ end - left
-missing size zero end h none one =
-    let last = none refl in
-    rw (sub-zero size, mod_self size) (omega (arith, last))
-missing size (suc left) end h none one =
-    let last = one (omega arith) in
-    let less : size - suc left < size = omega arith in
-    rw (mod-eq_of_lt less) (omega (arith, last))
+missing size zero end h none one = cc (sub-zero size, mod_self size, none refl)
+missing size (suc left) end h none one = search (rules, mod-eq_of_lt)
 
 -- the idle octets that fill the last packet, up to the end of what is held then
 filled_up : (s : StreamSpec) (octets : List ℕ) (count left end : ℕ) → length octets ≡ packet_len s * count + left
@@ -116,11 +98,7 @@ filled_up s octets count left end e h none one =
 goes_on : {s : StreamSpec} {codec codec' : CodecState} {given sent held : List ℕ} {count : ℕ} (octets coded : List ℕ)
     → IsEncoding s codec given sent count held → words_for s (given ++ octets) ≡ words_for s given ++ coded
     → HasEncoded s codec' (given ++ octets) → IsEncoding s codec' (given ++ octets) sent count (held ++ coded)
-goes_on octets coded way words stands = record {
-  stands = stands;
-  words = rw (words, way.words, append_assoc) refl;
-  whole = way.whole;
-}
+goes_on octets coded way words stands = grind (arith, append_assoc)
 
 -- encoding between two reads: the source gave octets; the first of their words are sent, in this many packets whose
 -- records are written, and those behind them are held
@@ -209,11 +187,7 @@ moves_on {s} {sent = sent} {window = window} {count = count} n way e h =
     let same = sym (records_from-append s count front (drop n window) more (omega (arith, e, len))) in
     record {
       now_sent = sent ++ front;
-      way = record {
-        stands = way.stands;
-        words = way.words ∙ sym (append_assoc sent front (drop n window) ∙ ap (λ (xs : List ℕ). sent ++ xs) whole);
-        whole = omega (arith, e, way.whole, len, length-append sent front);
-      };
+      way = grind (arith, append_assoc sent front (drop n window), length-append sent front);
       records = records_from-behind s sent front count more way.whole
           ∙ ap (λ (xs : List ℕ). records_from s 0 sent count ++ xs) (rw whole at same);
     }

@@ -1,6 +1,6 @@
 -- The speech of words behind others.
 use Rattle.gw_speech.proofs.Common.{◌≡◌, ◌<◌, ℕ, List, [], ◌∷◌, ◌++◌, length, refl, sym, append_assoc, append-nil}
-use Rattle.gw_speech.proofs.Common.{take-append-drop, slice_index, drop_at, All-from_get_or, OneWordAnOctet}
+use Rattle.gw_speech.proofs.Common.{rules, take-append-drop, slice_index, drop_at, All-from_get_or, OneWordAnOctet}
 use Rattle.gw_speech.proofs.Common.{PrefixesComeFirst, SpeechIsItsOwnWords, G711, StreamSpec, word_bits, speech_of}
 use Rattle.gw_speech.proofs.Common.{speech_behind}
 use Rattle.std.proofs.Math.Seq.{drop-append_seam}
@@ -39,9 +39,7 @@ speech_joins s start before done more counted first =
 pub speech_more : (s : StreamSpec) (start before done : List ℕ) (word octet : ℕ) → OneWordAnOctet → PrefixesComeFirst
     → speech_of s ((before ++ done) ++ word ∷ []) ≡ speech_of s (before ++ done) ++ octet ∷ []
     → start ++ speech_behind s before (done ++ word ∷ []) ≡ (start ++ speech_behind s before done) ++ octet ∷ []
-speech_more s start before done word octet counted first e =
-    let last = speech_is s (before ++ done) (word ∷ []) (octet ∷ []) counted e in
-    rw (speech_joins s start before done (word ∷ []) counted first, last) refl
+speech_more s start before done word octet counted first e = search (rules, speech_is, speech_joins)
 
 -- in G.711 the octets of a payload are their own speech
 pub speech_of_octets : (s : StreamSpec) (before octets : List ℕ) → s.codec ≡ G711

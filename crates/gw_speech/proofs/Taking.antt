@@ -1,15 +1,12 @@
 -- Records that are taken one after another.
-use Rattle.gw_speech.proofs.Common.{◌≡◌, ◌+◌, ◌-◌, ◌^◌, min, ℕ, true, cond, List, [], ◌∷◌, ◌++◌, take, drop, refl, sym}
-use Rattle.gw_speech.proofs.Common.{ap, ◌∙◌, append-nil, length-append, arith, Option, Some, None, Result, IfOk, IfErr}
-use Rattle.gw_speech.proofs.Common.{unwrap_or, count_by, is_none, is_some, IsAtEnd, drop-take, PrefixesComeFirst}
-use Rattle.gw_speech.proofs.Common.{Record, IsGood, IsFirst, is_open, end_of, has_bad_kind, has_bad_length}
-use Rattle.gw_speech.proofs.Common.{has_bad_command, named, record_at, SourceState, SinkState, five, StreamSpec}
-use Rattle.gw_speech.proofs.Common.{datagram_words, record_words, words_in, speech_of, speech_in, only_datagrams}
-use Rattle.gw_speech.proofs.Common.{speech_behind, count_record, decode_totals, DecodesThrough, DecodesAll}
-use Rattle.gw_speech.proofs.Common.{DecodesUntil}
+use Rattle.gw_speech.proofs.Common.{◌≡◌, ◌+◌, ◌-◌, ℕ, true, List, [], ◌∷◌, ◌++◌, take, drop, refl, common_steps, ap}
+use Rattle.gw_speech.proofs.Common.{◌∙◌, append-nil, arith, Option, Some, Result, IfOk, IfErr, unwrap_or, is_some}
+use Rattle.gw_speech.proofs.Common.{IsAtEnd, drop-take, PrefixesComeFirst, Record, IsGood, IsFirst, is_open, end_of}
+use Rattle.gw_speech.proofs.Common.{has_bad_kind, has_bad_length, has_bad_command, named, record_at, SourceState}
+use Rattle.gw_speech.proofs.Common.{SinkState, StreamSpec, datagram_words, record_words, words_in, speech_of, speech_in}
+use Rattle.gw_speech.proofs.Common.{only_datagrams, speech_behind, count_record, decode_totals, DecodesThrough}
+use Rattle.gw_speech.proofs.Common.{DecodesAll, DecodesUntil}
 use Rattle.std.proofs.lemmas.List.Concat.{flat_map-append}
-use Rattle.std.proofs.lemmas.List.Sums.{fold_push}
-use Rattle.std.proofs.lemmas.Bool.Decides.{nat_tests}
 use Rattle.gw_records.specs.declared.records.RecordHead.{RecordHead}
 use Rattle.gw_records.specs.declared.records.RecordHead.TheVariants as heads
 use Rattle.gw_records.specs.declared.records.FirstRecord.{FirstRecord}
@@ -47,27 +44,16 @@ words_at {held} s f first e =
     let len : 4 + (f.len - 4) ≡ f.len = omega (arith, first.more) in
     rw (e, ← drop-take 4 (f.len - 4) held, len) (words_named s f.head (drop 4 (take f.len held)) first.good)
 
--- one more datagram: the count of dropped ones rises if it has no words, to the greatest u64 at most
-dropped_more : (n : ℕ) (o : Option (List ℕ)) → cond (is_some o) (min n (2 ^ 64 - 1)) (min (min n (2 ^ 64 - 1) + 1)
-    (2 ^ 64 - 1)) ≡ min (n + cond (is_none o) 1 0) (2 ^ 64 - 1)
-dropped_more n None = omega arith
-dropped_more n (Some words) = omega arith
-
 -- the totals of one record more: each count goes up to the greatest u64 at most
 pub totals_more : (s : StreamSpec) (t : Totals) (records : List Record) (r : Record) (words : Option (List ℕ))
     → record_words s r ≡ words → t ≡ decode_totals s records
     → count_record t (is_some words) ≡ decode_totals s (records ++ r ∷ [])
-totals_more s t records r words e f =
-    let dropped = count_by (λ r. is_none (record_words s r)) records in
-    rw (f, ← e) (five (omega (arith, length-append records (r ∷ []))) refl refl (dropped_more dropped (record_words s r)
-    ∙ ap (λ (n : ℕ). min n (2 ^ 64 - 1)) (sym (fold_push _ _ records r))) refl)
+totals_more s t records r words e f = grind (arith, common_steps)
 
 -- if only datagrams are read, no end is a bad command
 no_command : (octets : List ℕ) → end_of only_datagrams octets ≡ Some endings.BadCommand → ⊥
 unfolding has_bad_kind has_bad_length has_bad_command
-no_command octets e =
-    let t = found_in only_datagrams octets (Some endings.BadCommand) e in
-    grind (arith, nat_tests)
+no_command octets e = grind (arith, found_in only_datagrams octets (Some endings.BadCommand) e)
 
 -- the end of decoding if the records end so
 pub decode_ends : (s : StreamSpec) {a b : SourceState} {c d : SinkState} (ending : RecordsEnd) (totals : Totals)

@@ -1,6 +1,6 @@
 -- Speech as the datagrams of one stream (RFC 3551, section 4.5): packets of equal length, one datagram each.
-use Rattle.std.specs.Prelude.{◌≡◌, ◌+◌, ◌-◌, ◌*◌, ◌/◌, ◌%◌, ◌^◌, ◌++◌}
-use Rattle.std.specs.Prelude.{ℕ, zero, suc, List, [], length, take, drop, replicate}
+use Rattle.std.specs.Prelude.{◌≡◌, ◌+◌, ◌-◌, ◌*◌, ◌/◌, ◌%◌, ◌^◌, ◌++◌, ℕ, zero, suc, List, [], length, take}
+use Rattle.std.specs.Prelude.{drop, replicate}
 use Rattle.std.specs.Io.KnownBytes.{Appends, IsAtEnd}
 use Rattle.e1_g711.specs.Law.{idle_code}
 use Rattle.g726_codec.specs.Kinds.{bits_of, enc, CodecState, codec_after}

@@ -1,6 +1,6 @@
 -- What a layer above may cite of words and octets: the laws, as lemmas.
-use Rattle.std.proofs.Common.{◌≡◌, ◌+◌, ◌*◌, ◌/◌, ◌%◌, ◌^◌, ◌<◌, ℕ, zero, suc, List, [], ◌∷◌, length, slice_index}
-use Rattle.std.proofs.Common.{refl, sym, ap, subst, ◌∙◌, arith}
+use Rattle.std.proofs.Common.{◌≡◌, ◌+◌, ◌*◌, ◌/◌, ◌%◌, ◌^◌, ◌<◌, ℕ, zero, suc, List, [], ◌∷◌, length, slice_index, refl}
+use Rattle.std.proofs.Common.{sym, ap, subst, ◌∙◌, arith}
 use Rattle.std.proofs.Math.Nat.{mul-div_cancel_left}
 use Rattle.std.proofs.lemmas.Nat.{mod_below, pow_pos}
 use Rattle.std.proofs.lemmas.List.Elements.{All-nil, All-cons, All-head, All-tail}
@@ -68,18 +68,12 @@ eight_bit_words (x ∷ xs) each =
 -- the words of 8 bits in octets are the octets themselves
 pub octets_are_words : OctetsAreWords
 unfolding words_of
-octets_are_words octets each =
-    let count : 8 * length octets / 8 ≡ length octets = omega arith in
-    rw count (eight_bit_words octets each)
+octets_are_words octets each = grind (arith, eight_bit_words octets each)
 
 -- words of 8 bits make the number of these octets
 eight_bit_number : (words : List ℕ) → payload_number 8 words ≡ little_number (length words) words
 eight_bit_number [] = refl
-eight_bit_number (w ∷ words) =
-    let front : payload_number 8 (w ∷ words) ≡ payload_number 8 words * 256 + w = number-front 8 w words in
-    let little = little-front w words in
-    let behind = eight_bit_number words in
-    omega (arith, front, little, behind)
+eight_bit_number (w ∷ words) = grind (arith, number-front 8 w words, little-front w words, eight_bit_number words)
 
 -- an item of a list of octets, also past its end, is below 256
 octet-at : (xs : List ℕ) → All (λ x. x < 256) xs → (i : ℕ) → slice_index xs i < 256
@@ -90,9 +84,7 @@ octet-at (x ∷ xs) each (suc i) = octet-at xs (All-tail (λ x. x < 256) x xs ea
 -- words of 8 bits are packed as they are
 pub words_are_octets : WordsAreOctets
 unfolding octets_of
-words_are_octets words each =
-    let count : 8 * length words / 8 ≡ length words = omega arith in
-    rw (count, eight_bit_number words) (octets-little words (octet-at words each))
+words_are_octets words each = grind (arith, eight_bit_number words, octets-little words (octet-at words each))
 
 -- a payload of words of 8 bits is the words themselves
 pub octets_of-eight : (k : ℕ) (words : List ℕ) → k ≡ 8 → IsPayload k words → octets_of k words ≡ words

@@ -1,9 +1,9 @@
 -- Octets between two places.
-use Rattle.std.proofs.Common.{◌≡◌, ◌+◌, ◌-◌, ◌<◌, ◌≤◌, ℕ, zero, suc, List, [], ◌∷◌, ◌++◌, length}
-use Rattle.std.proofs.Common.{take, drop, slice_index}
-use Rattle.std.proofs.Common.{refl, sym, ap, ◌∙◌, arith, length-drop}
+use Rattle.std.proofs.lemmas.Grind.{common_steps}
+use Rattle.std.proofs.Common.{◌≡◌, ◌+◌, ◌-◌, ◌<◌, ◌≤◌, ℕ, zero, suc, List, [], ◌∷◌, ◌++◌, length, take, drop}
+use Rattle.std.proofs.Common.{slice_index, refl, ap, ◌∙◌, arith}
 use Rattle.std.specs.List.{All}
-use Rattle.std.proofs.lemmas.List.{take-append-drop, drop-drop, length-take-le, take_at, drop_at}
+use Rattle.std.proofs.lemmas.List.{take-append-drop, drop-drop, take_at, drop_at}
 use Rattle.std.proofs.lemmas.List.Elements.{All-head, All-tail}
 use Rattle.rtp_packet.specs.Read.{between}
 
@@ -19,16 +19,11 @@ all-octets (x ∷ xs) each (suc i) = all-octets xs (All-tail (λ octet. octet < 
 
 -- the octets from a place, in two parts
 pub between-join : (a b : ℕ) (o : List ℕ) → a ≤ b → between a b o ++ drop b o ≡ drop a o
-between-join a b o h =
-    let e : a + (b - a) ≡ b = omega arith in
-    let d : drop (b - a) (drop a o) ≡ drop b o = drop-drop (b - a) a o ∙ ap (λ (n : ℕ). drop n o) e in
-    ap (λ (r : List ℕ). take (b - a) (drop a o) ++ r) (sym d) ∙ take-append-drop (b - a) (drop a o)
+between-join a b o h = grind (arith, drop-drop (b - a) a o, take-append-drop (b - a) (drop a o))
 
 -- how many they are
 pub length-between : (a b : ℕ) (o : List ℕ) → b ≤ length o → length (between a b o) ≡ b - a
-length-between a b o h =
-    let l : length (drop a o) ≡ length o - a = length-drop a o in
-    length-take-le (b - a) (drop a o) (omega arith)
+length-between a b o h = grind (arith, common_steps)
 
 -- the first of two lists that begin at a place
 pub between-first : (a b : ℕ) (o xs ys : List ℕ) → drop a o ≡ xs ++ ys → b - a ≡ length xs → between a b o ≡ xs
@@ -37,6 +32,4 @@ between-first a b o xs ys there span =
 
 -- the second of two lists that begin at a place
 pub drop-second : (a b : ℕ) (o xs ys : List ℕ) → drop a o ≡ xs ++ ys → b ≡ a + length xs → drop b o ≡ ys
-drop-second a b o xs ys there end =
-    ap (λ (k : ℕ). drop k o) end ∙ sym (drop-drop (length xs) a o) ∙ ap (drop (length xs)) there
-    ∙ drop_at xs ys (length xs) refl
+drop-second a b o xs ys there end = cc (drop-drop (length xs) a o, drop_at xs ys (length xs) refl)

@@ -1,14 +1,11 @@
 -- One bit of an octet.
-use Rattle.std.proofs.Common.{◌≡◌, ◌*◌, ◌/◌, ◌%◌, ◌^◌, ◌<◌, ℕ, zero, suc, not, eqb, bit_and, refl, arith}
-use Rattle.std.proofs.lemmas.Bool.{eq-eqb, ne_eqb}
+use Rattle.std.proofs.Common.{rules, ◌≡◌, ◌*◌, ◌/◌, ◌%◌, ◌^◌, ◌<◌, ℕ, not, eqb, bit_and, arith}
 use Rattle.std.proofs.lemmas.Nat.{pow_pos}
 use Rattle.std.proofs.lemmas.Nat.Bits.{and_pow}
 
 -- a binary digit at its place is not 0 if the digit is 1
 digit-worth : (d worth : ℕ) → d < 2 → 0 < worth → not (eqb (d * worth) 0) ≡ eqb d 1
-digit-worth zero worth digit some = rw (eq-eqb (0 * worth) 0 (omega arith)) refl
-digit-worth (suc zero) worth digit some = rw (ne_eqb (1 * worth) 0 (λ z. omega arith)) refl
-digit-worth (suc (suc d)) worth digit some = absurd (omega arith)
+digit-worth d worth digit some = search rules
 
 -- a bit is set if the digit at its place is 1
 bit-is_set : (n place : ℕ) → not (eqb (bit_and n (2 ^ place)) 0) ≡ eqb (n / 2 ^ place % 2) 1

@@ -1,9 +1,9 @@
 -- What a layer above may cite of datagrams: the laws, as lemmas.
-use Rattle.std.proofs.Common.{◌≡◌, ℕ, false, List, [], ◌++◌, Option, Some, None, refl, sym, ap, ◌∙◌, arith}
+use Rattle.std.proofs.Common.{◌≡◌, ℕ, List, Option, Some, None, refl, sym, ◌∙◌, arith}
 use Rattle.std.specs.Prelude.{Result, Ok, Err, IfOk, IsOkAnd, MatchResult}
 use Rattle.std.proofs.lemmas.List.{append-nil}
 use Rattle.rtp_packet.specs.declared.RtpFault.{RtpFault}
-use Rattle.rtp_packet.specs.Rtp.{Parts, IsDatagram, fixed_header, plain_datagram, plain_parts}
+use Rattle.rtp_packet.specs.Rtp.{Parts, IsDatagram, plain_datagram, plain_parts}
 use Rattle.rtp_packet.specs.Fault.{fault, has_fault, is_short, is_other_version, is_short_of_sources}
 use Rattle.rtp_packet.specs.Fault.{is_short_of_extension, is_badly_padded}
 use Rattle.rtp_packet.specs.Read.{parts_of, unless_fault, read_of}
@@ -35,9 +35,7 @@ least_fault_is_told o =
 -- the join of some parts is read as these parts
 pub read_of-datagram : (octets : List ℕ) (parts : Parts) → IsDatagramOf parts octets → read_of octets ≡ Ok parts
 unfolding read_of
-read_of-datagram octets parts (count, padding, d) =
-    let t = is_told octets parts count padding d in
-    rw (t.faultless, t.parts) refl
+read_of-datagram octets parts (count, padding, d) = grind (arith, is_told octets parts count padding d)
 
 -- parts are read if there is no fault, and are those at their places
 unless_fault-ok : (f : Option RtpFault) (at parts : Parts) → unless_fault f at ≡ Ok parts → (f ≡ None) × (parts ≡ at)
@@ -80,18 +78,7 @@ reads_fault octets f = (read_of-err octets f, read_of-fault octets f)
 pub plain_is_read : PlainIsRead
 unfolding plain_datagram
 plain_is_read header payload fits =
-    read_of-datagram (plain_datagram header payload) (plain_parts header payload) (
-      0,
-      [],
-      record {
-        joined = ap (λ (r : List ℕ). fixed_header false false 0 false header ++ r) (sym (append-nil payload));
-        fields = fits;
-        count_fits = omega arith;
-        whole_sources = refl;
-        whole_words = tt;
-        counted = tt;
-      },
-    )
+    read_of-datagram (plain_datagram header payload) (plain_parts header payload) (grind (arith, append-nil payload))
 
 -- what was read is the join of its parts
 pub read-ok : (octets : List ℕ) (r : Result Parts RtpFault) → AreOctets octets → r ≡ read_of octets

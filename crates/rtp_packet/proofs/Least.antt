@@ -1,9 +1,8 @@
 -- The first test that is met is the one of the fault with the least number.
-use Rattle.std.proofs.Common.{◌≡◌, ◌≤◌, Bool, true, false, cond, Some, None, arith}
+use Rattle.std.proofs.Common.{rules, ◌≡◌, ◌≤◌, Bool, true, false, cond, Some, None, arith}
 use Rattle.std.specs.Prelude.{MatchOption}
 use Rattle.rtp_packet.specs.declared.RtpFault.{RtpFault}
-use Rattle.rtp_packet.specs.declared.RtpFault.TheVariants.{Short, Version, ShortSources, ShortExtension}
-use Rattle.rtp_packet.specs.declared.RtpFault.TheVariants.{BadPadding}
+use Rattle.rtp_packet.specs.declared.RtpFault.TheVariants.{Short, Version, ShortSources, ShortExtension, BadPadding}
 use Rattle.rtp_packet.specs.Fault.{fault_number}
 
 -- the numbers begin with 1
@@ -19,16 +18,12 @@ from-2 holds a _ h = omega arith
 -- if the first two do not hold, from 3 on
 from-3 : (holds : RtpFault → Bool) → holds Short ≡ false → holds Version ≡ false → (f : RtpFault) → holds f ≡ true
     → 3 ≤ fault_number f
-from-3 holds a b Short h = absurd (cc)
-from-3 holds a b Version h = absurd (cc)
-from-3 holds a b _ h = omega arith
+from-3 holds a b h3 h = search rules
 
 -- if the first three do not hold, from 4 on
 from-4 : (holds : RtpFault → Bool) → holds Short ≡ false → holds Version ≡ false → holds ShortSources ≡ false
     → (f : RtpFault) → holds f ≡ true → 4 ≤ fault_number f
-from-4 holds a b c ShortExtension h = omega arith
-from-4 holds a b c BadPadding h = omega arith
-from-4 holds a b c _ h = absurd (cc)
+from-4 holds a b c h4 h = search rules
 
 -- if the first four do not hold, 5
 from-5 : (holds : RtpFault → Bool) → holds Short ≡ false → holds Version ≡ false → holds ShortSources ≡ false
@@ -39,11 +34,7 @@ from-5 holds a b c d _ h = absurd (cc)
 -- if none of the five holds, none does
 none-holds : (holds : RtpFault → Bool) → holds Short ≡ false → holds Version ≡ false → holds ShortSources ≡ false
     → holds ShortExtension ≡ false → holds BadPadding ≡ false → (f : RtpFault) → holds f ≡ false
-none-holds holds a b c d e Short = a
-none-holds holds a b c d e Version = b
-none-holds holds a b c d e ShortSources = c
-none-holds holds a b c d e ShortExtension = d
-none-holds holds a b c d e BadPadding = e
+none-holds holds a b c d e h6 = search rules
 
 -- the first test that is met gives the least fault, and none is met if none holds
 pub least : (holds : RtpFault → Bool) (a b c d e : Bool) → holds Short ≡ a → holds Version ≡ b → holds ShortSources ≡ c

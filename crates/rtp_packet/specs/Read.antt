@@ -1,6 +1,6 @@
 -- The reading of octets: the parts of a datagram, or the first fault (RFC 3550, sections 5.1 and 5.3.1).
-use Rattle.std.specs.Prelude.{◌+◌, ◌%◌, ◌-◌, ℕ, Bool, nat_le, if◌then◌else◌, List, take, drop}
-use Rattle.std.specs.Prelude.{length, slice_index, Option, None, Some, Result, Ok, Err}
+use Rattle.std.specs.Prelude.{◌+◌, ◌%◌, ◌-◌, ℕ, Bool, nat_le, if◌then◌else◌, List, take, drop, length}
+use Rattle.std.specs.Prelude.{slice_index, Option, None, Some, Result, Ok, Err}
 use Rattle.byteorder.specs.Endian.{big_number}
 use Rattle.rtp_packet.specs.declared.Header.{Header}
 use Rattle.rtp_packet.specs.declared.RtpFault.{RtpFault}

@@ -1,5 +1,5 @@
 -- The answers to takes before which there is no offer.
-use Rattle.std.proofs.Common.{◌≡◌, ◌+◌, ◌<◌, ℕ, zero, suc, List, [], ◌∷◌, Option, Some, None, refl, sym, ap, ◌∙◌}
+use Rattle.std.proofs.Common.{rules, ◌≡◌, ◌+◌, ◌<◌, ℕ, zero, suc, List, [], ◌∷◌, Option, Some, None, refl, ap, ◌∙◌}
 use Rattle.std.proofs.Common.{arith, fold, replicate, All, length, slice_get, slice_index_or}
 use Rattle.std.specs.Prelude.{slice_index}
 use Rattle.std.specs.Option.{option_flatten}
@@ -7,8 +7,7 @@ use Rattle.std.proofs.lemmas.List.Sums.{fold-append}
 use Rattle.std.proofs.lemmas.List.Elements.{All-from_get_or}
 use Rattle.rtp_playout.specs.declared.playout.Playout.{Playout}
 use Rattle.rtp_playout.specs.Calls.{PlayoutCall, Takes}
-use Rattle.rtp_playout.specs.Due.{PlacedOffer, PlayoutState, at_first, word_due, after_call, due, take_answer}
-use Rattle.rtp_playout.specs.Due.{later_answer}
+use Rattle.rtp_playout.specs.Due.{PlacedOffer, word_due, after_call, due, take_answer, later_answer}
 use Rattle.rtp_playout.specs.Standing.{HasHistory, IsBelow}
 
 -- the word that is due after takes is that of a later place
@@ -17,20 +16,14 @@ after-takes : (prefill : ℕ) (placed : List PlacedOffer) (now k : ℕ)
     word_due t.placed t.now) ≡ word_due placed (now + k)
 after-takes prefill placed now zero = let e : now ≡ now + 0 = omega arith in ap (word_due placed) e
 after-takes prefill [] now (suc k) = after-takes prefill [] now k
-after-takes prefill (p ∷ placed) now (suc k) =
-    let e : now + 1 + k ≡ now + suc k = omega arith in
-    after-takes prefill (p ∷ placed) (now + 1) k ∙ ap (word_due (p ∷ placed)) e
+after-takes prefill (p ∷ placed) now (suc k) = grind (arith, after-takes prefill (p ∷ placed) (now + 1) k)
 
 -- so the answer is what the later place holds
 pub later-held : (playout : Playout) (prefill : ℕ) (calls : List PlayoutCall) (k : ℕ)
     → HasHistory playout prefill calls
     → later_answer prefill calls k ≡ slice_index_or playout.window.items k None
 unfolding later_answer take_answer due
-later-held playout prefill calls k h =
-    let s = fold (after_call prefill) at_first calls in
-    let whole = fold-append (after_call prefill) at_first calls (replicate k Takes) in
-    ap (λ (t : PlayoutState). word_due t.placed t.now) whole ∙ after-takes prefill s.placed s.now k
-    ∙ sym (h.keeps.held k)
+later-held playout prefill calls k h = search (rules, fold-append, after-takes)
 
 -- what is got of a place, as what it holds
 pub got-is-held : (items : List (Option ℕ)) (i : ℕ) → option_flatten (slice_get items i) ≡ slice_index_or items i None
@@ -50,8 +43,7 @@ pub none-later : (playout : Playout) (prefill : ℕ) (calls : List PlayoutCall) 
     → HasHistory playout prefill calls
     → (k : ℕ) × (k < length words) × (slice_index_or playout.window.items k None ≡ None)
     → (k : ℕ) × (k < length words) × (later_answer prefill calls k ≡ None)
-none-later playout prefill calls words h (k, within, none) =
-    (k, within, later-held playout prefill calls k h ∙ none)
+none-later playout prefill calls words h (k, within, none) = grind (arith, later-held playout prefill calls k h)
 
 -- each of these words is below a bound, if the queued ones are
 pub words-below : (playout : Playout) (bound : ℕ) (words : List ℕ) → IsBelow bound playout

@@ -10,8 +10,7 @@ use Rattle.rtp_playout.proofs.Places.{put_words-push, length-put_words}
 -- it has as many places as before
 pub same-size : (window : Buffer (Option ℕ)) (items : List (Option ℕ)) (capacity from : ℕ) (done : List ℕ)
     → window ≡ buffer (put_words items from done) capacity → length window.items ≡ length items
-same-size window items capacity from done was =
-    ap (λ (b : Buffer (Option ℕ)). length b.items) was ∙ length-put_words items from done
+same-size window items capacity from done was = cc (length-put_words items from done)
 
 -- one word more is put
 pub word-put : (window after : Buffer (Option ℕ)) (items : List (Option ℕ)) (capacity from place : ℕ)
@@ -19,10 +18,7 @@ pub word-put : (window after : Buffer (Option ℕ)) (items : List (Option ℕ)) 
     → window ≡ buffer (put_words items from done) capacity → place ≡ from + length done
     → after ≡ buffer (slice_set window.items place (Some word)) window.capacity
     → after ≡ buffer (put_words items from (done ++ word ∷ [])) capacity
-word-put window after items capacity from place done word was at is =
-    is ∙ ap (λ (b : Buffer (Option ℕ)). buffer (slice_set b.items place (Some word)) b.capacity) was
-    ∙ ap (λ (n : ℕ). buffer (slice_set (put_words items from done) n (Some word)) capacity) at
-    ∙ ap (λ (xs : List (Option ℕ)). buffer xs capacity) (sym (put_words-push items from done word))
+word-put window after items capacity from place done word was at is = cc (put_words-push items from done word)
 
 -- one octet more
 pub octet-put : (window after : Buffer (Option ℕ)) (items : List (Option ℕ)) (capacity from i : ℕ)

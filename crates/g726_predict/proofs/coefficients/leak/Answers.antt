@@ -3,12 +3,6 @@ use Rattle.g726_predict.proofs.LaneUpdates.{brought_in}
 use Rattle.g726_predict.proofs.Leaks.{left}
 use Rattle.g726_predict.proofs.coefficients.leak.Goals as goal
 
-pub overflow_sub-result : goal.overflow_sub-result
-overflow_sub-result c =
-    let l = left c.args.z (2 ^ c.args.k) c.ranges.z in
-    let part_fits = l.part in
-    rw (brought_in c.args.z c.ranges.z) (simp to_z-of_z l.fits)
-
 pub returns : goal.returns
 returns c =
     let l = left c.args.z (2 ^ c.args.k) c.ranges.z in

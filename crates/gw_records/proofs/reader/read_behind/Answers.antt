@@ -1,5 +1,4 @@
-use Rattle.gw_records.proofs.Common.{◌<◌, [], length, take, arith, length-take-le, common_steps, err_from_is_err_and}
-use Rattle.gw_records.proofs.Common.{Appends-kept, Appends-nil, Consumes-kept, Consumes-nil}
+use Rattle.gw_records.proofs.Common.{◌<◌, length, take, arith, length-take-le, common_steps}
 use Rattle.gw_records.proofs.Buffers.{behind}
 use Rattle.gw_records.proofs.reader.read_behind.Goals as goal
 
@@ -13,11 +12,3 @@ returns-clause-gives g c =
       gives = record { gave = c.in_ok-n.ensures.gives; consumed = c.in_ok-n.ensures.consumes.0 };
       ended = λ h. c.in_ok-n.ensures.consumes.1 h some;
     }
-
-pub returns-in_err-n-clause-none : goal.returns-in_err-n-clause-none
-returns-in_err-n-clause-none g c =
-    let p = err_from_is_err_and c.from_residual.result c.from_residual.ensures.1 in
-    rw (p.1) (record {
-      gave = Appends-kept _ _ _ [] (Appends-nil _) c.in_err-n.ensures.gives;
-      consumed = Consumes-kept _ _ _ [] (Consumes-nil _) c.in_err-n.ensures.consumes;
-    })

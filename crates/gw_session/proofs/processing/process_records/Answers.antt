@@ -1,7 +1,6 @@
-use Rattle.gw_session.proofs.Common.{sym, inl, ◌++◌, [], ◌∷◌, length, ap, ◌∙◌, refl, length-append, arith}
-use Rattle.gw_session.proofs.Common.{record_at, held, InputsShown, SessionInput, List}
-use Rattle.gw_session.proofs.Common.{goes_up, starts, first_held, record_taken, stops_in, stops_behind, reads_more}
-use Rattle.gw_session.proofs.Common.{ended, gives_up, ends_so}
+use Rattle.gw_session.proofs.Common.{sym, inl, ◌++◌, [], ◌∷◌, length, ap, ◌∙◌, refl, length-append, arith, record_at}
+use Rattle.gw_session.proofs.Common.{held, InputsShown, SessionInput, List, goes_up, starts, first_held, record_taken}
+use Rattle.gw_session.proofs.Common.{stops_in, stops_behind, reads_more, ended, gives_up, ends_so}
 use Rattle.gw_records.specs.declared.outcome.RunFault.TheVariants as faults
 use Rattle.gw_session.proofs.Attending.{record_is, good_in_all, through_none, through_done, through_all, through_on}
 use Rattle.gw_session.proofs.Attending.{waiting_failed, some_records, input_failed}

@@ -1,6 +1,6 @@
 use Rattle.gw_session.proofs.Common.{◌≡◌, ◌≤◌, List, [], ℕ, length, Record, TakesAllButWaiting, written_by}
-use Rattle.gw_session.proofs.Common.{most_waiting}
-use Rattle.gw_session.proofs.Common.{WatchedTrace, InputsShown, nothing_counted, state_in, work_left, Stage}
+use Rattle.gw_session.proofs.Common.{most_waiting, WatchedTrace, InputsShown, nothing_counted, state_in, work_left}
+use Rattle.gw_session.proofs.Common.{Stage}
 use Rattle.gw_session.proofs.processing.process_records.Given as goal
 
 abbrev pub invariant-handling : goal.invariant-handling

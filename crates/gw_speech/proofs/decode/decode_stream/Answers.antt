@@ -1,8 +1,7 @@
 use Rattle.gw_speech.proofs.Common.{◌++◌, [], ◌∷◌, ◌∙◌, nil_from_length, record_at, held, TakesAllButWaiting-start}
 use Rattle.gw_speech.proofs.Common.{TakesAllButWaiting-empty, TakesAllButWaiting-join, TakesAllButWaiting-appended}
-use Rattle.gw_speech.proofs.Common.{AppendsPrefix-behind}
-use Rattle.gw_speech.proofs.Common.{FailsAfterPrefix-waiting, goes_up, starts, first_held, record_taken, stops_in}
-use Rattle.gw_speech.proofs.Common.{stops_behind, reads_more, ended, gives_up, words_in}
+use Rattle.gw_speech.proofs.Common.{AppendsPrefix-behind, FailsAfterPrefix-waiting, goes_up, starts, first_held}
+use Rattle.gw_speech.proofs.Common.{record_taken, stops_in, stops_behind, reads_more, ended, gives_up, words_in}
 use Rattle.gw_records.specs.declared.outcome.RunFault.TheVariants as faults
 use Rattle.gw_speech.proofs.Taking.{words_more, decoded_more, words_at, totals_more, decode_ends}
 use Rattle.gw_speech.proofs.decode.decode_stream.Goals as goal

@@ -1,6 +1,5 @@
 use Rattle.gw_speech.proofs.Common.{◌≡◌, List, ℕ, TakesAllButWaiting, work_left, Record, HasDecoded, words_in}
-use Rattle.gw_speech.proofs.Common.{speech_in}
-use Rattle.gw_speech.proofs.Common.{only_datagrams, decode_totals, Stage}
+use Rattle.gw_speech.proofs.Common.{speech_in, only_datagrams, decode_totals, Stage}
 use Rattle.gw_speech.proofs.decode.decode_stream.Given as goal
 
 abbrev pub invariant-decoding : goal.invariant-decoding

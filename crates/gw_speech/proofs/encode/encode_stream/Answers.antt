@@ -1,8 +1,7 @@
 use Rattle.gw_speech.proofs.Common.{◌+◌, ◌-◌, ◌^◌, ◌<◌, inl, inr, [], ◌++◌, refl, ap, ◌∙◌, length-append, arith}
 use Rattle.gw_speech.proofs.Common.{nil_from_length, All-nil, same_len_mid, CodecState, Appends-none, Appends-join}
 use Rattle.gw_speech.proofs.Common.{GivesOctets-none, GivesOctets-join, GivesOctets-end, FailsAfterPrefix-after}
-use Rattle.gw_speech.proofs.Common.{FailsAfterPrefix-more}
-use Rattle.gw_speech.proofs.Common.{read_failed, goes_up, word_bits, full_packets}
+use Rattle.gw_speech.proofs.Common.{FailsAfterPrefix-more, read_failed, goes_up, word_bits, full_packets}
 use Rattle.gw_records.specs.declared.outcome.RunFault.TheVariants as faults
 use Rattle.gw_speech.proofs.PacketLemmas.{reads_no_more, coded_way, words_left, window_begins, last_written}
 use Rattle.gw_speech.proofs.encode.encode_stream.Goals as goal

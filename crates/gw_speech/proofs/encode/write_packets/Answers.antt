@@ -1,8 +1,7 @@
 use Rattle.gw_speech.proofs.Common.{◌≡◌, ◌+◌, ◌*◌, ◌^◌, ◌<◌, length, refl, ◌∙◌, arith, All-drop, le-div}
 use Rattle.gw_speech.proofs.Common.{err_from_is_err_and, TakesAllButWaiting-start, TakesAllButWaiting-join}
-use Rattle.gw_speech.proofs.Common.{TakesAllButWaiting-appended}
-use Rattle.gw_speech.proofs.Common.{FailsAfterPrefix-join, FailsAfterPrefix-more, FailsAfterPrefix-waiting, packet_len}
-use Rattle.gw_speech.proofs.Common.{word_bits, full_packets}
+use Rattle.gw_speech.proofs.Common.{TakesAllButWaiting-appended, FailsAfterPrefix-join, FailsAfterPrefix-more}
+use Rattle.gw_speech.proofs.Common.{FailsAfterPrefix-waiting, packet_len, word_bits, full_packets}
 use Rattle.gw_speech.proofs.PacketLemmas.{one_more_packet, first_packets, full_are, next_place}
 use Rattle.gw_speech.proofs.encode.write_packets.Goals as goal
 

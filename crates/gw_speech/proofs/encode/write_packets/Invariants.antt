@@ -1,6 +1,5 @@
 use Rattle.gw_speech.proofs.Common.{◌≡◌, ◌+◌, ◌*◌, ◌^◌, ◌<◌, ℕ, length, drop, All, TakesAllButWaiting, packet_len}
-use Rattle.gw_speech.proofs.Common.{word_bits}
-use Rattle.gw_speech.proofs.Common.{records_from, IsPacket}
+use Rattle.gw_speech.proofs.Common.{word_bits, records_from, IsPacket}
 use Rattle.gw_speech.proofs.encode.write_packets.Given as goal
 
 abbrev pub invariant-packets : goal.invariant-packets

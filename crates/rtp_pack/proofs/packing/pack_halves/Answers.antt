@@ -1,3 +1,4 @@
+use Rattle.std.proofs.lemmas.Grind.{common_steps}
 use Rattle.std.proofs.Common.{◌≡◌, ◌<◌, ◌+◌, ◌*◌, ◌/◌, ◌^◌, length, slice_index, refl, arith}
 use Rattle.rtp_pack.proofs.Packed.{Packed, all_packed, word_waits, octet_leaves}
 use Rattle.rtp_pack.proofs.packing.pack_halves.Goals as goal
@@ -9,24 +10,12 @@ loop-i-preserved c =
     let i = c.loop-i.i in
     let out = c.loop-i.out.items in
     let both = c.push-in-loop-i.new.self.number in
-    let number : both ≡ 0 + slice_index ws (2 * i) * 2 ^ 0 + slice_index ws (2 * i + 1) * 2 ^ (0 + 4) = rw (
-      c.push-in-loop-i.ensures.number,
-      c.push.ensures.number,
-      c.push.ensures.count,
-      c.none-waiting.ensures.number,
-      c.none-waiting.ensures.count,
-    ) refl in
+    let number : both ≡ 0 + slice_index ws (2 * i) * 2 ^ 0 + slice_index ws (2 * i + 1) * 2 ^ (0 + 4) = cc in
     let first = word_waits 4 ws (2 * i) out 0 0 c.loop-i.invariant (omega arith) in
     let second = word_waits 4 ws (2 * i + 1) out (0 + slice_index ws (2 * i) * 2 ^ 0) (0 + 4) first (omega arith) in
     let full : Packed 4 ws (2 * i + 1 + 1) out both 8 = rw number second in
     let left = octet_leaves 4 ws (2 * i + 1 + 1) out both 8 0 full refl in
-    let zero : c.pop.new.self.count ≡ 0 = omega (
-      arith,
-      c.pop.ensures.count,
-      c.push-in-loop-i.ensures.count,
-      c.push.ensures.count,
-      c.none-waiting.ensures.count,
-    ) in
+    let zero : c.pop.new.self.count ≡ 0 = grind (arith, common_steps) in
     let fits : c.pop.new.self.number < 2 ^ 0 = rw zero at c.pop.new.self.fits in
     let none : both / 256 ≡ 0 = omega (arith, fits, c.pop.ensures.number) in
     let place : 2 * i + 1 + 1 ≡ 2 * (i + 1) = omega arith in

@@ -1,4 +1,4 @@
-use Rattle.std.proofs.Common.{◌≡◌, ◌+◌, ◌-◌, ◌*◌, ◌++◌, ℕ, List, Option, length, take, min, ap, ◌∙◌, arith}
+use Rattle.std.proofs.Common.{rules, ◌≡◌, ◌+◌, ◌-◌, ◌*◌, ◌++◌, ℕ, List, Option, length, take, min, ap, ◌∙◌, arith}
 use Rattle.std.proofs.lemmas.List.{take-replicate, replicate-append-replicate}
 use Rattle.circular_buffer.specs.Buffer.{Buffer, buffer}
 use Rattle.rtp_playout.proofs.Places.{no_words, length-no_words}
@@ -22,15 +22,4 @@ filled window after capacity n count was more is =
     ∙ ap (λ (k : ℕ). buffer (no_words k) capacity) next
 
 pub loop-preserved : goal.loop-preserved
-loop-preserved c =
-    filled c.loop.window c.fill_from_slice.new.self _ c.loop.counter c.fill_from_slice.result c.loop.invariant
-    c.fill_from_slice.ensures.count c.fill_from_slice.ensures.items
-
-pub returns : goal.returns
-returns c =
-    let capacity = c.clear.new.self.capacity in
-    let same : capacity ≡ c.args.window.now.capacity = ap (λ (b : Buffer (Option ℕ)). b.capacity) c.clear.ensures in
-    let told = c.capacity.ensures.capacity in
-    let over = c.loop-test.false in
-    let all : min (64 * c.loop.counter) capacity ≡ capacity = omega arith in
-    c.loop.invariant ∙ ap (λ (k : ℕ). buffer (no_words k) capacity) all ∙ ap (λ (k : ℕ). buffer (no_words k) k) same
+loop-preserved c = search (rules, filled)

@@ -1,14 +1,11 @@
-use Rattle.std.proofs.Common.{◌≡◌, ◌+◌, ◌++◌, ℕ, List, Option, None, length, is_some, true, slice_index_or, sym, ap}
-use Rattle.std.proofs.Common.{◌∙◌, arith}
+use Rattle.std.proofs.Common.{◌≡◌, ◌+◌, ◌++◌, ℕ, List, Option, None, length, is_some, true, slice_index_or, arith}
 use Rattle.std.proofs.lemmas.List.{get_or-append-add}
 use Rattle.rtp_playout.proofs.window.is_held.Goals as goal
 
 -- what is held in the second slice
 held_behind : (front back items : List (Option ℕ)) (k : ℕ) → front ++ back ≡ items
     → is_some (slice_index_or back k None) ≡ true → is_some (slice_index_or items (length front + k) None) ≡ true
-held_behind front back items k parts held =
-    ap (λ (xs : List (Option ℕ)). is_some (slice_index_or xs (length front + k) None)) (sym parts)
-    ∙ ap is_some (get_or-append-add front back k None) ∙ held
+held_behind front back items k parts held = cc (get_or-append-add front back k None)
 
 pub returns-else-any_held-clause-some : goal.returns-else-any_held-clause-some
 returns-else-any_held-clause-some c = λ told.

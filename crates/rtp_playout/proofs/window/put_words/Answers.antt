@@ -1,5 +1,5 @@
-use Rattle.std.proofs.Common.{◌≡◌, ◌+◌, ◌≤◌, ◌<◌, ◌++◌, ◌∷◌, [], ℕ, List, Option, length, ap, sym, ◌∙◌, arith}
-use Rattle.std.proofs.Common.{append_assoc, length-append}
+use Rattle.std.proofs.Common.{◌≡◌, ◌+◌, ◌≤◌, ◌<◌, ◌++◌, ◌∷◌, [], ℕ, List, Option, length, arith, append_assoc}
+use Rattle.std.proofs.Common.{length-append}
 use Rattle.circular_buffer.specs.Buffer.{Buffer, buffer}
 use Rattle.rtp_playout.specs.Window.{put_words}
 use Rattle.rtp_playout.proofs.Putting.{word-put, same-size}
@@ -8,8 +8,7 @@ use Rattle.rtp_playout.proofs.window.put_words.Goals as goal
 -- one word more of those that are left
 word_taken : (words done left rest : List ℕ) (word : ℕ) → words ≡ done ++ left → left ≡ word ∷ rest
     → words ≡ (done ++ word ∷ []) ++ rest
-word_taken words done left rest word e f =
-    e ∙ ap (λ (xs : List ℕ). done ++ xs) f ∙ sym (append_assoc done (word ∷ []) rest)
+word_taken words done left rest word e f = cc (append_assoc done (word ∷ []) rest)
 
 -- there is a place for each word
 has_place : (window : Buffer (Option ℕ)) (items : List (Option ℕ)) (capacity from place : ℕ)
@@ -18,11 +17,13 @@ has_place : (window : Buffer (Option ℕ)) (items : List (Option ℕ)) (capacity
     → words ≡ done ++ left → left ≡ word ∷ rest → from + length words ≤ length items
     → place < length window.items
 has_place window items capacity from place words done left rest word was at e f room =
-    let size = same-size window items capacity from done was in
-    let all = ap (λ (xs : List ℕ). length xs) (word_taken words done left rest word e f) in
-    let parts = length-append (done ++ word ∷ []) rest in
-    let more = length-append done (word ∷ []) in
-    omega arith
+    grind (
+      arith,
+      same-size window items capacity from done was,
+      word_taken words done left rest word e f,
+      length-append (done ++ word ∷ []) rest,
+      length-append done (word ∷ []),
+    )
 
 pub put_word-requires : goal.put_word-requires
 put_word-requires c =

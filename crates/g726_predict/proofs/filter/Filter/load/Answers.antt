@@ -1,4 +1,4 @@
-use Rattle.g726_predict.proofs.Common.{[], ◌∷◌, flat_map, append_assoc, ◌∙◌}
+use Rattle.g726_predict.proofs.Common.{[], ◌∷◌, flat_map, append_assoc, ◌∙◌, rules}
 use Rattle.saved_octets.specs.Numbers.{flag_octet, two_octets}
 use Rattle.g726_predict.specs.Saved.{saved_prediction, saved_numbers}
 use Rattle.std.proofs.lemmas.Option.{same_Some}
@@ -7,21 +7,11 @@ use Rattle.g726_predict.proofs.filter.Filter.load.Goals as goal
 
 pub returns-in_err-read_u16_into-clause-loaded : goal.returns-in_err-read_u16_into-clause-loaded
 unfolding saved_prediction
-returns-in_err-read_u16_into-clause-loaded c = λ s rest fits e.
-    let numbers = numbers-fit s fits in
-    let read = c.in_err-read_u16_into.ensures.next (saved_numbers s) (flag_octet s.pk1 ∷ flag_octet s.pk2 ∷ rest)
-    numbers.0 numbers.1 (e
-    ∙ append_assoc (flat_map two_octets (saved_numbers s)) (flag_octet s.pk1 ∷ flag_octet s.pk2 ∷ []) rest) in
-    absurd (cc read.0)
+returns-in_err-read_u16_into-clause-loaded c = search (rules, numbers-fit, append_assoc)
 
 pub returns-in_err-pk1-clause-loaded : goal.returns-in_err-pk1-clause-loaded
 unfolding saved_prediction
-returns-in_err-pk1-clause-loaded c = λ s rest fits e.
-    let numbers = numbers-fit s fits in
-    let read = c.read_u16_into.ensures.next (saved_numbers s) (flag_octet s.pk1 ∷ flag_octet s.pk2 ∷ rest)
-    numbers.0 numbers.1 (e
-    ∙ append_assoc (flat_map two_octets (saved_numbers s)) (flag_octet s.pk1 ∷ flag_octet s.pk2 ∷ []) rest) in
-    absurd (cc (c.in_err-pk1.ensures.next s.pk1 (flag_octet s.pk2 ∷ rest) read.2).0)
+returns-in_err-pk1-clause-loaded c = search (rules, numbers-fit, append_assoc)
 
 pub returns-in_err-pk2-clause-loaded : goal.returns-in_err-pk2-clause-loaded
 unfolding saved_prediction

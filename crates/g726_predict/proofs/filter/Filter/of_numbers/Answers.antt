@@ -1,22 +1,15 @@
-use Rattle.g726_predict.proofs.Common.{rules, ◌≡◌, ◌<◌, ◌+◌, ℕ, length, get_or, true, Some, ap, sym, ◌∙◌, refl, w16}
-use Rattle.g726_predict.proofs.Common.{arith, to_z-of_z, Prediction}
+use Rattle.g726_predict.proofs.Common.{rules, ◌≡◌, ◌<◌, ℕ, length, get_or, true, Some, ap, sym, ◌∙◌, refl, w16}
+use Rattle.g726_predict.proofs.Common.{to_z-of_z, Prediction}
 use Rattle.g726_predict.proofs.Saved.{numbered, numbered-saved, saved-numbered, saved-words, words-known, are_words}
 use Rattle.g726_predict.proofs.Saved.{listed}
 use Rattle.g726_predict.proofs.Lanes.{all_lanes}
 use Rattle.g726_predict.proofs.filter.Filter.of_numbers.Goals as goal
 
 pub returns-then-not-are_words-clause-loaded : goal.returns-then-not-are_words-clause-loaded
-returns-then-not-are_words-clause-loaded c = λ s fits e p q.
-    let all : are_words c.args.numbers ≡ true = rw e (saved-words s fits) in
-    let tested : c.are_words.result ≡ are_words c.args.numbers = c.are_words.ensures in
-    let not = c.if-not-are_words.true in
-    absurd cc
+returns-then-not-are_words-clause-loaded c = search (rules, saved-words)
 
 pub invariant_of-result : goal.invariant_of-result
-invariant_of-result c =
-    let long : length c.args.numbers ≡ 16 = search rules in
-    let all : are_words c.args.numbers ≡ true = sym c.are_words.ensures ∙ c.if-not-are_words.false in
-    all_lanes (λ i h. words-known c.args.numbers long all (8 + i) (omega arith) (omega arith))
+invariant_of-result c = search (rules, all_lanes, words-known)
 
 pub returns-clause-loaded : goal.returns-clause-loaded
 returns-clause-loaded c = λ s fits e p q.

@@ -1,4 +1,4 @@
-use Rattle.gw_circuit.proofs.Common.{◌≤◌, length, rules, arith}
+use Rattle.gw_circuit.proofs.Common.{◌≤◌, length, rules}
 use Rattle.gw_circuit.proofs.Coders.{front-coded}
 use Rattle.gw_circuit.proofs.coder.Coder.code.Goals as goal
 

@@ -12,14 +12,13 @@ use Rattle.gw_records.proofs.ByHand.{length, take}
 use base.Fml.{GName, Lft, Share, ftrue, flft, fobs, fbor}
 use types.SemTy.{Body}
 use denote.Memory.{mem}
-use denote.Ref.{MutRef, mut_vals, mut_Tells}
+use denote.Ref.{MutRef, mut_vals, mut_Tells, Bor}
 use Rattle.gw_records.specs.declared.log.Log.{Log}
 use Rattle.gw_records.specs.contracts.log.Log as T
 use Rattle.gw_records.specs.contracts.log.Log.add.Key.{name as #it}
 use Rattle.gw_records.specs.contracts.log.Log.add as it
 use Rattle.gw_records.proofs.log.Log.add.Statement as stated
 use Rattle.gw_records.proofs.log.Log.add.Code as code
-use denote.Ref.{Bor}
 use denote.Plain.{uint_vals, uint_Tells}
 use denote.Slice.{ShrSlice, slice_val, shr_slice_vals, shr_slice_Tells}
 use Rattle.gw_records.specs.Ports.{calls_of}

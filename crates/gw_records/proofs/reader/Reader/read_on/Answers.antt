@@ -10,15 +10,4 @@ prove-unreachable-requires g c =
     omega (arith, short)
 
 pub returns-in-Ok-clause-ok : goal.returns-in-Ok-clause-ok
-returns-in-Ok-clause-ok g c =
-    let came = c.in-Ok.ensures.gives in
-    record {
-      octets = came.octets;
-      gives = came.gives;
-      holds = came.holds;
-      turns = omega (arith, came.counted, c.in-Ok.ensures.turns);
-      nearer = omega (arith, held_fits c.refill.new.self, c.in-Ok.ensures.turns);
-      counted = c.in-Ok.ensures.reads;
-      turn = c.in-Ok.ensures.turns;
-      same = c.in-Ok.ensures.counts;
-    }
+returns-in-Ok-clause-ok g c = grind (arith, held_fits c.refill.new.self)

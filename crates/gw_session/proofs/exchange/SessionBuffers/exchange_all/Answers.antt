@@ -1,14 +1,13 @@
 use Rattle.gw_session.proofs.Common.{◌≡◌, ◌+◌, ◌<◌, ◌++◌, ◌∷◌, [], ap, sym, refl, ◌∙◌, ℕ, List, length, take, drop}
 use Rattle.gw_session.proofs.Common.{get_or, length-append, arith, length-take, take_rest, take_more}
-use Rattle.gw_session.proofs.Common.{err_from_is_err_and, take-append-drop}
+use Rattle.gw_session.proofs.Common.{err_from_is_err_and, take-append-drop, Bool, nat_le, ◌&&◌, length-map}
 use Rattle.gw_session.specs.declared.exchange.SessionBuffers.{SessionBuffers}
-use Rattle.gw_session.proofs.Common.{Bool, nat_le, ◌&&◌, length-map}
 use Rattle.std.proofs.lemmas.Bool.{and_parts, leb-true}
 use Rattle.gw_session.specs.declared.held.HeldPacket.{HeldPacket}
 use Rattle.gw_session.specs.declared.held.HeldPackets.{HeldPackets}
 use Rattle.gw_session.proofs.PacketsSent.{exchange_is, stops_once}
-use Rattle.gw_session.proofs.Exchanging.{heard_none, heard_more, heard_all, held_few, none_before}
-use Rattle.gw_session.proofs.Exchanging.{some_now, stops_after}
+use Rattle.gw_session.proofs.Exchanging.{heard_none, heard_more, heard_all, held_few, none_before, some_now}
+use Rattle.gw_session.proofs.Exchanging.{stops_after}
 use Rattle.gw_session.proofs.Watching.{shown_heard}
 use Rattle.gw_session.proofs.exchange.SessionBuffers.exchange_all.Goals as goal
 

@@ -1,5 +1,5 @@
-use Rattle.gw_session.proofs.Common.{sym, ap, refl, append-nil, err_from_is_err_and, Sending}
-use Rattle.gw_session.proofs.Common.{TakesAllButWaiting-none, sending_in}
+use Rattle.gw_session.proofs.Common.{sym, ap, refl, append-nil, err_from_is_err_and, Sending, TakesAllButWaiting-none}
+use Rattle.gw_session.proofs.Common.{sending_in}
 use Rattle.gw_session.proofs.PacketsSent.{sends_none, neither}
 use Rattle.gw_session.proofs.exchange.SessionBuffers.receive_octet.Goals as goal
 

@@ -1,16 +1,13 @@
-use Rattle.std.proofs.Common.{◌≡◌, ℕ, Option, Bool, true, Some, None, is_some, not, false, IfNone, refl, sym, ap, ◌∙◌}
+use Rattle.std.proofs.Common.{ℕ, sym, ap, rules, ◌≡◌, Option, Bool, true, Some, is_some, not, IfNone, refl, ◌∙◌}
 use Rattle.circular_buffer.specs.Buffer.{buffer}
 use Rattle.rtp_playout.specs.Saved.{saved_playout}
-use Rattle.rtp_playout.proofs.Places.{nothing-below}
 use Rattle.rtp_playout.proofs.Keeping.{stands-nothing}
 use Rattle.rtp_playout.proofs.Loading.{each-below, same-playout}
 use Rattle.rtp_playout.proofs.playout.Playout.load.Goals as goal
 
 -- a result that is there is not none
 not-none : (result : Option (Unit {0})) (b : Bool) → result ≡ Some tt → is_some result ≡ not b → b ≡ true → ⊥
-not-none None b is e f = absurd (cc is)
-not-none (Some done) true is e f = absurd (cc e)
-not-none (Some done) false is e f = absurd (cc f)
+not-none result b is e f = search rules
 
 pub returns-then-is_none-clause-loaded : goal.returns-then-is_none-clause-loaded
 unfolding saved_playout
@@ -22,17 +19,12 @@ returns-then-is_none-clause-loaded c = λ other prefill calls before rest stood 
 
 -- a result that is none says so of what was emptied
 if-emptied : (result : Option (Unit {0})) (P : Type 0) → P → IfNone result P
-if-emptied None P p = p
-if-emptied (Some done) P p = tt
+if-emptied result P p = search rules
 
 pub returns-then-is_none-clause-none : goal.returns-then-is_none-clause-none
 returns-then-is_none-clause-none c = λ prefill before stands.
     if-emptied c.load_parts-loaded.result _
     (stands-nothing _ _ (c.load_parts-loaded.ensures.prefill ∙ stands.keeps.prefill_is) c.empty.ensures refl)
-
-pub returns-then-is_none-clause-none_below : goal.returns-then-is_none-clause-none_below
-returns-then-is_none-clause-none_below c = λ any.
-    if-emptied c.load_parts-loaded.result _ (record { each = rw c.empty.ensures (nothing-below any _) })
 
 pub returns-else-is_none-clause-loaded : goal.returns-else-is_none-clause-loaded
 unfolding saved_playout

@@ -1,5 +1,5 @@
-use Rattle.std.proofs.Common.{◌++◌, ◌∷◌, [], ◌<◌, ℕ, List, Option, IfSome, All, sym, ap, subst, ◌∙◌, arith}
-use Rattle.std.proofs.Common.{length, append_assoc, length-append, refl}
+use Rattle.std.proofs.Common.{All, subst, ◌++◌, ◌∷◌, [], ◌<◌, ℕ, List, Option, IfSome, sym, ap, ◌∙◌, arith, length}
+use Rattle.std.proofs.Common.{append_assoc, length-append, refl}
 use Rattle.std.proofs.lemmas.List.Elements.{All-push}
 use Rattle.circular_buffer.specs.Buffer.{Buffer}
 use Rattle.rtp_playout.specs.Saved.{saved_place, saved_places}
