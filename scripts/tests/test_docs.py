@@ -40,7 +40,6 @@ class Tree(FolderCase):
     def setUp(self) -> None:
         super().setUp()
         self.docs = loaded('docs')
-        setattr(self.docs, 'OUTSIDE', 0)
         patched = mock.patch.object(tree, 'TOP', self.top)
         patched.start()
         self.addCleanup(patched.stop)
@@ -58,8 +57,6 @@ class Tree(FolderCase):
         self.write('crates/small/src/tests.rt', TESTS.replace('4', '5').replace(' 1 ', '1  '))
         self.assertEqual([line.split(': ')[0] for line in self.docs.wrong_examples()],
                          ['crates/small/src/lib.rt:5', 'crates/small/src/lib.rt:12'])
-        setattr(self.docs, 'OUTSIDE', 2)
-        self.assertEqual(list(self.docs.wrong_examples()), [])
 
     def test_crate_without_a_section_wrong_bodies_or_a_head(self) -> None:
         self.write('crates.txt', 'small:\nbare: small arrayvec\nsmall_tests: small\n')

@@ -66,7 +66,7 @@ class UnprovedCase(FolderCase):
         self.write('bin/rt', RT, 0o755)
         self.write('tree/crates.txt', 'gateway_main:\n')
         self.write('tree/HANDLES', '')
-        self.write('tree/examples/trunk.toml', 'prefill = 0\n')
+        self.write('tree/dist/system/example.toml', 'prefill = 0\n')
         self.source('')
         self.write('program', PROGRAM, 0o755)
 
