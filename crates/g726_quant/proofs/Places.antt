@@ -1,10 +1,10 @@
 -- What a rate's tables have, from the test of its law.
-use Rattle.std.proofs.Common.{◌≡◌, ℕ, zero, suc, ◌+◌, ◌-◌, ◌*◌, ◌%◌, ◌≤◌, ◌<◌, ◌^◌, ℤ, pos, negsuc, ◌≤ℤ◌, true, nat_le}
+use Rattle.std.proofs.Common.{rules, ◌≡◌, ℕ, zero, suc, ◌+◌, ◌-◌, ◌≤◌, ◌<◌, ◌^◌, ℤ, pos, negsuc, ◌≤ℤ◌, true, nat_le}
 use Rattle.std.proofs.Common.{List, [], ◌∷◌, length, get_or, arith}
+use Rattle.std.proofs.lemmas.Grind.{common_steps}
 use Rattle.std.specs.Prelude.{IsTrue}
 use Rattle.std.specs.Int.RustNames.{int_le}
 use Rattle.std.specs.List.{list_all}
-use Rattle.std.proofs.lemmas.Int.{ints}
 use Rattle.std.proofs.Math.Pow.{pow_mono}
 use Rattle.std.proofs.lemmas.Bool.{and_parts, eqb-true, leb-true}
 use Rattle.g726_quant.specs.Tables.{RateTables, magnitudes, has_its_places, is_within, is_in_range}
@@ -16,9 +16,7 @@ pub record HasFewBits (r : RateTables) : Type 0 where
 
 -- as the law of a rate says
 pub few_bits : (r : RateTables) → IsTrue (has_its_places r) → HasFewBits r
-few_bits r h =
-    let first = and_parts _ _ (and_parts _ _ (and_parts _ _ (and_parts _ _ (and_parts _ _ h).0).0).0).0 in
-    record { low = leb-true 2 r.bits first.0; high = leb-true r.bits 5 first.1 }
+few_bits r h = grind (arith, common_steps)
 
 -- and at most 16 magnitudes
 pub few_magnitudes : (bits : ℕ) → bits ≤ 5 → magnitudes bits ≤ 16
@@ -42,14 +40,7 @@ pub record HasPlaces (r : RateTables) : Type 0 where
 
 -- so they have by the law of a rate
 pub places : (r : RateTables) → IsTrue (has_its_places r) → HasPlaces r
-places r h =
-    let speeds = and_parts _ _ h in
-    let multipliers = and_parts _ _ speeds.0 in
-    record {
-      log_levels = eqb-true _ _ (and_parts _ _ multipliers.0).1;
-      multipliers = eqb-true _ _ multipliers.1;
-      speed_values = eqb-true _ _ speeds.1;
-    }
+places r h = search (rules, and_parts, eqb-true)
 
 -- a number from a least to a most
 pub record IsBetween (least most z : ℤ) : Type 0 where
@@ -58,9 +49,7 @@ pub record IsBetween (least most z : ℤ) : Type 0 where
 
 -- what the test of a number says
 between : (low high z : ℤ) → is_within low high z ≡ true → IsBetween low high z
-between low high z h =
-    let parts = and_parts (int_le low z) (int_le z high) h in
-    record { low = grind (arith, ints, parts.0); high = grind (arith, ints, parts.1) }
+between low high z h = grind (arith, and_parts (int_le low z) (int_le z high) h)
 
 -- of numbers that pass it each is
 each_between : (low high : ℤ) (zs : List ℤ) (i : ℕ) → list_all (is_within low high) zs ≡ true → i < length zs
@@ -98,7 +87,3 @@ ranges r magnitude p h few =
       multiplier = each_between _ _ _ magnitude multipliers.1 weights;
       speed = each_at_most 7 _ magnitude speeds.1 values;
     }
-
--- one shifted by the bits of a word, in eight bits
-pub shifted_bits : (bits : ℕ) → bits ≤ 5 → 1 * 2 ^ bits % 256 ≡ 2 ^ bits
-shifted_bits bits h = omega (arith, pow_mono {i = bits} {j = 5} h)

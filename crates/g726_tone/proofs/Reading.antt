@@ -1,6 +1,7 @@
 -- Numbers that are read from 32 bits.
-use Rattle.std.proofs.Common.{Bool, Option, Some, refl, ◌≡◌, ◌∙◌, ap, ◌<◌, ◌≤◌, ℕ, ℤ, pos, negsuc, ◌≤ℤ◌, to_z, of_z}
-use Rattle.std.proofs.Common.{w16, w32, arith}
+use Rattle.std.proofs.lemmas.Grind.{common_steps}
+use Rattle.std.proofs.Common.{Bool, Option, Some, refl, ◌≡◌, ap, ◌<◌, ◌≤◌, ℕ, ℤ, pos, negsuc, ◌≤ℤ◌, to_z, of_z, w32}
+use Rattle.std.proofs.Common.{arith}
 use Rattle.std.proofs.lemmas.Int.{ints, to_z-of_z}
 use lib.Signed.{mag}
 use Rattle.g726_tone.specs.Adaptation.{Adaptation, IsKept, InRange}
@@ -8,22 +9,6 @@ use Rattle.g726_tone.specs.Adaptation.{Adaptation, IsKept, InRange}
 -- a 32-bit number is read as it was written
 pub once : (z : ℤ) → mag z < 2147483648 → to_z w32 (of_z w32 z) ≡ z
 once z few = to_z-of_z w32 z (record { sfits = few })
-
--- also if it is written and read twice
-pub twice : (z : ℤ) → mag z < 2147483648 → to_z w32 (of_z w32 (to_z w32 (of_z w32 z))) ≡ z
-twice z few = ap (λ y. to_z w32 (of_z w32 y)) (once z few) ∙ once z few
-
--- a number of 16 bits
-pub narrow : (z : ℤ) → mag z < 32768 → to_z w16 (of_z w16 z) ≡ z
-narrow z few = to_z-of_z w16 z (record { sfits = few })
-
--- a natural number is not below 0
-pub from_zero : (n : ℕ) → pos 0 ≤ℤ pos n
-from_zero n = omega (arith, ints)
-
--- and is at most what it is at most as an integer
-pub up_to : (n m : ℕ) → n ≤ m → pos n ≤ℤ pos m
-up_to n m h = omega (arith, ints)
 
 -- a number from a natural one to 327680 has 32 bits
 few_bits : (z : ℤ) (low : ℕ) → pos low ≤ℤ z → z ≤ℤ pos 327680 → mag z < 2147483648
@@ -40,15 +25,7 @@ pub record HasFew (s : Adaptation) (y : ℤ) : Type 0 where
 
 -- so they have in their ranges
 pub few : (s : Adaptation) (y : ℤ) → IsKept s y → HasFew s y
-few s y h =
-    let r = h.ranges in
-    record {
-      yl = few_bits s.yl 34816 r.yl_low r.yl_high;
-      dms = few_bits s.dms 0 r.dms_low (omega (arith, ints, r.dms_high));
-      dml = few_bits s.dml 0 r.dml_low (omega (arith, ints, r.dml_high));
-      ap = few_bits s.ap 0 r.ap_low (omega (arith, ints, r.ap_high));
-      scale = few_bits y 544 h.scale_low (omega (arith, ints, h.scale_high));
-    }
+few s y h = grind (arith, common_steps)
 
 -- a state in its ranges, read from numbers of 32 bits that are its own
 pub same : (s : Adaptation) (yu yl dms dml ap : ℤ) (td : Bool) → InRange s → yu ≡ s.yu → yl ≡ s.yl
@@ -70,16 +47,12 @@ same s yu yl dms dml ap td r a b c d e f =
 
 -- two numbers that are read are those that were saved
 pub two_read : (a b c d : ℤ) → ◌≡◌ {A = Option (ℤ × ℤ)} (Some (a, b)) (Some (c, d)) → (a ≡ c) × (b ≡ d)
-two_read a b c d e =
-    let both : ◌≡◌ {A = ℤ × ℤ} (a, b) (c, d) = cc in
-    (ap (λ (p : ℤ × ℤ). p.0) both, ap (λ (p : ℤ × ℤ). p.1) both)
+two_read a b c d e = grind (arith, common_steps)
 
 -- and so are three
 pub three_read : (a b c d f g : ℤ) → ◌≡◌ {A = Option (ℤ × ℤ × ℤ)} (Some (a, b, c)) (Some (d, f, g))
     → (a ≡ d) × (b ≡ f) × (c ≡ g)
-three_read a b c d f g e =
-    let all : ◌≡◌ {A = ℤ × ℤ × ℤ} (a, b, c) (d, f, g) = cc in
-    (ap (λ (p : ℤ × ℤ × ℤ). p.0) all, ap (λ (p : ℤ × ℤ × ℤ). p.1) all, ap (λ (p : ℤ × ℤ × ℤ). p.2) all)
+three_read a b c d f g e = grind (arith, common_steps)
 
 -- and a flag
 pub flag_read : (a b : Bool) → ◌≡◌ {A = Option Bool} (Some a) (Some b) → a ≡ b

@@ -1,19 +1,17 @@
 -- Octets and reports that arrive, one part after another.
-use Rattle.std.proofs.Common.{◌≡◌, ◌+◌, ◌<◌, ℕ, suc, Bool, List, [], ◌∷◌, ◌++◌, length, take, get_or, map, Option, Some}
-use Rattle.std.proofs.Common.{None, drop, ◌%◌}
-use Rattle.std.proofs.Common.{refl, sym, ap, ◌∙◌, arith, append_assoc, append-nil}
-use Rattle.std.proofs.lemmas.List.{map-append}
-use Rattle.std.proofs.Math.Seq.{take-add, take-suc}
+use Rattle.std.proofs.Common.{rules, ◌≡◌, ◌+◌, ◌<◌, ℕ, suc, Bool, List, [], ◌∷◌, ◌++◌, length, take, get_or, map}
+use Rattle.std.proofs.Common.{Option, Some, drop, ◌%◌, refl, sym, ap, ◌∙◌, arith, append_assoc, append-nil}
+use Rattle.std.proofs.lemmas.Grind.{common_steps}
+use Rattle.std.proofs.lemmas.List.{map-append, length_push}
+use Rattle.std.proofs.Math.Seq.{take-add}
 use Rattle.std.specs.Io.KnownBytes.{Appends}
 use Rattle.g704_framing.specs.Replies.{replies_after}
 use Rattle.g704_framing.proofs.Replies.{replies-append}
-use Rattle.std.proofs.lemmas.List.{length_push}
 use Rattle.std.specs.Prelude.{◌≢◌}
 use Rattle.g704_crc4.proofs.Reports.{e-bit-frame, without-bit}
 use Rattle.g704_crc4.specs.declared.reporting.EBitReporter.{EBitReporter}
 use Rattle.g704_crc4.specs.Multiframe.{sent_octet, sent_octets}
-use Rattle.g704_crc4.specs.Reporting.{SenderInput, Octet, Errored, ReportsAfter, octet_count, has_e_bit}
-use Rattle.g704_crc4.specs.Reporting.{octet_with_e}
+use Rattle.g704_crc4.specs.Reporting.{SenderInput, Octet, Errored, ReportsAfter, octet_count, has_e_bit, octet_with_e}
 use Rattle.gw_filter.specs.Crc4.{trunk_octets_in, reports_in, with_e_bits}
 
 -- The octets of arrivals, and of others after them.
@@ -36,13 +34,9 @@ pub with-e-append : (before a b : List SenderInput) → with_e_bits before (a ++
 unfolding with_e_bits
 with-e-append before [] b = ap (λ h. with_e_bits h b) (sym (append-nil before))
 with-e-append before (Octet x ∷ a) b =
-    let more = before ++ Octet x ∷ [] in
-    ap (λ xs. octet_with_e before x ∷ xs) (with-e-append more a b
-    ∙ ap (λ h. with_e_bits more a ++ with_e_bits h b) (append_assoc before (Octet x ∷ []) a))
+    cc (with-e-append (before ++ Octet x ∷ []) a b, append_assoc before (Octet x ∷ []) a)
 with-e-append before (Errored n ∷ a) b =
-    let more = before ++ Errored n ∷ [] in
-    with-e-append more a b
-    ∙ ap (λ h. with_e_bits more a ++ with_e_bits h b) (append_assoc before (Errored n ∷ []) a)
+    cc (with-e-append (before ++ Errored n ∷ []) a b, append_assoc before (Errored n ∷ []) a)
 
 -- One octet more has its E bit.
 pub with-e-octet : (a : List SenderInput) (x : ℕ) → with_e_bits [] (a ++ Octet x ∷ [])
@@ -118,24 +112,13 @@ reports-of-reports (x ∷ xs) = ap (λ ys. x ∷ ys) (reports-of-reports xs)
 -- Arrivals of the first items, and of one more.
 pub arrives-next : (arrive : ℕ → SenderInput) (a : List SenderInput) (xs : List ℕ) (i : ℕ) → i < length xs
     → (a ++ map arrive (take i xs)) ++ arrive (get_or xs i 0) ∷ [] ≡ a ++ map arrive (take (i + 1) xs)
-arrives-next arrive a xs i lt =
-    let one : suc i ≡ i + 1 = omega arith in
-    append_assoc a (map arrive (take i xs)) (arrive (get_or xs i 0) ∷ [])
-    ∙ ap (λ ys. a ++ ys) (sym (map-append arrive (take i xs) (get_or xs i 0 ∷ []))
-    ∙ ap (map arrive) (sym (take-suc xs i 0 lt) ∙ ap (λ k. take k xs) one))
+arrives-next arrive a xs i lt = grind (arith, common_steps)
 
 -- Arrivals of the first items, and of more.
 pub arrives-more : (arrive : ℕ → SenderInput) (a : List SenderInput) (xs : List ℕ) (i n : ℕ)
     → (a ++ map arrive (take i xs)) ++ map arrive (take n (drop i xs)) ≡ a ++ map arrive (take (i + n) xs)
-arrives-more arrive a xs i n =
-    append_assoc a (map arrive (take i xs)) (map arrive (take n (drop i xs)))
-    ∙ ap (λ ys. a ++ ys) (sym (map-append arrive (take i xs) (take n (drop i xs)))
-    ∙ ap (map arrive) (sym (take-add i n xs)))
+arrives-more arrive a xs i n = search (rules, append_assoc, map-append, take-add)
 
 -- Octets known to have been given, and others after them.
 pub given-after : (a b : Option (List ℕ)) (xs ys : List ℕ) → a ≡ Some xs → Appends a b ys → b ≡ Some (xs ++ ys)
-given-after a b xs ys e p = known b xs ys (rw e at p)
-  where
-    known : (b : Option (List ℕ)) (xs ys : List ℕ) → Appends (Some xs) b ys → b ≡ Some (xs ++ ys)
-    known None xs ys p = absurd p
-    known (Some zs) xs ys p = ap Some p
+given-after a b xs ys e p = grind (arith, common_steps)

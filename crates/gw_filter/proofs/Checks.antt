@@ -1,6 +1,7 @@
 -- A checker of CRC-4 multiframes, with more octets and reports.
-use Rattle.std.proofs.Common.{◌≡◌, ◌+◌, ◌-◌, ◌≤◌, ℕ, Bool, List, [], ◌∷◌, ◌++◌, Option, refl, ap, arith}
-use Rattle.std.proofs.Common.{append_assoc, append-nil}
+use Rattle.std.proofs.lemmas.Grind.{common_steps}
+use Rattle.std.proofs.Common.{◌≡◌, ◌+◌, ◌-◌, ◌≤◌, ℕ, Bool, List, [], ◌∷◌, ◌++◌, Option, ap, arith, append_assoc}
+use Rattle.std.proofs.Common.{append-nil}
 use Rattle.std.proofs.lemmas.List.Sums.{sum_by-append}
 use Rattle.std.specs.Prelude.{sum}
 use Rattle.g704_crc4.specs.declared.receiving.ReceiverEvent.{ReceiverEvent}
@@ -16,11 +17,7 @@ times-append : (passes : Option ReceiverEvent → Bool) (before a b : List ℕ)
 unfolding times_after
 times-append passes before [] b = omega (arith, ap (λ h. times_after passes h b) (append-nil before))
 times-append passes before (x ∷ a) b =
-    omega (
-      arith,
-      times-append passes (before ++ x ∷ []) a b,
-      ap (λ h. times_after passes h b) (append_assoc before (x ∷ []) a),
-    )
+    grind (arith, times-append passes (before ++ x ∷ []) a b, append_assoc before (x ∷ []) a)
 
 -- Errored submultiframes only become more.
 errored-grows : (a b : List ℕ) → (receiver_counts_of a).errored ≤ (receiver_counts_of (a ++ b)).errored
@@ -34,13 +31,7 @@ sum-more xs x = omega (arith, sum_by-append (λ x. x) xs (x ∷ []))
 pub none_checked : (checker : TrunkChecker) (reports : List ℕ) → ChecksTrunk checker [] → reports ≡ []
     → HasReported checker 0 reports [] []
 unfolding times_after
-none_checked checker reports s none = record {
-  checks = s;
-  same = refl;
-  total = ap (λ (xs : List ℕ). sum xs) none;
-  unreported = 0;
-  others = refl;
-}
+none_checked checker reports s none = grind (arith, common_steps)
 
 -- After more octets, which are returned as they came.
 pub more_checked : (a b : TrunkChecker) (reported : ℕ) (reports octets returned old : List ℕ)

@@ -1,8 +1,9 @@
 -- Octets of a slice that a filter replaces in place, one after another.
+use Rattle.std.proofs.lemmas.Grind.{common_steps}
 use Rattle.std.proofs.Common.{◌≡◌, ◌+◌, ◌<◌, ◌≤◌, ◌++◌, ◌∷◌, ◌∙◌, ℕ, suc, List, [], length, take, drop, get_or}
-use Rattle.std.proofs.Common.{slice_set, refl, sym, ap, arith, subst, append_assoc, append-nil}
+use Rattle.std.proofs.Common.{slice_set, sym, ap, arith, subst, append_assoc}
 use Rattle.std.proofs.Math.Seq.{take-suc, drop-cons, set-append_seam, get_or-append_seam}
-use Rattle.std.proofs.lemmas.List.{length-set, length-take-le, take_all, drop_all}
+use Rattle.std.proofs.lemmas.List.{length-set, length-take-le}
 use Rattle.g704_framing.specs.Replies.{replies_after}
 use Rattle.g704_framing.proofs.Replies.{length-replies, replies-append}
 
@@ -19,12 +20,7 @@ pub record IsFilteredTo {F : Type 0} (Has : F → List ℕ → Type 0) (reply : 
 pub none_filtered : {F : Type 0} {Has : F → List ℕ → Type 0} {reply : List ℕ → ℕ → ℕ} (first : F) (old : List ℕ)
     → IsFilteredTo Has reply first first old old 0
 unfolding replies_after
-none_filtered {Has = Has} first old = record {
-  len = refl;
-  within = omega arith;
-  octets = λ history s. refl;
-  stands = λ history s. subst (Has first) (sym (append-nil history)) s;
-}
+none_filtered {Has = Has} first old = grind (arith, common_steps)
 
 -- The next octet of the slice is replaced.
 pub one_more : {F : Type 0} {Has : F → List ℕ → Type 0} {reply : List ℕ → ℕ → ℕ} (first filter after : F)
@@ -80,16 +76,3 @@ one_more {Has = Has} {reply = reply} first filter after old now i octet so lt re
         ap (λ (xs : List ℕ). get_or xs i 0) (split history s)
         ∙ ap (λ (k : ℕ). get_or (done ++ get_or old i 0 ∷ drop (suc i) old) k 0) (sym (replies-len history))
         ∙ get_or-append_seam done (get_or old i 0) (drop (suc i) old) 0
-
--- All of them are replaced.
-pub all_filtered : {F : Type 0} {Has : F → List ℕ → Type 0} {reply : List ℕ → ℕ → ℕ} (first filter : F)
-    (old now : List ℕ) (i : ℕ) → IsFilteredTo Has reply first filter old now i
-    → length now ≤ i → (history : List ℕ) → Has first history
-    → (now ≡ replies_after reply history old) × Has filter (history ++ old)
-all_filtered {Has = Has} {reply = reply} first filter old now i so end history s =
-    let whole : take i old ≡ old = take_all i old (omega (arith, so.len)) in
-    let none : drop i old ≡ [] = drop_all i old (omega (arith, so.len)) in (
-      so.octets history s ∙ ap (λ (xs : List ℕ). replies_after reply history (take i old) ++ xs) none
-          ∙ append-nil (replies_after reply history (take i old)) ∙ ap (replies_after reply history) whole,
-      subst (λ (xs : List ℕ). Has filter (history ++ xs)) whole (so.stands history s),
-    )

@@ -1,8 +1,8 @@
 -- A sender of CRC-4 multiframes, one arrival more.
-use Rattle.std.proofs.Common.{◌≡◌, ◌+◌, ◌<◌, ◌≤◌, ℕ, suc, List, [], ◌∷◌, ◌++◌, length, take, drop, get_or}
-use Rattle.std.proofs.Common.{slice_set, map}
-use Rattle.std.proofs.Common.{Option, Some, refl, sym, ap, ◌∙◌, arith, subst, append_assoc, append-nil, length-append}
-use Rattle.std.proofs.Common.{◌%◌, length-drop}
+use Rattle.std.proofs.Common.{rules, ◌≡◌, ◌+◌, ◌<◌, ◌≤◌, ℕ, suc, List, [], ◌∷◌, ◌++◌, length, take, drop, get_or}
+use Rattle.std.proofs.Common.{slice_set, map, Option, Some, sym, ap, ◌∙◌, arith, append_assoc, append-nil}
+use Rattle.std.proofs.Common.{length-append, ◌%◌, length-drop}
+use Rattle.std.proofs.lemmas.Grind.{common_steps}
 use Rattle.std.specs.Prelude.{◌≢◌}
 use Rattle.std.proofs.Math.Seq.{drop-append_seam, drop-cons, set-append_seam, get_or-append_seam}
 use Rattle.std.proofs.lemmas.List.{length-set, length-take-le, take_all, drop_all, drop-drop, take-append-drop}
@@ -15,9 +15,8 @@ use Rattle.g704_crc4.specs.States.{SendsAfter}
 use Rattle.gw_filter.specs.declared.sending.Crc4Sender.{Crc4Sender}
 use Rattle.gw_filter.specs.Crc4.{with_e_bits, sent_for, trunk_octets_in, reports_in, SendsCrc4, HasSent, IsFramed}
 use Rattle.gw_filter.proofs.Arrivals.{with-e-octet, with-e-report, sent-more, arrives-next, arrives-more, given-after}
-use Rattle.gw_filter.proofs.Arrivals.{with-e-append, without-bits}
-use Rattle.gw_filter.proofs.Arrivals.{octets-append, reports-append, octets-of-octets, reports-of-octets}
-use Rattle.gw_filter.proofs.Arrivals.{octets-of-reports, reports-of-reports}
+use Rattle.gw_filter.proofs.Arrivals.{with-e-append, without-bits, octets-append, reports-append, octets-of-octets}
+use Rattle.gw_filter.proofs.Arrivals.{reports-of-octets, octets-of-reports, reports-of-reports}
 
 -- The same arrivals, and the same octets sent.
 pub sends-same : (s : Crc4Sender) (a b : List SenderInput) (xs ys : List ℕ) → a ≡ b → xs ≡ ys → SendsCrc4 s a xs
@@ -30,14 +29,7 @@ pub octet-sent : (a b : Crc4Sender) (arrivals : List SenderInput) (sent : List �
     → ReportsAfter b.error_bits (arrivals ++ Octet x ∷ []) → y ≡ sent_octet (with_e_bits [] arrivals) with_bit
     → SendsAfter b.multiframer (with_e_bits [] arrivals ++ with_bit ∷ [])
     → SendsCrc4 b (arrivals ++ Octet x ∷ []) (sent ++ y ∷ [])
-octet-sent a b arrivals sent x with_bit y s is bits reply multiframer =
-    let all = ap (λ w. with_e_bits [] arrivals ++ w ∷ []) is ∙ sym (with-e-octet arrivals x) in
-    record {
-      bits = bits;
-      multiframer = subst (λ octets. SendsAfter b.multiframer octets) all multiframer;
-      sent_is = ap (λ xs. xs ++ y ∷ []) s.sent_is ∙ ap (λ z. sent_for arrivals ++ z ∷ []) reply
-          ∙ sym (sent-more (with_e_bits [] arrivals) with_bit) ∙ ap sent_octets all;
-    }
+octet-sent a b arrivals sent x with_bit y s is bits reply multiframer = search (rules, with-e-octet, sent-more)
 
 -- After more octets that begin no frame.
 pub octets-without : (a b : Crc4Sender) (arrivals : List SenderInput) (sent xs : List ℕ) → SendsCrc4 a arrivals sent
@@ -59,11 +51,7 @@ octets-without a b arrivals sent xs s rest same reply multiframer =
 pub report-taken : (a b : Crc4Sender) (arrivals : List SenderInput) (sent : List ℕ) (n : ℕ) → SendsCrc4 a arrivals sent
     → ReportsAfter b.error_bits (arrivals ++ Errored n ∷ []) → b.multiframer ≡ a.multiframer
     → SendsCrc4 b (arrivals ++ Errored n ∷ []) sent
-report-taken a b arrivals sent n s bits same = record {
-  bits = bits;
-  multiframer = rw (same, with-e-report arrivals n) s.multiframer;
-  sent_is = s.sent_is ∙ ap sent_octets (sym (with-e-report arrivals n));
-}
+report-taken a b arrivals sent n s bits same = grind (arith, same, with-e-report arrivals n)
 
 -- The octets up to a place are sent, the others are as they came.
 pub record IsSentTo (first sender : Crc4Sender) (old now : List ℕ) (i : ℕ) : Type 0 where
@@ -74,17 +62,6 @@ pub record IsSentTo (first sender : Crc4Sender) (old now : List ℕ) (i : ℕ) :
   pub now_is : now ≡ done ++ drop i old
   pub sends : (arrivals : List SenderInput) (sent : List ℕ) → SendsCrc4 first arrivals sent
       → SendsCrc4 sender (arrivals ++ map Octet (take i old)) (sent ++ done)
-
--- So far none is.
-pub none_sent : (first : Crc4Sender) (old : List ℕ) → IsSentTo first first old old 0
-none_sent first old = record {
-  done = [];
-  counted = refl;
-  within = omega arith;
-  len = refl;
-  now_is = refl;
-  sends = λ arrivals sent s. sends-same first _ _ _ _ (sym (append-nil arrivals)) (sym (append-nil sent)) s;
-}
 
 -- The next octet of the slice is sent.
 pub one_sent : (first sender after : Crc4Sender) (old now : List ℕ) (i y : ℕ) → IsSentTo first sender old now i
@@ -186,9 +163,4 @@ more_sent a b given given' reports taken returned old new s came sends =
 -- What is known of the octets and the reports alone.
 pub is_sent : (sender : Crc4Sender) (given : Option (List ℕ)) (octets sent : List ℕ) → HasSent sender given octets sent
     → IsFramed given octets sent
-is_sent sender given octets sent s = record {
-  arrivals = s.arrivals;
-  octets_are = s.octets_are;
-  reports_are = s.reports_are;
-  sent_is = s.sends.sent_is;
-}
+is_sent sender given octets sent s = grind (arith, common_steps)

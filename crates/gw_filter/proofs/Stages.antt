@@ -1,5 +1,5 @@
 -- Between two reads.
-use Rattle.std.proofs.Common.{◌≡◌, ◌+◌, ◌++◌, ℕ, List, [], length, take, drop, sym, ap, ◌∙◌, arith}
+use Rattle.std.proofs.Common.{◌≡◌, ◌+◌, ◌++◌, ℕ, List, [], length, take, drop, ap, ◌∙◌, arith}
 use Rattle.std.proofs.Math.Seq.{take-append_seam}
 use Rattle.std.specs.Io.KnownBytes.{Appends}
 use Rattle.gw_records.specs.Streams.{SourceState, SinkState, GivesOctets, Refills}
@@ -24,6 +24,4 @@ came-is new a b n r = let front : n ≡ 0 + n = omega arith in ap (λ (k : ℕ).
 pub replaced : (buffer replies : List ℕ) (a b : SourceState) (n : ℕ)
     → (came : Refills [] (take (0 + n) buffer) a b n) → length replies ≡ length (take n buffer)
     → take n (replies ++ drop n buffer) ≡ replies
-replaced buffer replies a b n came len =
-    let long : length replies ≡ n = len ∙ ap length (came-is buffer a b n came) ∙ came.counted in
-    ap (λ (k : ℕ). take k (replies ++ drop n buffer)) (sym long) ∙ take-append_seam replies (drop n buffer)
+replaced buffer replies a b n came len = cc (came-is buffer a b n came, take-append_seam replies (drop n buffer))

@@ -1,11 +1,12 @@
 -- A dropper of slots 0, one octet more.
-use Rattle.std.proofs.Common.{◌≡◌, ◌+◌, ◌-◌, ◌%◌, ◌<◌, ◌≤◌, ◌++◌, ◌∷◌, ◌∙◌, ℕ, Bool, true, false, List, []}
-use Rattle.std.proofs.Common.{length, refl, sym, ap, arith, append_assoc, append-nil, length-append}
+use Rattle.std.proofs.lemmas.Grind.{common_steps}
+use Rattle.std.proofs.Common.{◌≡◌, ◌+◌, ◌-◌, ◌%◌, ◌<◌, ◌≤◌, ◌++◌, ◌∷◌, ◌∙◌, ℕ, Bool, true, false, List, [], length}
+use Rattle.std.proofs.Common.{refl, sym, ap, arith, append_assoc, append-nil, length-append}
 use Rattle.std.specs.Prelude.{if◌then◌else◌}
 use Rattle.std.proofs.lemmas.Bool.{ne_eqb}
-use Rattle.std.proofs.lemmas.List.{drop-append-le, drop_all}
+use Rattle.std.proofs.lemmas.List.{drop-append-le}
 use Rattle.gw_slots.specs.Frames.{without_slot_0, from_frame}
-use Rattle.gw_slots.specs.Dropping.{HasFramed, begun_count}
+use Rattle.gw_slots.specs.Dropping.{HasFramed}
 use Rattle.gw_slots.specs.declared.begun.BegunFrame.{BegunFrame}
 use Rattle.gw_slots.proofs.Frames.{without-append, without-same, frames-are}
 
@@ -39,54 +40,11 @@ from-next : (place : ℕ) (taken : List ℕ) (octet : ℕ) → (32 - place % 32)
     → from_frame place (taken ++ octet ∷ []) ≡ from_frame place taken ++ octet ∷ []
 from-next place taken octet le = drop-append-le ((32 - place % 32) % 32) taken (octet ∷ []) le
 
--- Fewer octets than a frame has come of one that has begun.
-pub begun-few : (frame : BegunFrame) → length frame.octets.items < 31 → begun_count frame ≤ 31
-begun-few frame few =
-    elim frame.zero as (λ b. (if b then length frame.octets.items + 1 else 0) ≤ 31) [
-      | true ↦ omega (arith, few)
-      | false ↦ omega arith
-    ]
-
 -- Before the first octet.
 pub nothing-framed : (frame : BegunFrame) (place : ℕ) → frame.before ≡ (32 - place % 32) % 32
     → frame.octets.items ≡ [] → frame.zero ≡ false → HasFramed frame place [] []
 unfolding without_slot_0
-nothing-framed frame place before items zero = record {
-  returned_are = sym (frames-are place [] [] [] from refl (omega arith));
-  before = omega (arith, before);
-  frames = [];
-  rest = [];
-  from = from;
-  whole = refl;
-  short = omega arith;
-  none = λ e. refl;
-  some = λ e. absurd (cc (zero, e));
-}
-  where
-    from : from_frame place [] ≡ []
-    from = drop_all ((32 - place % 32) % 32) [] (omega arith)
-
--- Before the first frame begins.
-pub frame-skipped : (a b : BegunFrame) (place : ℕ) (taken returned : List ℕ) (octet : ℕ)
-    → HasFramed a place taken returned → 0 < a.before → b.before ≡ a.before - 1 → b.octets.items ≡ a.octets.items
-    → b.zero ≡ a.zero → HasFramed b place (taken ++ octet ∷ []) returned
-frame-skipped a b place taken returned octet h some before items zero = record {
-  returned_are = h.returned_are ∙ frames-are place taken h.frames h.rest h.from h.whole h.short
-      ∙ sym (frames-are place (taken ++ octet ∷ []) h.frames h.rest from h.whole h.short);
-  before = omega (arith, before, h.before, length-append taken (octet ∷ []));
-  frames = h.frames;
-  rest = h.rest;
-  from = from;
-  whole = h.whole;
-  short = h.short;
-  none = λ e. h.none (sym zero ∙ e);
-  some = λ e. rw items (h.some (sym zero ∙ e));
-}
-  where
-    from : from_frame place (taken ++ octet ∷ []) ≡ h.frames ++ h.rest
-    from = drop_all ((32 - place % 32) % 32) (taken ++ octet ∷ [])
-        (omega (arith, some, h.before, length-append taken (octet ∷ [])))
-        ∙ sym (drop_all ((32 - place % 32) % 32) taken (omega (arith, some, h.before))) ∙ h.from
+nothing-framed frame place before items zero = grind (arith, common_steps)
 
 -- Slot 0 of a frame.
 pub frame-begun : (a b : BegunFrame) (place : ℕ) (taken returned : List ℕ) (octet : ℕ)

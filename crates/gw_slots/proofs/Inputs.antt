@@ -1,12 +1,10 @@
 -- What comes of a trunk whose device has slots 1 to 31 alone.
-use Rattle.std.proofs.Common.{◌≡◌, ◌<◌, ◌+◌, ◌*◌, ◌≤◌, ◌++◌, ◌∙◌, ℕ, List, [], Option, Some, None, Ok, Err, length}
-use Rattle.std.proofs.Common.{take, refl, sym, ap, Err}
-use Rattle.std.proofs.Common.{arith, append-nil, ◌⊎◌, inl, inr, drop, min}
+use Rattle.std.proofs.Common.{rules, ◌≡◌, ◌<◌, ◌+◌, ◌*◌, ◌≤◌, ◌++◌, ◌∙◌, ℕ, List, [], Option, Some, None, Ok, Err}
+use Rattle.std.proofs.Common.{length, take, refl, sym, ap, arith, append-nil, min}
 use Rattle.std.proofs.Math.Dec.{eqb-suc-zero}
 use Rattle.std.proofs.Math.Logic.{∥∥₁_map}
 use Rattle.std.specs.Prelude.{MatchOption, IfOk, ⊤, Bool, false, not, ◌==◌, ◌∷◌}
-use Rattle.std.proofs.lemmas.Bool.{cases_lt}
-use Rattle.std.proofs.lemmas.List.{take-append-le, drop_all, length-append, length-take-le}
+use Rattle.std.proofs.lemmas.List.{take-append-le, length-append, length-take-le}
 use Rattle.e1_g711.specs.declared.Law.{Law}
 use Rattle.g704_framing.specs.Alignment.{alignments_from}
 use Rattle.gw_trunk.specs.Device.{ReadResult, IsTaken, octets_taken}
@@ -52,9 +50,7 @@ pub came-passed : (slots : Option SlotReceiver) (law : Law) (place : ℕ) (came 
     → slots ≡ None → came' ≡ came ++ taken → log' ≡ log ++ taken
     → MatchOption slots ((log ≡ came) × (held ≡ [])) (λ s. HasMadeWhole s law place came (log ++ held))
     → MatchOption slots ((log' ≡ came') × (held ≡ [])) (λ s. HasMadeWhole s law place came' (log' ++ held))
-came-passed None law place came came' log log' held taken off more logged h =
-    (logged ∙ ap (λ xs. xs ++ taken) h.0 ∙ sym more, h.1)
-came-passed (Some s) law place came came' log log' held taken off more logged h = absurd (cc off)
+came-passed slots law place came came' log log' held taken off more logged h = search rules
 
 -- There is no slot 16 then.
 pub said-off : (slots : Option SlotReceiver) (told : Option ℕ) (place : ℕ) (came : List ℕ) → slots ≡ None
@@ -79,14 +75,6 @@ received slots s s' law place came came' taken log log' held held' left is none 
 pub none-held : (held : List ℕ) (is_empty : Bool) → is_empty ≡ (length held == 0) → not is_empty ≡ false → held ≡ []
 none-held [] is_empty e some = refl
 none-held (x ∷ held) is_empty e some = absurd (cc (some, ap not (e ∙ eqb-suc-zero (length held))))
-
--- As much is given as there is room for.
-pub given-all : (n room : ℕ) (held left : List ℕ) → n ≡ min (length held) room → left ≡ drop n held
-    → (left ≡ []) ⊎ (n ≡ room)
-given-all n room held left least rest = elim (cases_lt room (length held)) [
-  | inl more ↦ inr (omega (arith, least, more))
-  | inr fits ↦ inl (rest ∙ drop_all n held (omega (arith, least, fits)))
-]
 
 -- How many octets a read took into a piece of a room.
 took-most : (read : ReadResult) (piece rest : List ℕ) → IfOk read (λ t. IsTaken t (length piece))

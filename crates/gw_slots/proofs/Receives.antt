@@ -1,7 +1,7 @@
 -- A receiver of the slots of a device, one octet more.
-use Rattle.std.proofs.Common.{◌≡◌, ◌+◌, ◌%◌, ◌<◌, ◌++◌, ◌∷◌, ◌∙◌, ℕ, suc, List, [], length, take, get_or, refl, sym, ap}
-use Rattle.std.proofs.Common.{arith, append_assoc, length-append}
-use Rattle.std.proofs.Math.Seq.{take-suc}
+use Rattle.std.proofs.lemmas.Grind.{common_steps}
+use Rattle.std.proofs.Common.{◌≡◌, ◌+◌, ◌%◌, ◌<◌, ◌++◌, ◌∷◌, ◌∙◌, ℕ, List, [], length, take, get_or, sym, ap, arith}
+use Rattle.std.proofs.Common.{length-append}
 use Rattle.e1_g711.specs.declared.Law.{Law}
 use Rattle.e1_g711.specs.Law.{idle_code}
 use Rattle.g704_slots.specs.Mover.{HasHistory}
@@ -18,12 +18,7 @@ pub made-none : (receiver : SlotReceiver) (law : Law) (place first : ℕ) → Ha
     → first ≡ first_of place → receiver.mover.idle ≡ idle_code law → receiver.place ≡ place % 64
     → HasMadeWhole receiver law place [] []
 unfolding with_slot_0 replies_after
-made-none receiver law place first history begins idle at = record {
-  history = rw (← begins) history;
-  idle = idle;
-  place_is = omega (arith, at);
-  made_are = refl;
-}
+made-none receiver law place first history begins idle at = grind (arith, history)
 
 -- The octet that is shown comes behind slot 0, if a frame begins.
 pub made-next : (a b : SlotReceiver) (mover : SlotMover) (law : Law) (place : ℕ) (taken made : List ℕ)
@@ -65,12 +60,7 @@ made-next a b mover law place taken made octet shown at h same reply stands idle
 -- The next octet of a slice is taken.
 pub taken-next : (taken octets : List ℕ) (i : ℕ) → i < length octets
     → (taken ++ take i octets) ++ get_or octets i 0 ∷ [] ≡ taken ++ take (i + 1) octets
-taken-next taken octets i lt =
-    append_assoc taken (take i octets) (get_or octets i 0 ∷ [])
-    ∙ ap (λ xs. taken ++ xs) (sym (take-suc octets i 0 lt) ∙ ap (λ k. take k octets) one)
-  where
-    one : suc i ≡ i + 1
-    one = omega arith
+taken-next taken octets i lt = grind (arith, common_steps)
 
 -- The same octets.
 pub made-same : (receiver : SlotReceiver) (law : Law) (place : ℕ) (taken taken' made made' : List ℕ) → taken ≡ taken'

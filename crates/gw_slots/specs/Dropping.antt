@@ -1,6 +1,6 @@
 -- What a dropper of slots 0 has returned.
-use Rattle.std.specs.Prelude.{◌≡◌, ◌<◌, ℕ, ◌+◌, ◌-◌, ◌%◌, if◌then◌else◌, true, false, List, [], ◌∷◌}
-use Rattle.std.specs.Prelude.{◌++◌, length}
+use Rattle.std.specs.Prelude.{◌≡◌, ◌<◌, ℕ, ◌+◌, ◌-◌, ◌%◌, if◌then◌else◌, true, false, List, [], ◌∷◌, ◌++◌}
+use Rattle.std.specs.Prelude.{length}
 use Rattle.gw_slots.specs.Frames.{device_frames, from_frame}
 use Rattle.gw_slots.specs.declared.begun.BegunFrame.{BegunFrame}
 

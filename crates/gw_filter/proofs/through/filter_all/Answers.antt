@@ -1,5 +1,5 @@
 use Rattle.std.proofs.Common.{arith}
-use Rattle.gw_filter.proofs.InPlace.{none_filtered, one_more, all_filtered}
+use Rattle.gw_filter.proofs.InPlace.{none_filtered, one_more}
 use Rattle.gw_filter.proofs.through.filter_all.Goals as goal
 
 pub loop-octet-init : goal.loop-octet-init
@@ -8,9 +8,3 @@ loop-octet-init g c = none_filtered _ _
 pub loop-octet-preserved : goal.loop-octet-preserved
 loop-octet-preserved g c =
     one_more _ _ _ _ _ _ _ c.loop-octet.invariant (omega arith) c.next_octet.ensures.reply c.next_octet.ensures.stands
-
-pub returns-clause-replies : goal.returns-clause-replies
-returns-clause-replies g c history s = (all_filtered _ _ _ _ _ c.loop-octet.invariant (omega arith) history s).0
-
-pub returns-clause-stands : goal.returns-clause-stands
-returns-clause-stands g c history s = (all_filtered _ _ _ _ _ c.loop-octet.invariant (omega arith) history s).1

@@ -1,11 +1,10 @@
-use Rattle.std.proofs.Common.{◌++◌, inl, inr, ℕ, [], List, refl, ap, ◌∙◌, subst, length, drop, arith}
-use Rattle.std.proofs.Common.{length-append, length-drop}
+use Rattle.std.proofs.Common.{◌++◌, inl, inr, ℕ, [], List, refl, ap, ◌∙◌, subst, length, drop, arith, length-append}
+use Rattle.std.proofs.Common.{length-drop}
 use Rattle.gw_records.specs.declared.outcome.RunFault.TheVariants as faults
 use Rattle.gw_records.specs.declared.outcome.Totals.{Totals}
 use Rattle.gw_records.specs.Outcome.{nothing_counted}
 use Rattle.gw_records.proofs.Writes.{Appends-none, Appends-join, Appends-same, GivesOctets-none, GivesOctets-join}
-use Rattle.gw_records.proofs.Writes.{GivesOctets-end}
-use Rattle.gw_records.proofs.Writes.{FailsAfterPrefix-after, read_failed}
+use Rattle.gw_records.proofs.Writes.{GivesOctets-end, FailsAfterPrefix-after, read_failed}
 use Rattle.gw_records.proofs.Sessions.{goes_up}
 use Rattle.gw_filter.proofs.Stages.{came-is, replaced}
 use Rattle.gw_filter.proofs.through.octets_through.Goals as goal

@@ -1,4 +1,5 @@
-use Rattle.g726_lanes.proofs.Common.{arith, ints}
+use Rattle.g726_lanes.proofs.Common.{◌≡◌, ◌+◌, ◌*◌, sym, arith, ints, lane}
+use Rattle.g726_lanes.proofs.AdaptationUpdates.{is_in_lane}
 use Rattle.g726_lanes.proofs.adaptations.Adaptations.store.Goals as goal
 
 pub of_numbers-requires : goal.of_numbers-requires
@@ -18,3 +19,11 @@ of_numbers-requires c =
       ap_low = omega (arith, ints);
       ap_high = omega (arith, ints, kept.ap_few k h);
     }
+
+pub returns : goal.returns
+returns c =
+    let s = c.self.inside in
+    let k = c.args.k in
+    let yl : c.from.result * 64 + c.from-2.result ≡ 64 * lane s.whole k + lane s.fraction k =
+    rw (c.from.ensures, c.from-2.ensures) (omega arith) in
+    rw (c.of_numbers.ensures, yl) (sym (is_in_lane s c.self.view_is k c.requires))

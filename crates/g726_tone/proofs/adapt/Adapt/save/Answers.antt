@@ -1,4 +1,4 @@
-use Rattle.std.proofs.Common.{◌≡◌, ◌++◌, ℕ, List, Result, Ok, Err, OnOk, refl, subst, ap, ◌∙◌, append_assoc}
+use Rattle.std.proofs.Common.{◌≡◌, ◌++◌, ℕ, List, Result, Ok, Err, OnOk, refl, subst, ap, append_assoc}
 use Rattle.g726_tone.specs.Adaptation.{Adaptation}
 use Rattle.g726_tone.proofs.Reading.{same}
 use Rattle.g726_tone.specs.Saved.{saved_adaptation}
@@ -8,9 +8,7 @@ use Rattle.g726_tone.proofs.adapt.Adapt.save.Goals as goal
 three-saved : {E : Type 0} (result : Result (Unit {0}) E) (old one two three a b c : List ℕ) → one ≡ old ++ a
     → two ≡ one ++ b → OnOk result (three ≡ two ++ c) → OnOk result (three ≡ old ++ (a ++ (b ++ c)))
 three-saved (Err fault) old one two three a b c e f g = g
-three-saved (Ok done) old one two three a b c e f g =
-    g ∙ ap (λ (os : List ℕ). os ++ c) (f ∙ ap (λ (os : List ℕ). os ++ b) e)
-    ∙ append_assoc (old ++ a) b c ∙ append_assoc old a (b ++ c)
+three-saved (Ok done) old one two three a b c e f g = cc (append_assoc (old ++ a) b c, append_assoc old a (b ++ c))
 
 pub returns-clause-octets : goal.returns-clause-octets
 unfolding saved_adaptation

@@ -1,10 +1,7 @@
 use Rattle.std.proofs.Common.{◌≤◌, ◌+◌, length, take, drop, slice_set, refl, arith}
 use Rattle.std.proofs.lemmas.List.{length-take-le, take_rest}
-use Rattle.gw_filter.proofs.Sends.{none_sent, one_sent, octets-without, some_sent, all_sent}
+use Rattle.gw_filter.proofs.Sends.{one_sent, octets-without, some_sent, all_sent}
 use Rattle.gw_filter.proofs.sending.Crc4Sender.send_all.Goals as goal
-
-pub loop-at-init : goal.loop-at-init
-loop-at-init c = none_sent _ _
 
 pub loop-at-preserved : goal.loop-at-preserved
 loop-at-preserved c =
