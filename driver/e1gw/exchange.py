@@ -1,9 +1,7 @@
 """Both ends of a trunk for scripts: `e1gw serve` as a process, and the exchange that its trunk leads to."""
-import math
 import subprocess
-from typing import Any, NoReturn, Sequence
+from typing import Any, NoReturn
 
-from .g711 import VALUES
 from .session import FRAME, HEAD, MULTIFRAME, Command, Kind, command_record, trunk_record
 
 FAS, NFAS = 0x9B, 0xDF      # slot 0: the frame alignment signal, and the octet between two of them
@@ -149,36 +147,3 @@ def first_multiframe(octets: bytes | bytearray) -> int | None:
         if octets[at] & 0x7F == FAS & 0x7F and is_multiframe(octets, at):
             return at
     return None
-
-
-def samples(octets: bytes | bytearray, law: str = 'A') -> list[int]:
-    """The values of octets of G.711."""
-    return [VALUES[law][octet] for octet in octets]
-
-
-def loudest(spoken: Sequence[int], length: int) -> int:
-    """Where the loudest stretch of that length begins, in steps of a tenth."""
-    step = max(1, length // 10)
-    starts = range(0, max(1, len(spoken) - length), step)
-    return max(starts, key=lambda at: sum(abs(x) for x in spoken[at:at + length]))
-
-
-def delay(spoken: Sequence[int], heard: Sequence[int], longest: int) -> int:
-    """By how many samples heard comes after spoken: where the correlation of a loud stretch is greatest."""
-    length = min(1600, len(spoken))
-    at = loudest(spoken, length)
-    part = spoken[at:at + length]
-
-    def correlation(lag: int) -> float:
-        other = heard[at + lag:at + lag + length]
-        energy = math.sqrt(sum(x * x for x in other)) or 1
-        return sum(x * y for x, y in zip(part, other)) / energy
-
-    return max(range(0, longest), key=correlation)
-
-
-def decibels(spoken: Sequence[int], heard: Sequence[int]) -> float:
-    """Signal to noise: how far the difference of the two lies below what was spoken."""
-    noise = sum((x - y) ** 2 for x, y in zip(spoken, heard))
-    signal = sum(x * x for x in spoken)
-    return math.inf if noise == 0 else 10 * math.log10(signal / noise) if signal else -math.inf
