@@ -2,17 +2,12 @@
 from __future__ import annotations
 
 import html.parser
-import os
 import random
 import re
-import subprocess
-import sys
 import unittest
 from unittest import mock
 
-from .support import TOP
-
-from .picture_made import MadeSession, PictureSender, made_of, one_call, read_session, recorded, rtp
+from .picture_made import MadeSession, PictureSender, made_of, read_session, recorded, rtp
 
 from e1gw.picture.facts import MOST, RANK, Facts, Row, Spans
 from e1gw.picture.findings import findings
@@ -21,10 +16,6 @@ from e1gw.picture.page import draw
 from e1gw.picture.svg import Scale, Sheet, apart, clock, duration, runs
 from e1gw.session_clock import Break
 from e1gw.session import OCTETS_A_SECOND, Codec, Kind, codec_record, records_in, trunk_record
-
-
-def facts_of(session: MadeSession, last: int | None = None) -> Facts:
-    return read_session(session.config(), b''.join(session.given()), last)
 
 
 class FactsTests(unittest.TestCase):
@@ -54,12 +45,6 @@ class FactsTests(unittest.TestCase):
             with self.subTest(came=came):
                 self.assertEqual((row.cell.lost, row.cell.counts['repetitions'], row.cell.discarded()),
                                  (lost, repeated, refused))
-
-    def test_last_part_alone(self) -> None:
-        """The session ends 0.3 s behind the last datagram, so 0.7 s of datagrams are shown, 50 a second."""
-        facts = facts_of(one_call(3), OCTETS_A_SECOND)
-        self.assertEqual(facts.place - facts.start, OCTETS_A_SECOND)
-        self.assertAlmostEqual(facts.rows[3].count().admitted, 35, delta=2)
 
     def test_columns_are_few_and_lose_nothing(self) -> None:
         facts = Facts()
@@ -102,18 +87,6 @@ class SessionFactsTests(unittest.TestCase):
         whole, long = (read_session(config, given).rows[3] for given in (given, b''.join(records)))
         self.assertEqual(whole.states.items, long.states.items)
         self.assertEqual(whole.count().refused, long.count().refused)
-
-    def test_clock_is_measured(self) -> None:
-        words = next(each.seen for each in findings(made_of('slow-clock')) if each.kind == 'clock slower')
-        self.assertAlmostEqual(int(words.split(' ppm')[0].split()[-1]), 500, delta=10)
-
-
-class PicturePackageTests(unittest.TestCase):
-    def test_nothing_of_the_service_is_loaded(self) -> None:
-        code = 'import sys, e1gw.picture.main; print(*(name for name in sys.modules if name.startswith("e1gw.")))'
-        loaded = subprocess.run([sys.executable, '-B', '-c', code], cwd=os.path.join(TOP, 'driver'), check=True,
-                                stdout=subprocess.PIPE, text=True).stdout.split()
-        self.assertEqual([name for name in loaded if name.split('.')[1] in ('service', 'tie', 'testing')], [])
 
 
 class PageChecker(html.parser.HTMLParser):
@@ -178,13 +151,6 @@ class PicturePageTests(unittest.TestCase):
         self.checked(text)
         self.assertLess(MOST_OCTETS, 2_000_000)
 
-    def test_says_what_was_counted(self) -> None:
-        session = one_call(1.4, kind=13)
-        words = self.checked(draw(facts_of(session), 'e1gw'))
-        self.assertIn('43 of 43 packets were discarded as PayloadType: type 13 came, the circuit has 8', words)
-        self.assertIn('47 sent, 0 received, 43 discarded', words)      # 20 ms each, from 0.149 s to 1.1 s
-        self.assertIn('127.0.0.1:24106', words)
-
     def test_wrong_sources_are_those_of_their_call(self) -> None:
         """Of three calls on a circuit, each with its own source, a stranger sends into the second one."""
         session = MadeSession(4.0, {3: {'prefill': 320}})
@@ -192,7 +158,7 @@ class PicturePageTests(unittest.TestCase):
             session.call(3, begin, begin + 1, 0.1)
             session.senders.append(PictureSender(3, begin + 0.2, begin + 0.9, ssrc))
         session.senders.append(PictureSender(3, 1.75, 1.949, 0xBAD))
-        found = {each.kind: each.seen for each in findings(facts_of(session))}
+        found = {each.kind: each.seen for each in findings(read_session(session.config(), b''.join(session.given())))}
         # each 20 ms from 1.750 s on, up to 1.930 s, in steps of a multiframe
         self.assertRegex(found['source'], '^10 of .* packets were discarded as WrongSource: in the call whose first '
                          r'datagram had SSRC 0000000b, 00000bad came 10 times from 1\.75[02] s to 1\.93[02] s$')
