@@ -5,19 +5,23 @@ import argparse
 import contextlib
 import io
 import os
+import re
 import unittest
 from typing import Any
 from unittest import mock
 
+from . import support
 from e1gw import ctl_all, metrics
-from e1gw.events import (AlarmChanged, Burst, CallsCleared, CardAlarm, CardAlarmChanged, CircuitsDrained, Connected,
-                         Crc4Change, Crc4Changed, Disconnected, DrainNews, Event, Fed, Flows, LineChanged, NotFed,
-                         RateChanged, RemoteAlarmChanged, RoleGiven, SatopChanged, Slip, SlotsChange, SlotsChanged,
-                         Stalled, TrunkLost, TrunkOpened, WatchEnded)
+from e1gw.events import (AlarmChanged, CallsCleared, CardAlarm, CardAlarmChanged, CircuitsDrained, Crc4Change,
+                         Crc4Changed, DrainNews, Event, LineChanged, RateChanged, RemoteAlarmChanged, SlotsChange,
+                         SlotsChanged)
 from e1gw.faults import Parser, checked, named, number, options_words, words_of_fault, words_of_refusal
 from e1gw.lines import Alignment, Role, State
 from e1gw.session import CommandRefusal
+from e1gw.tie import status as tie_status
+from e1gw.tie.tie import Tie, TieOptions
 
+SAMPLE = re.compile(r'([a-z_0-9]+)(\{(?:[a-z_]+="(?:[^"\\]|\\.)*",?)*\})? (-?[0-9.e+-]+)')
 ROW: dict[str, Any] = {
     'circuit': 7, 'role': 'incoming', 'state': 'answered', 'sent': '01', 'recognised': '00', 'for': 12.34,
     'seizures': 5, 'answers': 4, 'unacknowledged': 3, 'faults': 2, 'open': 67.89, 'codec': 'g726-32',
@@ -109,21 +113,41 @@ the counts of packets are not those of now
 '''
 
 
+def samples(text: str) -> dict[str, str]:
+    """The samples of a text of Prometheus; each is of a family that was declared before it, and is there once."""
+    found, declared = dict[str, str](), set[str]()
+    for line in text.splitlines():
+        if line.startswith('# TYPE '):
+            declared.add(line.split()[2])
+        elif not line.startswith('# HELP '):
+            name, _, value = line.rpartition(' ')
+            assert SAMPLE.fullmatch(line) and name.partition('{')[0] in declared and name not in found, line
+            found[name] = value
+    return found
+
+
 class TrunkTextTests(unittest.TestCase):
     def test_metrics(self) -> None:
         """Each number is another one. Of a circuit's row that is idle only what differs is looked at."""
-        found = metrics.exposition(FULL).splitlines()
-        lines = [line for line in found if not line.startswith('#')]
-        states = [line for line in lines if line.startswith('e1gw_circuit_state{') and line.endswith(' 0')]
-        self.assertEqual(len(states), 2 * 7)
-        rest = [line for line in lines if line not in states and 'circuit="8"' not in line.replace(
-            'rtp_packets_total{circuit="8"', '').replace('state{circuit="8"', '')]
-        self.assertEqual(rest, SAMPLES.split('\n'))
-        kinds = {line.split()[2]: line.split()[3] for line in found if line.startswith('# TYPE')}
+        text = metrics.exposition(FULL)
+        lines = {name: value for name, value in samples(text).items() if 'circuit="8"' not in name.replace(
+            'rtp_packets_total{circuit="8"', '').replace('state{circuit="8"', '')}
+        others = {name for name in lines if name.startswith('e1gw_circuit_state{') and lines[name] == '0'}
+        self.assertEqual(len(others), 2 * 7)
+        self.assertEqual([f'{name} {lines[name]}' for name in lines if name not in others], SAMPLES.split('\n'))
+        kinds = dict(re.findall(r'^# TYPE (\w+) (\w+)$', text, re.M))
         self.assertEqual([kinds[name] for name in ('e1gw_trunk_up', 'e1gw_ended', 'e1gw_transport',
                                                    'e1gw_trunk_octets_total')],
                          ['gauge', 'gauge', 'untyped', 'counter'])
-        self.assertEqual(len(kinds), sum(line.startswith('# HELP') for line in found))
+        self.assertEqual(len(kinds), text.count('\n# HELP ') + 1)
+
+    def test_alerts_and_dashboard_name_what_there_is(self) -> None:
+        """Of a trunk, of the standby and of a tie."""
+        named = {name for file in ('alerts.yml', 'dashboard.py')
+                 for name in re.findall(r'\be1gw_\w+', support.text_of(f'{support.TOP}/dist/package/{file}'))}
+        tie = tie_status.status_of(Tie(TieOptions('', None, 0.0, False), '', print))
+        text = metrics.exposition(FULL) + tie_status.exposition(tie)
+        self.assertLessEqual(named, {*re.findall(r'^# TYPE (\w+)', text, re.M)})
 
     def test_metrics_of_what_is_not_there(self) -> None:
         few = metrics.exposition(STATUS, 'w"\\\n')
@@ -200,7 +224,8 @@ class TrunkTextTests(unittest.TestCase):
 
 
 class EventTextTests(unittest.TestCase):
-    def test_each(self) -> None:
+    def test_words(self) -> None:
+        """Of those whose words depend on what has happened."""
         rows: list[tuple[Event, str]] = [
             (LineChanged(3, Role.OUTGOING, State.IDLE, State.SEIZED, 0), '3: seized, was idle'),
             (LineChanged(3, Role.OUTGOING, State.IDLE, State.SEIZED, 0, call='a'), '3: seized, was idle, call a'),
@@ -210,24 +235,14 @@ class EventTextTests(unittest.TestCase):
             (CallsCleared('it is dark', (1, 2)), 'calls cleared, it is dark: circuits 1, 2'),
             (CircuitsDrained(DrainNews.SEIZED, (1, 2)),
              'seized before they were blocked, and blocked once these calls have ended: circuits 1-2'),
-            (Stalled(1.0), 'no octets of the trunk for 1.0 s'), (Flows(2.5), 'octets again after 2.5 s'),
-            (Slip(0.5), 'slip: 0.5 s of the trunk were lost'),
-            (Burst(0.5), 'burst: 0.5 s of the trunk came too early'),
             (RateChanged(250.0), "rate: +250.0 ppm relative to this machine's clock"),
-            (WatchEnded('json', 'no room'), 'json ended, the calls go on: no room'),
-            (RoleGiven('active'), 'this machine is to be active'), (Fed('b', 'p'), 'fed by b, program p there'),
-            (NotFed('b', 'w'), 'not fed by b: w'),
             (CardAlarmChanged(CardAlarm.NOT_OPEN, True), 'card: NOT OPEN alarm: the span is not started: dahdi_cfg'),
             (CardAlarmChanged(CardAlarm.RED, False), 'card: RED alarm over'),
             (SlotsChanged(SlotsChange.MOVED, 3), 'slots moved by 3: slot 16 found again, speech goes on'),
-            (TrunkOpened('/dev/e1', {'waiting': 0}), 'trunk open: /dev/e1'), (TrunkLost('w'), 'trunk lost: w'),
-            (Connected('program'), 'connected to the program'),
-            (Disconnected('program', 'w'), 'no connection to the program: w'),
             (Crc4Changed(Crc4Change.GIVEN_UP, True, 2),
              'false frame alignment: 915 of 1000 submultiframes errored, 2 times'),
             (Crc4Changed(Crc4Change.LOST_AND_FOUND, True, 1), 'CRC multiframe alignment lost and found again'),
-            (Crc4Changed(Crc4Change.ERRORED, False, 0, 500), 'CRC-4 errors over: 0 of 500 submultiframes'),
-            (SatopChanged('no packets', True), 'satop: no packets')]
+            (Crc4Changed(Crc4Change.ERRORED, False, 0, 500), 'CRC-4 errors over: 0 of 500 submultiframes')]
         for event, words in rows:
             self.assertEqual(event.words(), words)
 
