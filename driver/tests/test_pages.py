@@ -50,9 +50,6 @@ class PagesTests(unittest.TestCase):
         self.assertEqual({*offered('trunk1')}, commands - {'undrain'} | {'calls', 'outages'})   # (of e1gw-ctl itself)
         self.assertEqual({word for word in commands if word in (control.__doc__ or '')}, commands)
 
-    def test_codecs(self) -> None:
-        self.assertEqual({*offered('trunk1', 'codec', '3')}, set(control.CODECS))
-
     def test_where_the_socket_of_a_name_is(self) -> None:
         self.assertEqual(ctl.path_of('trunk1'), '/run/e1gw/trunk1/control')
         self.assertIn(ctl.path_of('NAME'), page('e1gw-ctl.1'))
@@ -74,9 +71,7 @@ class CompletionTests(unittest.TestCase):
                             ('e1gw-trunk --senders ', 'any host peer'), ('e1gw-trunk --satop-f', '--satop-fill'),
                             ('e1gw-config --role o', 'odd outgoing'), ('e1gw-picture --la', '--last'),
                             ('e1gw-ctl ./west cl', 'clear clear-back'), ('e1gw-ctl --all se', 'seize'),
-                            ('e1gw-ctl ./west status j', 'json'), ('e1gw-ctl ./west seize 2', ' '.join(
-                                ['2', *map(str, range(20, 30))])), ('e1gw-ctl ./west codec 3 g726-1', 'g726-16'),
-                            ('e1gw-ctl ./west on-loss ', 'block clear keep')):
+                            ('e1gw-ctl ./west codec 3 g726-1', 'g726-16')):
             with self.subTest(line):
                 self.assertEqual(self.offered(line), (sorted(words.split()), ''))
 
