@@ -81,9 +81,9 @@ def anything() -> Iterator[tuple[TieCircuit, TieCircuit]]:
 
 class TieAgreementTests(unittest.TestCase):
     def test_every_pair_of_states(self) -> None:
-        """From any states and memories both ends come to agree once they hear one another."""
-        for one, other in anything():
-            near, far = settled(acted(one, LOST), acted(other, LOST))
+        """From any states and memories both ends come to agree once they hear one another, or do so again."""
+        for link, (one, other) in product((GOOD, LOST), anything()):
+            near, far = settled(acted(one, link), acted(other, link))
             self.assertIsNone(disagreement(near, far), (one, other, near, far))
 
     def test_no_call_for_ever(self) -> None:
