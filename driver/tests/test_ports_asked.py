@@ -16,10 +16,8 @@ from .hand_clock import threads_of
 from .support import SECONDS
 from .test_trunk_served import TrunkProcess, octets_in
 from e1gw.exchange import SEIZED, ServeProcess, slot_of
-from e1gw.lines import Line
 from e1gw.session import CIRCUITS, FRAME, Kind, Packet, datagram_record, records_in, trunk_record
 from e1gw.testing.ports import free_ports
-from e1gw.udp_tables import sockets_of
 
 Step = tuple[list[tuple[int, bytes]], bytes]        # datagrams of circuits, and the octets after them
 Exchanges = Callable[[bytes], bytes]                # gives octets; returns those that are sent
@@ -75,7 +73,9 @@ def records_of(steps: list[Step]) -> bytes:
 
 def waiting_at(port: int) -> int:
     """The octets of memory that the datagrams in a socket take."""
-    return sockets_of([Line(1, port=port)])[1]['waiting']
+    with open('/proc/net/udp', encoding='ascii') as table:
+        rows = [line.split() for line in table]
+    return sum(int(row[4].partition(':')[2], 16) for row in rows if row[1].endswith(f':{port:04X}'))
 
 
 class PortsAskedTests(support.FolderCase):

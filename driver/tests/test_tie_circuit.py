@@ -2,12 +2,13 @@
 from __future__ import annotations
 
 import unittest
+from dataclasses import replace
 from itertools import product
 from typing import Iterator
 
 from e1gw.lines import Role, State
 from e1gw.session import Command
-from e1gw.tie.circuit import NO_CALL, CircuitEnd, LinkState, TieCircuit
+from e1gw.tie.circuit import NO_CALL, CircuitEnd, LinkState, TieCircuit, begun, call_name
 
 S, GOOD, LOST, GIVEN_UP = State, LinkState.GOOD, LinkState.LOST, LinkState.GIVEN_UP
 IDLE, SEIZED, ACKED, ANSWERED = S.IDLE, S.SEIZED, S.ACKED, S.ANSWERED
@@ -128,6 +129,14 @@ class TieCommandTests(unittest.TestCase):
                                                (Role.OUTGOING, RELEASING, False, True, FAULT)):
             self.assertIs(TieCircuit(role, state, 'call 1', kept=kept, stuck=stuck).end().state, told)
 
+    def test_given_up_stays_so(self) -> None:
+        """A call that was given up is not passed on when the other end comes back; the next one is."""
+        circuit = TieCircuit(Role.INCOMING, ACKED, 'call 2', far=CircuitEnd(Role.OUTGOING, IDLE, 'call 1'))
+        circuit = circuit.marked_over(GIVEN_UP)
+        self.assertTrue(circuit.end().over)
+        self.assertTrue(circuit.moved(ANSWERED).moved(CLEAREDBACK).end().over)
+        self.assertFalse(circuit.moved(IDLE).moved(ACKED, 'call 3').end().over)
+
     def test_who_knows_which_call(self) -> None:
         """The incoming end names it and remembers which one the other has named; the other learns that if it has
         forgotten its own."""
@@ -138,3 +147,12 @@ class TieCommandTests(unittest.TestCase):
         for known, call in ((None, 'call 2'), ('call 7', 'call 7')):
             far = TieCircuit(Role.OUTGOING, SEIZED, known).heard(circuit.end())
             self.assertEqual((far.call, far.tried('call 8').call), (call, 'call 8'))
+
+    def test_what_goes_on_with_another_trunk(self) -> None:
+        """What is known of a call goes on with it, and with no other one."""
+        known = TieCircuit(Role.INCOMING, ACKED, 'call 1', over=True, stuck=True)
+        for role, call, over in ((Role.INCOMING, 'call 1', True), (Role.INCOMING, 'call 2', False),
+                                 (Role.OUTGOING, 'call 1', False)):
+            fresh = TieCircuit(role, ANSWERED, call, kept=True)
+            self.assertEqual((begun(known, fresh), begun(None, fresh)), (replace(fresh, over=over), fresh))
+        self.assertEqual([call_name('a', n) for n in (0, 1)], [NO_CALL, 'a.1'])
