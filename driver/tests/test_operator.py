@@ -36,7 +36,7 @@ class OperatorTests(unittest.TestCase):
 
     def test_answers(self) -> None:
         """A change, then the answer to the command that made it, and a status that has it. Several clients at once get
-        their own. Nobody seizes while the trunk has no octets."""
+        their own. Nobody seizes while the other end has no alignment, or the trunk no octets."""
         world = self.world(decisions_QUIET=0.5)
         events = self.events(world)
         support.until(lambda: bool(world.told()['clock']['stalled']))
@@ -58,6 +58,12 @@ class OperatorTests(unittest.TestCase):
             said = 'done' if circuit == 1 else 'not in a call'
             self.assertEqual(line.recv(200).decode(), f'clear {circuit}: {said}\n\n')
             line.close()
+        octets = bytearray(world.exchange.multiframe())
+        octets[32::64] = b'\xff' * 8                    # bit A (ITU-T G.704, 2.3)
+        world.give(bytes(octets))
+        while (said := world.ask('seize 2')) == 'seize 2: the trunk is stalled':
+            world.give(bytes(octets))
+        self.assertEqual(said, 'seize 2: the other end has no alignment')
 
     def test_calls_that_are_cleared(self) -> None:
         """When the last client that has asked for it is gone, or says nothing any more, and in the dark."""

@@ -7,7 +7,7 @@ import re
 import unittest
 from unittest import mock
 
-from .picture_made import MadeSession, PictureSender, made_of, read_session, recorded, rtp
+from .picture_made import MadeSession, PictureSender, made_of, one_call, read_session, recorded, rtp
 
 from e1gw.picture.facts import MOST, RANK, Facts, Row, Spans
 from e1gw.picture.findings import findings
@@ -16,6 +16,10 @@ from e1gw.picture.page import draw
 from e1gw.picture.svg import Scale, Sheet, apart, clock, duration, runs
 from e1gw.session_clock import Break
 from e1gw.session import OCTETS_A_SECOND, Codec, Kind, codec_record, records_in, trunk_record
+
+
+def facts_of(session: MadeSession) -> Facts:
+    return read_session(session.config(), b''.join(session.given()))
 
 
 class FactsTests(unittest.TestCase):
@@ -88,6 +92,10 @@ class SessionFactsTests(unittest.TestCase):
         self.assertEqual(whole.states.items, long.states.items)
         self.assertEqual(whole.count().refused, long.count().refused)
 
+    def test_clock_is_measured(self) -> None:
+        words = next(each.seen for each in findings(made_of('slow-clock')) if each.kind == 'clock slower')
+        self.assertAlmostEqual(int(words.split(' ppm')[0].split()[-1]), 500, delta=10)
+
 
 class PageChecker(html.parser.HTMLParser):
     """Sees that what is opened is closed, and that nothing is fetched."""
@@ -151,6 +159,13 @@ class PicturePageTests(unittest.TestCase):
         self.checked(text)
         self.assertLess(MOST_OCTETS, 2_000_000)
 
+    def test_says_what_was_counted(self) -> None:
+        session = one_call(1.4, kind=13)
+        words = self.checked(draw(facts_of(session), 'e1gw'))
+        self.assertIn('43 of 43 packets were discarded as PayloadType: type 13 came, the circuit has 8', words)
+        self.assertIn('47 sent, 0 received, 43 discarded', words)      # 20 ms each, from 0.149 s to 1.1 s
+        self.assertIn('127.0.0.1:24106', words)
+
     def test_wrong_sources_are_those_of_their_call(self) -> None:
         """Of three calls on a circuit, each with its own source, a stranger sends into the second one."""
         session = MadeSession(4.0, {3: {'prefill': 320}})
@@ -158,7 +173,7 @@ class PicturePageTests(unittest.TestCase):
             session.call(3, begin, begin + 1, 0.1)
             session.senders.append(PictureSender(3, begin + 0.2, begin + 0.9, ssrc))
         session.senders.append(PictureSender(3, 1.75, 1.949, 0xBAD))
-        found = {each.kind: each.seen for each in findings(read_session(session.config(), b''.join(session.given())))}
+        found = {each.kind: each.seen for each in findings(facts_of(session))}
         # each 20 ms from 1.750 s on, up to 1.930 s, in steps of a multiframe
         self.assertRegex(found['source'], '^10 of .* packets were discarded as WrongSource: in the call whose first '
                          r'datagram had SSRC 0000000b, 00000bad came 10 times from 1\.75[02] s to 1\.93[02] s$')

@@ -12,9 +12,10 @@ from unittest import mock
 
 from . import support
 from e1gw import ctl_all, metrics
-from e1gw.events import (AlarmChanged, CallsCleared, CardAlarm, CardAlarmChanged, CircuitsDrained, Crc4Change,
-                         Crc4Changed, DrainNews, Event, LineChanged, RateChanged, RemoteAlarmChanged, SlotsChange,
-                         SlotsChanged)
+from e1gw.events import (AlarmChanged, Burst, CallsCleared, CardAlarm, CardAlarmChanged, CircuitsDrained, Connected,
+                         Crc4Change, Crc4Changed, Disconnected, DrainNews, Event, Fed, Flows, LineChanged, NotFed,
+                         RateChanged, RemoteAlarmChanged, RoleGiven, SatopChanged, Slip, SlotsChange, SlotsChanged,
+                         Stalled, TrunkLost, TrunkOpened, WatchEnded)
 from e1gw.faults import Parser, checked, named, number, options_words, words_of_fault, words_of_refusal
 from e1gw.lines import Alignment, Role, State
 from e1gw.session import CommandRefusal
@@ -224,8 +225,7 @@ class TrunkTextTests(unittest.TestCase):
 
 
 class EventTextTests(unittest.TestCase):
-    def test_words(self) -> None:
-        """Of those whose words depend on what has happened."""
+    def test_each(self) -> None:
         rows: list[tuple[Event, str]] = [
             (LineChanged(3, Role.OUTGOING, State.IDLE, State.SEIZED, 0), '3: seized, was idle'),
             (LineChanged(3, Role.OUTGOING, State.IDLE, State.SEIZED, 0, call='a'), '3: seized, was idle, call a'),
@@ -235,14 +235,24 @@ class EventTextTests(unittest.TestCase):
             (CallsCleared('it is dark', (1, 2)), 'calls cleared, it is dark: circuits 1, 2'),
             (CircuitsDrained(DrainNews.SEIZED, (1, 2)),
              'seized before they were blocked, and blocked once these calls have ended: circuits 1-2'),
+            (Stalled(1.0), 'no octets of the trunk for 1.0 s'), (Flows(2.5), 'octets again after 2.5 s'),
+            (Slip(0.5), 'slip: 0.5 s of the trunk were lost'),
+            (Burst(0.5), 'burst: 0.5 s of the trunk came too early'),
             (RateChanged(250.0), "rate: +250.0 ppm relative to this machine's clock"),
+            (WatchEnded('json', 'no room'), 'json ended, the calls go on: no room'),
+            (RoleGiven('active'), 'this machine is to be active'), (Fed('b', 'p'), 'fed by b, program p there'),
+            (NotFed('b', 'w'), 'not fed by b: w'),
             (CardAlarmChanged(CardAlarm.NOT_OPEN, True), 'card: NOT OPEN alarm: the span is not started: dahdi_cfg'),
             (CardAlarmChanged(CardAlarm.RED, False), 'card: RED alarm over'),
             (SlotsChanged(SlotsChange.MOVED, 3), 'slots moved by 3: slot 16 found again, speech goes on'),
+            (TrunkOpened('/dev/e1', {'waiting': 0}), 'trunk open: /dev/e1'), (TrunkLost('w'), 'trunk lost: w'),
+            (Connected('program'), 'connected to the program'),
+            (Disconnected('program', 'w'), 'no connection to the program: w'),
             (Crc4Changed(Crc4Change.GIVEN_UP, True, 2),
              'false frame alignment: 915 of 1000 submultiframes errored, 2 times'),
             (Crc4Changed(Crc4Change.LOST_AND_FOUND, True, 1), 'CRC multiframe alignment lost and found again'),
-            (Crc4Changed(Crc4Change.ERRORED, False, 0, 500), 'CRC-4 errors over: 0 of 500 submultiframes')]
+            (Crc4Changed(Crc4Change.ERRORED, False, 0, 500), 'CRC-4 errors over: 0 of 500 submultiframes'),
+            (SatopChanged('no packets', True), 'satop: no packets')]
         for event, words in rows:
             self.assertEqual(event.words(), words)
 
