@@ -50,6 +50,9 @@ class PagesTests(unittest.TestCase):
         self.assertEqual({*offered('trunk1')}, commands - {'undrain'} | {'calls', 'outages'})   # (of e1gw-ctl itself)
         self.assertEqual({word for word in commands if word in (control.__doc__ or '')}, commands)
 
+    def test_codecs(self) -> None:
+        self.assertEqual({*offered('trunk1', 'codec', '3')}, set(control.CODECS))
+
     def test_where_the_socket_of_a_name_is(self) -> None:
         self.assertEqual(ctl.path_of('trunk1'), '/run/e1gw/trunk1/control')
         self.assertIn(ctl.path_of('NAME'), page('e1gw-ctl.1'))
