@@ -10,11 +10,11 @@ import unittest
 from . import support
 from .picture_made import GATEWAY, PROGRESS, MadeSession, PictureSender, packets
 from .properties import PropertyCase
-from .test_picture_beginning import BEGIN, divided, keep, octets_in
-from e1gw.calls import FIELDS, CallLine, csv_line, moment, read_calls
+from .test_picture_beginning import BEGIN, RingCase
+from e1gw.calls import FIELDS, CallLine, csv_line, moment
 from e1gw.packets import datagrams
 from e1gw.session import OCTETS_A_SECOND, Command, Kind, records_in
-from e1gw.session_clock import Break, SessionClock
+from e1gw.session_clock import Break, FileNote, SessionClock, breaks_of
 from e1gw.tools.call import EndedCall, begin_of
 
 COMMAND = os.path.join(support.TOP, 'tools', 'call')
@@ -25,25 +25,18 @@ COMMANDS = {3: [('seize', 'done'), ('block', 'wrong role'), ('clear', 'done')],
             4: [('seize', 'done'), ('clear', 'done')]}
 
 
-class RingCallTests(support.FolderCase):
+class RingCallTests(RingCase):
     """Circuit 3 is in a call from 1.1 to 4.8 s, circuit 4 from 5.6 to 7.3, in a ring of four files of two seconds."""
 
     def setUp(self) -> None:
         super().setUp()
-        chance = support.chance_of(self)
-        noise = chance.randbytes(16_000)
+        noise = support.chance_of(self).randbytes(16_000)
         made = MadeSession(9.0, {3: {'prefill': 320}, 4: {'prefill': 320}}, speech=noise)
         made.call(3, 1.1, 4.8)
         made.call(4, 5.6, 7.3)
         made.events.append((2.0, 'command', 3, Command.BLOCK))
-        made.plus(PictureSender(3, 1.25, 4.7, jitter=0.03, payloads=packets(noise)), PictureSender(4, 5.8, 7.2))
-        self.config, self.ring = self.write('west.toml', made.config()), self.path('ring')
-        self.records = [*divided(made.given(), chance)]
-        pieces, place = [list[bytes]() for _ in range(4)], 0
-        for record in self.records:
-            pieces[min(3, place // (2 * OCTETS_A_SECOND))].append(record)
-            place += octets_in([record])
-        keep(self.ring, pieces, self.config, 2.0)
+        self.keep(made.plus(PictureSender(3, 1.25, 4.7, jitter=0.03, payloads=packets(noise)),
+                            PictureSender(4, 5.8, 7.2)), 2.0)
         lines = [('west', n, 'outgoing', *(moment(BEGIN + each) for each in times), 'gateway', 'pcma', 1, 2, 0, 0,
                   f'1f-{n}-1') for n, *times in ((3, 1.12, 1.7, 4.83), (4, 5.6, 6.2, 7.4))]
         self.write('ring/calls.csv', ''.join(f'{csv_line(line)}\n' for line in (FIELDS, *lines)))
@@ -110,7 +103,6 @@ class RingCallTests(support.FolderCase):
             self.assertIn(said, self.taken(name, 1))
             self.assertFalse(os.path.exists(self.path('out')))
 
-
     def test_another_configuration(self) -> None:
         """That of another circuit does not matter, that of this one does."""
         for circuit, status in (7, 0), (4, 1):
@@ -118,16 +110,6 @@ class RingCallTests(support.FolderCase):
                                                          circuit: {'prefill': 480}}))
             said = self.taken('1f-4-1', status)
             self.assertRegex(said, 'circuit 4 begins as new.*--config names' if status else '^$')
-
-
-class CallLineTests(support.FolderCase):
-    def test_the_last_ones_first(self) -> None:
-        rows = [f'west,3,outgoing,,,2027-01-15T08:00:00.000Z,gateway,pcma,1,2,0,0,1f-3-{n}\n' for n in range(4)]
-        head = ','.join(FIELDS) + '\n'
-        self.write('calls.csv.1', head + ''.join(rows[:2]))
-        path = self.write('calls.csv', head + ''.join(rows[2:]) + rows[0][:-2])
-        self.assertEqual([each.call for each in read_calls(path)], ['1f-3-3', '1f-3-2', '1f-3-1', '1f-3-0'])
-        self.assertEqual([each.call for each in read_calls(path, '1f-3-1')], ['1f-3-1'])
 
 
 class EndedCallTests(unittest.TestCase):
@@ -150,7 +132,12 @@ class EndedCallTests(unittest.TestCase):
             self.assertEqual(found, begin and begin * second, first)
 
 
-class PlaceOfTimeTests(PropertyCase):
+class SessionTimeTests(PropertyCase):
+    def test_a_boot_between_two_files(self) -> None:
+        """Their clocks do not compare: the outage is by the time of the day."""
+        (found,) = breaks_of([FileNote(0, 1.8e9, 100.0, ()), FileNote(OCTETS_A_SECOND, 1.8e9 + 63.0, 30.0, ())])
+        self.assertEqual((found.place, found.is_outage, round(found.lost, 6)), (OCTETS_A_SECOND, True, 62.0))
+
     def test_a_place_and_its_time(self) -> None:
         """Of each place the time leads back to it, and the time of an outage to its end."""
         st = self.st
@@ -167,7 +154,3 @@ class PlaceOfTimeTests(PropertyCase):
         self.holds(check, st.sampled_from((0.0, 1_800_000_000.0)),
                    st.lists(st.tuples(st.integers(1, 10**7), st.integers(1, 100).map(float)), max_size=4),
                    st.integers(0, 10**8))
-
-
-if __name__ == '__main__':
-    unittest.main()

@@ -27,25 +27,20 @@ class ConfigTests(support.FolderCase):
         self.assertEqual((status, len(listed.splitlines()), said), (0, 30, ''))
         return tomllib.loads(support.text_of(self.path(name)))
 
-    def test_without_values(self) -> None:
-        """The second circuit is on ports of its own: the next even ones (RFC 3550, 11)."""
-        status, text, said = self.made()
-        table = tomllib.loads(text)
-        found = status, said, table['law'], table['host'], len(table['circuit'])
-        self.assertEqual(found, (0, '', 'A', '127.0.0.1', 30))
-        self.assertEqual(table['circuit'][1], {
-            'number': 2, 'role': 'outgoing', 'codec': 'pcma', 'ptime': 20, 'prefill': 320, 'local_port': 24004,
-            'peer_host': '127.0.0.1', 'peer_port': 34004})
-
     def test_thirty_circuits_of_each_codec(self) -> None:
-        for words, codec, payload in ((['--law', 'mu'], 'pcmu', None), (['--codec', 'g726-32'], 'g726-32', 96),
-                                      (['--codec', 'g726-16', '--payload', '101'], 'g726-16', 101)):
+        """The second one is on ports of its own: the next even ones (RFC 3550, 11)."""
+        for words, law, codec, payload in (('', 'A', 'pcma', None), ('--law mu', 'mu', 'pcmu', None),
+                                           ('--codec g726-32', 'A', 'g726-32', 96),
+                                           ('--codec g726-16 --payload 101', 'A', 'g726-16', 101)):
             with self.subTest(words=words):
-                self.assertEqual(self.made('--write', 'one', '--over', *words)[0], 0)
-                table = self.table('one.toml')
-                self.assertEqual({(each['codec'], each.get('payload'), each['prefill']) for each in table['circuit']},
-                                 {(codec, payload, 320)})
+                self.assertEqual(self.made('--write', 'one', '--over', *words.split())[0], 0)
+                table, kind = self.table('one.toml'), {'payload': payload} if payload else {}
+                self.assertEqual((table['law'], table['host']), (law, '127.0.0.1'))
+                self.assertEqual(table['circuit'][1], kind | {
+                    'number': 2, 'role': 'outgoing', 'codec': codec, 'ptime': 20, 'prefill': 320, 'local_port': 24004,
+                    'peer_host': '127.0.0.1', 'peer_port': 34004})
                 self.assertEqual([each['number'] for each in table['circuit']], list(range(1, 31)))
+        self.assertEqual(tomllib.loads(self.made()[1])['law'], 'A')
 
     def test_both_ends_of_a_tie(self) -> None:
         """On each circuit one end seizes, and each sends to the port of the other."""

@@ -94,7 +94,7 @@ class CtlAnswerTests(support.FolderCase):
         trunk = StandInTrunk(self.path(f'run/{name}/control'), {
             'seize 1': 'seize 1: done\n\n', 'seize 2': 'seize 2: not idle\n\n', 'status': f'trunk {name}\nrows\n\n',
             'status 40': 'status 40: circuits are 1 to 30\n\n', 'status x': 'x: help\n\n',
-            'reload': 'a\nreload: done\n\n', 'reload force': 'reload: d',
+            'reload': 'a\nreload: done\n\n', 'reload force': 'reload: d', 'undrain 3': 'undrain 3: done\n\n',
             'events': 'events: done\n\n{"event": 1}\n{"event": 2}\n'})
         self.addCleanup(trunk.listener.close)
         return trunk
@@ -108,18 +108,21 @@ class CtlAnswerTests(support.FolderCase):
         return ended.exception.code, self.told.getvalue().splitlines(), err.getvalue()
 
     def test_one_trunk(self) -> None:
-        """0 where all was done, 1 where something was refused or not answered; questions are done once answered."""
+        """0 where all was done, 1 where something was refused or not answered; questions are done once answered. Half
+        an answer is one. What answers `unblock` names it, not the command that it is made into; and vice versa."""
         for words, status, told in (
                 ('seize 1', 0, ['seize 1: done']), ('seize 2', 1, ['seize 2: not idle']),
                 ('seize 1-2', 1, ['seize 1: done', 'seize 2: not idle']), ('status', 0, ['trunk west', 'rows']),
                 ('status 40', 1, ['status 40: circuits are 1 to 30']), ('status x', 1, ['x: help']),
-                ('reload', 0, ['a', 'reload: done'])):
+                ('reload', 0, ['a', 'reload: done']), ('reload force', 1, ['reload: d']),
+                ('events', 0, ['{"event": 1}', '{"event": 2}']), ('unblock 3', 0, ['unblock 3: done'])):
             with self.subTest(words):
                 self.assertEqual(self.ctl('west', *words.split()), (status, told, ''))
                 self.assertEqual(self.ctl(self.path('run/west/control'), *words.split())[:2], (status, told))
         self.assertEqual(self.ctl('west', given='seize 1\n\n  seize 2 \nstatus\n'),
                          (1, ['seize 1: done', 'seize 2: not idle', 'trunk west', 'rows'], ''))
-        self.assertEqual(self.ctl('west', given='seize 1\n')[0], 0)
+        self.assertEqual(self.ctl('west', given='undrain 3\nunblock 3\n'),
+                         (0, ['undrain 3: done', 'unblock 3: done'], ''))
         self.assertEqual(self.ctl('west', 'none'), (1, [], 'e1gw-ctl: the trunk has ended\n'))
 
     def test_a_trunk_that_is_not_in_service(self) -> None:
@@ -133,21 +136,12 @@ class CtlAnswerTests(support.FolderCase):
 
     def test_told_at_once(self) -> None:
         """Each answer can be read before the next one is waited for."""
-        self.ctl('west', 'seize', '1-2')
-        self.assertEqual(self.told.lines, [1, 2, 2])
-        self.ctl('west', 'events')
-        self.assertEqual(self.told.lines, [1, 2, 2])
-        del self.trunks['east'].answers['seize 1']
-        self.ctl('--all', 'seize', '1')
-        self.assertEqual(self.told.lines, [1, 2, 2])
         self.trunks['west'].answers['status json'] = json.dumps(STATUS) + '\n\n'
-        self.ctl()
-        self.assertEqual(self.told.lines, [2, 3, 3])
-
-    def test_until_the_trunk_ends(self) -> None:
-        """Events are printed as they come; half an answer is one."""
-        self.assertEqual(self.ctl('west', 'events'), (0, ['{"event": 1}', '{"event": 2}'], ''))
-        self.assertEqual(self.ctl('west', 'reload', 'force'), (1, ['reload: d'], ''))
+        del self.trunks['east'].answers['seize 1']
+        for words, lines in (('west seize 1-2', [1, 2, 2]), ('west events', [1, 2, 2]), ('--all seize 1', [1, 2, 2]),
+                             ('', [2, 3, 3])):
+            self.ctl(*words.split())
+            self.assertEqual(self.told.lines, lines, words)
 
     def test_all_trunks(self) -> None:
         self.assertEqual(self.ctl('--all', 'seize', '1'), (0, ['east: seize 1: done', 'west: seize 1: done'], ''))
@@ -169,12 +163,14 @@ class CtlAnswerTests(support.FolderCase):
                     waiting.enter_context(ctl_all.connected(self.path('full'), 0.05))
 
     def test_calls(self) -> None:
-        """Those that have ended, of a file, and then those that go on; as many as are asked for."""
+        """Those that have ended, of a file and the one before it, whose last line may be torn, and then those that go
+        on; as many as are asked for."""
         ended = [CallLine('west', str(n % 2 + 1), 'outgoing', f'2027-01-15T08:{n:02}:00.000Z', '',
                           f'2027-01-15T08:{n:02}:30.500Z', 'gateway', 'pcma', '1', '2', '3', '4', f'1f-{n % 2 + 1}-{n}')
                  for n in range(30)]
         going = ended[0]._replace(seized='2027-01-15T09:00:00.000Z', ended='', by='', call='1f-1-99')
-        self.write('calls.csv', ''.join(f'{csv_line(line)}\n' for line in (FIELDS, *ended)))
+        for name, lines in ('calls.csv.1', ended[:15]), ('calls.csv', ended[15:]):
+            self.write(name, ''.join(f'{csv_line(line)}\n' for line in (FIELDS, *lines)) + csv_line(ended[0])[:-2])
         self.trunks['west'].answers['status json'] = json.dumps(
             {'calls': [going._asdict()], 'calls_file': self.path('calls.csv')}) + '\n\n'
         for words, numbers in (('', range(10, 30)), ('--last 2', (28, 29)), ('--circuit 2 --last 2', (27, 29)),
@@ -232,12 +228,6 @@ class CtlAnswerTests(support.FolderCase):
             1, ['east: drain 1-30: the other machine is to carry the trunk', 'west: no call is left', last]))
         for words in ('status', 'drain 7'), ('unblock', '7'):
             self.assertEqual(self.ctl('west', *words, '--within', '3')[0], 2)
-
-    def test_words_that_were_given(self) -> None:
-        """What answers `unblock` names it, and no command that it is made into; nor the other way round."""
-        self.trunks['west'].answers['undrain 3'] = 'undrain 3: done\n\n'
-        self.assertEqual(self.ctl('west', 'unblock', '3')[:2], (0, ['unblock 3: done']))
-        self.assertEqual(self.ctl('west', given='undrain 3\nunblock 3\n')[1], ['undrain 3: done', 'unblock 3: done'])
 
     def test_outages(self) -> None:
         """Of the file of a trunk; as text, as CSV, and as a page."""

@@ -1,12 +1,10 @@
 """examples/exchange: what is typed there."""
 from __future__ import annotations
 
-import contextlib
 import os
 import socket
 import sys
 from subprocess import PIPE, Popen
-from typing import Iterator
 
 from . import support
 from .support import SECONDS
@@ -16,38 +14,24 @@ EXCHANGE = [sys.executable, '-B', os.path.join(support.TOP, 'examples', 'exchang
 
 
 class TypedCommandTests(support.FolderCase):
-    @contextlib.contextmanager
-    def exchange(self, *words: str) -> Iterator[Popen[bytes]]:
-        """One that waits at a socket of the folder."""
-        with Popen([*EXCHANGE, *words, self.path('card')], stdin=PIPE, stdout=PIPE) as exchange:
-            try:
-                yield exchange
-            finally:
-                exchange.kill()
-
     def test_lines_that_come_at_once(self) -> None:
         """Two lines and the half of a third one, then its rest: each circuit is seized. The multiframes that it sends
-        have the pairs ab of circuits n and n + 15 in slot 16 of frame n (ITU-T G.704)."""
-        with self.exchange() as exchange:
-            assert exchange.stdin and exchange.stdout
-            with connected(self.path('card')) as line:
-                self.assertEqual(pairs(line), {n: IDLE for n in range(1, 16)})
-                os.write(exchange.stdin.fileno(), b'seize 3\nseize 7\nhello\nsei')
-                self.until_seized(line, {3, 7})
-                os.write(exchange.stdin.fileno(), b'ze 9\nclear 3\n')
-                self.until_seized(line, {7, 9})
-            exchange.stdin.close()
-            self.assertEqual(exchange.stdout.read(), b'there are seize N and clear N\n')
-
-    def test_another_trunk(self) -> None:
-        """With --again the next one finds it at the same socket, with all circuits idle."""
-        with self.exchange('--again') as exchange:
-            assert exchange.stdin
-            with connected(self.path('card')) as line:
-                os.write(exchange.stdin.fileno(), b'seize 3\n')
-                self.until_seized(line, {3})
-            with connected(self.path('card')) as line:
-                self.assertEqual(pairs(line), {n: IDLE for n in range(1, 16)})
+        have the pairs ab of circuits n and n + 15 in slot 16 of frame n (ITU-T G.704). With --again the next trunk
+        finds it at the same socket, with all circuits idle."""
+        idle = dict.fromkeys(range(1, 16), IDLE)
+        exchange = Popen([*EXCHANGE, '--again', self.path('card')], stdin=PIPE, stdout=PIPE)
+        self.addCleanup(exchange.communicate)
+        self.addCleanup(exchange.kill)
+        assert exchange.stdin and exchange.stdout
+        with connected(self.path('card')) as line:
+            self.assertEqual(pairs(line), idle)
+            os.write(exchange.stdin.fileno(), b'seize 3\nseize 7\nhello\nsei')
+            self.until_seized(line, {3, 7})
+            os.write(exchange.stdin.fileno(), b'ze 9\nclear 3\n')
+            self.until_seized(line, {7, 9})
+            self.assertEqual(exchange.stdout.readline(), b'there are seize N and clear N\n')
+        with connected(self.path('card')) as line:
+            self.assertEqual(pairs(line), idle)
 
     def test_a_socket_that_is_there(self) -> None:
         """What is in the way is named, with what takes it away."""

@@ -2,22 +2,18 @@
 among clients."""
 from __future__ import annotations
 
-import asyncio
 import contextlib
 import json
 import os
 import socket
 import unittest
 from typing import Any
-from unittest import mock
 
 from . import support
 from .test_trunk import FOUR, aligned, call
 from .world import World, config_of
 from e1gw.exchange import SEIZED
-from e1gw.metrics import table
-from e1gw.service import connection
-from e1gw.session import MULTIFRAME, Command, Kind, command_record, encode_record
+from e1gw.session import MULTIFRAME
 
 
 class OperatorTests(unittest.TestCase):
@@ -68,8 +64,6 @@ class OperatorTests(unittest.TestCase):
         while (said := world.ask('seize 2')) == 'seize 2: the trunk is stalled':
             world.give(bytes(octets))
         self.assertEqual(said, 'seize 2: the other end has no alignment')
-        lost = table(world.told() | {'program': False, 'program_since': 0.0})
-        self.assertIn('no connection to the program since 00:00:00 UTC; the other end: not heard', lost)
 
     def test_calls_that_are_cleared(self) -> None:
         """When the last client that has asked for it is gone, or says nothing any more, and in the dark."""
@@ -128,40 +122,3 @@ def heard(line: socket.socket, words: bytes) -> bytes:
         told += (piece := line.recv(65536))
         assert piece, told
     return told
-
-
-class ConnectionTests(support.FolderCase, unittest.IsolatedAsyncioTestCase):
-    async def test_a_program_that_talks_nonsense_or_goes(self) -> None:
-        """Who has asked learns it, and no other program is given the record. The next one is waited for."""
-        stands, given = list[tuple[Any, ...]](), list[bytes]()
-        good, bad = (encode_record(Kind.ANSWER, 1, bytes([Kind.COMMAND, code])) for code in (0, 99))
-        answers = iter((bad, b'', good, b''))
-
-        async def came(reader: asyncio.StreamReader, writer: asyncio.StreamWriter) -> None:
-            with contextlib.suppress(asyncio.IncompleteReadError):
-                answer = good
-                while answer:
-                    given.append(await reader.readexactly(5))
-                    writer.write(answer := next(answers))
-            writer.close()
-
-        async def asked(record: bytes) -> str:
-            """How it is answered."""
-            try:
-                return f'refused: {(await its.ask(record, lambda: None)).refusal}'
-            except connection.NoAnswer as lost:
-                return str(lost)
-        server = await asyncio.start_unix_server(came, self.path('program'))
-        its = connection.ProgramConnection(lambda: self.path('program'), lambda *how: stands.append(how), lambda: None,
-                                           lambda: '')
-        runs, records = asyncio.create_task(its.run()), [command_record(n, Command.SEIZE) for n in (1, 2, 3, 4)]
-        lost = 'no answer, the connection to the program is lost'
-        self.assertEqual([await asked(record) for record in records[:3]], [lost, lost, 'refused: None'])
-        server.close()
-        self.assertEqual(await asked(records[3]), lost)
-        with mock.patch.object(connection, 'NEXT', 0.0):
-            self.assertEqual(await asked(records[0]), 'no connection to the program')
-        runs.cancel()
-        self.assertEqual(given, records)
-        self.assertEqual([on for _, on, _ in stands], [True, False] * 3)
-        self.assertIn('it sent an unexpected record', stands[1][2])

@@ -80,9 +80,7 @@ class CompletionTests(unittest.TestCase):
                             ('e1gw-trunk --senders ', 'any host peer'), ('e1gw-trunk --satop-f', '--satop-fill'),
                             ('e1gw-config --role o', 'odd outgoing'), ('e1gw-picture --la', '--last'),
                             ('e1gw-ctl ./west cl', 'clear clear-back'), ('e1gw-ctl --all se', 'seize'),
-                            ('e1gw-ctl ./west status j', 'json'), ('e1gw-ctl ./west seize 2', ' '.join(
-                                ['2', *map(str, range(20, 30))])), ('e1gw-ctl ./west codec 3 g726-1', 'g726-16'),
-                            ('e1gw-ctl ./west on-loss ', 'block clear keep')):
+                            ('e1gw-ctl ./west codec 3 g726-1', 'g726-16')):
             with self.subTest(line):
                 self.assertEqual(self.offered(line), (sorted(words.split()), ''))
 

@@ -2,15 +2,10 @@
 from __future__ import annotations
 
 import html.parser
-import os
 import random
 import re
-import subprocess
-import sys
 import unittest
 from unittest import mock
-
-from .support import TOP
 
 from .picture_made import MadeSession, PictureSender, made_of, one_call, read_session, recorded, rtp
 
@@ -23,8 +18,8 @@ from e1gw.session_clock import Break
 from e1gw.session import OCTETS_A_SECOND, Codec, Kind, codec_record, records_in, trunk_record
 
 
-def facts_of(session: MadeSession, last: int | None = None) -> Facts:
-    return read_session(session.config(), b''.join(session.given()), last)
+def facts_of(session: MadeSession) -> Facts:
+    return read_session(session.config(), b''.join(session.given()))
 
 
 class FactsTests(unittest.TestCase):
@@ -54,12 +49,6 @@ class FactsTests(unittest.TestCase):
             with self.subTest(came=came):
                 self.assertEqual((row.cell.lost, row.cell.counts['repetitions'], row.cell.discarded()),
                                  (lost, repeated, refused))
-
-    def test_last_part_alone(self) -> None:
-        """The session ends 0.3 s behind the last datagram, so 0.7 s of datagrams are shown, 50 a second."""
-        facts = facts_of(one_call(3), OCTETS_A_SECOND)
-        self.assertEqual(facts.place - facts.start, OCTETS_A_SECOND)
-        self.assertAlmostEqual(facts.rows[3].count().admitted, 35, delta=2)
 
     def test_columns_are_few_and_lose_nothing(self) -> None:
         facts = Facts()
@@ -106,14 +95,6 @@ class SessionFactsTests(unittest.TestCase):
     def test_clock_is_measured(self) -> None:
         words = next(each.seen for each in findings(made_of('slow-clock')) if each.kind == 'clock slower')
         self.assertAlmostEqual(int(words.split(' ppm')[0].split()[-1]), 500, delta=10)
-
-
-class PicturePackageTests(unittest.TestCase):
-    def test_nothing_of_the_service_is_loaded(self) -> None:
-        code = 'import sys, e1gw.picture.main; print(*(name for name in sys.modules if name.startswith("e1gw.")))'
-        loaded = subprocess.run([sys.executable, '-B', '-c', code], cwd=os.path.join(TOP, 'driver'), check=True,
-                                stdout=subprocess.PIPE, text=True).stdout.split()
-        self.assertEqual([name for name in loaded if name.split('.')[1] in ('service', 'tie', 'testing')], [])
 
 
 class PageChecker(html.parser.HTMLParser):

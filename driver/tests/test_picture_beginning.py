@@ -36,42 +36,42 @@ def octets_in(records: list[bytes]) -> int:
     return sum(len(record) - 4 for record in records if record[0] == Kind.TRUNK)
 
 
-def keep(folder: str, pieces: list[list[bytes]], config: str, each: float) -> None:
-    """Keeps pieces of a session in a folder, each with the state in which it begins, so many seconds apart."""
-    ring, state, place = Ring(folder, 'west', 60), b'', 0
-    ring.zstd = None
-    for number, records in enumerate(pieces):
-        front, octets = ring.next(place), b''.join(records)
-        about = {'config': config, 'time': BEGIN + each * number, 'monotonic': each * number, 'place': place,
-                 'begins': 'middle' if state else 'start'}
-        ring.begin(front, about, state)
-        with open(f'{front}.e1gw', 'wb') as file:
-            file.write(octets)
-        load = ['--load', f'{front}.state'] if state else []
-        support.run('replay', '--config', config, *load, '--save', f'{folder}.last', given=octets)
-        state = support.octets_of(f'{folder}.last')
-        place += octets_in(records)
-    ring.close()
+class RingCase(support.FolderCase):
+    """Tests of a session that is kept in a ring."""
+
+    def keep(self, made: MadeSession, each: float) -> None:
+        """Keeps a session in four files of so many seconds, each with the state in which it begins."""
+        self.program, self.ring = support.program(), self.path('ring')
+        self.config = self.write('west.toml', made.config())
+        self.records = [*divided(made.given(), support.chance_of(self))]
+        pieces, place = [list[bytes]() for _ in range(4)], 0
+        for record in self.records:
+            pieces[min(3, int(place / OCTETS_A_SECOND / each))].append(record)
+            place += octets_in([record])
+        self.places = [sum(map(octets_in, pieces[:n])) for n in range(4)]
+        ring, state, saved = Ring(self.ring, 'west', 60), b'', self.path('saved')
+        ring.zstd = None
+        for number, (records, place) in enumerate(zip(pieces, self.places)):
+            front = ring.next(place)
+            load = ['--load', f'{front}.state'] if state else []
+            ring.begin(front, {'config': self.config, 'time': BEGIN + each * number, 'monotonic': each * number,
+                               'place': place, 'begins': 'middle' if state else 'start'}, state)
+            self.write(f'{front}.e1gw', octets := b''.join(records))
+            support.run('replay', '--config', self.config, *load, '--save', saved, given=octets)
+            state = support.octets_of(saved)
+        ring.close()
 
 
-class MidCallPictureTests(support.FolderCase):
+class MidCallPictureTests(RingCase):
     """What is drawn of a piece that begins in a call."""
 
     def setUp(self) -> None:
         super().setUp()
-        self.program, self.ring = support.program(), self.path('ring')
         made = MadeSession(4.0, {3: {'prefill': 320}, 4: {'prefill': 320, 'codec': 'g726-32', 'payload': 96}})
         made.call(3, 0.1, 3.8)
         made.call(4, 3.2, 3.7, 0.1)
         made.speech = coded('A')
-        made.senders.append(PictureSender(3, 0.25, 3.8, payloads=packets(coded('A'))))
-        self.text, self.rng = made.config(), random.Random(1)
-        self.config = self.write('trunk.toml', self.text)
-        self.records = list(divided(made.given(), self.rng))
-        whole = len(self.records)
-        pieces = [self.records[whole * n // 4:whole * (n + 1) // 4] for n in range(4)]
-        keep(self.ring, pieces, self.config, 5.0)
-        self.places = [octets_in(self.records[:whole * n // 4]) for n in range(4)]
+        self.keep(made.plus(PictureSender(3, 0.25, 3.8, payloads=packets(coded('A')))), 1.0)
 
     def files(self, ending: str) -> list[str]:
         return sorted(os.path.join(self.ring, name) for name in os.listdir(self.ring) if name.endswith(ending))
@@ -86,10 +86,11 @@ class MidCallPictureTests(support.FolderCase):
         return facts
 
     def test_a_call_that_was_up(self) -> None:
+        """Each piece has the states and the counts that the whole session has from there on, up to its end."""
         whole = self.facts(self.write('whole.rec', b''.join(self.records)))
-        for number, path in enumerate(self.files('.e1gw')[1:], 1):
-            place = self.places[number]
-            part, before = self.facts(path), place - place % 512
+        parts = [self.facts(path) for path in self.files('.e1gw')]
+        for part, place in [*zip(parts, self.places)][1:]:
+            before = place - place % 512
             row, same = part.rows[3], whole.rows[3]
             self.assertEqual(part.under_way, [3])
             end = part.place + before
@@ -98,18 +99,12 @@ class MidCallPictureTests(support.FolderCase):
                              [(first + before, last + before, state) for first, last, state in shown])
             self.assertFalse([on for spans in part.alarms.values() for _, _, on in spans.between(0, part.place) if on])
             self.assertEqual(row.count().refused, {})
-
-    def test_the_last_piece(self) -> None:
-        part, session = self.facts(self.files('.e1gw')[-1]), self.records[len(self.records) * 3 // 4:]
-        given = b''.join(session)
-        state = self.files('.state')[-1]
-        listed = support.run('check', '--config', self.config, '--load', state).split(b'\n')[2].split()
-        after = support.run('check', '--config', self.config, '--load', state, given=given).split(b'\n')[2].split()
-        count = part.rows[3].count()
-        self.assertEqual([count.sent, count.admitted], [int(after[n]) - int(listed[n]) for n in (5, 6)])
-        self.assertGreater(count.admitted, 20)
-        self.assertGreater(count.heard['came'].own + count.heard['slot'].own, 0)    # speech, in the law of the trunk
-        self.assertEqual(part.rows[4].count().counts, {'calls': 1, 'answers': 1})
+        counts = [each.rows[3].count() for each in parts]
+        self.assertEqual([sum(each.sent for each in counts), sum(each.admitted for each in counts)],
+                         [whole.rows[3].count().sent, whole.rows[3].count().admitted])
+        self.assertGreater(counts[3].admitted, 20)
+        self.assertGreater(counts[3].heard['came'].own + counts[3].heard['slot'].own, 0)    # in the law of the trunk
+        self.assertEqual(parts[3].rows[4].count().counts, {'calls': 1, 'answers': 1})
 
     def test_the_last_part_of_a_folder(self) -> None:
         """It begins with the last piece that is far enough from the end."""
@@ -137,7 +132,7 @@ class MidCallPictureTests(support.FolderCase):
         notes = re.compile('<p><b>.*?</b></p>')
         today = notes.sub('', page)
         self.assertIn('NotOpen', today)
-        other = self.write('other.toml', self.text.replace('320', '321'))
+        other = self.write('other.toml', support.text_of(self.config).replace('320', '321'))
         for broken, config, told in ((octets[:-1], self.config, 'state 4 Sum at 0'),
                                      (b'', self.config, 'state 1 Short at 0'),
                                      (octets, other, 'circuit 4 begins as new')):

@@ -112,19 +112,17 @@ class PictureCommandTests(FolderCase):
         page, said = page_of(folder)
         self.assertEqual((said, '20 received, 0 discarded' in page), ('', True))
 
-    def ring_of_two(self, second: dict[str, object], **first: object) -> str:
-        """A ring whose second file begins 0.6 s of the trunk behind the first one: its folder."""
+    def test_an_outage_between_two_files(self) -> None:
+        """The trunk was away for 62 s, behind 0.6 s of it: each file has its own time, and a grey gap is where no
+        octets came."""
         parts, place = ([], []), 0                              # type: tuple[list[bytes], list[bytes]], int
         for record in self.records:
             parts[place >= 153_600].append(record)
             place += (len(record) - 4) * (record[0] == Kind.TRUNK)
-        return self.kept(('20231114T221320Z', b''.join(parts[0]), {'place': 7000, **first}),
-                         ('20231114T221321Z', b''.join(parts[1]), {**first, 'place': 160_600, 'begins': 'middle',
-                                                                   **second}))
-
-    def test_an_outage_between_two_files(self) -> None:
-        """The trunk was away for 62 s: each file has its own time, and a grey gap is where no octets came."""
-        page, said = page_of(self.ring_of_two({'time': BEGIN + 62.6, 'monotonic': 162.6}, monotonic=100.0))
+        page, said = page_of(self.kept(
+            ('20231114T221320Z', b''.join(parts[0]), {'place': 7000, 'monotonic': 100.0}),
+            ('20231114T221321Z', b''.join(parts[1]), {'place': 160_600, 'time': BEGIN + 62.6, 'monotonic': 162.6,
+                                                      'begins': 'middle'})))
         self.assertEqual(said, '')
         for words in ('<b>the trunk</b>no octets of the trunk came from 22:13:20.600 to 22:14:22.600 (62.00 s)',
                       '<td>22:13:20.050</td><td>seize</td>', '<td>22:14:23.000</td><td>clear</td>',
@@ -140,25 +138,6 @@ class PictureCommandTests(FolderCase):
         places = [float(x) for x in re.findall(r'<path d="M([\d.]+) [\d.]+l4 -6h-8z" class="c-done">', page)]
         self.assertEqual([x < 459.3 for x in places], [True, False])
         self.assertGreater(places[1], 459.3 + 333.3)
-
-    def test_outages(self) -> None:
-        """None where the second file was begun a tenth of a second late, or the clock was set by an hour, or slips
-        explain it. One with a boot in it, and one that is noted within a file, 0.25 s of the trunk behind its begin."""
-        cases: list[tuple[dict[str, object], dict[str, object], str, str]] = [
-            ({'time': BEGIN + 0.7}, {}, '', '22:13:21.100'),
-            ({'time': BEGIN + 3600.6, 'monotonic': 100.6}, {'monotonic': 100.0}, '', '23:13:21.000'),
-            ({'time': BEGIN - 3599.4, 'monotonic': 100.6}, {'monotonic': 100.0}, '', '21:13:21.000'),
-            ({'time': BEGIN + 2.6}, {'slips': [[50_000, 0.9], [60_000, 0.9]]}, '', '22:13:23.000'),
-            ({'time': BEGIN + 62.6, 'monotonic': 30.0}, {'monotonic': 100.0},
-             '22:13:20.600 to 22:14:22.600 (62.00 s)', '22:14:23.000'),
-            ({'time': BEGIN + 0.6, 'slips': [[224_600, 90.0]]}, {}, '22:13:20.850 to 22:14:50.850 (90.00 s)',
-             '22:14:51.000')]
-        for second, first, outage, clear in cases:
-            with self.subTest(second=second, first=first):
-                page, _ = page_of(self.ring_of_two(second, **first))
-                self.assertIn(f'<td>{clear}</td><td>clear</td>', page)
-                self.assertEqual(re.findall(r'no octets of the trunk came from ([^<]*)', page), [outage] * bool(outage))
-                self.assertEqual('class="outage"' in page, bool(outage))
 
     def test_a_long_session_says_how_far_it_is_read(self) -> None:
         """After two seconds: on a terminal each second, and the last line is taken away; elsewhere once. By a clock of

@@ -46,11 +46,7 @@ class LevelTests(unittest.TestCase):
         # The first values of the second segment and of the eighth.
         self.assertEqual([VALUES['A'][octet ^ 0x55] for octet in (0x90, 0xF0)], [33, 2112])
         self.assertEqual([VALUES['mu'][octet] for octet in (0xEF, 0x8F)], [33, 4191])
-
-    def test_each_value_once(self) -> None:
-        self.assertEqual([len(set(VALUES[law])) for law in LAWS], [256, 255])
-        for law in LAWS:
-            self.assertEqual(sum(VALUES[law]), 0)
+        self.assertEqual([(len({*VALUES[law]}), sum(VALUES[law])) for law in LAWS], [(256, 0), (255, 0)])
 
     def test_levels(self) -> None:
         for law, most, load in (('A', 4096, 3.14), ('mu', 8159, 3.17)):
@@ -89,9 +85,8 @@ class LawTests(FolderCase):
                     self.assertEqual(heard(tone(law, hertz, loud), law).other, 0, (law, hertz, loud))
 
     def test_few_looks_claim_nothing(self) -> None:
-        self.assertFalse(HeardSamples(4, other=4).is_other())
-        self.assertTrue(HeardSamples(9, other=9, own=1).is_other())
-        self.assertFalse(HeardSamples(9, other=8, own=1).is_other())
+        for looks, is_other in ((4, 4, 0), False), ((9, 9, 1), True), ((9, 8, 1), False):
+            self.assertIs(HeardSamples(looks[0], other=looks[1], own=looks[2]).is_other(), is_other)
 
     def test_levels_of_the_page_are_those_of_the_session(self) -> None:
         for name in ('other-law', 'other-law-trunk'):
@@ -155,16 +150,14 @@ class WordOrderTests(unittest.TestCase):
 
 
 class ListeningTimesTests(unittest.TestCase):
-    """When it is looked."""
-
-    def test_often_at_first(self) -> None:
-        turns = ListeningTimes()
-        looks = [place for place in range(0, 90 * 256_000, 512) if turns.come(place, math.inf)]
-        self.assertAlmostEqual((looks[1] - looks[0]) / EACH, 1, delta=0.01)
-        self.assertAlmostEqual((looks[-1] - looks[-2]) / EACH, 32, delta=0.1)
-        self.assertEqual(len(looks), 41)
-
-    def test_never_too_far_apart(self) -> None:
-        turns = ListeningTimes()
-        looks = [place for place in range(0, 60 * 256_000, 512) if turns.come(place, 256_000)]
-        self.assertLessEqual(max(b - a for a, b in zip(looks, looks[1:])), 256_000)
+    def test_when_it_is_looked(self) -> None:
+        """Often at first, ever more seldom then, and never further apart than is asked for."""
+        for most, seconds in (math.inf, 90), (256_000, 60):
+            turns = ListeningTimes()
+            looks = [place for place in range(0, seconds * 256_000, 512) if turns.come(place, most)]
+            apart = [b - a for a, b in zip(looks, looks[1:])]
+            self.assertAlmostEqual(apart[0] / EACH, 1, delta=0.01)
+            self.assertLessEqual(max(apart), most)
+            if most == math.inf:
+                self.assertAlmostEqual(apart[-1] / EACH, 32, delta=0.1)
+                self.assertEqual(len(looks), 41)

@@ -5,10 +5,12 @@ import argparse
 import contextlib
 import io
 import os
+import re
 import unittest
 from typing import Any
 from unittest import mock
 
+from . import support
 from e1gw import ctl_all, metrics
 from e1gw.events import (AlarmChanged, Burst, CallsCleared, CardAlarm, CardAlarmChanged, CircuitsDrained, Connected,
                          Crc4Change, Crc4Changed, Disconnected, DrainNews, Event, Fed, Flows, LineChanged, NotFed,
@@ -17,7 +19,10 @@ from e1gw.events import (AlarmChanged, Burst, CallsCleared, CardAlarm, CardAlarm
 from e1gw.faults import Parser, checked, named, number, options_words, words_of_fault, words_of_refusal
 from e1gw.lines import Alignment, Role, State
 from e1gw.session import CommandRefusal
+from e1gw.tie import status as tie_status
+from e1gw.tie.tie import Tie, TieOptions
 
+SAMPLE = re.compile(r'([a-z_0-9]+)(\{(?:[a-z_]+="(?:[^"\\]|\\.)*",?)*\})? (-?[0-9.e+-]+)')
 ROW: dict[str, Any] = {
     'circuit': 7, 'role': 'incoming', 'state': 'answered', 'sent': '01', 'recognised': '00', 'for': 12.34,
     'seizures': 5, 'answers': 4, 'unacknowledged': 3, 'faults': 2, 'open': 67.89, 'codec': 'g726-32',
@@ -109,21 +114,41 @@ the counts of packets are not those of now
 '''
 
 
+def samples(text: str) -> dict[str, str]:
+    """The samples of a text of Prometheus; each is of a family that was declared before it, and is there once."""
+    found, declared = dict[str, str](), set[str]()
+    for line in text.splitlines():
+        if line.startswith('# TYPE '):
+            declared.add(line.split()[2])
+        elif not line.startswith('# HELP '):
+            name, _, value = line.rpartition(' ')
+            assert SAMPLE.fullmatch(line) and name.partition('{')[0] in declared and name not in found, line
+            found[name] = value
+    return found
+
+
 class TrunkTextTests(unittest.TestCase):
     def test_metrics(self) -> None:
         """Each number is another one. Of a circuit's row that is idle only what differs is looked at."""
-        found = metrics.exposition(FULL).splitlines()
-        lines = [line for line in found if not line.startswith('#')]
-        states = [line for line in lines if line.startswith('e1gw_circuit_state{') and line.endswith(' 0')]
-        self.assertEqual(len(states), 2 * 7)
-        rest = [line for line in lines if line not in states and 'circuit="8"' not in line.replace(
-            'rtp_packets_total{circuit="8"', '').replace('state{circuit="8"', '')]
-        self.assertEqual(rest, SAMPLES.split('\n'))
-        kinds = {line.split()[2]: line.split()[3] for line in found if line.startswith('# TYPE')}
+        text = metrics.exposition(FULL)
+        lines = {name: value for name, value in samples(text).items() if 'circuit="8"' not in name.replace(
+            'rtp_packets_total{circuit="8"', '').replace('state{circuit="8"', '')}
+        others = {name for name in lines if name.startswith('e1gw_circuit_state{') and lines[name] == '0'}
+        self.assertEqual(len(others), 2 * 7)
+        self.assertEqual([f'{name} {lines[name]}' for name in lines if name not in others], SAMPLES.split('\n'))
+        kinds = dict(re.findall(r'^# TYPE (\w+) (\w+)$', text, re.M))
         self.assertEqual([kinds[name] for name in ('e1gw_trunk_up', 'e1gw_ended', 'e1gw_transport',
                                                    'e1gw_trunk_octets_total')],
                          ['gauge', 'gauge', 'untyped', 'counter'])
-        self.assertEqual(len(kinds), sum(line.startswith('# HELP') for line in found))
+        self.assertEqual(len(kinds), text.count('\n# HELP ') + 1)
+
+    def test_alerts_and_dashboard_name_what_there_is(self) -> None:
+        """Of a trunk, of the standby and of a tie."""
+        named = {name for file in ('alerts.yml', 'dashboard.py')
+                 for name in re.findall(r'\be1gw_\w+', support.text_of(f'{support.TOP}/dist/package/{file}'))}
+        tie = tie_status.status_of(Tie(TieOptions('', None, 0.0, False), '', print))
+        text = metrics.exposition(FULL) + tie_status.exposition(tie)
+        self.assertLessEqual(named, {*re.findall(r'^# TYPE (\w+)', text, re.M)})
 
     def test_metrics_of_what_is_not_there(self) -> None:
         few = metrics.exposition(STATUS, 'w"\\\n')

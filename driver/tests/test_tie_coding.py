@@ -5,12 +5,13 @@ import asyncio
 import unittest
 from typing import Any, Coroutine
 
+from .ties import G726, PCMA
 from e1gw.events import Report
 from e1gw.lines import State
 from e1gw.tie.coding import CircuitCoding, CodecChanges, Coding
 from e1gw.tie.events import CodecGiven, Warned
 
-G726, PCMA, OWN = Coding('g726-16', 96), Coding('pcma', 8), Coding('pcma', 100)
+OWN = Coding('pcma', 100)
 TALKS, SILENT = (State.ANSWERED, State.CLEAREDBACK), (State.IDLE, State.ACKED, State.RELEASING, State.BLOCKED)
 
 
@@ -52,14 +53,14 @@ class CodecChangesTests(unittest.TestCase):
     def tell(self, report: Report) -> None:
         self.events.append(report)
 
-    def changes(self, asked: str | None = 'pcma', law: str = 'A', far: str | None = 'pcma',
+    def changes(self, asked: str | None = 'pcma', law: str = 'A', far: str | None = 'pcma', hears: bool = True,
                 **codings: Coding) -> CodecChanges:
         trunk: Any = self
         made = CodecChanges(asked, trunk, self.tell, self.looked.append)
         made.begin({'law': law, 'circuits': [
             {'circuit': int(n[1:]), 'configured_codec': its.codec, 'configured_payload': its.payload,
              'codec': 'pcmu', 'payload': 0} for n, its in codings.items()]})
-        made.heard(far)
+        made.heard(far) if hears else None
         return made
 
     def test_warnings(self) -> None:
@@ -100,11 +101,6 @@ class CodecChangesTests(unittest.TestCase):
         made.give(1, State.IDLE)
         self.assertEqual(len(self.asked), 4)
 
-    def test_another_trunk(self) -> None:
-        made = self.changes()
-        made.begin({'law': 'mu', 'circuits': []})
-        self.assertIsNone(made.own)
-
     def test_without_a_trunk_or_a_site(self) -> None:
         """Nothing is asked; without an answer it is as if it had not been."""
         made = self.changes(c1=G726)
@@ -115,11 +111,9 @@ class CodecChangesTests(unittest.TestCase):
         self.assertEqual((self.asked, self.events, self.looked), (['codec 1 pcma 8'], [], []))
         made.give(1, State.IDLE)
         self.assertEqual(self.looked, [1])
-        trunk: Any = self
-        alone = CodecChanges('pcma', trunk, self.tell, self.looked.append)
-        alone.begin({'law': 'A', 'circuits': [{'circuit': 1, 'configured_codec': 'g726-16', 'configured_payload': 96,
-                                               'codec': 'g726-16', 'payload': 96}]})
-        alone.give(1, State.IDLE)
+        made.begin({'law': 'mu', 'circuits': []})       # (another trunk)
+        self.assertIsNone(made.own)
+        self.changes(hears=False, c1=Coding('pcmu', 97)).give(1, State.IDLE)
         self.assertEqual(len(self.asked), 2)
 
     def test_one_at_a_time(self) -> None:

@@ -5,10 +5,10 @@ from __future__ import annotations
 import asyncio
 import itertools
 from collections import deque
-from typing import Any
+from typing import Any, Coroutine
 
 from .properties import PropertyCase
-from .test_tie_circuit import TieCircuitWorld, disagreement
+from .test_tie_circuit import ACKED, ANSWERED, BLOCKED, CLEAREDBACK, RELEASING, disagreement
 from .ties import ANSWER, G726, HELD, IDLE, SEIZED, StandInDriver
 from e1gw.lines import Role, State
 from e1gw.tie.coding import SIGNALLING
@@ -19,6 +19,7 @@ from e1gw.tie.tie import Tie, TieOptions
 JOINED = range(1, 5)        # on odd ones the west calls, on even ones the east
 HOLD, REST = 3.0, 12.0      # seconds
 RUNS = itertools.count()
+Step = tuple[str, int, int, Any]        # what is done, to which side, to which circuit, and how
 
 
 class PlayedLoop(asyncio.SelectorEventLoop):
@@ -41,9 +42,9 @@ class PlayedLoop(asyncio.SelectorEventLoop):
 class JoinedTrunk(StandInDriver):
     """A trunk of four circuits, whose tie talks to it and to the other site without a socket."""
 
-    def __init__(self, side: int, until: str | None, pairs: Pairs | None) -> None:
+    def __init__(self, side: int, until: str | None = None, pairs: Pairs | None = None, waits: bool = False) -> None:
         super().__init__('', {n: Role.OUTGOING if n % 2 == side else Role.INCOMING for n in JOINED})
-        self.acknowledges, self.until, self.told_pairs = True, until, pairs
+        self.acknowledges, self.options = True, TieOptions('', pairs, HOLD, waits, until)
         self.other: JoinedTrunk | None = None           # while the sites are connected
         self.events, self.on_way = list[dict[str, Any]](), deque[tuple[Tie, bytes]]()
         self.follows: asyncio.Task[None] | None = None
@@ -53,8 +54,7 @@ class JoinedTrunk(StandInDriver):
         """A tie is started, which knows nothing."""
         self.down() if self.follows else None
         self.apart()
-        options = TieOptions('', self.told_pairs, HOLD, False, self.until)
-        self.tie = Tie(options, f'{next(RUNS)}', lambda report: self.events.append(report.plain()))
+        self.tie = Tie(self.options, f'{next(RUNS)}', lambda report: self.events.append(report.plain()))
         setattr(self.tie, 'site', self)
         setattr(self.tie.trunk, 'ask', self.asks)
         self.tie._hold()
@@ -122,24 +122,89 @@ class JoinedTrunk(StandInDriver):
             tie.heard(message_of(octets))
 
 
-class TogetherPropertyTests(PropertyCase):
-    """`happens` is done to a side; then all is well, and at rest both ends agree."""
+def played(scene: Coroutine[Any, Any, None]) -> None:
+    with asyncio.Runner(loop_factory=PlayedLoop) as runner:
+        runner.run(scene)
 
-    async def rests(self, trunks: list[JoinedTrunk], seconds: float) -> None:
+
+class TogetherTests(PropertyCase):
+    """Two trunks whose ties are connected, and their exchanges."""
+
+    async def joined(self, *trunks: JoinedTrunk) -> None:
+        """They are connected and at rest."""
+        self.trunks = self.west, self.east = trunks
+        self.west.joins(self.east)
+        await self.rests(1.0)
+
+    async def rests(self, seconds: float) -> None:
         """Exchanges go on meanwhile, whose bits are recognised."""
         loop = asyncio.get_running_loop()
         until = loop.time() + seconds
         while loop.time() < until:
-            await asyncio.sleep(0.05)
-            for trunk in trunks:
+            await asyncio.sleep(0.1)
+            for trunk in self.trunks:
                 trunk.recognise()
 
-    async def play(self, until: str | None, pairs: Pairs | None, steps: list[tuple[str, int, int, Any]]) -> None:
-        trunks = [JoinedTrunk(0, until, pairs), JoinedTrunk(1, until, None)]
-        trunks[0].joins(trunks[1])
-        await self.rests(trunks, 1.0)
+    async def sends(self, trunk: JoinedTrunk, pair: int, *states: State) -> None:
+        """An exchange sends these bits on circuit 1, on which the west calls; then its two ends are in these states."""
+        trunk.send(1, pair)
+        await self.rests(4.0)
+        self.assertEqual((self.west.states[1], self.east.states[1]), states)
+
+    def commands(self, trunk: JoinedTrunk) -> list[str]:
+        """What a tie has done on circuit 1, behind the first block and its end, once all of them are at an end."""
+        for each in self.trunks:
+            each.down()
+        return [each['command'] for each in trunk.events
+                if each['event'] == 'command' and each['circuit'] == 1 and 'block' not in each['command']]
+
+    # ---- scenes ----
+
+    def test_congestion(self) -> None:
+        """A call that the other exchange does not acknowledge is passed on once. Its caller is answered and cleared
+        back; where no answer may be feigned he waits."""
+        async def scene(waits: bool, state: State, *told: str) -> None:
+            await self.joined(JoinedTrunk(0, waits=waits), JoinedTrunk(1))
+            self.east.acknowledges = False
+            await self.sends(self.west, SEIZED, ACKED, State.SEIZED)
+            self.east.move(1, RELEASING)
+            await self.sends(self.east, IDLE, state, State.IDLE)
+            self.assertEqual(self.west.tie.given_up, 1)
+            await self.sends(self.west, IDLE, State.IDLE, State.IDLE)
+            self.assertEqual((self.commands(self.west), self.commands(self.east)), ([*told], ['seize']))
+        played(scene(False, CLEAREDBACK, 'answer', 'clear-back'))
+        played(scene(True, ACKED))
+
+    def test_release_not_followed(self) -> None:
+        """It is a fault to the other end until the exchange follows it."""
+        async def scene() -> None:
+            await self.joined(JoinedTrunk(0), JoinedTrunk(1))
+            await self.sends(self.west, SEIZED, ACKED, ACKED)
+            self.east.acknowledges = False
+            await self.sends(self.west, IDLE, BLOCKED, RELEASING)
+            self.assertEqual([each['circuit'] for each in self.east.events if each['event'] == 'stuck'], [1])
+            await self.sends(self.east, IDLE, State.IDLE, State.IDLE)
+            self.commands(self.east)
+        played(scene())
+
+    def test_the_other_site_goes(self) -> None:
+        """No circuit can be seized from then on. Calls are kept for a while, then they are cleared."""
+        async def scene() -> None:
+            await self.joined(JoinedTrunk(0), JoinedTrunk(1))
+            await self.sends(self.west, SEIZED, ACKED, ACKED)
+            self.west.apart()
+            for seconds, states in (HOLD - 0.5, (ACKED, ACKED, BLOCKED)), (1.0, (CLEAREDBACK, State.IDLE, BLOCKED)):
+                await self.rests(seconds)
+                self.assertEqual((self.west.states[1], self.east.states[1], self.west.states[3]), states)
+            self.commands(self.east)
+        played(scene())
+
+    # ---- whatever happens ----
+
+    async def play(self, until: str | None, pairs: Pairs | None, steps: list[Step]) -> None:
+        await self.joined(JoinedTrunk(0, until, pairs), JoinedTrunk(1, until))
         for what, side, n, how in steps:
-            trunk = trunks[side]
+            trunk = self.trunks[side]
             if what == 'send':
                 trunk.send(n, how)
             elif what == 'operator':
@@ -148,48 +213,51 @@ class TogetherPropertyTests(PropertyCase):
                 trunk.alarm = how
                 trunk.tell(event='alarm', what='frame', on=how)
             elif what == 'wait':
-                await self.rests(trunks, how)
+                await self.rests(how)
             elif what == 'joins':
-                trunk.joins(trunks[1 - side])
+                trunk.joins(self.trunks[1 - side])
             else:
                 getattr(trunk, what)()
-        for trunk in trunks:
+        for trunk in self.trunks:
             trunk.alarm = False
             trunk.up()
-        trunks[0].joins(trunks[1])
-        await self.rests(trunks, REST)
-        self.look(trunks[0], trunks[1], until, pairs or {n: n for n in JOINED})
-        await self.call(trunks)
-        for trunk in trunks:
-            trunk.down()
+        self.west.joins(self.east)
+        await self.rests(REST)
+        self.look(until, pairs or {n: n for n in JOINED})
+        await self.call(until, pairs or {n: n for n in JOINED})
+        self.commands(self.west)
         await asyncio.sleep(1.0)
 
-    async def call(self, trunks: list[JoinedTrunk]) -> None:
+    async def call(self, until: str | None, pairs: Pairs) -> None:
         """Calls on all circuits, from their seizure to their end, once nothing keeps them up."""
-        for trunk, n in itertools.product(trunks, JOINED):
+        for trunk, n in itertools.product(self.trunks, JOINED):
             trunk.operator(n, False)
             trunk.send(n, IDLE)
-        await self.rests(trunks, 3.0)
-        for role, pair, state in ((Role.INCOMING, SEIZED, State.ACKED), (Role.OUTGOING, ANSWER, State.ANSWERED),
-                                  (Role.OUTGOING, HELD, State.CLEAREDBACK), (Role.INCOMING, IDLE, State.IDLE)):
-            for trunk, n in itertools.product(trunks, JOINED):
+        await self.rests(3.0)
+        for role, pair, state in ((Role.INCOMING, SEIZED, ACKED), (Role.OUTGOING, ANSWER, ANSWERED),
+                                  (Role.OUTGOING, HELD, CLEAREDBACK), (Role.OUTGOING, ANSWER, ANSWERED),
+                                  (Role.INCOMING, IDLE, State.IDLE)):
+            for trunk, n in itertools.product(self.trunks, JOINED):
                 if trunk.roles[n] is role:
                     trunk.send(n, pair)
-            await self.rests(trunks, 1.0)
-            self.assertEqual([{*trunk.states.values()} for trunk in trunks], [{state}] * 2)
+            await self.rests(1.0)
+            self.assertEqual([{*trunk.states.values()} for trunk in self.trunks], [{state}] * 2)
+            self.look(until, pairs)
 
-    def look(self, west: JoinedTrunk, east: JoinedTrunk, until: str | None, pairs: Pairs) -> None:
+    def look(self, until: str | None, pairs: Pairs) -> None:
+        """The ends agree, and each circuit has the codec that its state needs."""
         for here, there in pairs.items():
-            ends = west.tie.circuits[here], east.tie.circuits[there]
-            near, far = ends if west.roles[here] is Role.INCOMING else ends[::-1]
-            self.assertIsNone(disagreement(TieCircuitWorld(near, far), strictly=False), (near, far))
-            self.assertEqual((west.states[here], east.states[there]), (ends[0].state, ends[1].state))
-        for trunk, n in itertools.product((west, east), JOINED):
-            speaks = trunk.states[n] in (State.ANSWERED, State.CLEAREDBACK)
+            ends = self.west.tie.circuits[here], self.east.tie.circuits[there]
+            near, far = ends if self.west.roles[here] is Role.INCOMING else ends[::-1]
+            self.assertIsNone(disagreement(near, far), (near, far))
+            self.assertEqual((self.west.states[here], self.east.states[there]), (ends[0].state, ends[1].state))
+        for trunk, n in itertools.product(self.trunks, JOINED):
+            speaks = trunk.states[n] in (ANSWERED, CLEAREDBACK)
             self.assertEqual(trunk.codecs[n], SIGNALLING[until] if until and not speaks else G726)
-        self.assertEqual({trunk.tie.link.value for trunk in (west, east)}, {'good'})
+        self.assertEqual({trunk.tie.link.value for trunk in self.trunks}, {'good'})
 
     def test_both_ends_agree(self) -> None:
+        """Whatever happens to exchanges, trunks, connection and programs: once all is well, and at rest."""
         st = self.st
         side, circuit = st.sampled_from((0, 1)), st.sampled_from(list(JOINED))
 
@@ -202,8 +270,7 @@ class TogetherPropertyTests(PropertyCase):
             step('operator', st.booleans()),
             *(step(what, st.none()) for what in ('joins', 'apart', 'up', 'down', 'anew', 'starts')))
 
-        def check(until: str | None, pairs: Pairs | None, chosen: list[tuple[str, int, int, Any]]) -> None:
-            with asyncio.Runner(loop_factory=PlayedLoop) as runner:
-                runner.run(self.play(until, pairs, chosen))
+        def check(until: str | None, pairs: Pairs | None, chosen: list[Step]) -> None:
+            played(self.play(until, pairs, chosen))
         pairs = st.sampled_from((None, {1: 3, 2: 4, 3: 1, 4: 2}))
         self.holds(check, st.sampled_from((None, 'pcma')), pairs, st.lists(steps, max_size=15), examples=80)

@@ -1,14 +1,11 @@
-"""What is seen from outside: pages over HTTP, the text of Prometheus, and the rules of alerts."""
+"""What is seen from outside, of what only a system shows: sockets, a picture, and visitors of all kinds."""
 from __future__ import annotations
 
 import asyncio
 import contextlib
 import http.client
-import json
-import re
 import socket
 import unittest
-import urllib.error
 import urllib.request
 from typing import Any, Callable
 from unittest import mock
@@ -18,31 +15,12 @@ from .support import SECONDS
 from .test_recorder import LONG
 from .test_trunk import FOUR, aligned, call
 from .world import World, config_of
-from e1gw.crc4 import Crc4
 from e1gw.lines import Line
-from e1gw.metrics import exposition
 from e1gw.service import pages as service_pages
 from e1gw.udp_tables import sockets_of
 from e1gw.testing.ports import free_port
-from e1gw.tie import status as tie_status
-from e1gw.tie.tie import Tie, TieOptions
 
 TABLE = 'text/plain; charset=utf-8'
-SAMPLE = re.compile(r'([a-z_0-9]+)(\{(?:[a-z_]+="(?:[^"\\]|\\.)*",?)*\})? (-?[0-9.e+-]+)')
-
-
-def samples(text: str) -> dict[str, float]:
-    """The samples of a text of Prometheus; each is of a family that was declared before it, and is there once."""
-    found: dict[str, float] = {}
-    declared: set[str] = set()
-    for line in text.splitlines():
-        if line.startswith('# TYPE '):
-            declared.add(line.split()[2])
-        elif not line.startswith('# HELP '):
-            match = SAMPLE.fullmatch(line)
-            assert match and match[1] in declared and line.rpartition(' ')[0] not in found, line
-            found[line.rpartition(' ')[0]] = float(match[3])
-    return found
 
 
 class SocketTableTests(unittest.TestCase):
@@ -106,47 +84,6 @@ class WebTests(unittest.TestCase):
         page = support.until(drawn, 1.0)                # what is kept may be late
         self.assertEqual(('</html>' in page, 'west' in page), (True, True))
         call(self.world, 2)
-
-    def test_pages(self) -> None:
-        world = self.world
-        aligned(world)
-        call(world, 1)
-        world.ask('seize 1')
-        world.step(150)         # reported counts are a quarter of a second old
-        status = world.status()
-        found = samples(self.get('/metrics'))
-        counts = status['circuits'][0]['datagrams']
-        self.assertGreater(counts['sent'], 2)
-        for name, value in (
-                ('e1gw_trunk_octets_total{trunk="west"}', status['octets']),
-                ('e1gw_alarm{trunk="west",end="this",alignment="frame"}', 0),
-                ('e1gw_circuit_state{trunk="west",circuit="1",role="outgoing",state="answered"}', 1),
-                ('e1gw_circuit_state{trunk="west",circuit="1",role="outgoing",state="idle"}', 0),
-                ('e1gw_circuit_seizures_total{trunk="west",circuit="1"}', 1),
-                ('e1gw_rtp_packets_total{trunk="west",circuit="1",direction="sent"}', counts['sent']),
-                ('e1gw_commands_total{trunk="west",command="seize",answer="not idle"}', 1),
-                ('e1gw_ended{trunk="west",what="json"}', 0), ('e1gw_counts_stale{trunk="west"}', 0)):
-            self.assertEqual(found.get(name), value, name)
-        octets = json.loads(self.get('/status', 'application/json; charset=utf-8'))['octets']
-        self.assertGreaterEqual(octets, status['octets'])
-        for path in ('/none', '/metrics/x'):
-            with self.assertRaises(urllib.error.HTTPError) as fault:
-                self.get(path)
-            self.assertEqual(fault.exception.code, 404)
-            fault.exception.close()
-        self.assertIn('answered', self.get('/table', TABLE))
-
-    def test_rules_name_what_there_is(self) -> None:
-        named = set[str]()
-        for name in ('alerts.yml', 'dashboard.py'):
-            named |= set(re.findall(r'\be1gw_\w+', support.text_of(f'{support.TOP}/dist/package/{name}')))
-        pair = {'role': 'active', 'fed': False, 'feed_age': None}
-        more = exposition(self.world.status() | {'crc4': Crc4().status()} | pair)
-        more += tie_status.exposition(tie_status.status_of(
-            Tie(TieOptions('', None, 0.0, False), '', print)))
-        declared = set(re.findall(r'^# TYPE (\w+)', self.get('/metrics') + more, re.M)) | {
-            'e1gw_trunk_rate_ppm'}
-        self.assertLessEqual(named, declared)
 
     def test_visitors_that_are_slow_or_mad(self) -> None:
         """A request without a target kept its descriptor for ever (by Python 3.11.2): at last there was none for the

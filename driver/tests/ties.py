@@ -1,32 +1,40 @@
-"""Two ties with played drivers, whose exchanges send what a test sets."""
+"""Played drivers for ties, whose exchanges send what a test sets, and the clock of a loop."""
 from __future__ import annotations
 
 import asyncio
-import itertools
 import json
 import os
-import socket
-import tempfile
+import subprocess
 import time
 import unittest
 from contextlib import suppress
-from typing import Any, Callable
-from unittest import mock
+from typing import Any, Callable, Coroutine
 
+from . import support
+from .test_tie_circuit import COLUMN, DONE, INCOMING, OUTGOING
 from e1gw.lines import UNKNOWN, Role, State
-from e1gw.session import CIRCUITS, Command
-from e1gw.testing.ports import free_port
-from e1gw.tie import site as site_module
+from e1gw.session import Command
 from e1gw.tie.coding import Coding
-from e1gw.tie.site import Site
-from e1gw.tie.tie import Tie, TieOptions
-from tests.test_tie_circuit import COLUMN, DONE, INCOMING, OUTGOING
 
-HOLD, RUNS = 3.0, itertools.count()         # seconds, and the numbers of runs
 IDLE, SEIZED, ANSWER, HELD = 0b10, 0b00, 0b01, 0b11         # bits a and b
-G726 = Coding('g726-16', 96)
+G726, PCMA = Coding('g726-16', 96), Coding('pcma', 8)
+TIE = os.path.join(support.TOP, 'driver', 'e1gw-tie')
 QUIET = 0.001               # seconds without an event, after which the clock goes on
 STEP = 0.01                 # seconds by which it goes on then, or in one turn
+
+
+def said_by_tie(*words: str) -> tuple[int | None, str, list[dict[str, Any]]]:
+    """The status, standard error, and the events of a tie that is ended when it has found no driver."""
+    process = subprocess.Popen([TIE, '--control', '/none', *words], stdin=subprocess.DEVNULL, stdout=subprocess.PIPE,
+                               stderr=subprocess.PIPE, text=True)
+    assert process.stdout
+    events = []
+    for line in process.stdout:
+        events.append(json.loads(line))
+        if events[-1]['event'] == 'trunk gone':
+            process.terminate()
+    _, error = process.communicate(timeout=support.SECONDS)
+    return process.returncode, error, events
 
 
 class LoopClock:
@@ -50,6 +58,32 @@ class LoopClock:
         self._seen = now
         self._now += min(STEP, now - before) if found else wait
         return found
+
+
+class ClockedCase(unittest.IsolatedAsyncioTestCase):
+    """Tests in a loop with this clock, in which nothing goes wrong unseen."""
+
+    async def asyncSetUp(self) -> None:
+        self.tasks = list[asyncio.Task[Any]]()
+        self.unhandled = list[dict[str, Any]]()
+        asyncio.get_running_loop().set_exception_handler(lambda _, about: self.unhandled.append(about))
+        LoopClock(asyncio.get_running_loop())
+
+    async def asyncTearDown(self) -> None:
+        unhandled = [*self.unhandled]           # (while a server is closed it may be about to accept somebody)
+        for task in self.tasks:
+            task.cancel()
+        await asyncio.gather(*self.tasks, return_exceptions=True)
+        self.assertEqual(unhandled, [])
+
+    def begin(self, work: Coroutine[Any, Any, None]) -> asyncio.Task[None]:
+        """Goes on until the test ends, at most."""
+        self.tasks.append(asyncio.create_task(work))
+        return self.tasks[-1]
+
+    async def until(self, holds: Callable[[], object]) -> None:
+        while not holds():
+            await asyncio.sleep(0.01)
 
 
 class StandInDriver:
@@ -148,113 +182,12 @@ class StandInDriver:
         self.pairs[n] = pair
         self.recognise()
 
+    def stands(self, n: int) -> tuple[State, Coding]:
+        """The state of a circuit once what the exchange sends is recognised, and its codec."""
+        self.recognise()
+        return self.states[n], self.codecs[n]
+
     def recognise(self) -> None:
         for n in self.roles:
             table = INCOMING if self.roles[n] is Role.INCOMING else OUTGOING
             self.move(n, table[self.states[n]][COLUMN[self.pairs[n]]])
-
-
-class TieCase(unittest.IsolatedAsyncioTestCase):
-    """Two ties with played drivers: on odd circuits the west calls, on even ones the east."""
-
-    async def asyncSetUp(self) -> None:
-        self.folder = tempfile.TemporaryDirectory()
-        self.tasks: list[asyncio.Task[Any]] = []
-        self.opened: list[Site] = []
-        self.events: dict[str, list[dict[str, Any]]] = {'west': [], 'east': []}
-        self.port = 0
-        self.unhandled: list[dict[str, Any]] = []
-        asyncio.get_running_loop().set_exception_handler(lambda _, about: self.unhandled.append(about))
-        LoopClock(asyncio.get_running_loop())
-        for name, number in {'GONE': 2.0, 'ALIVE': 0.2, 'AGAIN': 0.05}.items():
-            change = mock.patch.object(site_module, name, number)
-            change.start()
-            self.addCleanup(change.stop)
-        self.west, self.east = (StandInDriver(os.path.join(self.folder.name, name), {
-            n: Role.INCOMING if n % 2 == odd else Role.OUTGOING for n in CIRCUITS})
-            for name, odd in (('west.ctl', 1), ('east.ctl', 0)))
-        for driver in (self.west, self.east):
-            driver.acknowledges = True
-            await driver.start()
-
-    async def asyncTearDown(self) -> None:
-        unhandled = [*self.unhandled]           # (while a server is closed it may be about to accept somebody)
-        for task in self.tasks:
-            task.cancel()
-        await asyncio.gather(*self.tasks, return_exceptions=True)
-        for site in self.opened:
-            site.close()
-        for driver in (self.west, self.east):
-            await driver.stop()
-        self.folder.cleanup()
-        self.assertEqual(unhandled, [])
-
-    def tie(self, name: str, waits: bool = False, **more: Any) -> tuple[Tie, Site]:
-        driver = self.west if name == 'west' else self.east
-        told = self.events[name]
-        options = TieOptions(driver.path, None, HOLD, waits, more.get('until'))
-        made = Tie(options, f'run {next(RUNS)} of {name}',
-                   lambda report: told.append(report.plain()))
-        if not self.port:
-            self.port = free_port()
-        site = made.site = Site(('127.0.0.1', self.port), name == 'west', more.get('context'), more.get('peer'), made)
-        self.opened.append(site)
-        return made, site
-
-    def run_tie(self, made: Tie, site: Site) -> list[asyncio.Task[Any]]:
-        tasks = [asyncio.create_task(made.follow()), asyncio.create_task(site.run())]
-        self.tasks += tasks
-        return tasks
-
-    async def kill(self, tasks: list[asyncio.Task[Any]], site: Site) -> None:
-        """A tie ends at once."""
-        for task in tasks:
-            task.cancel()
-        await asyncio.gather(*tasks, return_exceptions=True)
-        site.close()
-
-    async def both(self, **more: Any) -> None:
-        self.sites = [self.tie(name, **more) for name in ('west', 'east')]
-        for made, site in self.sites:
-            self.run_tie(made, site)
-        await self.until(lambda: all(self.told(name, 'link') and self.told(name, 'link')[-1]['state'] == 'good'
-                                     for name in self.events))
-        joined = [n for n in CIRCUITS if self.west.roles[n] is not self.east.roles[n]]
-        await self.until(lambda: all(self.at(n, State.IDLE, State.IDLE)() for n in joined))
-        self.west.asked = [each for each in self.west.asked if 'block' not in each or 'on-loss' in each]
-
-    def listens(self) -> bool:
-        """Whether somebody listens at the port of the ties."""
-        with suppress(OSError), socket.create_connection(('127.0.0.1', self.port), 1):
-            return True
-        return False
-
-    def told(self, name: str, event: str) -> list[dict[str, Any]]:
-        return [each for each in self.events[name] if each['event'] == event]
-
-    async def until(self, holds: Callable[[], bool]) -> None:
-        while not holds():
-            await asyncio.sleep(0.01)
-            self.west.recognise()
-            self.east.recognise()
-
-    async def sends(self, driver: StandInDriver, n: int, pair: int, west: State, east: State | None = None) -> None:
-        """An exchange sends these bits, and both ends come into these states."""
-        driver.send(n, pair)
-        await self.until(self.at(n, west, east or west))
-
-    async def not_acknowledged(self, caller: State = State.CLEAREDBACK) -> None:
-        """The east's exchange does not acknowledge a seizure of circuit 1 in the west; the caller is cleared back."""
-        self.east.acknowledges = False
-        self.west.send(1, SEIZED)
-        await self.until(lambda: self.east.states[1] is State.SEIZED)
-        self.east.move(1, State.RELEASING)
-        await self.until(self.at(1, caller, State.IDLE))
-
-    async def named(self, *circuits: int) -> None:
-        """Until the west knows that the east has these calls: one that it does not know of is seized again."""
-        calls = self.sites[0][0].circuits
-        await self.until(lambda: all(calls[n].passed == calls[n].call for n in circuits))
-
-    def at(self, n: int, west: State, east: State) -> Callable[[], bool]:
-        return lambda: (self.west.states[n], self.east.states[n]) == (west, east)
