@@ -1,6 +1,7 @@
 """What the tests share: the program that is looked at, an exchange, and a trunk in service."""
 from __future__ import annotations
 
+import asyncio
 import atexit
 import contextlib
 import fcntl
@@ -30,7 +31,7 @@ from e1gw.testing.service import Service
 TOP = os.path.dirname(os.path.dirname(os.path.dirname(os.path.abspath(__file__))))
 sys.dont_write_bytecode = not sys.pycache_prefix or 'E1GW_MUTANT' in os.environ
 
-__all__ = ['Exchange', 'FolderCase', 'SECONDS', 'Service', 'TOP', 'all_read', 'chance_of',
+__all__ = ['Exchange', 'FolderCase', 'LoopCase', 'SECONDS', 'Service', 'TOP', 'all_read', 'chance_of',
            'config_text', 'connected', 'in_memory', 'launcher', 'listening', 'octets_of', 'program', 'read_from',
            'ran', 'remove', 'run', 'said_by', 'state_of', 'stopped', 'text_of', 'until', 'whole_lines', 'without']
 
@@ -130,6 +131,19 @@ class FolderCase(unittest.TestCase):
         with open(self.path(name), 'wb') as file:
             file.write(octets.encode() if isinstance(octets, str) else octets)
         return self.path(name)
+
+
+class LoopCase(FolderCase, unittest.IsolatedAsyncioTestCase):
+    """Such tests in a loop."""
+
+    async def asyncSetUp(self) -> None:
+        asyncio.get_running_loop().set_debug(False)     # (a slow turn is no fault)
+
+    async def until(self, holds: Callable[[], T | None]) -> T:
+        """Waits until something holds, and returns what it is."""
+        while not (found := holds()):
+            await asyncio.sleep(0.002)
+        return found
 
 
 def program() -> str:

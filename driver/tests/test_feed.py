@@ -8,7 +8,7 @@ import socket
 import threading
 import unittest
 from types import SimpleNamespace
-from typing import Any, Callable, cast
+from typing import cast
 from unittest import mock
 
 from . import support
@@ -30,11 +30,11 @@ from e1gw.session import MULTIFRAME
 HOST = '127.0.0.1'
 
 
-class FeedTests(support.FolderCase, unittest.IsolatedAsyncioTestCase):
+class FeedTests(support.LoopCase):
     """A program that logs as the test has it, with two circuits."""
 
     async def asyncSetUp(self) -> None:
-        asyncio.get_running_loop().set_debug(False)     # (a slow turn is no fault)
+        await super().asyncSetUp()
         self.enterContext(mock.patch.multiple(standby, AGAIN=0.001, MOST_AGAIN=0.004))
         os.mkdir(self.path('standby'))
         self.log, self.over = WrittenLog(self.path('log')), asyncio.Event()
@@ -72,10 +72,6 @@ class FeedTests(support.FolderCase, unittest.IsolatedAsyncioTestCase):
             runs.cancel()
         its.is_handed, its.drains = is_handed, self.drained.append
         return its
-
-    async def until(self, holds: Callable[[], Any]) -> None:
-        while not holds():
-            await asyncio.sleep(0.001)
 
     async def fed(self, its: TrunkStandby) -> None:
         """Until it has all that was logged, and this machine knows it."""
@@ -153,7 +149,7 @@ class FeedTests(support.FolderCase, unittest.IsolatedAsyncioTestCase):
         self.assertIn(f'feed: {HOST} is not --standby, and is fed nothing', said_of_it)
 
 
-class BadPieceTests(support.FolderCase, unittest.IsolatedAsyncioTestCase):
+class BadPieceTests(support.LoopCase):
     async def test_each(self) -> None:
         """One that is too long, has no time, or a state that is too long ends the feed."""
         its = TrunkStandby((HOST, 1), '', (), mock.Mock(), self.folder, mock.Mock())
@@ -214,7 +210,3 @@ class ReadAgainTests(unittest.TestCase):
             self.assertEqual(passed(near, given, bytes(range(256)) * 1000), b'told')
         thread.join()
         self.assertEqual(taken, [bytes(range(256)) * 1000])
-
-
-if __name__ == '__main__':
-    unittest.main()

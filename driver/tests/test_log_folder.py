@@ -6,7 +6,6 @@ import os
 import subprocess
 import sys
 import time
-import unittest
 from typing import Callable
 from unittest import mock
 
@@ -301,7 +300,7 @@ class HolderTests(support.FolderCase):
         self.assertEqual(holder_of(self.folder), 0)
 
 
-class OvertakenTests(support.FolderCase, unittest.IsolatedAsyncioTestCase):
+class OvertakenTests(support.LoopCase):
     """A part of the log was written over before it was read."""
 
     def setUp(self) -> None:
@@ -397,17 +396,11 @@ class OvertakenTests(support.FolderCase, unittest.IsolatedAsyncioTestCase):
             await asyncio.sleep(0)
             with listener.accept()[0] as line:
                 line.sendall('\n'.join([*BEGIN, 'now', '']).encode())
-                while not its.lines.live:
-                    await asyncio.sleep(0.001)
+                await self.until(lambda: its.lines.live)
                 self.reader.has_missed = True
                 for state in 'seized', 'acked':
                     line.sendall(f'{row(1, state)}\n'.encode())
-                    while its.lines.lines[1].state != state:
-                        await asyncio.sleep(0.001)
+                    await self.until(lambda: its.lines.lines[1].state == state)
                 self.assertTrue(self.reader.has_missed)
             follows.cancel()
             await asyncio.wait([follows])
-
-
-if __name__ == '__main__':
-    unittest.main()

@@ -127,7 +127,3 @@ class MissedReportsTests(unittest.TestCase):
                 (612, 611, 512, then, b''), (700, 2000, 600, then, more[17:])):
             self.assertEqual(MissedReports(since, False, 100, 1124, text).parts(last), (
                 b'e1gw tell 1 A\nat %d\nalarms 0\n' % at, circuits, b'now\n' + changes), (since, last))
-
-
-if __name__ == '__main__':
-    unittest.main()

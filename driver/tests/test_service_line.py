@@ -8,7 +8,6 @@ import signal
 import socket
 import stat
 import sys
-import unittest
 from dataclasses import replace
 from typing import Callable
 from unittest import mock
@@ -91,7 +90,7 @@ class LineKilledTests(RestartedKeeperCase):
         self.ends()
 
 
-class LineProcessTests(support.FolderCase, unittest.IsolatedAsyncioTestCase):
+class LineProcessTests(support.LoopCase):
     """An emulated circuit, whose `e1gw satop` is a script."""
 
     def setUp(self) -> None:
@@ -111,10 +110,6 @@ class LineProcessTests(support.FolderCase, unittest.IsolatedAsyncioTestCase):
         await trunk.open()
         self.addAsyncCleanup(trunk.finish)
         return trunk
-
-    async def until(self, holds: Callable[[], object]) -> None:
-        while not holds():
-            await asyncio.sleep(0.01)
 
     async def goes_round(self, trunk: SatopTrunk) -> None:
         """Octets go both ways."""

@@ -130,13 +130,10 @@ class KeptSession:
         self.log.close()
 
 
-class SessionClockTests(support.FolderCase, unittest.IsolatedAsyncioTestCase):
+class SessionClockTests(support.LoopCase):
     def setUp(self) -> None:
         super().setUp()
         self.config = self.write('west.toml', 'law = "A"\n')
-
-    async def asyncSetUp(self) -> None:
-        asyncio.get_running_loop().set_debug(False)
 
     async def session(self, name: str, steps: list[Stretch]) -> KeptSession:
         """A session that is kept in a folder of this name."""

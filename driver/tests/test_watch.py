@@ -9,7 +9,7 @@ from types import SimpleNamespace
 from typing import Any
 from unittest import mock
 
-from . import support
+from . import limits, support
 from e1gw.calls import CallsNote
 from e1gw.clock import ClockFinding
 from e1gw.events import CallsCleared, Event, FlowChanged, Flows, Stalled, WatchEnded
@@ -138,13 +138,14 @@ class PauseTests(unittest.TestCase):
     now = 1.0
 
     def test_it_grows(self) -> None:
-        """Of what ends soon; what has gone for longer is begun again at once."""
-        clock = SimpleNamespace(monotonic=lambda: self.now)
-        with mock.patch.object(trunk, 'MOST_PAUSE', 2.0), mock.patch.object(trunk, 'time', clock):
+        """Of what ends soon, up to a second: however often a device could not be opened, it is taken soon behind
+        that. What has gone for longer is begun again at once."""
+        clock, most = SimpleNamespace(monotonic=lambda: self.now), limits.USUAL['service.trunk.MOST_PAUSE']
+        with mock.patch.multiple(trunk, MOST_PAUSE=most, time=clock):
             pause = trunk.Pause()
             self.assertEqual(pause.ends(), 0.0)
             pause.begins()
-            self.assertEqual([pause.ends() for _ in range(5)], [0.25, 0.5, 1.0, 2.0, 2.0])
+            self.assertEqual([pause.ends() for _ in range(5)], [0.25, 0.5, 1.0, 1.0, 1.0])
             self.now += trunk.QUICK
             self.assertEqual(pause.ends(), 0.0)
 
