@@ -12,7 +12,7 @@ from . import support
 from .hand_clock import HandClock
 from .logs import LogCopy
 from .support import SECONDS
-from .test_program_killed import KeeperCase
+from .keepers import KeeperCase
 from .world import children, trunk_command, words_of
 from e1gw.testing.ports import free_port
 from e1gw.testing.service import answer_of, ask

@@ -139,7 +139,7 @@ class LoopCase(FolderCase, unittest.IsolatedAsyncioTestCase):
     async def asyncSetUp(self) -> None:
         asyncio.get_running_loop().set_debug(False)     # (a slow turn is no fault)
 
-    async def until(self, holds: Callable[[], T | None]) -> T:
+    async def until(self, holds: Callable[[], Any]) -> Any:
         """Waits until something holds, and returns what it is."""
         while not (found := holds()):
             await asyncio.sleep(0.002)

@@ -7,8 +7,7 @@ import signal
 import unittest
 
 from . import support
-from .test_program_killed import CIRCUITS
-from .test_service_killed import RestartedKeeperCase
+from .keepers import CIRCUITS, RestartedKeeperCase
 from e1gw.exchange import slot_of
 from e1gw.session import FRAME, MULTIFRAME, packet_of
 from e1gw.slots import SLOTS, Slots

@@ -15,8 +15,7 @@ from concurrent.futures import ThreadPoolExecutor
 
 from . import support
 from .support import SECONDS
-from .test_program_killed import CIRCUITS, KeeperCase
-from .test_service_killed import RestartedKeeperCase
+from .keepers import CIRCUITS, KeeperCase, RestartedKeeperCase
 from .test_trunk_served import octets_in
 from .world import LAUNCHER
 from e1gw.service import trunk
@@ -122,8 +121,26 @@ class FolderTests(KeeperCase):
                 make_own(path)
 
 
-class StoredStateTests(RestartedKeeperCase):
-    def test_it_cannot_be_removed(self) -> None:
+class LateTests(KeeperCase):
+    def test_a_second_is_lost(self) -> None:
+        """Behind a late takeover each datagram is Full, by the time that no octets came: calls are restarted, once."""
+        self.speech_to = '127.0.0.1'
+        self.starts()
+        self.calls()
+        self.assertEqual(self.peers_heard(), {*CIRCUITS})
+        self.dies()
+        self.now += 500
+        self.step(20)
+        self.assertEqual(self.peers_heard(), set())
+        while self.peers_heard() != {*CIRCUITS}:
+            self.step(10)
+        self.step(300)
+        self.assertEqual(self.peers_heard(300), {*CIRCUITS})
+        self.assertIn('resynchronised, datagrams are refused for their time: circuits ', self.told())
+
+
+class BadStartTests(RestartedKeeperCase):
+    def test_a_state_that_cannot_be_removed(self) -> None:
         """The unit did not come up then."""
         self.begins('--state', self.path('state'), '--reopen')
         self.leaves_nothing()
@@ -144,6 +161,21 @@ class StoredStateTests(RestartedKeeperCase):
         self.as_uncut()
         self.keeper.terminate()
         self.keeper.wait(SECONDS)
+
+    def test_an_update_that_fails(self) -> None:
+        """A service that could not take up ended the trunk. The program goes on, and the next service takes it up."""
+        self.command[2] = self.path('e1gw-trunk')
+        os.symlink(LAUNCHER, self.command[2])
+        self.begins()
+        os.unlink(self.command[2])
+        self.write('e1gw-trunk', 'raise RuntimeError("an update with a fault")\n')
+        self.keeper.send_signal(signal.SIGUSR2)
+        self.assertEqual(self.keeper.wait(), 1)
+        self.step(20)
+        os.unlink(self.command[2])
+        os.symlink(LAUNCHER, self.command[2])
+        self.comes_back()
+        self.survives()
 
 
 class LineFileTests(support.FolderCase):

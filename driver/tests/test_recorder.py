@@ -8,7 +8,7 @@ import os
 import signal
 
 from . import support
-from .test_program_killed import KeeperCase
+from .keepers import KeeperCase
 from .test_trunk_served import octets_in
 from e1gw.priority import run_last
 from e1gw.session_files import by_time, front_of, kept, note_of, octets_of

@@ -10,8 +10,7 @@ from types import SimpleNamespace
 from typing import Any
 
 from . import support
-from .test_program_killed import CIRCUITS
-from .test_service_killed import RestartedKeeperCase
+from .keepers import CIRCUITS, RestartedKeeperCase
 from e1gw.calls import CallLog, CallRecord, CallsNote
 from e1gw.counts import DatagramCounts
 from e1gw.events import LineChanged

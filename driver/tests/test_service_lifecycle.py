@@ -18,8 +18,7 @@ from typing import Any, Callable
 from unittest import mock
 
 from . import support
-from .test_program_killed import CIRCUITS, NO_EFFECT
-from .test_service_killed import RestartedKeeperCase
+from .keepers import CIRCUITS, NO_EFFECT, RestartedKeeperCase
 from .test_recorder import RecorderCase
 from .test_trunk import catches
 from .world import words_of

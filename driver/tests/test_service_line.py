@@ -16,7 +16,7 @@ from . import limits, support
 from .test_crc4 import FRAME, checked, with_bit
 from .test_filters import late
 from .test_satop import ENDS, SCRIPT
-from .test_service_killed import RestartedKeeperCase
+from .keepers import RestartedKeeperCase
 from .world import words_of
 from e1gw.events import Event, TrunkLost
 from e1gw.service import satop_trunk, trunk

@@ -4,6 +4,8 @@ from __future__ import annotations
 import asyncio
 import io
 import os
+import signal
+import subprocess
 import unittest
 from contextlib import closing
 from dataclasses import replace
@@ -11,12 +13,13 @@ from typing import Any
 from unittest import mock
 
 from . import support
+from .support import SECONDS
 from e1gw.service import recordings
 from e1gw.service.decisions import ProgramFault
 from e1gw.service.feed import FeedHead, configured
 from e1gw.service.memory import give_back, given_back, in_memory
 from e1gw.service.options import folder_of, opens_of, recording_of, wants_of, watched_of
-from e1gw.service.process import UNKNOWN, Child, ran, signal_words
+from e1gw.service.process import UNKNOWN, Child, ran, signal_words, start_of
 from e1gw.service.program import MOST_PATH, ProgramPlaces, TrunkProgram
 from e1gw.service.recordings import RecordingNote, RecordingWants, TrunkRecording
 from e1gw.service.service import parser
@@ -179,6 +182,20 @@ class ChildEndTests(unittest.IsolatedAsyncioTestCase):
         self.assertEqual(child.status, -9)
         await child.end_within(0.0)
         child.signal(9)
+
+    async def test_a_number_that_another_process_has(self) -> None:
+        """A process is known by its number and when it was started. One that is stopped is killed."""
+        said = subprocess.run(['sh', '-c', f'sleep {SECONDS} > /dev/null & echo $!'], check=True,
+                              stdout=subprocess.PIPE).stdout
+        pid = int(said)
+        when = start_of(pid)
+        its, other = Child(pid, when), Child(pid, when + 1)
+        self.assertEqual((its.over.is_set(), other.over.is_set()), (False, True))
+        await other.kill()
+        self.assertEqual(start_of(pid), when)
+        os.kill(pid, signal.SIGSTOP)
+        await its.over.wait()
+        self.assertEqual((its.status, its.words()), (UNKNOWN, 'ended'))
 
 
 class ProgramFaultTests(support.FolderCase, unittest.IsolatedAsyncioTestCase):

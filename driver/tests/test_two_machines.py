@@ -1,39 +1,27 @@
-"""A trunk that two machines have: one dies with thirty calls up, or both are active; standbys and feeds are bad."""
+"""A trunk that two machines have: one dies with thirty calls up, or both are active; a standby is bad."""
 from __future__ import annotations
 
-import asyncio
-import contextlib
 import json
-import math
 import os
 import re
 import select
 import signal
 import socket
-import ssl
 import struct
-import subprocess
-import time
-import unittest
-from itertools import accumulate
 from typing import Callable
-from unittest import mock
 
 from . import support
+from .keepers import CIRCUITS
 from .logs import LogCopy
-from .machines import ADDRESSES, OTHER_SPEECH, SPEECH, TRUNK, Machine, PairCase
+from .machines import OTHER_SPEECH, SPEECH, TRUNK, Machine, PairCase
 from .support import SECONDS
-from .test_program_killed import CIRCUITS
 from e1gw.ctl_all import TrunkLine
 from e1gw.metrics import exposition
-from e1gw.service import feed, standby
-from e1gw.service.feed import BACK, CARRIES, MARK, MOST_PIECE, PIECE, TAKES, TICK, FeedServer
-from e1gw.service.standby import IN_TIME, FedLog, TrunkStandby
-from e1gw.session import MULTIFRAME, OCTETS_A_SECOND, packet_of, trunk_record
+from e1gw.service.feed import TICK
+from e1gw.service.standby import IN_TIME
+from e1gw.session import MULTIFRAME, OCTETS_A_SECOND, packet_of
 from e1gw.testing.ports import free_port
 
-STRANGERS = 200             # connections, of fewer descriptors than a unit may have
-RECORD = MULTIFRAME / OCTETS_A_SECOND       # seconds of a record
 SILENCE = 1.0               # seconds: more than the jitter buffers have room for
 WAITS = 100                 # milliseconds that a takeover takes, besides what its processes have to do
 SIGNAL, SIGNALS = 0x9B, 64   # the octet with the frame alignment signal, and octets from one to the next
@@ -196,191 +184,6 @@ class PairTests(PairCase):
         self.device.exchange.aligned = False
         self.step(68)
         self.assertEqual(self.device.exchange.signals, self.up())
-
-    def test_standby_that_stands_still(self) -> None:
-        """It is dropped, and joins again without a gap. It says which calls it has otherwise, and the others go on."""
-        other = self.write('other.toml', self.text.replace('number = 7\n', 'number = 7\nptime = 30\n'))
-        a, b = self.calls_with_standby(a=self.machine('a', feed_PATIENCE=1000),
-                                       b=self.machine('b', other))
-        b.awaits('another configuration: the calls of circuits 7 will not go on here')
-        self.assertIn('"differs": [7]', b.ask('status json'))
-        self.assertIn('configured otherwise there: circuits 7', b.ask('status'))
-        os.kill(a.process_of('trunk'), signal.SIGKILL)      # (the next program has another log)
-        a.awaits('goes on after')
-        self.step(4)
-        b.awaits(f'program {a.process_of("trunk")} there')
-        b.process.send_signal(signal.SIGSTOP)
-        while ': it is too far behind' not in a.told():
-            self.step(50)
-        b.process.send_signal(signal.SIGCONT)
-        b.awaits(f'program {a.process_of("trunk")} there')
-        a.power_off()
-        self.promoted(b)
-        self.device.exchange.aligned = False        # (b may have been fed a part of what came last)
-        self.step(68)
-        self.assertEqual({**self.device.exchange.signals, 7: 0}, {**self.up(), 7: 0})
-
-    def test_bad_feeds(self) -> None:
-        a, b = self.calls_with_standby()
-        b.power_off()
-        good = b''
-        with socket.create_connection((ADDRESSES['a'], self.ports['a']), SECONDS, (ADDRESSES['b'], 0)) as line:
-            while b'\n' not in good:
-                good += line.recv(4000)
-            begun = good.index(b'\n') + 1 + json.loads(good[:good.index(b'\n')])['state']
-            while len(good) < begun + 20_000:
-                good += line.recv(4000)
-                self.step()
-        a.awaits(f'feed of {ADDRESSES["b"]}: ')
-        a.power_off()
-        with socket.create_server((ADDRESSES['a'], self.ports['a'])) as listener:
-            b = self.machine('b', standby_AGAIN=0.001, standby_MOST_AGAIN=0.001)
-            for octets, words in (
-                    (b'', 'it carries no trunk'),
-                    (good[:begun] + PIECE.pack(math.nan, 0), 'a piece of the feed is too long'),
-                    (good.replace(b'"law": "A"', b'"law": "mu"'), 'its law is mu, and here it is A'),
-                    (good.replace(b'"e1gw_feed": 7', b'"e1gw_feed": 6'), 'a feed of version 6, and this is 7'),
-                    (b'SSH-2.0-OpenSSH_9.2p1\r\n', 'what comes there is no feed'),
-                    (good.replace(b'"program": ', b'"program": 0.5e'), ''), (b'{"e1gw_feed": 7, "law": "A"}\n', ''),
-                    (b'[' * 60_000 + b'\n', ''), (b'x' * 200_000, ''),
-                    (good[:begun] + PIECE.pack(1.0, MOST_PIECE + 1), 'a piece of the feed is too long'),
-                    *((good[:length], '') for length in (
-                        *range(1, 12), *range(12, begun, 9000), *range(begun - 2, len(good), len(good) // 9)))):
-                with listener.accept()[0] as line, contextlib.suppress(ConnectionError):    # (of one who reads no more)
-                    line.sendall(octets)
-                if words:
-                    b.awaits(f'not fed by {ADDRESSES["a"]}:{self.ports["a"]}: {words}')
-            b.awaits('the feed has ended')
-            self.assertEqual(b.ask('role'), 'standby, not fed')
-            self.assertNotIn('the service goes on', b.told())
-
-    def setUp(self) -> None:
-        super().setUp()
-        self.tls = dict[str, list[str]]()
-
-    def words(self, name: str) -> list[str]:
-        """The options of a certificate that is its own authority."""
-        key, own = self.path(f'{name}.key'), self.path(f'{name}.pem')
-        words = f'req -x509 -newkey ec -pkeyopt ec_paramgen_curve:P-256 -nodes -subj /CN=e1gw -keyout {key} -out {own}'
-        subprocess.run(['openssl', *words.split(), '-addext', f'subjectAltName=IP:{ADDRESSES["a"]}'],
-                       check=True, capture_output=True)
-        self.tls[name] = ['--tls', own, key, own]
-        return self.tls[name]
-
-    def test_strangers(self) -> None:
-        """Over TLS, who has not the address and the certificate is given nothing, holds nothing and is not believed."""
-        a, b = self.calls_with_standby(*self.words('ours'))
-        place, descriptors = (ADDRESSES['a'], self.ports['a']), f'/proc/{a.process.pid}/fd'
-        before = len(os.listdir(descriptors))
-        with contextlib.ExitStack() as lines:
-            for _ in range(STRANGERS):
-                line = lines.enter_context(socket.create_connection(place, SECONDS, ('127.0.0.9', 0)))
-            self.assertEqual(line.recv(1), b'')
-            a.awaits('feed: 127.0.0.9 is not --standby, and is fed nothing')
-            support.until(lambda: len(os.listdir(descriptors)) < before + STRANGERS // 10)
-        self.fed(b)
-        b.power_off()
-        b = self.machine('b', '', *self.words('theirs'))
-        b.awaits('not fed by .*certificate verify failed')
-        b.power_off()
-        (_, ours, _, _), (word, *theirs, _) = self.tls['ours'], self.tls['theirs']
-        b = self.machine('b', '', word, *theirs, ours)
-        b.awaits('not fed by .*: it refuses the certificate of this machine')
-        a.awaits('feed of .*certificate verify failed')
-        with socket.create_connection(place, SECONDS, (ADDRESSES['b'], 0)) as line, contextlib.suppress(OSError):
-            self.assertEqual(ssl._create_unverified_context().wrap_socket(line).recv(1), b'')     # (it shows none)
-        self.up_again()
-
-
-class FedLogTests(support.FolderCase):
-    """When octets came at the other machine, by its clock and what comes of them here."""
-
-    def test_closed(self) -> None:
-        """Nothing is open then, and its folder is gone, unless a program has it."""
-        for is_kept in True, False:
-            fed = FedLog(self.folder, 0, 0, 0)
-            fed.begin(b'')
-            self.assertEqual(len(self.held()), 4)
-            fed.close(is_kept)
-            self.assertEqual((self.held(), os.path.exists(fed.folder)), ([], is_kept))
-
-    def test_when_they_came_last(self) -> None:
-        """The last ones wait for the word that all was sent, which may wait here. Ones for less than the time without
-        octets put the trunk behind by 5 ms a move. Behind a gap, whose octets are lost, it is not known so well."""
-        chance, record = support.chance_of(self), trunk_record(bytes(MULTIFRAME))
-        time = mock.Mock()
-        with mock.patch.object(standby, 'time', time):
-            time.monotonic.return_value = 1000.0
-            fed, given, comes = FedLog(self.folder, 0, 0, 0), 0, 0
-            self.addCleanup(fed.close)
-            fed.begin(b'')
-            for word in accumulate([0.012 + 0.008 * chance.random() for _ in range(200)], initial=1000.0):
-                comes = int((word - 1000) / RECORD)
-                fed.take(record * (comes - given))
-                time.monotonic.return_value = word + 0.001 + 0.02 * chance.random()
-                fed.is_all(word - 77)
-                given, last = comes, word
-            time.monotonic.return_value = last + 0.03       # (the program has ended meanwhile)
-            fed.take(record)
-            fed.is_all(last + 0.02 - 77)
-            self.assertAlmostEqual(fed.came, 1000 + (comes + 1) * RECORD, delta=0.004)
-            for fresh in last + 5, last + 5.01:
-                time.monotonic.return_value = fresh + 0.01
-                fed.is_all(fresh - 77)
-                fed.take(record)
-            self.assertAlmostEqual(fed.came, last + 5, delta=0.011)
-
-
-class OldLogTests(support.FolderCase, unittest.IsolatedAsyncioTestCase):
-    async def test_what_is_too_old(self) -> None:
-        """It is not taken, nor is what there is not."""
-        its = TrunkStandby(('127.0.0.1', 1), '', (), mock.Mock(), self.folder, mock.Mock())
-        self.assertEqual(await its.goes_to(self.path('log'), False), (None, 'nothing is known'))
-        for age, words in (3000.0, 'what is known is 3000 s old'), (0.0, ''):
-            with mock.patch.object(standby, 'MOST_AGE', 2000.0):
-                its.fed = fed = FedLog(self.folder, 0, 0, 0)
-                fed.begin(b'state')
-                fed.came = fed.fresh = time.monotonic() - age
-                found, told = await its.goes_to(self.path('log'), False)
-            self.assertEqual((found, told[:len(words)], its.fed), (None if words else fed, words, None))
-        self.assertEqual((os.listdir(self.folder), self.held()), (['log'], []))
-
-
-class HandedTests(support.FolderCase, unittest.IsolatedAsyncioTestCase):
-    """A standby that is to carry the trunk, and whose program does."""
-
-    async def said(self, *words: int) -> tuple[float, list[bool]]:
-        """What it says last, and whether it gives the trunk back, if the other machine has said this and leaves."""
-        handed, reader, writer = list[bool](), asyncio.StreamReader(), mock.Mock()
-        writer.is_closing.return_value = False
-        its = TrunkStandby(('127.0.0.1', 1), '', (), mock.Mock(), self.folder, mock.Mock())
-        its.is_handed, its.carries = handed.append, lambda: True
-        reader.feed_data(b''.join(PIECE.pack(0.0, word) for word in words))
-        reader.feed_eof()
-        await its._says_so(reader, writer)
-        return float(MARK.unpack(writer.write.call_args.args[0])[0]), handed
-
-    async def test_what_the_other_machine_says(self) -> None:
-        """One that stood still would carry it beside the machine that had taken it back. One that dies takes nothing
-        back."""
-        self.assertEqual([await self.said(BACK), await self.said()], [(TAKES, [False]), (CARRIES, [])])
-
-    async def told(self, carried: bool, leaves: bool) -> list[bytes]:
-        """What a machine says to the standby to which it hands the trunk over, if that carries it, or leaves, or is
-        silent."""
-        its, left = FeedServer('', mock.Mock(), mock.Mock(), mock.Mock(), mock.Mock()), asyncio.Future[None]()
-        its._writer, its.is_carried = mock.Mock(), carried
-        if leaves:
-            left.set_result(None)
-        with mock.patch.object(feed, 'TICK', 0.0):
-            await its._handed(left)
-        return [call.args[0] for call in its._writer.write.call_args_list]
-
-    async def test_what_is_taken_back(self) -> None:
-        """It says so, if the standby does not say that it carries the trunk."""
-        for carried, leaves in (False, False), (False, True), (True, False):
-            with self.subTest(carried=carried, leaves=leaves):
-                self.assertEqual(await self.told(carried, leaves), [] if carried else [PIECE.pack(0.0, BACK)])
 
 
 class SatopNumberTests(PairCase):
