@@ -25,7 +25,7 @@ from e1gw.service.note import NoteFiles, note_in
 from e1gw.service.options import wants_of
 from e1gw.service.program import ProgramPlaces
 from e1gw.service.version import ProgramVersion, version_of_now
-from e1gw.testing.ports import free_port
+from e1gw.testing.ports import free_port, free_ports
 
 LOGGED = LogPair(1, 0, b'state', b'')
 HAND = ', what it had in hand is lost: 2048 octets (8 ms) at most'
@@ -176,6 +176,21 @@ class PlayedReloadTests(ServiceCase):
                 before = len(self.starts())
                 self.assertEqual(await self.ask(words), answer)
                 self.assertEqual(len(self.starts()) - before, int(answer.endswith('done')))
+        await self.ends()
+
+    async def test_ports_that_are_gone(self) -> None:
+        """Their calls stay up without speech: a line says so, and they count as ended."""
+        ports = {n: {'local_port': port, 'peer_port': 9} for n, port in zip((3, 4, 5, 8), free_ports(4))}
+        answers: tuple[tuple[dict[int, dict[str, int]], str], ...] = (
+            ({}, f'refused, the trunk goes on as it was: it would end {FIVE}; reload force does'),
+            ({4: ports[4]}, 'it takes the ports of 3 calls (circuits 3, 5, 8)\nreload: done'))
+        self.write('trunk.toml', support.config_text(ports))
+        self.begins()
+        await self.says('carries')
+        for then, answer in answers:
+            self.write('trunk.toml', support.config_text(then))
+            self.plan(WAITS, new(), new(), what='check')
+            self.assertEqual(await self.ask('reload'), f'reload: {answer}')
         await self.ends()
 
     async def test_two_deaths_of_a_new_version(self) -> None:
