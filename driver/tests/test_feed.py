@@ -260,6 +260,22 @@ class PairRoleTests(unittest.IsolatedAsyncioTestCase):
         self.assertEqual((self.carrier.trunk.finish.await_count, self.feed.finish.await_args), (1, mock.call(GRACE)))
 
 
+    async def test_taken_over(self) -> None:
+        """The next program begins with what was fed, behind the time since octets came, or with nothing."""
+        carrier, fed = self.carrier, mock.Mock(came=7.0, place=3, octets=9)
+        carrier.trunk.line.satop = mock.Mock()
+        for known, lost in (fed, ', 2 of them ones'), (None, ', too old; all calls begin anew'):
+            words = lost.partition(';')[0] if known else 'too old'
+            its = mock.Mock(fed=fed, goes_to=mock.AsyncMock(return_value=(known, words)))
+            with mock.patch('shutil.rmtree') as removed:
+                await TrunkPair(carrier, its, self.feed, True)._take_over()
+            its.goes_to.assert_awaited_once_with(carrier.places.log, True)
+            self.assertEqual((carrier.silent, carrier.lost, carrier.why, carrier.was_up), (7.0, lost, 'promoted', True))
+            self.assertEqual(carrier.reader.begins_anew.call_args.args, ((3, 9),) if known else ())
+            self.assertEqual(removed.call_count, 0 if known else 1)
+        self.assertEqual((carrier.trunk.zero, carrier.trunk.ones), (fed.zero, fed.ones))
+
+
 class ReadAgainTests(unittest.TestCase):
     def test_more_than_a_pipe_has_room_for(self) -> None:
         """All is given, then its end, and all that is told is read."""

@@ -3,16 +3,12 @@
 All goes in lock step; the exchange's CRC-4 is that of test_crc4."""
 from __future__ import annotations
 
-import subprocess
 from typing import Any
 
 from . import support
-from .support import SECONDS
 from .test_crc4 import HALF, MULTIFRAME, Crc4Sender, checked, e_bits, frame_alignment, multiframe_in
 from .test_trunk import FOUR, aligned, call
-from .test_trunk_served import octets_in
-from .world import World, config_of, trunk_command
-from e1gw.session import trunk_record
+from .world import World, config_of
 
 SECOND = 500                                # multiframes
 
@@ -116,33 +112,3 @@ class FilterServiceTests(support.FolderCase):
                     world.line.sendall(octets[count:])
                     world.exchange.hear(back + support.read_from(world.line, MULTIFRAME - count))
                     self.goes_on(world)
-
-    def test_a_state_that_ends_inside_a_frame(self) -> None:
-        """The next start sends CRC-4 in the frames of the gateway with that state."""
-        words = '--crc4', '--state', self.path('state')
-        with FilteredWorld(*words) as world:
-            world.line.sendall(b'\xD5' * 77)
-            support.read_from(world.line, 77)
-            self.assertEqual(world.quit()[0], 0)
-        with FilteredWorld(*words) as world:
-            world.exchange = support.Exchange()
-            world.step(100)
-            self.is_right(world.heard[MULTIFRAME:])
-
-    def test_a_file_from_end_to_end(self) -> None:
-        """What is written is what the programs write one behind the other, up to the last octet."""
-        exchange, toml, reads, writes = support.Exchange(), self.write('trunk.toml', config_of(FOUR)), *map(
-            self.path, ('in', 'out'))
-        octets = b''.join(exchange.multiframe() for _ in range(100)) + bytes(33)
-        rows: list[list[str]] = [[], ['--align'], ['--crc4'], ['--align', '--crc4']]
-        for words in rows:
-            with self.subTest(words):
-                given = late(octets) if '--align' in words else octets
-                self.write('in', given)
-                subprocess.run(trunk_command('--config', toml, '--in', reads, '--out', writes, *words), check=True,
-                               stdin=subprocess.DEVNULL, stderr=subprocess.DEVNULL, timeout=SECONDS)
-                if '--align' in words:
-                    given = support.run('align', given=given)
-                sent = octets_in(support.run('replay', '--config', toml, given=trunk_record(given)))
-                sent = support.run('crc4', given=sent) if '--crc4' in words else sent
-                self.assertEqual(support.octets_of(writes), sent)

@@ -1,7 +1,6 @@
-"""A trunk that is no plain device: any bit offset, CRC-4; SAToP, and what becomes of the process on its line."""
+"""The line of an emulated circuit, and what becomes of the process on it."""
 from __future__ import annotations
 
-import asyncio
 import functools
 import os
 import signal
@@ -13,10 +12,7 @@ from typing import Callable
 from unittest import mock
 
 from . import limits, support
-from .test_crc4 import FRAME, checked, with_bit
-from .test_filters import late
 from .test_satop import ENDS, SCRIPT
-from .keepers import RestartedKeeperCase
 from .world import words_of
 from e1gw.events import Event, TrunkLost
 from e1gw.service import satop_trunk, trunk
@@ -27,77 +23,8 @@ from e1gw.testing.ports import free_port
 from e1gw.udp_tables import has_socket
 
 
-class LateExchange(support.Exchange):
-    """What it sends comes three bits late."""
-
-    last = 0xFF
-
-    def multiframe(self) -> bytes:
-        octets, before = super().multiframe(), self.last
-        self.last = octets[-1]
-        return late(octets, before)
-
-
-class LineKilledTests(RestartedKeeperCase):
-    """A service that is killed: the next one goes on with its line."""
-
-    def goes_on_over_all(self) -> None:
-        """The trunk goes on over the end of the service, another program and an update."""
-        self.kill_keeper()
-        self.step(20)
-        self.comes_back()
-        self.keeper.send_signal(signal.SIGHUP)
-        self.goes_on()
-        self.keeper.send_signal(signal.SIGUSR2)
-        self.awaits('the service was replaced; (?=program)')
-        self.goes_on()
-        self.step(20)
-        self.settles()
-
-    def is_up(self) -> None:
-        """All calls are, and the exchange hears no alarm."""
-        self.step(20)
-        exchange = self.device.exchange
-        self.assertEqual((exchange.signals, exchange.remote_alarms), (self.up(), False))
-
-    def test_crc4(self) -> None:
-        """It goes on with the next program in its phase: two submultiframes are errored for each at most."""
-        self.begins('--crc4')
-        self.goes_on_over_all()
-        self.dies()
-        self.step(20)
-        octets, heard = b''.join(self.uncut()[0]), b''.join(each or b'' for each in self.heard)
-        self.assertEqual(*(bytes(with_bit(each, 1) if at % FRAME == 0 else each for at, each in enumerate(its))
-                           for its in (octets, heard)))
-        found = checked(heard, 0)
-        self.assertIn(found.count(False), range(1, 2 * 2 + 1))
-        self.assertTrue(all(found[-30:]))
-        self.ends()
-
-    def test_the_line_ends(self) -> None:
-        """Another program goes on with the device opened again, also where nobody keeps descriptors."""
-        self.device.exchange = LateExchange()
-        self.begins('--crc4', '--align', '--reopen')
-        self.device.line.close()
-        self.device.accept()
-        self.assertIn('behind octet', self.goes_on())
-        self.step(40)
-        self.settles()
-        self.dies_unkept()
-        self.assertIn('behind octet', self.goes_on())
-        self.step(20)
-        self.is_up()
-        self.ends()
-
-
 class LineProcessTests(support.LoopCase):
     """An emulated circuit, whose `e1gw satop` is a script."""
-
-    def setUp(self) -> None:
-        super().setUp()
-        grace = mock.patch.object(satop_trunk, 'GRACE', limits.LONG)
-        grace.start()
-        self.addCleanup(grace.stop)
 
     async def opened(self, script: str, reopens: bool = False, crc4: bool = False,
                      ones: Callable[[], int] = lambda: 0, near: str = '127.0.0.1:5000') -> SatopTrunk:

@@ -377,6 +377,16 @@ class PlayedWatchTests(ServiceCase):
         self.assertEqual(note and (note.was_up, note.begun, note.program, note.is_active), (True, 0, '7.7', True))
         await self.ends()
 
+    async def test_a_card_that_keeps_slot_0(self) -> None:
+        """What the program says of slot 16 is told, and shown: the next one has not found it yet."""
+        self.plan(says('slots found 3', -9, up=1), WAITS)
+        self.begins('--clear')
+        await self.says('goes on after')
+        self.assertIn('slot 16 found, speech goes on', [each.getMessage() for each in self.records])
+        wanted = {'slots': 'clear', 'silent': True, 'slots_lost': 0, 'slots_moved': 0}
+        self.assertLessEqual(wanted.items(), json.loads(await self.ask('status json'))['transport'].items())
+        await self.ends()
+
     async def test_names_of_sockets(self) -> None:
         """A control socket that somebody removes is there again; the names of the program's sockets go at the end."""
         names = self.path('p'), self.path('t')

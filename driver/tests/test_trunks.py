@@ -10,9 +10,8 @@ import unittest
 from typing import Callable
 
 from . import support
-from .test_trunk import FOUR, aligned
 from .test_trunk_served import octets_in
-from .world import World, children, config_of, trunk_command
+from .world import children, trunk_command
 from e1gw.session import trunk_record
 from e1gw.trunks import host_and_port
 
@@ -73,15 +72,3 @@ class TrunkKindServiceTests(support.FolderCase):
         while len(back) < len(OCTETS):
             back += os.read(file, 1000)
         return back
-
-    def test_a_trunk_that_takes_nothing_holds_nobody_else(self) -> None:
-        with World(config_of(FOUR)) as world:
-            aligned(world)
-            world.line.setblocking(False)
-            try:
-                for _ in range(20_000):
-                    world.line.send(world.exchange.multiframe())
-            except BlockingIOError:
-                pass
-            for _ in range(3):
-                self.assertEqual(world.ask('codec 1 pcma 8'), 'codec 1: done')

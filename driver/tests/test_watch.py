@@ -10,6 +10,7 @@ from typing import Any
 from unittest import mock
 
 from . import limits, support
+from .test_reports import BEGIN
 from e1gw.calls import CallsNote
 from e1gw.clock import ClockFinding
 from e1gw.events import CallsCleared, Event, FlowChanged, Flows, Stalled, WatchEnded
@@ -17,8 +18,9 @@ from e1gw.lines import Role, State
 from e1gw.service import decisions, status, trunk, watch
 from e1gw.service.commands import MOST_HELD, ControlPeer
 from e1gw.service.journal import NOTICE, LineFormatter
+from e1gw.service.missed import MissedReports
 from e1gw.service.pages import MOST_VISITORS, WebServer
-from e1gw.session import Command, command_record
+from e1gw.session import OCTETS_A_SECOND, Command, command_record
 
 
 FACTS: dict[str, Any] = {'since': 0.0, 'fault': '', 'version': '', 'carried': {}, 'pair': {}, 'session': None}
@@ -32,7 +34,8 @@ class TrunkWatchCase(support.FolderCase, unittest.IsolatedAsyncioTestCase):
         config = self.write('trunk.toml', 'law = "A"\n')
         its = mock.Mock(flow=dict, **{
             'places.return_value.tell': config, 'config_path.return_value': config, 'place.return_value': 0,
-            'outage.return_value': None, 'facts.return_value': FACTS | facts})
+            'outage.return_value': None, 'facts.return_value': FACTS | facts, 'starts.return_value': (),
+            'begun.return_value': 0})
         found = watch.TrunkWatch(watch.WatchWants(name='west', calls=self.path('calls')), its)
         self.addCleanup(found._close)
         self.given, self.told = list[bytes](), list[Event]()
@@ -76,6 +79,20 @@ class WatchEdgeTests(TrunkWatchCase):
         found.take_up(CallsNote(0, 0.0, {}, (), {}, ('a line', 'another line')))
         found._close()
         self.assertEqual(support.text_of(self.path('calls')), 'a line\nanother line\n')
+
+    async def test_a_log_that_does_not_reach(self) -> None:
+        """For how long nothing is known is told, if how the lines stood before is."""
+        text = '\n'.join([*BEGIN, 'now', 'at 1024', 'end', '']).encode()
+        for is_known in True, False:
+            its = self.watched().status
+            if is_known:
+                its.take_up(CallsNote(OCTETS_A_SECOND, 0.0, {}, (), {}, ()))
+            missed = MissedReports(OCTETS_A_SECOND, False, 3 * OCTETS_A_SECOND, 3 * OCTETS_A_SECOND + 1024, text)
+            with mock.patch.object(its._trunk, 'missed', mock.AsyncMock(return_value=missed)), \
+                    mock.patch.object(status, 'logger') as told:
+                await its._catch_up(missed.last)
+            self.assertEqual([call.args[1] for call in told.warning.call_args_list], [2.0] * is_known)
+            self.assertEqual(its.lines.place, missed.last * is_known)
 
     def test_who_takes_too_little(self) -> None:
         """He is closed; who is gone is told nothing."""
