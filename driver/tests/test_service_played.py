@@ -16,6 +16,7 @@ from unittest import mock
 from . import support
 from .in_process import ServiceCase, plain
 from .support import SECONDS
+from e1gw import writers
 from e1gw.lines import config_text
 from e1gw.service import decisions, lifecycle, service, version
 from e1gw.service.decisions import Takeover
@@ -377,6 +378,20 @@ class PlayedWatchTests(ServiceCase):
         self.assertEqual(note and (note.was_up, note.begun, note.program, note.is_active), (True, 0, '7.7', True))
         await self.ends()
 
+    async def test_files_that_do_not_open(self) -> None:
+        """Each is reported once, and nothing ends for it."""
+        os.mkfifo(fifo := self.path('fifo'))
+        ends = {'json': f'nobody reads it: {fifo}', 'calls': 'No space left on device: /dev/full', 'session': None}
+        with mock.patch.object(writers, 'OPENS', 0.05):
+            self.begins('--json', fifo, '--calls', '/dev/full')
+            await self.says('carries')
+            while json.loads(await self.ask('status json'))['ended'] != ends:
+                pass
+        await self.ends()
+        said = [each.getMessage() for each in self.records if 'ended, the calls go on' in each.getMessage()]
+        self.assertEqual(sorted(said, reverse=True), [f'{what} ended, the calls go on: {ends[what]}' for what in (
+            'json', 'calls')])
+
     async def test_a_card_that_keeps_slot_0(self) -> None:
         """What the program says of slot 16 is told, and shown: the next one has not found it yet."""
         self.plan(says('slots found 3', -9, up=1), WAITS)
@@ -448,6 +463,19 @@ class PlayedPairTests(ServiceCase):
         self.assertEqual([each[7:14] for each in told], ['standby', *['the tru', 'program', 'standby'] * 2])
         await self.ends()
         self.assertEqual((len(self.starts()), os.listdir(self.path('run'))), (2, []))
+
+
+    async def test_a_trunk_that_does_not_open(self) -> None:
+        """Who is promoted waits for it, and for nothing more once it is asked back."""
+        none = self.path('none')
+        self.begins('--feed', f'127.0.0.1:{free_port()}', '--standby', '127.0.0.1:9', '--in', none, '--out', none)
+        await self.until(lambda: 'STATUS=standby' in self.manager.told)
+        promotes = asyncio.create_task(self.ask('promote'))
+        while await self.ask('role') != 'active, not fed, no program':
+            pass
+        self.assertEqual(await self.ask('demote'), 'demote: done')
+        self.assertEqual(await promotes, 'promote: refused: the reverse was asked for meanwhile')
+        await self.ends()
 
 
 class PlayedTakeoverTests(ServiceCase):

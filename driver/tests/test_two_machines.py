@@ -1,4 +1,4 @@
-"""A trunk that two machines have: one dies with thirty calls up, or both are active; a standby is bad."""
+"""A trunk that two machines have: one dies with thirty calls up; a standby dies, or is replaced."""
 from __future__ import annotations
 
 import json
@@ -14,9 +14,6 @@ from . import support
 from .keepers import CIRCUITS
 from .logs import LogCopy
 from .machines import OTHER_SPEECH, SPEECH, TRUNK, Machine, PairCase
-from .support import SECONDS
-from e1gw.ctl_all import TrunkLine
-from e1gw.metrics import exposition
 from e1gw.service.feed import TICK
 from e1gw.service.standby import IN_TIME
 from e1gw.session import MULTIFRAME, OCTETS_A_SECOND, packet_of
@@ -121,27 +118,6 @@ class DeathTests(PairCase):
 
 class PairTests(PairCase):
     """What a standby, a stranger or a bad feed may do does nothing to the machine that carries the trunk."""
-
-    def test_two_that_are_active(self) -> None:
-        """Without fencing the second one has no ports; it is demoted, and is fed again."""
-        a, b = self.calls_with_standby()
-        promotes = b.asks('promote')
-        line = self.device.listener.accept()[0]
-        support.until(lambda: b.ask('role') == 'active, not fed, no program', 0.01)
-        self.up_again()
-        self.assertEqual(b.ask('demote'), 'demote: done')
-        line.close()
-        self.fed(b)
-        self.up_again()
-        for machine, role in (a, 1), (b, 0):
-            for words in f'e1gw_role {role}\n', 'e1gw_fed 1\n', f'e1gw_trunk_up {role}\n', 'e1gw_feed_age_seconds ':
-                support.until(lambda: f'\n{words}' in exposition(json.loads(machine.ask('status json'))))
-        self.assertEqual(promotes(), 'promote: refused: the reverse was asked for meanwhile')
-        self.assertEqual((b.ask('quit'), b.process.wait(SECONDS)), ('quit: done', 0))
-        while a.ask('role') != 'active, not fed':
-            self.step(4)
-        support.until(lambda: TrunkLine.of('a', json.loads(a.ask('status json'))).state.endswith('; not fed'))
-        self.up_again()
 
     def test_a_move_to_nobody(self) -> None:
         """A standby that stands still is found before anything is given up; of one that dies when it has taken the

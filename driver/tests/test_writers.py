@@ -2,11 +2,8 @@
 from __future__ import annotations
 
 import os
-import re
 
 from . import support
-from .test_trunk import FOUR, aligned, call
-from .world import World, config_of
 from e1gw.service.events import EventFile
 
 
@@ -35,22 +32,3 @@ class WriterOpeningTests(support.FolderCase):
                 support.until(lambda: self.ended)
                 self.assertEqual(self.ended, [f'{why}: {path}'])
                 file.close()
-
-    def test_a_trunk_whose_files_do_not_open(self) -> None:
-        """Each is reported once, and no call ends."""
-        support.program()
-        ended = {'json': f'nobody reads it: {self.fifo}', 'calls': 'No space left', 'session': 'No space left'}
-        with World(config_of(FOUR), '--json', self.fifo, '--calls', '/dev/full', '--session', '/dev/full',
-                   within={'writers.OPENS': 0.1}) as world:
-            aligned(world)
-            call(world, 1)
-            world.ask('clear 1')
-            world.until(lambda: all(world.told()['ended'][what] for what in ended))
-            world.kill('trunk')
-            world.connected()
-            world.until(lambda: world.state(1) == 'idle')
-            call(world, 2)
-            status, said = world.quit()
-            for what, why in ended.items():
-                lines = re.findall(f'{what} ended, the calls go on: .*{why}', said)
-                self.assertEqual((status, len(lines)), (0, 1), said)
