@@ -10,9 +10,8 @@ import signal
 from . import support
 from .keepers import KeeperCase
 from .test_trunk_served import octets_in
-from e1gw.priority import run_last
-from e1gw.session_files import by_time, front_of, kept, note_of, octets_of
 from e1gw.session import MULTIFRAME
+from e1gw.session_files import by_time, front_of, kept, note_of, octets_of
 
 LONG = '96h'                # of a ring whose files have to be of one program each: they are of eight hours
 
@@ -55,44 +54,22 @@ class RecorderCase(KeeperCase):
         self.step(self.chance.randrange(1, 40))
 
 
-class RecordedFileTests(RecorderCase):
-    def test_reader_that_stands_still(self) -> None:
-        """What waits for it stays in memory up to a bound. Then the recording ends, and no call does."""
-        os.mkfifo(self.path('kept'))
-        stands = os.open(self.path('kept'), os.O_RDWR)
-        self.addCleanup(os.close, stands)
-        self.starts('--session', self.path('kept'),
-                    **self.within(recordings_MOST_BEHIND=100_000, recordings_FLUSH=0.1))
-        self.calls()
-        while 'session ended, the calls go on: it takes too little' not in self.told():
-            self.step(20)
-        self.survives()
-
-
 class RecordedRingTests(RecorderCase):
     def starts_ring(self, keep: str = LONG, **around: str) -> None:
         self.starts('--session', self.path('ring'), '--keep', keep, '--name', 'west', **around)
         self.calls()
 
     def test_what_a_crash_lost(self) -> None:
-        """It is noted where the next file begins, which has a state. Who reads a ring reads it."""
+        """It is noted where the next file begins, which has a state."""
         self.starts_ring()
         os.kill(self.program, signal.SIGKILL)
         self.goes_on()
         self.step(40)
         self.ends()
-        first, about = [note_of(f'{front}.e1gw') for front in self.each_file_replays()]
-        self.assertEqual((first['begins'], 'slips' in first, about['begins'], about['config']),
-                         ('start', False, 'middle', self.config))
-        self.assertEqual(about['slips'], [[about['place'], 0.008]])
+        first, about = map(note_of, self.each_file_replays())
+        self.assertEqual((first['begins'], 'slips' in first, about['begins'], about['config'], about['slips']),
+                         ('start', False, 'middle', self.config, [[about['place'], 0.008]]))
         self.assertEqual(about['place'], len(self.given_trunk()) - 40 * MULTIFRAME)
-        page, picture = self.path('page.html'), os.path.join(support.TOP, 'driver', 'e1gw-picture')
-        records = os.path.join(support.TOP, 'tools', 'records')
-        for words in ([picture, '--program', support.program(), '-o', page, self.path('ring')],
-                      *([records, path] for front in self.files() for path in glob.glob(f'{front}.e1gw*')
-                        if not path.endswith('.part'))):
-            self.assertEqual(run_last(words)[0], 0, words)
-        self.assertTrue(os.path.exists(page))
 
     def test_another_configuration(self) -> None:
         """Of one with another circuit 7 all other circuits go on. What is read of the ring begins where it changed,
