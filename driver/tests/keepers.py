@@ -71,11 +71,11 @@ class RtpPeers:
         self.circuits = {port: circuit for circuit, port in zip(CIRCUITS, free_ports(30))}
         self.packets: dict[int, list[bytes]] = {circuit: [] for circuit in CIRCUITS}
 
-    def config(self, **of_seven: int) -> str:
-        """Odd circuits are incoming, even ones outgoing. Circuit 7 has these keys too."""
+    def config(self) -> str:
+        """Odd circuits are incoming, even ones outgoing."""
         return support.config_text({circuit: {
             'role': 'incoming' if circuit % 2 else 'outgoing', 'local_port': port,
-            'peer_port': self.socket.getsockname()[1], **(of_seven if circuit == 7 else {})}
+            'peer_port': self.socket.getsockname()[1]}
             for port, circuit in self.circuits.items()})
 
     def take(self) -> None:
@@ -293,18 +293,15 @@ class KeeperCase(support.FolderCase):
                 packets[record.circuit].append(record.body)
         return octets, packets
 
-    def as_uncut(self, but: int = 0) -> None:
-        """All that was heard and received is what the uncut session gives, but for what is lost and for a circuit. All
-        other calls are up."""
+    def as_uncut(self) -> None:
+        """All that was heard and received is what the uncut session gives, but for what is lost. All calls are up."""
         octets, packets = self.uncut()
         self.assertEqual(len(octets), len(self.heard))
         for place, (mine, its) in enumerate(zip(self.heard, octets)):
-            if mine is not None:
-                one, other = (support.without(octets, but) if but else octets for octets in (mine, its))
-                self.assertEqual(one, other, f'record {place}')
+            self.assertIn(mine, (its, None), f'record {place}')
         lost = self.heard.count(None)
         self.peers.take()
-        for circuit in sorted({*CIRCUITS} - {but}):
+        for circuit in CIRCUITS:
             due, came = packets[circuit], self.peers.packets[circuit]
             both = {*due} & {*came}
             got = [packet for packet in came if packet in both]
@@ -316,15 +313,8 @@ class KeeperCase(support.FolderCase):
             self.assertLessEqual(len(early), self.unknown, f'circuit {circuit}')
             self.assertLessEqual({*early}, {*numbers}, f'circuit {circuit}')
             self.assertEqual(numbers, list(range(numbers[0], numbers[0] + len(numbers))))
-        self.assertEqual({**self.device.exchange.signals, but: 0}, {**self.up(), but: 0})
+        self.assertEqual(self.device.exchange.signals, self.up())
         self.assertFalse(self.device.exchange.remote_alarms)
-
-    def survives(self) -> None:
-        """All goes on over a death of the program, and the trunk ends in order."""
-        self.dies()
-        self.step(20)
-        self.as_uncut()
-        self.ends()
 
     def ends(self) -> None:
         self.keeper.terminate()

@@ -33,7 +33,7 @@ sys.dont_write_bytecode = not sys.pycache_prefix or 'E1GW_MUTANT' in os.environ
 
 __all__ = ['Exchange', 'FolderCase', 'LoopCase', 'SECONDS', 'Service', 'TOP', 'all_read', 'chance_of',
            'config_text', 'connected', 'in_memory', 'launcher', 'listening', 'octets_of', 'program', 'read_from',
-           'ran', 'remove', 'run', 'said_by', 'state_of', 'stopped', 'text_of', 'until', 'whole_lines', 'without']
+           'ran', 'remove', 'run', 'said_by', 'state_of', 'stopped', 'text_of', 'until', 'whole_lines']
 
 T = TypeVar('T')
 
@@ -210,16 +210,6 @@ def state_of(pid: int) -> str:
         return text_of(f'/proc/{pid}/stat').rpartition(')')[2].split()[0]
     except OSError:
         return ''
-
-
-def without(sent: bytes, circuit: int) -> bytes:
-    """What a gateway sent from its first octet on, with a circuit's slot and its ABCD bits left blank."""
-    others = bytearray(sent)
-    for at in range(circuit + (circuit > 15), len(sent), 32):
-        others[at] = 0
-    for at in range(32 * ((circuit - 1) % 15 + 1) + 16, len(sent), 512):
-        others[at] &= 0xf0 if circuit > 15 else 0x0f
-    return bytes(others)
 
 
 def ran(*words: str, **more: Any) -> tuple[int, str, str]:

@@ -121,24 +121,6 @@ class FolderTests(KeeperCase):
                 make_own(path)
 
 
-class LateTests(KeeperCase):
-    def test_a_second_is_lost(self) -> None:
-        """Behind a late takeover each datagram is Full, by the time that no octets came: calls are restarted, once."""
-        self.speech_to = '127.0.0.1'
-        self.starts()
-        self.calls()
-        self.assertEqual(self.peers_heard(), {*CIRCUITS})
-        self.dies()
-        self.now += 500
-        self.step(20)
-        self.assertEqual(self.peers_heard(), set())
-        while self.peers_heard() != {*CIRCUITS}:
-            self.step(10)
-        self.step(300)
-        self.assertEqual(self.peers_heard(300), {*CIRCUITS})
-        self.assertIn('resynchronised, datagrams are refused for their time: circuits ', self.told())
-
-
 class BadStartTests(RestartedKeeperCase):
     def test_a_state_that_cannot_be_removed(self) -> None:
         """The unit did not come up then."""
@@ -175,7 +157,10 @@ class BadStartTests(RestartedKeeperCase):
         os.unlink(self.command[2])
         os.symlink(LAUNCHER, self.command[2])
         self.comes_back()
-        self.survives()
+        self.dies()
+        self.step(20)
+        self.as_uncut()
+        self.ends()
 
 
 class LineFileTests(support.FolderCase):

@@ -11,7 +11,7 @@ from . import support
 from .keepers import KeeperCase
 from .test_trunk_served import octets_in
 from e1gw.session import MULTIFRAME
-from e1gw.session_files import by_time, front_of, kept, note_of, octets_of
+from e1gw.session_files import by_time, kept, note_of, octets_of
 
 LONG = '96h'                # of a ring whose files have to be of one program each: they are of eight hours
 
@@ -30,9 +30,6 @@ class RecorderCase(KeeperCase):
         """Octets of the trunk that a replay answers."""
         return octets_in(support.run('replay', '--config', self.config, *options, given=octets))
 
-    def heard_all(self) -> bytes:
-        return b''.join(piece or b'' for piece in self.heard)
-
     def files(self) -> list[str]:
         """The files of the ring without their endings, in their order."""
         return sorted((path.removesuffix('.json') for path in glob.glob(self.path('ring/*.json'))), key=by_time)
@@ -47,16 +44,10 @@ class RecorderCase(KeeperCase):
             self.assertEqual(self.answers(its, *load), octets[begin:end], begin)
         return fronts
 
-    def reloaded(self) -> None:
-        """A handover in which nothing is lost."""
-        self.under_way(lambda: self.keeper.send_signal(signal.SIGHUP))
-        self.goes_on()
-        self.step(self.chance.randrange(1, 40))
-
 
 class RecordedRingTests(RecorderCase):
-    def starts_ring(self, keep: str = LONG, **around: str) -> None:
-        self.starts('--session', self.path('ring'), '--keep', keep, '--name', 'west', **around)
+    def starts_ring(self, **around: str) -> None:
+        self.starts('--session', self.path('ring'), '--keep', LONG, '--name', 'west', **around)
         self.calls()
 
     def test_what_a_crash_lost(self) -> None:
@@ -71,33 +62,10 @@ class RecordedRingTests(RecorderCase):
                          ('start', False, 'middle', self.config, [[about['place'], 0.008]]))
         self.assertEqual(about['place'], len(self.given_trunk()) - 40 * MULTIFRAME)
 
-    def test_another_configuration(self) -> None:
-        """Of one with another circuit 7 all other circuits go on. What is read of the ring begins where it changed,
-        with the state."""
-        self.starts_ring()
-        self.reloaded()
-        self.write('trunk.toml', self.peers.config(prefill=400))
-        self.reloaded()
-        self.awaits('program: circuit 7 begins as new')
-        self.step(60)
-        self.assertNotEqual(self.device.exchange.signals[7], self.up()[7])
-        self.dies()
-        self.step(40)
-        self.ends()
-        self.assertEqual(self.told().count('begins as new'), 1)
-        session, files = kept(self.path('ring')), self.files()[2:]
-        self.assertEqual(([*map(front_of, session.files)], session.state, session.middle),      # (packed, or not yet)
-                         (files, f'{files[0]}.state', True))
-        self.assertEqual(self.answers(self.kept_of(self.path('ring')), '--load', session.state),
-                         self.heard_all()[session.place:])
-        self.write('trunk.toml', self.peers.config())
-        self.as_uncut(7)
-
     def test_a_ring_that_begins_again(self) -> None:
         """With no other program: the file that is begun has the state of a turn of the log, and replays from that."""
         self.write('ring', '')
-        self.starts('--session', self.path('ring'), '--keep', LONG, '--name', 'west', **self.within(reader_AGAIN=0.1))
-        self.calls()
+        self.starts_ring(**self.within(reader_AGAIN=0.1))
         support.until(lambda: 'session ended, the calls go on: File exists' in self.told())
         program = self.program
         os.unlink(self.path('ring'))

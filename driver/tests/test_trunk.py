@@ -2,7 +2,6 @@
 from __future__ import annotations
 
 import json
-import os
 import socket
 import unittest
 from functools import partial
@@ -65,10 +64,6 @@ class StatusTests(unittest.TestCase):
             return {cause: found.get(cause, 0) for cause in causes}
         world.until(lambda: all(counts().values()))
         self.assertEqual(counts(), dict.fromkeys(causes, 1))
-        self.assertEqual([row['state'] for row in world.status()['circuits'][:3]], ['answered', 'idle', 'idle'])
-        table = world.ask('status').splitlines()
-        self.assertEqual(len(table), 34)
-        self.assertRegex(table[1], r' s of the trunk at ..:..:.. UTC, aligned; the other end: no alarm')
         world.quit()
         told = [json.loads(line) for line in events]
         self.assertTrue(all(event.pop('time') > 1e9 and event.pop('place') >= 0 for event in told))
@@ -79,31 +74,11 @@ class StatusTests(unittest.TestCase):
 
 
 class BesideCallsTests(unittest.TestCase):
-    """Something ends; the calls go on."""
-
-    def goes_on(self, world: World, **ended: str) -> None:
-        """A call comes up, and nothing else has ended."""
-        aligned(world)
-        call(world, 1)
-        self.assertEqual({what: why for what, why in world.status()['ended'].items() if why}, ended)
-
-    def test_readers_that_go_and_readers_that_stand_still(self) -> None:
-        reads, writes = os.pipe()
-        with World(config_of(FOUR), '--json', '-', stdout=writes) as world:
-            os.close(writes)
-            deaf = [support.connected(world.path('ctl')) for _ in range(5)]
-            for line in deaf:
-                line.sendall(b'events\n' + b'status\n' * 2000)
-            os.close(reads)
-            world.until(lambda: world.told()['ended']['json'])
-            self.goes_on(world, json='Broken pipe')
-            for line in deaf:
-                line.close()
-            call(world, 2)
-
     def test_closed_descriptors(self) -> None:
+        """Calls come up all the same."""
         for words in ('<&-', '>&-', '2>&-', '<&- >&- 2>&-'):
             front = ('sh', '-c', f'exec "$@" {words}', 'sh')
             with self.subTest(words), World(config_of(FOUR), front=front, stderr=None) as world:
-                self.goes_on(world)
+                call(aligned(world), 1)
+                self.assertEqual({*world.status()['ended'].values()}, {None})
                 self.assertEqual(world.quit()[0], 0)
