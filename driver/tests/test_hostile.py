@@ -12,6 +12,7 @@ import sys
 import threading
 import unittest
 from concurrent.futures import ThreadPoolExecutor
+from pathlib import Path
 
 from . import support
 from .support import SECONDS
@@ -93,6 +94,8 @@ class FolderTests(KeeperCase):
         """As /run/e1gw/NAME, whose parent is root's: the log goes on elsewhere."""
         self.starts('--control', self.path('its-control'), '--tell', self.path('tell'))
         self.calls()
+        files = Path(f'/proc/{self.keeper.pid}/fd')
+        support.until(lambda: any('/log/records' in os.path.realpath(file) for file in files.iterdir()))
         os.rename(self.memory, away := f'{self.memory}.away')
         self.write(self.memory, '')
         self.awaits('the folder of the sockets is gone, and cannot be made again: ')
