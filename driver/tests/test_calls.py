@@ -44,9 +44,11 @@ class CalledTrunk:
     to be a line behind its end, in their order: `wanted` has those that are still to come."""
 
     def __init__(self, states: tuple[State, State]) -> None:
-        self.lines = {n: Line(n, role, state=state) for n, role, state in zip((1, 2), [*Role], states)}
+        self.lines = {n: Line(n, role, state=state, seizures=int(state in IN_CALL))
+                      for n, role, state in zip((1, 2), [*Role], states)}
         self.counts, self.day = DatagramCounts(), 1_000_000_000.25
         self.open, self.wanted = dict[int, dict[str, str]](), list[dict[str, str]]()
+        self.numbered = set[int]()              # circuits of whose calls it is known which they are
         self.calls = CallLog('west', self.lines, self.counts, self.put, lambda: self.day)
         self.takes(1, 4)
         self.calls.begun('life')
@@ -71,6 +73,7 @@ class CalledTrunk:
 
     def begins(self, n: int, seized: str) -> None:
         line = self.lines[n]
+        self.numbered = self.numbered | {n} if seized else self.numbered - {n}
         self.open[n] = {'trunk': 'west', 'circuit': str(n), 'direction': str(line.role), 'seized': seized,
                         'answered': moment(self.day) if line.state is State.ANSWERED else ''}
 
@@ -113,7 +116,28 @@ class CalledTrunk:
                 self.moves(line.circuit, state, 'reload' if is_reload and line.circuit == 1 else 'unwatched')
         self.counts.ended, self.calls.changed = None, frozenset()
         self.calls.begun('life')
+        self.numbered = {*self.open}
         self.since = {n: [min(each) for each in zip(its, self.numbers(n))] for n, its in self.since.items()}
+
+    def replaced(self, states: tuple[State, State], is_another: bool) -> None:
+        """Another service goes on with what this one has noted. Nobody tells it how the lines came to stand; behind a
+        call there may be another one."""
+        note = self.calls.note(0, self.day, ())
+        codecs, begun = {call.circuit: call.codec for call in note.calls}, set[int]()
+        self.calls = CallLog('west', self.lines, self.counts, self.put, lambda: self.day)
+        self.calls.take_up(note)
+        for (n, line), state in zip(self.lines.items(), states):
+            was, line.state, line.unacknowledged = line.state, state, 0
+            is_new = state in IN_CALL and (was not in IN_CALL or is_another and n in self.numbered)
+            if n in self.open and (is_new or state not in IN_CALL):
+                self.ends(n, 'unwatched', codecs[n] or line.codec)
+            line.seizures += is_new
+            if is_new:
+                self.begins(n, '')
+                begun.add(n)
+        self.calls.begun('life')
+        self.calls.give()
+        self.numbered = {*self.open} - begun
 
     def takes(self, n: int, count: int) -> None:
         its = self.counts.circuits[n]
@@ -138,11 +162,13 @@ class CallPropertyTests(PropertyCase):
             for what, words in steps:
                 trunk.day += 1
                 getattr(trunk, what)(*words)
+                going = {f'life-{n}-{trunk.lines[n].seizures}' for n in trunk.open}
+                assert {line.call for line in trunk.calls.going()} == going
             trunk.stops()
         self.holds(check, states, st.lists(st.one_of(
             st.tuples(st.just('moves'), st.tuples(circuit, state)),
             st.tuples(st.just('takes'), st.tuples(circuit, st.integers(0, 9))),
-            st.tuples(st.just('leaves'), st.tuples(states, st.booleans()))), max_size=40))
+            st.tuples(st.sampled_from(('leaves', 'replaced')), st.tuples(states, st.booleans()))), max_size=40))
 
 
 class CallFileTests(support.FolderCase):

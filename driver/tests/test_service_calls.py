@@ -6,16 +6,10 @@ import os
 import signal
 import unittest
 from datetime import datetime
-from types import SimpleNamespace
-from typing import Any
 
 from . import support
 from .keepers import CIRCUITS, RestartedKeeperCase
-from e1gw.calls import CallLog, CallRecord, CallsNote
-from e1gw.counts import DatagramCounts
-from e1gw.events import LineChanged
 from e1gw.exchange import IDLE, SEIZED
-from e1gw.lines import Role, State, lines_of
 from e1gw.service.missed import MissedReports
 from e1gw.session import MULTIFRAME, OCTETS_A_SECOND
 
@@ -52,67 +46,6 @@ class MissedCallsTests(RestartedKeeperCase):
                          if row['circuit'] == '1' and not row['answered'])
         self.assertAlmostEqual((ended - seized).total_seconds(), 30 * MULTIFRAME / OCTETS_A_SECOND, delta=FAR)
         self.assertEqual(os.listdir(self.memory), [])
-
-
-class TakenUpCallsTests(unittest.TestCase):
-    """What another service makes of the calls that were noted, where nothing tells what happened since."""
-
-    def setUp(self) -> None:
-        self.lines, self.told = lines_of({}), list[str]()
-        for line in self.lines.values():
-            line.role, line.state = Role.INCOMING, State.IDLE
-        self.log = CallLog('west', self.lines, DatagramCounts(), self.told.append, lambda: 50.0)
-
-    def written(self) -> list[dict[str, Any]]:
-        self.log.give()
-        rows = csv.DictReader(['trunk,circuit,direction,seized,answered,ended,by,codec,sent,received,lost,late,call',
-                               *self.told])
-        return [{name: row[name][11:22] if name in ('seized', 'ended') else row[name]
-                 for name in ('circuit', 'seized', 'ended', 'by', 'call')} for row in rows]
-
-    def test_states_at_the_begin(self) -> None:
-        """One that goes on has no line yet; one that has ended has; so has one behind which there is another one."""
-        self.log.take_up(CallsNote(7, 0.0, {}, tuple(CallRecord(n, float(n), 3, number=2) for n in (1, 2, 3)), {}, ()))
-        for n, seizures in ((1, 2), (2, 2), (3, 3)):
-            self.lines[n].seizures = seizures
-        self.lines[1].state = self.lines[3].state = State.ACKED
-        self.log.begun('life')
-        self.assertEqual(self.written(), [
-            {'circuit': '2', 'seized': '00:00:02.00', 'ended': '00:00:50.00', 'by': 'unwatched', 'call': 'life-2-2'},
-            {'circuit': '3', 'seized': '00:00:03.00', 'ended': '00:00:50.00', 'by': 'unwatched', 'call': 'life-3-2'}])
-        self.told.clear()
-        for n in (1, 3):
-            self.lines[n].state = State.IDLE
-            self.log.took(LineChanged(n, Role.OUTGOING, State.ACKED, State.IDLE, 0))
-        self.assertEqual([(row['circuit'], row['seized'], row['by'], row['call']) for row in self.written()], [
-            ('1', '00:00:01.00', 'exchange', 'life-1-2'), ('3', '', 'exchange', 'life-3-3')])
-
-    def test_counts_of_each_call(self) -> None:
-        """What was counted before it is not of it, nor what another gateway has counted up to its begin. What was not
-        counted before begins at nothing. Each has a name as long as it goes on."""
-        its: dict[str, int] = {'sent': 5, 'admitted': 4}
-        circuits = dict.fromkeys(self.lines, SimpleNamespace(counts=lambda: its, stream=SimpleNamespace(lost=2)))
-        counts: Any = SimpleNamespace(circuits=circuits, stale=lambda: False)
-        self.log.counted_by(counts)
-        rows: list[tuple[dict[str, int], dict[str, int], str]] = [
-            ({}, {}, ',0,0,0,0,'), ({}, {'sent': 9, 'admitted': 7, 'Late': 3}, ',4,3,0,3,'),
-            ({'sent': 2, 'Late': 4}, {'sent': 3, 'admitted': 9}, ',1,2,0,1,')]
-        self.lines[2].seizures, self.lines[2].state = 3, State.ACKED       # (which nobody has seen begin)
-        for before, more, row in rows:
-            its |= before
-            self.log.begun('life')
-            self.lines[1].seizures += 1
-            for was, state in (State.IDLE, State.ACKED), (State.ACKED, State.IDLE):
-                self.lines[1].state = state
-                self.log.took(LineChanged(1, Role.OUTGOING, was, state, 0))
-                self.assertEqual([line.call for line in self.log.going()],
-                                 ['life-2-3', *[f'life-1-{self.lines[1].seizures}'] * (state is State.ACKED)])
-                its |= more
-            self.log.give()
-            self.assertIn(row, self.told[-1])
-        counts.stale = lambda: True
-        self.log.finish()
-        self.assertIn(',stop,pcma,,,,,', self.told[-1])
 
 
 class MissedReportsTests(unittest.TestCase):

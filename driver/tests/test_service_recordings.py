@@ -10,15 +10,13 @@ import tempfile
 import time
 import types
 import unittest
-from contextlib import closing
 from unittest import mock
 
 from . import support
 from .logs import WrittenLog
-from .test_watch import FACTS
 from e1gw.clock import TICK
-from e1gw.service import reader, recordings, status, watch
-from e1gw.service.log_folder import RECORDS, LogFiles, LogState
+from e1gw.service import reader, recordings, status
+from e1gw.service.log_folder import LogState
 from e1gw.session import MULTIFRAME
 
 RECORD = MULTIFRAME / 256_000       # seconds
@@ -79,30 +77,6 @@ class ServiceFlowTests(support.FolderCase, unittest.IsolatedAsyncioTestCase):
                 due = self.now + TICK
                 self.reader.look()
 
-    async def test_gaps(self) -> None:
-        """Each is as long as what was lost, is reported, counted and shown; a stall, and a handover, make none."""
-        with tempfile.NamedTemporaryFile('w') as config:
-            trunk = mock.Mock(flow=self.reader.clock.status, **{
-                'places.return_value.tell': config.name,
-                'config_path.return_value': config.name, 'place.return_value': 0, 'facts.return_value': FACTS})
-            found = watch.TrunkWatch(watch.WatchWants(name='west'), trunk)
-            self.reader.found = found.flowed
-            with mock.patch.object(found, 'tell') as tells:
-                self.go(2)
-                self.go(0.25, comes=False)
-                self.go(2)
-                self.go(5, looks=False)
-                self.go(2)
-                self.reader.follows(True)
-                self.log.turns()
-                self.go(2)
-                shown = await found.pages.fresh()
-        (((event,), _),) = tells.call_args_list
-        self.assertEqual((event.name, round(event.seconds, 2)), ('gap', 0.25))
-        clock = shown.status['clock']
-        self.assertEqual((clock['gaps'], clock['gap_seconds'], clock['stalls']), (1, 0.25, 0))
-        self.assertRegex(shown.table, r'stalls 0, slips 1 \(0\.[23] s\)')
-
     async def test_overtaken(self) -> None:
         """Who missed a part counts on from where the program says that the trunk is, and no octet twice."""
         self.log.multiframe()
@@ -119,33 +93,6 @@ class ServiceFlowTests(support.FolderCase, unittest.IsolatedAsyncioTestCase):
         self.log.multiframe()
         self.reader.look()
         self.assertEqual(self.reader.octets, told + MULTIFRAME)
-
-    async def test_a_log_that_has_gone_on(self) -> None:
-        """Who has read nothing of it yet counts from where the program says that the trunk is."""
-        for _ in range(3):
-            self.log.multiframe()
-        for _ in range(2):
-            self.log.turns()
-            self.log.multiframe()
-        self.reader.told = lambda: 9 * MULTIFRAME
-        self.reader.look()
-        self.assertEqual((self.reader.octets, self.reader.has_missed), (9 * MULTIFRAME, True))
-
-    async def test_what_was_written_over(self) -> None:
-        """It is not read as what was there before."""
-        self.log.multiframe()
-        with closing(LogFiles(self.path('log'))) as files:
-            number = files.newest() or 0
-            head = files.heads(number)
-            assert head
-            before = files.octets(RECORDS[number], head)
-            self.log.multiframe()
-            self.assertEqual(files.octets(RECORDS[number], head), before)       # (more is behind it)
-            for _ in range(2):
-                self.log.turns()
-                for _ in range(3):
-                    self.log.multiframe()
-            self.assertIsNone(files.octets(RECORDS[number], head))
 
     async def test_where_a_program_says_that_it_is(self) -> None:
         """Who has missed a part counts on from there. One that does not say it has told something else, or has gone."""
