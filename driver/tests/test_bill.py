@@ -418,16 +418,6 @@ class BillTests(PropertyCase):
         with mock.patch.multiple(log_folder, RECORDS_ROOM=512 << 10, STATE_ROOM=4096):
             return BilledTrunk(self.session, folder)
 
-    def test_a_log_that_has_ended(self) -> None:
-        """The trunk goes on, and is not told to stand."""
-        with support.in_memory() as folder, self.within(trunk := self.trunk(folder)):
-            trunk.goes_on(2 * LOOK)
-            setattr(trunk, 'logs', lambda: None)
-            trunk.goes_on(10 * LOOK)
-            assert trunk.status
-            self.assertEqual(trunk.carrier.reader.octets, 2 * LOOK * MULTIFRAME)
-            self.assertGreater(trunk.status.place(), 10 * LOOK * MULTIFRAME)
-
     def wanted(self, trunk: BilledTrunk) -> dict[str, dict[str, Any]]:
         """The line of each call up to now, by its id without the life."""
         found = {}

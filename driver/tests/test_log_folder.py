@@ -159,17 +159,6 @@ class FolderReaderTests(LogFolderCase):
             place = self.is_told(news, place)
         self.assertEqual(place, len(self.written))
 
-    def test_the_newest(self) -> None:
-        files = self.files()
-        for turn in range(1, 6):
-            before = len(self.written)
-            self.assertEqual(files.last(), LogPair(turn, before, self.states[before], b''))
-            for _ in range(2):
-                self.writer.append(octets := self.chance.randbytes(100))
-                self.written += octets
-                self.assertEqual(files.last(), LogPair(turn, before, self.states[before], self.written[before:]))
-            self.turns()
-
     def test_on_from_a_place(self) -> None:
         """Another reader goes on where the one before it was; of another log it begins anew."""
         for _ in range(20):

@@ -430,22 +430,6 @@ class PointTests(support.FolderCase):
 
 
 class TrunkEndTests(support.LoopCase):
-    async def test_what_is_opened_too_late(self) -> None:
-        """It is closed: some devices can be opened once."""
-        goes, stream = threading.Event(), mock.Mock()
-
-        def opens() -> mock.Mock:
-            goes.wait()
-            return stream
-        opening = asyncio.create_task(trunk.opened(opens))
-        await asyncio.sleep(0)
-        opening.cancel()
-        with self.assertRaises(asyncio.CancelledError):
-            await opening
-        stream.close.assert_not_called()
-        goes.set()
-        await self.until(lambda: stream.close.called)
-
     async def test_a_card(self) -> None:
         """It is watched no more at the end."""
         its = trunk.TrunkFiles(trunk.LineOptions())
