@@ -275,6 +275,14 @@ class RecordingTests(support.FolderCase, unittest.IsolatedAsyncioTestCase):
         self.assertEqual((support.text_of(path), its.is_over()), ('noted octets', True))
         self.assertEqual(its.note(0), replace(left, place=12, octets=9, size=12))
 
+    async def test_a_ring_that_was_left(self) -> None:
+        """It has the files and the fault that it had."""
+        ring = self.path('ring')
+        left = RecordingNote(ring, 60, 'no room', (('a', 0), ('b', 9)), f'{ring}/b', 3, 9, 5, 7)
+        its = TrunkRecording(RecordingWants(ring, 60, 'west', 'c', 200), lambda: None, left)
+        await asyncio.to_thread(its.close)
+        self.assertEqual(its.note(3), left)
+
     async def test_what_is_written_waits_no_more(self) -> None:
         path = self.path('kept')
         with mock.patch.object(recordings, 'MOST_BEHIND', 150):
@@ -292,6 +300,7 @@ class RecordingTests(support.FolderCase, unittest.IsolatedAsyncioTestCase):
         with closing(os.fdopen(os.open(path, os.O_RDWR), 'rb', buffering=0)), \
                 mock.patch.object(recordings, 'MOST_BEHIND', 99), self.assertLogs('e1gw.service') as told:
             its = TrunkRecording(RecordingWants(path, None, 'west', 'c', 200), lambda: None, None)
+            self.assertEqual(its.note(7), RecordingNote(path, None, '', (), '', 7, 0, 0, 0))
             with mock.patch.object(its, '_write'):
                 its.put(bytes(99), 99, 99)
                 self.assertEqual(its.why, '')
