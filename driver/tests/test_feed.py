@@ -1,6 +1,7 @@
 """The feed of one machine, and the standby that it feeds, in one process."""
 from __future__ import annotations
 
+import argparse
 import asyncio
 import json
 import math
@@ -24,10 +25,11 @@ from e1gw.service import feed, standby
 from e1gw.service.decisions import Wish
 from e1gw.service.drains import Drains, KeptDrains
 from e1gw.service.feed import BACK, CARRIES, LENGTH, MARK, MOST_PIECE, PIECE, STATE, TAKES, FeedServer
+from e1gw.service.handover import CannotBegin
 from e1gw.service.lifecycle import GRACE
 from e1gw.service.log_folder import STATE_ROOM
 from e1gw.service.missed import passed
-from e1gw.service.pair import TrunkPair
+from e1gw.service.pair import TrunkPair, open_pair
 from e1gw.service.program import TrunkProgram
 from e1gw.service.reader import LogReader
 from e1gw.service.standby import NO_CERTIFICATE, NO_TRUNK, FedLog, TrunkStandby
@@ -260,6 +262,23 @@ class PairRoleTests(unittest.IsolatedAsyncioTestCase):
         self.carrier.trunk.tell.assert_called_once_with(RoleGiven('standby'))
         self.assertEqual((self.carrier.trunk.finish.await_count, self.feed.finish.await_args), (1, mock.call(GRACE)))
 
+
+    async def test_where_it_feeds(self) -> None:
+        """A port that is taken ends no trunk that goes on."""
+        self.carrier.places.folder = '/none'
+        with socket.create_server((HOST, 0)) as held:
+            port = held.getsockname()[1]
+            asked = argparse.Namespace(feed=f'{HOST}:{port}', standby=f'{HOST}:9', tls=None, insecure=False)
+            taken = f'^cannot listen: --feed {HOST}:{port}: .*address already in use$'
+            with self.assertRaisesRegex(CannotBegin, taken) as refused:
+                await open_pair(asked, self.carrier, None)
+            with self.assertLogs('e1gw.service.pair') as told:
+                its = await open_pair(asked, self.carrier, mock.Mock(is_active=True))
+        self.assertRegex(told.records[0].getMessage(), taken)
+        self.assertEqual((refused.exception.status, its and its.is_active), (2, True))
+        await open_pair(asked, self.carrier, None)
+        _, writer = await asyncio.open_connection(HOST, port)
+        writer.close()
 
     async def test_taken_over(self) -> None:
         """The next program begins with what was fed, behind the time since octets came, or with nothing."""

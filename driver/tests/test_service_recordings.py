@@ -55,6 +55,18 @@ class UnreadTests(unittest.TestCase):
             self.assertEqual((recording.end.mock_calls, recording.begin.call_count), (calls, not calls))
 
 
+class AnotherFileTests(unittest.TestCase):
+    def test_at_a_turn_of_the_log(self) -> None:
+        """Of a ring, if another program has begun, or the file is long."""
+        for is_cut, keep, octets in itertools.product((False, True), (None, 60), (1_280_004, 1_280_005)):
+            its = reader.LogReader('none', 0.1, None, lambda: None, bytes)
+            its._begun, its._is_cut, its.octets = 5, is_cut, octets
+            its._recording = recording = mock.Mock(why='', wants=recordings.RecordingWants('s', keep, 'w', 'c', 200))
+            its._see_file(LogState(3, 99, b'state'), False)
+            begins = keep is not None and (is_cut or octets == 1_280_005)
+            self.assertEqual((recording.begin.call_count, recording.end.call_count), (begins, 0))
+
+
 class ServiceFlowTests(support.FolderCase, unittest.IsolatedAsyncioTestCase):
     """How octets flow, by the log and a clock of the test's own."""
 
