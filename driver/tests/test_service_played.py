@@ -8,7 +8,6 @@ import os
 import re
 import signal
 import socket
-import tomllib
 from functools import partialmethod
 from typing import Any
 from unittest import mock
@@ -17,7 +16,6 @@ from . import support
 from .in_process import ServiceCase, plain
 from .support import SECONDS
 from e1gw import writers
-from e1gw.lines import config_text
 from e1gw.service import decisions, lifecycle, service, version
 from e1gw.service.decisions import Takeover
 from e1gw.service.handover import Left, version_for
@@ -209,15 +207,6 @@ class PlayedReloadTests(ServiceCase):
             f'warning: the version before comes back: program D goes on after T ms{HAND}', QUIT])
 
 
-    async def test_one_that_does_not_come_up(self) -> None:
-        self.plan(WAITS, says('socket 1'), WAITS)
-        self.begins()
-        await self.says('carries')
-        self.assertRegex(await self.ask('reload'), '^reload: refused, the version before goes on: the program says: '
-                         r'socket 1: its port is free now, or its peer cannot be reached; silent for \d\.\d s: '
-                         'no calls$')
-        await self.ends()
-
     async def test_a_program_that_may_not_be_executed_any_more(self) -> None:
         """No reload takes it; the one that was tried goes on."""
         self.begins()
@@ -333,17 +322,6 @@ class PlayedVersionTests(ServiceCase):
                                  (0, 1, senders, '7.7'))
         words = self.starts('check')[-1]
         self.assertEqual((len(self.starts('check')), words[words.index('--seizure-wait') + 1]), (6, '300'))
-
-    def test_spellings(self) -> None:
-        """Where names are replaced there is a file again, with the same meaning, however it was spelled."""
-        for text in ('law = """mu"""\nhost = \'127.0.0.1\'\ncircuit = []\n',
-                     '"law" = \'mu\'\n[[circuit]]\nnumber = 0x1\n"peer_host" = "west"\npeer_port = 9_000\n'
-                     '[[ "circuit" ]]\nnumber=+3\ncodec="g726-\\u00324"\npayload = 0b1100000\n',
-                     'circuit = [{number = 2, "peer_host" = "west", local_port = 5000},\n{ssrc = 7, number = 30}]'):
-            with self.subTest(text):
-                again = config_text(version.with_addresses(tomllib.loads(text), {'west': '10.0.0.1'}))
-                meant = tomllib.loads(text.replace('"west"', '"10.0.0.1"'))
-                self.assertEqual({'circuit': [], **tomllib.loads(again)}, {'circuit': [], **meant})
 
 
 class PlayedWatchTests(ServiceCase):

@@ -16,14 +16,12 @@ from . import support
 from .support import SECONDS
 from e1gw.service import recordings
 from e1gw.service.decisions import ProgramFault
-from e1gw.service.feed import FeedHead, configured
 from e1gw.service.memory import give_back, given_back, in_memory
 from e1gw.service.options import folder_of, opens_of, recording_of, wants_of, watched_of
 from e1gw.service.process import UNKNOWN, Child, ran, signal_words, start_of
 from e1gw.service.program import MOST_PATH, ProgramPlaces, TrunkProgram
 from e1gw.service.recordings import RecordingNote, RecordingWants, TrunkRecording
 from e1gw.service.service import parser
-from e1gw.service.standby import TrunkStandby
 from e1gw.service.version import ProgramVersion, is_address, with_addresses
 from e1gw.service.watch import WatchWants
 
@@ -246,21 +244,6 @@ class VersionTests(support.FolderCase):
         self.assertEqual(with_addresses(tables, {'west': '10.0.0.1'}), {'law': 'A', 'circuit': [
             {'number': 1, 'peer_host': '10.0.0.1'}, {'number': 2}, {'number': 3, 'peer_host': '10.0.0.3'}]})
         self.assertEqual(with_addresses({'law': 'A'}, {}), {'law': 'A', 'circuit': []})
-
-    def test_ports(self) -> None:
-        ports: dict[int, dict[str, object]] = {3: {'local_port': 1, 'peer_port': 2}, 4: {},
-                                               9: {'local_port': 3, 'peer_port': 4}}
-        self.assertEqual(self.version(support.config_text(ports)).ports(), {3, 9})
-
-    def test_a_standby_after_a_reload(self) -> None:
-        """What differs at the other machine is found by the configuration of then."""
-        versions = [self.version(support.config_text({3: {'ptime': each}})) for each in (20, 30)]
-        now = versions[:1]
-        standby = TrunkStandby(('127.0.0.1', 1), '127.0.0.2', (), lambda: now[0], self.folder, print)
-        head = FeedHead(*configured(versions[1].config_path()), 1, 0, 0, 0, 0)
-        self.assertEqual(standby._differs(head), [3])
-        now[0] = versions[1]
-        self.assertEqual(standby._differs(head), [])
 
 
 class RecordingTests(support.FolderCase, unittest.IsolatedAsyncioTestCase):
