@@ -365,13 +365,16 @@ class OldLogTests(StandbyCase):
         """It is not taken, nor is what there is not."""
         its = self.standby()
         self.assertEqual(await its.goes_to(self.path('log'), False), (None, 'nothing is known'))
-        for age, words in (3000.0, 'what is known is 3000 s old'), (0.0, ''):
-            with mock.patch.object(standby, 'MOST_AGE', 2000.0):
+        in_time = ', 0 of them ones'            # (a far end that is sent the last packets has them)
+        for age, is_given, limit, words in (3000.0, False, 9.0, 'what is known is 3000 s old'), (
+                0.5, True, support.SECONDS, in_time), (0.5, False, support.SECONDS, ''), (0.5, True, 0.1, ''):
+            with mock.patch.multiple(standby, MOST_AGE=2000.0, IN_TIME=limit):
                 its.fed = fed = FedLog(self.folder, 0, 0, 0)
                 fed.begin(b'state')
                 fed.came = fed.fresh = time.monotonic() - age
-                found, told = await its.goes_to(self.path('log'), False)
-            self.assertEqual((found, told[:len(words)], its.fed), (None if words else fed, words, None))
+                found, told = await its.goes_to(self.path('log'), is_given)
+            self.assertEqual((found, told[:len(words)], its.fed), (None if age > 1 else fed, words, None))
+            self.assertEqual(told == in_time, words == in_time)
         self.assertEqual((os.listdir(self.folder), self.held()), (['log'], []))
 
 

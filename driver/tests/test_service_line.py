@@ -6,6 +6,7 @@ import os
 import signal
 import socket
 import stat
+import subprocess
 import sys
 from dataclasses import replace
 from typing import Callable
@@ -16,6 +17,7 @@ from .test_satop import ENDS, SCRIPT
 from .world import words_of
 from e1gw.events import Event, TrunkLost
 from e1gw.service import satop_trunk, trunk
+from e1gw.service.process import start_of
 from e1gw.service.satop_trunk import BROKEN, ONES, SatopTrunk
 from e1gw.service.trunk import LineOptions, SatopNote, waiting
 from e1gw.session import OCTETS_A_SECOND
@@ -80,16 +82,31 @@ class LineProcessTests(support.LoopCase):
             await line.open()
         self.assertEqual((line.files, line.is_open()), ({}, False))
 
-    async def test_one_whose_process_was_gone(self) -> None:
-        """The next service has its descriptors, and looks for no process."""
-        before = SatopTrunk(LineOptions(satop=lambda: [], program='none'))
-        near, far = socket.socketpair()
-        files = {'near': near.detach(), 'far': far.detach()}
-        note = replace(before.note(), names=('near', 'far'), satop=SatopNote(('a', 'b'), 7, '', 0, 0))
-        its = SatopTrunk(LineOptions(satop=lambda: [], program='none'))
-        its.take_up(files, note)
-        self.assertEqual((its.child, its.is_open(), its.zero, len(its._works)), (None, True, 7, 2))
-        await its.finish()
+    async def test_the_next_service(self) -> None:
+        """It has the descriptors, and the process if there is one."""
+        for is_there in True, False:
+            (near, far), pid, started = socket.socketpair(), 0, 0
+            if is_there:
+                process = subprocess.Popen(['cat'], stdin=far, stdout=subprocess.DEVNULL)
+                self.addCleanup(process.wait)
+                pid, started = process.pid, start_of(process.pid)
+            its = SatopTrunk(LineOptions(satop=lambda: [], program='none'))
+            its.take_up({'near': near.detach(), 'far': far.detach()}, replace(
+                its.note(), names=('near', 'far'), satop=SatopNote(('a', 'b'), 7, '', pid, started)))
+            self.assertEqual((its.child and its.child.pid, its.is_open(), its.zero, len(its._works)),
+                             (pid or None, True, 7, 2))
+            await its.finish()
+
+    async def test_packets_that_are_missing(self) -> None:
+        """They are told once."""
+        await self.opened("""
+import os, sys
+for ticks in 0, 80, 160:
+    print(f'satop received=9 ticks={ticks}', file=sys.stderr, flush=True)
+os.read(0, 1)
+""")
+        await self.until(lambda: len(self.told) > 1)
+        self.assertEqual([event.words() for event in self.told[1:]], ['satop: packets missing'])
 
     async def test_more_ones_than_there_is_room_for(self) -> None:
         """A minute of them: as many as fit come, and nobody waits."""
@@ -102,7 +119,10 @@ class LineProcessTests(support.LoopCase):
         await trunk.finish()
 
     async def test_it_ends_by_itself(self) -> None:
-        """The program sees the end of the trunk; with --reopen another one is tried."""
+        """The program sees the end of the trunk, a fault if it is one; with --reopen another one is tried."""
+        trunk = await self.opened('\n')
+        await self.until(lambda: trunk.has_ended(0))
+        self.assertEqual(trunk.failure(), '')
         why = f'{BROKEN}: e1gw satop ended with status 3: e1gw: 127.0.0.1:5000: Address already in use'
         trunk = await self.opened(ENDS)
         await self.until(lambda: trunk.has_ended(0))
@@ -137,7 +157,9 @@ line.bind(("127.0.0.1", {place.partition(':')[2]}))
         self.assertEqual(os.read(line.both[0], 1000), b'\xff' * 512)
 
     async def test_what_it_was_given_last_goes_out(self) -> None:
+        """And nothing stays open."""
+        before = len(os.listdir('/proc/self/fd'))
         trunk = await self.opened(f"""{SCRIPT}open('{self.path('over')}', 'w')\n""")
         os.write(trunk.both[1], bytes(100_000))
         await trunk.finish()
-        self.assertTrue(os.path.exists(self.path('over')))
+        self.assertEqual((os.path.exists(self.path('over')), len(os.listdir('/proc/self/fd'))), (True, before))
