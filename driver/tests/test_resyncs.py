@@ -27,6 +27,13 @@ class ResyncRuleTests(unittest.TestCase):
                 self.rule.counted(n, code, round(self.now * SECOND))
             self.rule.look(self.now, round(self.now * SECOND), [1, 2], True)
 
+    def test_a_quarter_of_a_second(self) -> None:
+        """Three refusals over that are enough."""
+        self.come(LATE, 1.25, 1.375, 1.4375)
+        self.assertEqual(self.restarted, [])
+        self.come(LATE, 1.5)
+        self.assertEqual(self.restarted, [(1.5, 1)])
+
     def go(self, *stretches: tuple[int, float]) -> None:
         """Datagrams come, with each of these answers for so many seconds."""
         for code, seconds in stretches:

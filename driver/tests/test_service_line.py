@@ -87,7 +87,7 @@ class LineProcessTests(support.LoopCase):
         for is_there in True, False:
             (near, far), pid, started = socket.socketpair(), 0, 0
             if is_there:
-                process = subprocess.Popen(['cat'], stdin=far, stdout=subprocess.DEVNULL)
+                process = subprocess.Popen(['cat'], stdin=far.fileno(), stdout=subprocess.DEVNULL)
                 self.addCleanup(process.wait)
                 pid, started = process.pid, start_of(process.pid)
             its = SatopTrunk(LineOptions(satop=lambda: [], program='none'))
