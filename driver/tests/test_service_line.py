@@ -82,6 +82,17 @@ class LineProcessTests(support.LoopCase):
             await line.open()
         self.assertEqual((line.files, line.is_open()), ({}, False))
 
+    async def test_one_that_cannot_be_started_again(self) -> None:
+        """It is tried until it can be."""
+        trunk = await self.opened(SCRIPT)
+        os.rename(self.path('e1gw'), self.path('away'))
+        with self.assertLogs('e1gw.service.satop_trunk') as told:
+            os.kill(self.process(trunk), signal.SIGKILL)
+            await self.until(lambda: told.records)
+        os.rename(self.path('away'), self.path('e1gw'))
+        await self.goes_round(trunk)
+        self.assertEqual([event.name for event in self.told], ['trunk', 'trunk lost', 'trunk'])
+
     async def test_the_next_service(self) -> None:
         """It has the descriptors, and the process if there is one."""
         for is_there in True, False:
@@ -127,6 +138,11 @@ os.read(0, 1)
         trunk = await self.opened(ENDS)
         await self.until(lambda: trunk.has_ended(0))
         self.assertEqual((os.read(trunk.both[0], 10), trunk.failure()), (b'', why))
+        await trunk.finish()
+        self.write('e1gw', f'#!{sys.executable}{SCRIPT}')
+        await trunk.open()
+        await self.goes_round(trunk)
+        self.assertFalse(trunk.has_ended(0))
         trunk = await self.opened(ENDS, reopens=True)
         await self.until(lambda: self.told.count(TrunkLost(why)) > 1)
         self.assertFalse(trunk.has_ended(0))

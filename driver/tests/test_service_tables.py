@@ -291,5 +291,7 @@ class RecordingTests(support.FolderCase, unittest.IsolatedAsyncioTestCase):
                     its.put(b'x', 100, 100)
                 await its.has(200, 900.0)
                 await asyncio.to_thread(its.close)
+        its.put(b'x', 101, 101)
+        self.assertFalse(its._waiting)
         self.assertEqual([each.getMessage() for each in told.records],
                          [f'session ended, the calls go on: it takes too little: {path}'])
