@@ -21,7 +21,6 @@ from .test_trunk_served import octets_in
 from .world import LAUNCHER
 from e1gw.service import trunk
 from e1gw.service.commands import MOST_CLIENTS
-from e1gw.service.events import EventFile
 from e1gw.service.pages import MOST_READERS, MOST_VISITORS
 from e1gw.service.handover import CannotBegin
 from e1gw.service.log_folder import RECORDS_ROOM, LogFiles
@@ -164,25 +163,6 @@ class BadStartTests(RestartedKeeperCase):
         self.step(20)
         self.as_uncut()
         self.ends()
-
-
-class LineFileTests(support.FolderCase):
-    def test_a_file_that_is_moved_away(self) -> None:
-        """Lines went on into it, or into one that nobody could read any more."""
-        ended: list[str] = []
-        file = EventFile('calls', self.path('calls'), lambda name, why: ended.append(why), 'head')
-        for number in range(3):
-            file.put(f'line {number}')
-            support.until(lambda: os.path.exists(self.path('calls'))
-                          and support.text_of(self.path('calls')).endswith(f'line {number}\n'))
-            if number == 0:
-                os.rename(self.path('calls'), self.path('moved'))
-            elif number == 1:
-                os.unlink(self.path('calls'))
-        file.close()
-        self.assertEqual({os.stat(self.path(name)).st_mode & 0o777 for name in ('moved', 'calls')}, {0o640})
-        moved, calls = (support.text_of(self.path(name)) for name in ('moved', 'calls'))
-        self.assertEqual((moved, calls, ended), ('head\nline 0\n', 'head\nline 2\n', []))
 
 
 class OpeningTests(unittest.IsolatedAsyncioTestCase):
