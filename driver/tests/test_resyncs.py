@@ -27,12 +27,29 @@ class ResyncRuleTests(unittest.TestCase):
                 self.rule.counted(n, code, round(self.now * SECOND))
             self.rule.look(self.now, round(self.now * SECOND), [1, 2], True)
 
-    def test_a_quarter_of_a_second(self) -> None:
-        """Three refusals over that are enough."""
-        self.come(LATE, 1.25, 1.375, 1.4375)
+    def test_limits(self) -> None:
+        """Of half a second what came in it, without its first moment; half of it, three at least, over a quarter; and
+        again after a second, and then two. What came before a restart for another reason does not count."""
+        self.come(0, 1.0, 1.01)
+        self.come(LATE, 1.25)
+        self.come(0, 1.3, 1.375)
+        self.come(LATE, 1.4375)
         self.assertEqual(self.restarted, [])
         self.come(LATE, 1.5)
         self.assertEqual(self.restarted, [(1.5, 1)])
+        for end in 2.5, 4.5:
+            before = len(self.restarted)
+            self.come(LATE, end - 0.5, end - 0.25, end - 0.0625, end - 0.001)
+            self.assertEqual(len(self.restarted), before)
+            self.come(LATE, end)
+            self.assertEqual(self.restarted[before:], [(end, 1)])
+        self.come(0, *(30 + n / 200 for n in range(80)))
+        self.rule.want([1], 'gap')
+        self.come(0, 30.5)
+        self.come(LATE, 30.5625, 30.625, 30.75)
+        self.assertEqual(len(self.restarted), 4)
+        self.come(LATE, 30.8125)
+        self.assertEqual(self.restarted[3:], [(30.5, 1), (30.8125, 1)])
 
     def go(self, *stretches: tuple[int, float]) -> None:
         """Datagrams come, with each of these answers for so many seconds."""
