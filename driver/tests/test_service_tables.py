@@ -1,26 +1,22 @@
-"""One process a trunk: what its options ask for, how processes end, and what is kept of the trunk."""
+"""One process a trunk: what its options ask for, how processes end, and what a program lacks."""
 from __future__ import annotations
 
-import asyncio
 import io
 import os
 import signal
 import subprocess
 import unittest
-from contextlib import closing
-from dataclasses import replace
 from typing import Any
 from unittest import mock
 
 from . import support
 from .support import SECONDS
-from e1gw.service import recordings
 from e1gw.service.decisions import ProgramFault
 from e1gw.service.memory import give_back, given_back, in_memory
 from e1gw.service.options import folder_of, opens_of, recording_of, wants_of, watched_of
 from e1gw.service.process import UNKNOWN, Child, ran, signal_words, start_of
 from e1gw.service.program import MOST_PATH, ProgramPlaces, TrunkProgram
-from e1gw.service.recordings import RecordingNote, RecordingWants, TrunkRecording
+from e1gw.service.recordings import RecordingWants
 from e1gw.service.service import parser
 from e1gw.service.version import ProgramVersion, is_address, with_addresses
 from e1gw.service.watch import WatchWants
@@ -244,54 +240,3 @@ class VersionTests(support.FolderCase):
         self.assertEqual(with_addresses(tables, {'west': '10.0.0.1'}), {'law': 'A', 'circuit': [
             {'number': 1, 'peer_host': '10.0.0.1'}, {'number': 2}, {'number': 3, 'peer_host': '10.0.0.3'}]})
         self.assertEqual(with_addresses({'law': 'A'}, {}), {'law': 'A', 'circuit': []})
-
-
-class RecordingTests(support.FolderCase, unittest.IsolatedAsyncioTestCase):
-    async def test_what_was_not_noted_is_cut(self) -> None:
-        """The next service goes on behind what the one before it has noted."""
-        path = self.write('kept', 'noted more')
-        left = RecordingNote(path, None, '', (), path, 0, 5, 5, 5)
-        its = TrunkRecording(RecordingWants(path, None, 'west', 'c', 200), lambda: None, left)
-        its.put(b' octets', 12, 9)
-        await its.has(12, 900.0)
-        await asyncio.to_thread(its.close)
-        self.assertEqual((support.text_of(path), its.is_over()), ('noted octets', True))
-        self.assertEqual(its.note(0), replace(left, place=12, octets=9, size=12))
-
-    async def test_a_ring_that_was_left(self) -> None:
-        """It has the files and the fault that it had."""
-        ring = self.path('ring')
-        left = RecordingNote(ring, 60, 'no room', (('a', 0), ('b', 9)), f'{ring}/b', 3, 9, 5, 7)
-        its = TrunkRecording(RecordingWants(ring, 60, 'west', 'c', 200), lambda: None, left)
-        await asyncio.to_thread(its.close)
-        self.assertEqual(its.note(3), left)
-
-    async def test_what_is_written_waits_no_more(self) -> None:
-        path = self.path('kept')
-        with mock.patch.object(recordings, 'MOST_BEHIND', 150):
-            its = TrunkRecording(RecordingWants(path, None, 'west', 'c', 200), lambda: None,
-                                 RecordingNote(path, None, '', (), path, 0, 0, 0, 0))
-            for place in 99, 198:
-                its.put(bytes(99), place, place)
-                await its.has(place, 900.0)
-            await asyncio.to_thread(its.close)
-        self.assertEqual((its.why, os.path.getsize(path)), ('', 198))
-
-    async def test_one_that_is_too_slow(self) -> None:
-        """It ends, is told once, and takes no more."""
-        os.mkfifo(path := self.path('kept'))
-        with closing(os.fdopen(os.open(path, os.O_RDWR), 'rb', buffering=0)), \
-                mock.patch.object(recordings, 'MOST_BEHIND', 99), self.assertLogs('e1gw.service') as told:
-            its = TrunkRecording(RecordingWants(path, None, 'west', 'c', 200), lambda: None, None)
-            self.assertEqual(its.note(7), RecordingNote(path, None, '', (), '', 7, 0, 0, 0))
-            with mock.patch.object(its, '_write'):
-                its.put(bytes(99), 99, 99)
-                self.assertEqual(its.why, '')
-                for _ in range(2):
-                    its.put(b'x', 100, 100)
-                await its.has(200, 900.0)
-                await asyncio.to_thread(its.close)
-        its.put(b'x', 101, 101)
-        self.assertFalse(its._waiting)
-        self.assertEqual([each.getMessage() for each in told.records],
-                         [f'session ended, the calls go on: it takes too little: {path}'])
