@@ -6,6 +6,7 @@ import glob
 import itertools
 import json
 import os
+import threading
 import time
 import types
 import unittest
@@ -95,6 +96,18 @@ class RecordingTests(support.LoopCase):
                 await its.has(place, SECONDS)
             await asyncio.to_thread(its.close)
         self.assertEqual((its.why, os.path.getsize(path)), ('', 198))
+
+    async def test_who_closes_it_waits(self) -> None:
+        """Until all is written."""
+        goes_on, path = threading.Event(), self.path('kept')
+        its = self.recording(path, RecordingNote(path, None, '', (), path, 0, 0, 0, 0))
+        with mock.patch.object(its, '_write', goes_on.wait):
+            closes = asyncio.create_task(asyncio.to_thread(its.close))
+            await asyncio.sleep(0.01)
+            self.assertFalse(closes.done())
+            goes_on.set()
+            await closes
+        self.assertTrue(its.is_over())
 
     async def test_one_that_is_too_slow(self) -> None:
         """It ends, is told once, and takes no more."""
