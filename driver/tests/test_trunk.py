@@ -1,4 +1,4 @@
-"""e1gw-trunk in service: commands, trunks of each kind, and descriptors that are closed."""
+"""e1gw-trunk in service: commands, trunks of each kind and with filters, and descriptors that are closed."""
 from __future__ import annotations
 
 import json
@@ -9,12 +9,12 @@ import socket
 import subprocess
 import unittest
 from functools import partial
-from typing import Callable, TypeVar
+from typing import Any, Callable, TypeVar
 
 from . import support
 from .test_trunk_served import octets_in
 from .world import World, children, config_of, trunk_command
-from e1gw.session import trunk_record
+from e1gw.session import FRAME, MULTIFRAME, trunk_record
 from e1gw.trunks import host_and_port
 
 FOUR = range(1, 5)
@@ -146,3 +146,49 @@ class TrunkKindServiceTests(support.FolderCase):
         while len(back) < len(OCTETS):
             back += os.read(file, 1000)
         return back
+
+
+class FilteredWorld(World):
+    """A trunk with CRC-4 and four circuits, whose exchange is three bits late with --align."""
+
+    def __init__(self, *options: str, **more: Any) -> None:
+        self.is_late, self.last = '--align' in options, 0xFF
+        super().__init__(config_of(FOUR), '--crc4', *options, **more)
+
+    def give(self, octets: bytes) -> bytes:
+        return super().give(self.on_the_line(octets))
+
+    def on_the_line(self, octets: bytes) -> bytes:
+        """As they come."""
+        front, self.last = bytes([self.last & 7]), octets[-1]
+        return (int.from_bytes(front + octets, 'big') >> 3).to_bytes(len(octets), 'big') if self.is_late else octets
+
+
+class FilterTests(unittest.TestCase):
+    """(Check bits and errors are proved, and scripts/look has their figures.)"""
+
+    def goes_on(self, world: FilteredWorld) -> None:
+        """A call is up, and the exchange hears frames and CRC multiframes where they were (G.704, tables 5A and 5B)."""
+        begun = len(world.heard)
+        world.step(60)
+        heard = world.heard[begun:]
+        firsts = [octet >> 7 for octet in heard[FRAME::2 * FRAME]]          # of frames 1, 3, ..
+        self.assertEqual([firsts[at:at + 6] for at in range(0, len(firsts), 8)], [[0, 0, 1, 0, 1, 1]] * 60)
+        self.assertEqual({octet & 0x7F for octet in heard[::2 * FRAME]}, {0x1B})
+        self.assertEqual(world.state(1), 'answered')
+
+    def test_the_program_dies_inside_a_multiframe(self) -> None:
+        """The exchange keeps the alignment of frames and multiframes."""
+        for options in (), ('--align',):
+            world = FilteredWorld(*options, within={'service.decisions.WITHIN': 0.0})
+            self.addCleanup(world.__exit__)
+            call(aligned(world), 1)
+            for count in 0, 77, 500:
+                with self.subTest(count, options=options):
+                    octets = world.on_the_line(world.exchange.multiframe())
+                    world.line.sendall(octets[:count])
+                    back = support.read_from(world.line, count)
+                    world.kill('trunk')
+                    world.line.sendall(octets[count:])
+                    world.exchange.hear(back + support.read_from(world.line, MULTIFRAME - count))
+                    self.goes_on(world)
