@@ -94,6 +94,15 @@ class WatchEdgeTests(TrunkWatchCase):
             self.assertEqual([call.args[1] for call in told.warning.call_args_list], [2.0] * is_known)
             self.assertEqual(its.lines.place, missed.last * is_known)
 
+    async def test_circuits_that_are_configured_otherwise(self) -> None:
+        """Of those a reload has ended the calls."""
+        its = self.watched().status
+        self.write('trunk.toml', 'law = "A"\n[[circuit]]\nnumber = 3\n')
+        with mock.patch.object(its._trunk, 'missed', mock.AsyncMock(return_value=None)):
+            for changed in {3}, set():
+                await its.came(mock.Mock(), 'session', 0)
+                self.assertEqual(its.calls.changed, changed)
+
     def test_who_takes_too_little(self) -> None:
         """He is closed; who is gone is told nothing."""
         for held, is_gone, calls in ((MOST_HELD, False, (1, 0)), (MOST_HELD + 1, False, (1, 1)), (0, True, (0, 0))):
