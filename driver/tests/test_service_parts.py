@@ -18,6 +18,7 @@ from unittest import mock
 from . import support
 from .manager import Manager
 from .support import SECONDS, config_text
+from e1gw import crc4
 from e1gw.calls import CallRecord, CallsNote
 from e1gw.crc4 import Crc4Note
 from e1gw.events import AlarmChanged, AlignmentLost
@@ -436,6 +437,15 @@ class TrunkEndTests(support.LoopCase):
         its.card = card = mock.Mock()
         await its.finish()
         self.assertEqual((card.mock_calls, its.card, its.both), ([mock.call.end()], None, (-1, -1)))
+
+    async def test_what_the_next_service_knows(self) -> None:
+        """What was counted of its line."""
+        before, its = (trunk.TrunkFiles(trunk.LineOptions(crc4=True, clear=True)) for _ in range(2))
+        assert before.crc4 and before.slots
+        before.crc4.take(dict.fromkeys(crc4.COUNTS, 7))
+        [*before.slots.take('slots found 3')]
+        its.take_up({}, before.note())
+        self.assertEqual(replace(its.note(), since=0.0), replace(before.note(), since=0.0))
 
     async def test_what_fails_is_begun_again(self) -> None:
         """It is told where, in one line."""
