@@ -446,6 +446,8 @@ class TrunkEndTests(support.LoopCase):
         [*before.slots.take('slots found 3')]
         its.take_up({}, before.note())
         self.assertEqual(replace(its.note(), since=0.0), replace(before.note(), since=0.0))
+        await its.finish()
+        self.assertIsNone(its.crc4 and its.crc4.status()['aligned'])
 
     async def test_what_fails_is_begun_again(self) -> None:
         """It is told where, in one line."""

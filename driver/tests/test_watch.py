@@ -10,7 +10,7 @@ from typing import Any
 from unittest import mock
 
 from . import limits, support
-from .test_reports import BEGIN
+from .test_reports import BEGIN, counts, row
 from e1gw.calls import CallsNote
 from e1gw.clock import ClockFinding
 from e1gw.events import CallsCleared, Event, FlowChanged, Flows, Stalled, WatchEnded
@@ -26,7 +26,7 @@ from e1gw.session import OCTETS_A_SECOND, Command, command_record
 FACTS: dict[str, Any] = {'since': 0.0, 'fault': '', 'version': '', 'carried': {}, 'pair': {}, 'session': None}
 
 
-class TrunkWatchCase(support.FolderCase, unittest.IsolatedAsyncioTestCase):
+class TrunkWatchCase(support.LoopCase):
     """A trunk without a program; `facts` are what is known of it. `given` has the records for the program, `told` the
     events."""
 
@@ -63,6 +63,19 @@ class WatchEdgeTests(TrunkWatchCase):
             await asyncio.sleep(0)
             self.assertEqual([record[:2] for record in self.given], given)
             self.assertEqual(found._values()['renewed'], len(given))
+
+    async def test_refused_datagrams_restart_their_call(self) -> None:
+        """By what the program tells of them."""
+        found = self.watched()
+        found.drains = mock.Mock()
+        lines = [*BEGIN, row(3, 'answered', '00 11'), 'now']
+        lines += [each for n in range(1, 5) for each in (f'at {30_000 * n}', counts(3, 0, Full=n))]
+        found._lines.begin(0)
+        found._lines.take('\n'.join([*lines, '']).encode())
+        looks = asyncio.create_task(found._look())
+        await self.until(lambda: self.given)
+        looks.cancel()
+        self.assertEqual([record[:2] for record in self.given], [b'K\x03'])
 
     async def test_a_standby_writes_no_calls(self) -> None:
         for role, lines in ('standby', 0), ('active', 1):
