@@ -2,12 +2,14 @@
 from __future__ import annotations
 
 import os
+import threading
 from unittest import mock
 
 from . import support
 from e1gw.calls import FIELDS, KEPT, MOST_OCTETS
 from e1gw.service import events
 from e1gw.service.events import EventFile
+from e1gw.writers import write_all
 
 
 class LineFileTests(support.FolderCase):
@@ -25,6 +27,18 @@ class LineFileTests(support.FolderCase):
             self.assertEqual(reads.read(8), b'abc\ndef\n')
             file.close()
         self.assertEqual(self.ended, [])
+
+    def test_what_somebody_has_made_non_blocking(self) -> None:
+        """All is written."""
+        reads, writes = os.pipe()
+        self.addCleanup(os.close, reads)
+        os.set_blocking(writes, False)
+        (thread := threading.Thread(target=write_all, args=(writes, bytes(200_000)), daemon=True)).start()
+        left = 200_000
+        while left:
+            left -= len(os.read(reads, left))
+        thread.join()
+        os.close(writes)
 
     def test_a_place_that_cannot_be_had(self) -> None:
         for path, why in ((f'{self.fifo}/none', 'Not a directory'), ('/dev/full', 'No space left on device')):
