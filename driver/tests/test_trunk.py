@@ -148,6 +148,16 @@ class TrunkKindServiceTests(support.FolderCase):
         return back
 
 
+class HearingTests(unittest.TestCase):
+    def test_octets_before_the_first_multiframe(self) -> None:
+        """The exchange waits for that, and hears it."""
+        exchange = support.Exchange()
+        exchange.hear(b'\xff' * 600)
+        self.assertFalse(exchange.aligned)
+        exchange.hear(support.Exchange().multiframe())
+        self.assertEqual((exchange.aligned, exchange.remote_alarms, len(exchange.heard[1])), (True, False, 16))
+
+
 class FilteredWorld(World):
     """A trunk with CRC-4 and four circuits, whose exchange is three bits late with --align."""
 
