@@ -8,7 +8,6 @@ import os
 import re
 import signal
 import sys
-import unittest
 from contextlib import suppress
 from typing import Any, Callable
 from unittest import mock
@@ -107,7 +106,7 @@ while True:
 '''
 
 
-class ServiceCase(support.FolderCase, unittest.IsolatedAsyncioTestCase):
+class ServiceCase(support.LoopCase):
     """A service that runs in this process, at a Unix socket as its trunk."""
 
     def setUp(self) -> None:
@@ -129,9 +128,6 @@ class ServiceCase(support.FolderCase, unittest.IsolatedAsyncioTestCase):
         kept = mock.patch.multiple(journal, handlers=[takes], propagate=False, level=logging.INFO)
         kept.start()
         self.addCleanup(kept.stop)
-
-    async def asyncSetUp(self) -> None:
-        asyncio.get_running_loop().set_debug(False)     # (a slow turn is no fault)
 
     def said(self) -> list[str]:
         """What the journal has of programs, by its level."""

@@ -38,6 +38,7 @@ LIMITS: dict[str, Any] = {
     'service.events.FLUSH': LONG, 'service.journal.FLUSH': LONG, 'service.drains.PATIENCE': LONG,
     # (A process that gets what others leave gets next to nothing on a loaded machine.)
     'priority.put_last': lambda process: None}
+USUAL: dict[str, Any] = {}        # what they are where no test is
 
 
 def around(limits: Mapping[str, Any]) -> dict[str, str]:
@@ -69,4 +70,5 @@ def put_here() -> None:
         has = {f'{each.removeprefix("e1gw.")}.{limit}' for each, module in sys.modules.items()
                if each.startswith('e1gw.') and getattr(module, limit, None) is value}
         assert has <= {*LIMITS}, has
+        USUAL[path] = value
     put(LIMITS)

@@ -1,6 +1,7 @@
 """What the tests share: the program that is looked at, an exchange, and a trunk in service."""
 from __future__ import annotations
 
+import asyncio
 import atexit
 import contextlib
 import fcntl
@@ -30,9 +31,9 @@ from e1gw.testing.service import Service
 TOP = os.path.dirname(os.path.dirname(os.path.dirname(os.path.abspath(__file__))))
 sys.dont_write_bytecode = not sys.pycache_prefix or 'E1GW_MUTANT' in os.environ
 
-__all__ = ['Exchange', 'FolderCase', 'SECONDS', 'Service', 'TOP', 'all_read', 'chance_of',
+__all__ = ['Exchange', 'FolderCase', 'LoopCase', 'SECONDS', 'Service', 'TOP', 'all_read', 'chance_of',
            'config_text', 'connected', 'in_memory', 'launcher', 'listening', 'octets_of', 'program', 'read_from',
-           'ran', 'remove', 'run', 'said_by', 'state_of', 'stopped', 'text_of', 'until', 'whole_lines', 'without']
+           'ran', 'remove', 'run', 'said_by', 'state_of', 'stopped', 'text_of', 'until', 'whole_lines']
 
 T = TypeVar('T')
 
@@ -132,6 +133,19 @@ class FolderCase(unittest.TestCase):
         return self.path(name)
 
 
+class LoopCase(FolderCase, unittest.IsolatedAsyncioTestCase):
+    """Such tests in a loop."""
+
+    async def asyncSetUp(self) -> None:
+        asyncio.get_running_loop().set_debug(False)     # (a slow turn is no fault)
+
+    async def until(self, holds: Callable[[], Any]) -> Any:
+        """Waits until something holds, and returns what it is."""
+        while not (found := holds()):
+            await asyncio.sleep(0.002)
+        return found
+
+
 def program() -> str:
     """The program that E1GW names, or that of the tree where it is built. The test is passed over without one."""
     path = os.environ.get('E1GW') or os.path.join(TOP, 'out', 'e1gw')
@@ -196,16 +210,6 @@ def state_of(pid: int) -> str:
         return text_of(f'/proc/{pid}/stat').rpartition(')')[2].split()[0]
     except OSError:
         return ''
-
-
-def without(sent: bytes, circuit: int) -> bytes:
-    """What a gateway sent from its first octet on, with a circuit's slot and its ABCD bits left blank."""
-    others = bytearray(sent)
-    for at in range(circuit + (circuit > 15), len(sent), 32):
-        others[at] = 0
-    for at in range(32 * ((circuit - 1) % 15 + 1) + 16, len(sent), 512):
-        others[at] &= 0xf0 if circuit > 15 else 0x0f
-    return bytes(others)
 
 
 def ran(*words: str, **more: Any) -> tuple[int, str, str]:

@@ -9,7 +9,7 @@ import os
 import pickle
 import random
 import tomllib
-from dataclasses import dataclass, field
+from dataclasses import dataclass
 from datetime import datetime
 from types import SimpleNamespace
 from typing import Any, Coroutine
@@ -171,19 +171,12 @@ class Program:
         return found
 
 
-@dataclass
-class Disk:
-    """What stays when a service is killed."""
-
-    note: bytes = b''
-    file: list[str] = field(default_factory=list)
-
-
 class BilledTrunk:
     """A trunk with its programs and services, one after another."""
 
     def __init__(self, session: CalledSession, folder: str) -> None:
-        self.session, self.folder, self.disk = session, folder, Disk()
+        self.session, self.folder = session, folder
+        self.kept, self.file = b'', list[str]()     # what stays when a service is killed: its note, and lines
         self.m, self.now, self.when = 0, BEGIN, list[float]()      # (of multiframes: how many; when)
         self.log, self.places = LogWriter(self.path('log')), [0]
         self.unlogged = b''             # of it, which nobody looks at yet
@@ -212,14 +205,14 @@ class BilledTrunk:
                 name='', config_path=lambda: 'config'),
             places=SimpleNamespace(tell=self.path('tell'), folder=self.folder, control=''),
             trunk=SimpleNamespace(facts=lambda: {'fault': ''}, outage=lambda: None))
-        read, begun, note = pickle.loads(self.disk.note) if self.disk.note else (ReadingNote(), 0, None)
+        read, begun, note = pickle.loads(self.kept) if self.kept else (ReadingNote(), 0, None)
         reader.take_up(read, None)
         self.status = status = TrunkStatus(OperatedTrunk(self.carrier, None), 'west', self.tells,  # type: ignore
                                            DatagramCounts(), self.waiting.append)
         status.waiting, status.changed = lambda: [*self.waiting], self.note
         if note:
             status.take_up(note)
-            self.waiting += [line for line in note.lines if line not in self.disk.file]
+            self.waiting += [line for line in note.lines if line not in self.file]
         reader.told = lambda: status.lines.place
         self.connected = None
         if self.program.lives:
@@ -240,14 +233,14 @@ class BilledTrunk:
         assert self.status
         reader = self.carrier.reader
         begun = self.program.begun if self.program.lives else reader.octets
-        self.disk.note = pickle.dumps((reader.noted(), begun, self.status.calls_note()))
+        self.kept = pickle.dumps((reader.noted(), begun, self.status.calls_note()))
 
     def dies(self, written: int = 0) -> None:
         """The service is killed, once it has heard one of two programs; so many of the lines that wait are written."""
         while self.status and self.unheard > 1:
             self.end = max(self.end, self.m + 1)
             self.goes_on(1)
-        self.disk.file += self.waiting[:written]
+        self.file += self.waiting[:written]
         self.waiting.clear()
         self.carrier.reader.take_out()      # (which closes its files)
         self.status, self.left = None, FAR
@@ -269,7 +262,7 @@ class BilledTrunk:
             self.hears()
             while self.waiting:
                 self.writes()
-                self.disk.file.append(self.waiting.pop(0))
+                self.file.append(self.waiting.pop(0))
         except Died:
             self.dies(self.m % 3)
 
@@ -391,10 +384,10 @@ class BilledTrunk:
         assert self.status
         self.since = {n: line.since for n, line in self.status.lines.lines.items()}
         self.status.calls.finish()
-        self.disk.file += self.waiting
+        self.file += self.waiting
         self.carrier.reader.take_out()
         self.log.close()
-        return [*map(lambda row: dict(zip(FIELDS, row)), csv.reader(self.disk.file))]
+        return [*map(lambda row: dict(zip(FIELDS, row)), csv.reader(self.file))]
 
 
 class BillTests(PropertyCase):
@@ -417,16 +410,6 @@ class BillTests(PropertyCase):
     def trunk(self, folder: str) -> BilledTrunk:
         with mock.patch.multiple(log_folder, RECORDS_ROOM=512 << 10, STATE_ROOM=4096):
             return BilledTrunk(self.session, folder)
-
-    def test_a_log_that_has_ended(self) -> None:
-        """The trunk goes on, and is not told to stand."""
-        with support.in_memory() as folder, self.within(trunk := self.trunk(folder)):
-            trunk.goes_on(2 * LOOK)
-            setattr(trunk, 'logs', lambda: None)
-            trunk.goes_on(10 * LOOK)
-            assert trunk.status
-            self.assertEqual(trunk.carrier.reader.octets, 2 * LOOK * MULTIFRAME)
-            self.assertGreater(trunk.status.place(), 10 * LOOK * MULTIFRAME)
 
     def wanted(self, trunk: BilledTrunk) -> dict[str, dict[str, Any]]:
         """The line of each call up to now, by its id without the life."""

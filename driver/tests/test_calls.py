@@ -1,21 +1,27 @@
-"""A line for each call: who ended it, its packets, its name, and a file that is rotated."""
+"""A line for each call, whatever was not there meanwhile: who ended it, its packets and its name."""
 from __future__ import annotations
 
 import csv
 import json
 import os
+import signal
 import unittest
+from datetime import datetime
 from typing import Any
-from unittest import mock
 
 from . import support
+from .keepers import CIRCUITS, RestartedKeeperCase
 from .properties import PropertyCase
 from e1gw.call_names import CallNames
-from e1gw.calls import FIELDS, KEPT, MOST_OCTETS, CallLog, is_another_gateway, moment
+from e1gw.calls import FIELDS, CallLog, is_another_gateway, moment
 from e1gw.counts import REASONS, CircuitCounts, DatagramCounts, ToldCounts
 from e1gw.events import LineChanged
+from e1gw.exchange import IDLE, SEIZED
 from e1gw.lines import IN_CALL, Line, Role, State
-from e1gw.service import events
+from e1gw.service.missed import MissedReports
+from e1gw.session import MULTIFRAME, OCTETS_A_SECOND
+
+FAR = 0.005                 # seconds, of a line's times, which have milliseconds
 
 
 class CallEndTests(unittest.TestCase):
@@ -44,9 +50,11 @@ class CalledTrunk:
     to be a line behind its end, in their order: `wanted` has those that are still to come."""
 
     def __init__(self, states: tuple[State, State]) -> None:
-        self.lines = {n: Line(n, role, state=state) for n, role, state in zip((1, 2), [*Role], states)}
+        self.lines = {n: Line(n, role, state=state, seizures=int(state in IN_CALL))
+                      for n, role, state in zip((1, 2), [*Role], states)}
         self.counts, self.day = DatagramCounts(), 1_000_000_000.25
         self.open, self.wanted = dict[int, dict[str, str]](), list[dict[str, str]]()
+        self.numbered = set[int]()              # circuits of whose calls it is known which they are
         self.calls = CallLog('west', self.lines, self.counts, self.put, lambda: self.day)
         self.takes(1, 4)
         self.calls.begun('life')
@@ -71,6 +79,7 @@ class CalledTrunk:
 
     def begins(self, n: int, seized: str) -> None:
         line = self.lines[n]
+        self.numbered = self.numbered | {n} if seized else self.numbered - {n}
         self.open[n] = {'trunk': 'west', 'circuit': str(n), 'direction': str(line.role), 'seized': seized,
                         'answered': moment(self.day) if line.state is State.ANSWERED else ''}
 
@@ -113,7 +122,28 @@ class CalledTrunk:
                 self.moves(line.circuit, state, 'reload' if is_reload and line.circuit == 1 else 'unwatched')
         self.counts.ended, self.calls.changed = None, frozenset()
         self.calls.begun('life')
+        self.numbered = {*self.open}
         self.since = {n: [min(each) for each in zip(its, self.numbers(n))] for n, its in self.since.items()}
+
+    def replaced(self, states: tuple[State, State], is_another: bool) -> None:
+        """Another service goes on with what this one has noted. Nobody tells it how the lines came to stand; behind a
+        call there may be another one."""
+        note = self.calls.note(0, self.day, ())
+        codecs, begun = {call.circuit: call.codec for call in note.calls}, set[int]()
+        self.calls = CallLog('west', self.lines, self.counts, self.put, lambda: self.day)
+        self.calls.take_up(note)
+        for (n, line), state in zip(self.lines.items(), states):
+            was, line.state, line.unacknowledged = line.state, state, 0
+            is_new = state in IN_CALL and (was not in IN_CALL or is_another and n in self.numbered)
+            if n in self.open and (is_new or state not in IN_CALL):
+                self.ends(n, 'unwatched', codecs[n] or line.codec)
+            line.seizures += is_new
+            if is_new:
+                self.begins(n, '')
+                begun.add(n)
+        self.calls.begun('life')
+        self.calls.give()
+        self.numbered = {*self.open} - begun
 
     def takes(self, n: int, count: int) -> None:
         its = self.counts.circuits[n]
@@ -138,28 +168,13 @@ class CallPropertyTests(PropertyCase):
             for what, words in steps:
                 trunk.day += 1
                 getattr(trunk, what)(*words)
+                going = {f'life-{n}-{trunk.lines[n].seizures}' for n in trunk.open}
+                assert {line.call for line in trunk.calls.going()} == going
             trunk.stops()
         self.holds(check, states, st.lists(st.one_of(
             st.tuples(st.just('moves'), st.tuples(circuit, state)),
             st.tuples(st.just('takes'), st.tuples(circuit, st.integers(0, 9))),
-            st.tuples(st.just('leaves'), st.tuples(states, st.booleans()))), max_size=40))
-
-
-class CallFileTests(support.FolderCase):
-    def test_a_full_file_is_moved_away(self) -> None:
-        self.assertIn(f'A file of {MOST_OCTETS >> 20} MiB is renamed', support.text_of(
-            f'{support.TOP}/dist/man/e1gw-trunk.1'))
-        for kind, head in ('calls', ','.join(FIELDS) + '\n'), ('events', ''):
-            with mock.patch.object(events, 'MOST_OCTETS', len(head) + 25):
-                file = events.EventFile(kind, self.path(kind), lambda _, why: self.fail(why), head.strip())
-                for number in range(10, 40):
-                    file.put(f'line of {number}')
-                file.close()
-            names = sorted(name for name in os.listdir(self.folder) if name.startswith(kind))
-            self.assertEqual(names, [kind, *(f'{kind}.{n}' for n in range(1, KEPT + 1))])
-            for name, line in ((kind, '39'), (f'{kind}.1', '37'), (f'{kind}.{KEPT}', '21')):
-                text = support.text_of(self.path(name))
-                self.assertEqual((text.startswith(head), line in text), (True, True), name)
+            st.tuples(st.sampled_from(('leaves', 'replaced')), st.tuples(states, st.booleans()))), max_size=40))
 
 
 class NamingTests(support.FolderCase):
@@ -197,3 +212,48 @@ class NamingTests(support.FolderCase):
             naming = self.naming()
             self.assertEqual(self.counts(naming, 'a', 2), 2)
             self.assertEqual(json.loads(support.text_of(self.path('calls')))['life'], naming.life)
+
+
+class MissedCallsTests(RestartedKeeperCase):
+    def test_while_no_service_is_there(self) -> None:
+        """Calls end, begin and end, and begin, while the service is killed, and while it is replaced another one ends.
+        Each has one line, with the times of the trunk."""
+        self.begins('--control', self.path('its-control'), '--calls', self.path('its-calls'))
+        pairs = self.device.exchange.pairs
+        self.known(lambda rows: {row['state'] for row in rows} == {'answered'})
+        self.settles()
+        self.kill_keeper()
+        for changes, count in ({1: IDLE, 3: IDLE}, 60), ({1: SEIZED}, 30), ({1: IDLE, 3: SEIZED}, 40):
+            pairs.update(changes)
+            self.step(count)
+        self.comes_back()
+        self.known(lambda rows: (rows[0]['state'], rows[2]['state']) == ('idle', 'acked'))
+        self.settles()
+        self.under_way(lambda: self.keeper.send_signal(signal.SIGUSR2))
+        pairs[5] = IDLE
+        self.step(40)
+        self.awaits('the service was replaced; (?=program)')
+        self.known(lambda rows: rows[4]['state'] == 'idle')
+        self.ends()
+        rows = [*csv.DictReader(support.text_of(self.path('its-calls')).splitlines())]
+        self.assertEqual(sorted(int(row['circuit']) for row in rows), sorted([1, 3, *CIRCUITS]))
+        self.assertEqual((len({row['call'] for row in rows}), all(row['seized'] for row in rows)), (len(rows), True))
+        self.assertEqual({(row['circuit'], row['by']) for row in rows if row['by'] != 'stop'},
+                         {(n, 'exchange') for n in '135'})
+        seized, ended = (datetime.fromisoformat(row[key]) for row in rows for key in ('seized', 'ended')
+                         if row['circuit'] == '1' and not row['answered'])
+        self.assertAlmostEqual((ended - seized).total_seconds(), 30 * MULTIFRAME / OCTETS_A_SECOND, delta=FAR)
+        self.assertEqual(os.listdir(self.memory), [])
+
+
+class MissedReportsTests(unittest.TestCase):
+    def test_what_was_missed(self) -> None:
+        """The state where it begins, and what was told behind that, up to an octet."""
+        state, more = b'e1gw tell 1 A\nat 8\n', b'at 512\nline  1 c\nat 1024\ncounts 1 9\nalarms 1\nend\n'
+        text = state + b'alarms 0\nline  1 a\nline  2 b\ncounts 1 5\nseizures 0\nnow\n' + more
+        first, then = b'line  1 a\nline  2 b\ncounts 1 5\n', b'line  1 c\nline  2 b\ncounts 1 5\n'
+        for since, last, at, circuits, changes in (
+                (108, 108, 8, first, b''), (100, 700, 8, first, more[:17]), (50, 5000, 8, first, more),
+                (612, 611, 512, then, b''), (700, 2000, 600, then, more[17:])):
+            self.assertEqual(MissedReports(since, False, 100, 1124, text).parts(last), (
+                b'e1gw tell 1 A\nat %d\nalarms 0\n' % at, circuits, b'now\n' + changes), (since, last))

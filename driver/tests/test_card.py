@@ -5,22 +5,17 @@ from __future__ import annotations
 import asyncio
 import errno
 import os
-import shutil
 import socket
-import subprocess
 import tempfile
-import time
 import unittest
 from pathlib import Path
 from unittest import mock
 
-from . import support
 from e1gw import card_opening, dahdi
 from e1gw.dahdi import (BUFFERS, NUMBER, PARAMETERS, SPAN, Alarm, Blocks, CardFault, DahdiChannel, Request,
                         channel_facts, span_facts)
 from e1gw.events import CardAlarm, CardAlarmChanged, Event
 from e1gw.service.card import GONE, CardWatch, watch_of
-
 
 
 def at(octets: bytes, *values: tuple[int, int]) -> bytes:
@@ -147,41 +142,6 @@ class SetUpTests(unittest.TestCase):
         self.assertIn('SupplementaryGroups=', card_opening.advice(os.devnull, errno.EACCES))
         with tempfile.NamedTemporaryFile() as alone:
             self.assertIn('e1gw.rules', card_opening.advice(alone.name, errno.EACCES))
-
-
-@unittest.skipUnless(shutil.which('strace'), 'strace makes the errors')
-class EventTests(support.FolderCase):
-    def test_while_nobody_takes_it(self) -> None:
-        """While an event waits, each read of what has come fails, and each write. The program goes on, and asks once or
-        twice a millisecond."""
-        self.write('trunk.toml', support.config_text({}))
-        os.mkfifo(device := self.path('device'))
-        for call, more in ('read', ('--control', self.path('control'))), ('read', ()), ('write', ()):
-            with self.subTest(call=call, more=more):
-                both, log = os.open(device, os.O_RDWR), self.path('log')
-                os.write(both, bytes(512))
-                self.tried(both, log, [
-                    'strace', '-I2', '-f', '-P', device, '-e', f'trace={call}', '-e', f'inject={call}:error=500',
-                    '-o', log, support.program(), 'trunk', '--config', self.path('trunk.toml'), *more])
-                os.close(both)
-                os.remove(log)
-
-    def tried(self, both: int, log: str, words: list[str]) -> None:
-        """Runs a program at a device, whose failures are in a log."""
-        with open(self.path('said'), 'wb') as errors, \
-                subprocess.Popen(words, stdin=both, stdout=both, stderr=errors) as process:
-            support.until(lambda: self.failures(log) > 10 or process.poll() is not None)
-            began, before = time.monotonic(), self.failures(log)
-            support.until(lambda: self.failures(log) > before + 600 or process.poll() is not None)
-            took = time.monotonic() - began
-            status = process.poll()
-            process.terminate()
-        self.assertIsNone(status, support.text_of(self.path('said')))
-        self.assertGreater(took, 0.25)
-
-    @staticmethod
-    def failures(log: str) -> int:
-        return support.text_of(log).count('(errno 500)') if os.path.exists(log) else 0
 
 
 class CardWatchTests(unittest.TestCase):

@@ -69,15 +69,12 @@ class ProgramBuiltTests(support.FolderCase):
         code = f'from e1gw import programs; programs.TOP = {self.folder!r}; print(programs.{asked}(None))'
         return ran(sys.executable, '-c', code, env=AROUND | {'E1GW': ''})
 
-    def test_the_progress_is_shown(self) -> None:
-        self.assertEqual(self.built(0), (0, '/program\n', 'e1gw: proving gw_switch\n'))
-
-    def test_a_failed_build_ends_it(self) -> None:
-        self.assertEqual(self.built(70), (70, '', 'e1gw: proving gw_switch\n'))
-
-    def test_for_calls_none_is_built(self) -> None:
-        self.assertEqual(self.built(0, 'proved_program_of')[:2], (0, '/program--built\n'))
-        self.assertEqual(self.built(70, 'proved_program_of')[:2], (70, ''))
+    def test_what_is_built(self) -> None:
+        """The progress is shown, and a build that fails ends it. For calls none is built."""
+        said = 'e1gw: proving gw_switch\n'
+        self.assertEqual([self.built(0), self.built(70)], [(0, '/program\n', said), (70, '', said)])
+        self.assertEqual([self.built(status, 'proved_program_of')[:2] for status in (0, 70)],
+                         [(0, '/program--built\n'), (70, '')])
 
     def test_for_calls_none_without_proof_is_taken(self) -> None:
         """By its name, also behind a link; of the words, the variable or the path."""

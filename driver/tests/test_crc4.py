@@ -1,95 +1,14 @@
-"""CRC-4: that of an exchange, and the conditions that follow from the counts of a check.
-
-The exchange's CRC-4 is made here bit by bit from ITU-T G.704 (2.3.3) and G.706 (4.1 and 4.2), and shares nothing with
-the program."""
+"""What follows from what a program says of CRC-4, and of slot 16 behind a card that keeps time slot 0 (--clear)."""
 from __future__ import annotations
 
 import unittest
 
 from e1gw import crc4
 from e1gw.crc4 import Crc4, counts_in
+from e1gw.slots import Slots
 
-FRAME, HALF, MULTIFRAME = 32, 256, 512      # octets; half a multiframe is a submultiframe
-SIGNAL = (0, 0, 1, 0, 1, 1)                 # in frames 1, 3, .., 11 (G.704, table 5B)
-MS_8 = 64 * FRAME
-FAS = 0x1B                                  # without its first bit
-
-
-def remainder(block: bytes) -> int:
-    """The remainder of x^4 times these bits, divided modulo 2 by x^4 + x + 1: a long division."""
-    rest = int.from_bytes(block, 'big') << 4
-    while rest.bit_length() > 4:
-        rest ^= 0b10011 << rest.bit_length() - 5
-    return rest
-
-
-def with_bit(octet: int, bit: int) -> int:
-    """The octet with this bit as its first."""
-    return octet & 0x7F | bit << 7
-
-
-class Crc4Sender:
-    """What an exchange sends, with CRC-4 multiframes."""
-
-    def __init__(self) -> None:
-        self._last = 0              # the remainder of the submultiframe before
-        self.errored_at: set[int] = set()       # submultiframes, counted from 0, that are sent with a bit turned
-        self.far_at: set[int] = set()           # those in whose multiframes an E bit is 0
-        self.number = 0
-
-    def multiframe(self, octets: bytes) -> bytes:
-        return self._submultiframe(octets[:HALF], 0) + self._submultiframe(octets[HALF:], 1)
-
-    def _submultiframe(self, octets: bytes, half: int) -> bytes:
-        e_bit = int(self.number not in self.far_at)
-        firsts = (*SIGNAL, e_bit if half else 1, 1)[4 * half:4 * half + 4]
-        block = bytearray(octets)
-        for at, bit in enumerate(firsts):
-            block[(2 * at + 1) * FRAME] = with_bit(block[(2 * at + 1) * FRAME], bit)
-            block[2 * at * FRAME] = with_bit(block[2 * at * FRAME], 0)
-        check, self._last = self._last, remainder(block)
-        for at in range(4):
-            block[2 * at * FRAME] = with_bit(block[2 * at * FRAME], check >> 3 - at & 1)
-        if self.number in self.errored_at:
-            block[100] ^= 0x10
-        self.number += 1
-        return bytes(block)
-
-
-def frame_alignment(octets: bytes, at: int = 0) -> int:
-    """Where the first signal of a frame alignment is (G.706, 4.1.2)."""
-    while not (octets[at] & 0x7F == FAS and octets[at + FRAME] & 0x40 and octets[at + 2 * FRAME] & 0x7F == FAS):
-        at += 1
-    return at
-
-
-def multiframe_in(octets: bytes, at: int) -> int | None:
-    """Where a CRC multiframe begins that has the signal twice in the 8 ms from this alignment on (G.706, 4.2):
-    2 ms apart, or a multiple of it."""
-    firsts = [octets[n + FRAME] >> 7 for n in range(at, at + MS_8, 2 * FRAME)]
-    for phase in range(8):
-        found = [n for n in range(phase, len(firsts) - 5, 8) if tuple(firsts[n:n + 6]) == SIGNAL]
-        if len(found) >= 2:
-            return at + found[0] * 2 * FRAME
-    return None
-
-
-def checked(octets: bytes | bytearray, at: int) -> list[bool]:
-    """Of each whole submultiframe from here on whose check bits have come: whether they are its remainder."""
-    found = []
-    for start in range(at, len(octets) - 2 * HALF + 1, HALF):
-        block, behind = bytearray(octets[start:start + HALF]), octets[start + HALF:start + 2 * HALF]
-        for n in range(0, HALF, 2 * FRAME):
-            block[n] = with_bit(block[n], 0)
-        bits = [behind[n] >> 7 for n in range(0, HALF, 2 * FRAME)]
-        found.append(remainder(block) == int(''.join(map(str, bits)), 2))
-    return found
-
-
-def e_bits(octets: bytes | bytearray, at: int) -> int:
-    """The E bits that are 0 in the multiframes from here on: those of frames 13 and 15 (G.704, 2.3.3.4)."""
-    return sum(octets[start + frame * FRAME] < 128 for start in range(at, len(octets) - MULTIFRAME + 1, MULTIFRAME)
-               for frame in (13, 15))
+LOST, FOUND = 'slot 16 lost: what comes is silent', 'slot 16 found, speech goes on'
+MOVED = 'slots moved by {}: slot 16 found again, speech goes on'
 
 
 class Crc4CountTests(unittest.TestCase):
@@ -139,3 +58,24 @@ class Crc4CountTests(unittest.TestCase):
         (lost,) = known.take(nothing)
         self.assertEqual(lost.words(), 'CRC multiframe alignment lost')
         self.assertEqual(known.counts, self.counts(3 * 988, 0, 0, 3, 0, 0))
+
+
+class SlotsTests(unittest.TestCase):
+    def told(self, known: Slots, *lines: str) -> list[str]:
+        return [event.words() for line in lines for event in known.take(line)]
+
+    def test_what_the_program_says(self) -> None:
+        """The first find is compared with none; later ones also if another program or service follows."""
+        known = Slots()
+        for other in 'slots', 'slots found', 'slots found x', 'slots lost 3', 'slot found 3', 'live slots lost':
+            self.assertEqual(self.told(known, other), [])
+        self.assertTrue(known.status()['silent'])
+        self.assertEqual(self.told(known, 'slots found 30', 'slots lost', 'slots found 30'), [FOUND, LOST, FOUND])
+        self.assertFalse(known.status()['silent'])
+        known.follows()
+        self.assertTrue(known.status()['silent'])
+        later = Slots()
+        later.take_up(known.note())
+        for n, by in (2, 3), (0, 29):
+            self.assertEqual(self.told(later, f'slots found {n}'), [MOVED.format(by)])
+        self.assertEqual(later.status(), {'slots': 'clear', 'silent': False, 'slots_lost': 1, 'slots_moved': 2})

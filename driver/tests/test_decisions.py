@@ -145,7 +145,3 @@ class ClientTests(unittest.TestCase):
             (False, 5.0), (False, 9.0), (True, 1.0), (True, 0.0)))
         for clients, gone in (([busy, idle, follows, old], idle), ([follows, busy], busy), ([follows, old], old)):
             self.assertIs(who_goes(clients), gone)
-
-
-if __name__ == '__main__':
-    unittest.main()

@@ -1,14 +1,21 @@
 """The feed of one machine, and the standby that it feeds, in one process."""
 from __future__ import annotations
 
+import argparse
 import asyncio
+import json
 import math
 import os
 import socket
+import ssl
+import subprocess
 import threading
+import time
 import unittest
+from contextlib import suppress
+from itertools import accumulate
 from types import SimpleNamespace
-from typing import Any, Callable, cast
+from typing import Sequence, cast
 from unittest import mock
 
 from . import support
@@ -17,24 +24,27 @@ from e1gw.events import Event, Fed, NotFed, RoleGiven
 from e1gw.service import standby
 from e1gw.service.decisions import Wish
 from e1gw.service.drains import Drains, KeptDrains
-from e1gw.service.feed import LENGTH, MOST_PIECE, PIECE, STATE, FeedRefused, FeedServer
+from e1gw.service.feed import BACK, CARRIES, LENGTH, MARK, MOST_PIECE, PIECE, STATE, TAKES, FeedServer
+from e1gw.service.handover import CannotBegin
 from e1gw.service.lifecycle import GRACE
 from e1gw.service.log_folder import STATE_ROOM
 from e1gw.service.missed import passed
-from e1gw.service.pair import TrunkPair
+from e1gw.service.pair import TrunkPair, open_pair
 from e1gw.service.program import TrunkProgram
 from e1gw.service.reader import LogReader
-from e1gw.service.standby import NO_TRUNK, TrunkStandby
-from e1gw.session import MULTIFRAME
+from e1gw.service.standby import NO_CERTIFICATE, NO_TRUNK, FedLog, TrunkStandby
+from e1gw.session import MULTIFRAME, OCTETS_A_SECOND, trunk_record
+from e1gw.tls import context_of
 
+RECORD = MULTIFRAME / OCTETS_A_SECOND       # seconds of a record
 HOST = '127.0.0.1'
 
 
-class FeedTests(support.FolderCase, unittest.IsolatedAsyncioTestCase):
+class FeedTests(support.LoopCase):
     """A program that logs as the test has it, with two circuits."""
 
     async def asyncSetUp(self) -> None:
-        asyncio.get_running_loop().set_debug(False)     # (a slow turn is no fault)
+        await super().asyncSetUp()
         self.enterContext(mock.patch.multiple(standby, AGAIN=0.001, MOST_AGAIN=0.004))
         os.mkdir(self.path('standby'))
         self.log, self.over = WrittenLog(self.path('log')), asyncio.Event()
@@ -58,10 +68,10 @@ class FeedTests(support.FolderCase, unittest.IsolatedAsyncioTestCase):
         self.place = server.sockets[0].getsockname()
         self.told, self.handed, self.drained = list[Event](), list[bool](), list[list[int]]()
 
-    def stands_by(self, config: str = '', law: str = 'A') -> TrunkStandby:
+    def stands_by(self, config: str = '', law: str = 'A', tls: Sequence[str] = ()) -> TrunkStandby:
         """Somebody who is fed from now on."""
         path = self.write('there.toml', config or support.config_text({1: {}, 2: {}}, law))
-        its = TrunkStandby(self.place, HOST, (), lambda: mock.Mock(**{'config_path.return_value': path}),
+        its = TrunkStandby(self.place, HOST, tls, lambda: mock.Mock(**{'config_path.return_value': path}),
                            self.path('standby'), self.told.append)
         runs = asyncio.create_task(its.run())
         self.addCleanup(runs.cancel)
@@ -72,10 +82,6 @@ class FeedTests(support.FolderCase, unittest.IsolatedAsyncioTestCase):
             runs.cancel()
         its.is_handed, its.drains = is_handed, self.drained.append
         return its
-
-    async def until(self, holds: Callable[[], Any]) -> None:
-        while not holds():
-            await asyncio.sleep(0.001)
 
     async def fed(self, its: TrunkStandby) -> None:
         """Until it has all that was logged, and this machine knows it."""
@@ -152,19 +158,79 @@ class FeedTests(support.FolderCase, unittest.IsolatedAsyncioTestCase):
         said_of_it = [each.getMessage() for each in told.records]
         self.assertIn(f'feed: {HOST} is not --standby, and is fed nothing', said_of_it)
 
+    async def test_who_does_not_read(self) -> None:
+        """He is dropped once he is too far behind. Who comes again is given another state."""
+        reader, writer = await asyncio.open_connection(*self.place)
+        await reader.readline()
+        with self.assertLogs('e1gw.service.feed', 'WARNING') as told:
+            while not told.records:
+                for _ in range(500):
+                    self.log.multiframe()
+                await asyncio.sleep(0)
+        self.assertEqual(told.records[0].getMessage(), f'feed of {HOST}: it is too far behind')
+        writer.close()
+        await self.fed(self.stands_by())
 
-class BadPieceTests(support.FolderCase, unittest.IsolatedAsyncioTestCase):
-    async def test_each(self) -> None:
-        """One that is too long, has no time, or a state that is too long ends the feed."""
-        its = TrunkStandby((HOST, 1), '', (), mock.Mock(), self.folder, mock.Mock())
-        for octets in (PIECE.pack(math.nan, 0), PIECE.pack(1.0, MOST_PIECE + 1),
-                       PIECE.pack(0.0, STATE) + LENGTH.pack(STATE_ROOM + 1)):
-            reader, fed = asyncio.StreamReader(), mock.Mock()
-            reader.feed_data(octets)
-            reader.feed_eof()
-            with self.assertRaisesRegex(FeedRefused, '^a (piece|state) of the feed is too long'):
-                await its._take(fed, reader, mock.Mock())
-            self.assertEqual(fed.mock_calls, [])
+    async def test_bad_feeds(self) -> None:
+        """Each ends by itself, and it is told why."""
+        for _ in range(40):
+            self.log.multiframe()
+        reader, writer = await asyncio.open_connection(*self.place)
+        head = await reader.readline()
+        begun = len(head) + json.loads(head)['state']
+        good = head + await reader.readexactly(begun - len(head) + 20_000)
+        writer.close()
+        state, none = good[:begun], 'what comes there is no feed of e1gw-trunk'
+        piece = 'a piece of the feed is too long, or has no time'
+        rows = [(b'', NO_TRUNK), (state + PIECE.pack(math.nan, 0), piece), (b'SSH-2.0-OpenSSH_9.2p1\r\n', none),
+                (state + PIECE.pack(1.0, MOST_PIECE + 1), piece), (b'{"e1gw_feed": 7, "law": "A"}\n', none),
+                (state + PIECE.pack(0.0, STATE) + LENGTH.pack(STATE_ROOM + 1), 'a state of the feed is too long'),
+                (good.replace(b'"law": "A"', b'"law": "mu"'), 'its law is mu, and here it is A'),
+                (good.replace(b'"e1gw_feed": 7', b'"e1gw_feed": 6'), 'a feed of version 6, and this is 7'),
+                (good.replace(b'"program": ', b'"program": 0.5e'), none), (b'[' * 60_000 + b'\n', none),
+                (b'x' * 200_000, ''), (good[:begun - 1], 'the feed has ended'),
+                *((good[:length], '') for length in (*range(1, 12), *range(begun, len(good), len(good) // 9)))]
+        left, found = iter(rows), list[str]()
+
+        def came(_: asyncio.StreamReader, writer: asyncio.StreamWriter) -> None:
+            found.append(its.why)
+            writer.write(next(left, (b'', ''))[0])
+            writer.close()
+        server = await asyncio.start_server(came, HOST, 0)
+        self.addCleanup(server.close)
+        self.place = server.sockets[0].getsockname()
+        its = self.stands_by()
+        await self.until(lambda: len(found) > len(rows))
+        for (octets, words), why in zip(rows, found[1:]):
+            self.assertEqual(why, words or why, octets[:99])
+            self.assertTrue(why)
+
+    def certificate(self, name: str) -> list[str]:
+        """A certificate that is its own authority, its key, and that authority."""
+        key, own = self.path(f'{name}.key'), self.path(f'{name}.pem')
+        words = f'req -x509 -newkey ec -pkeyopt ec_paramgen_curve:P-256 -nodes -subj /CN=e1gw -keyout {key} -out {own}'
+        subprocess.run(['openssl', *words.split(), '-addext', f'subjectAltName=IP:{HOST}'], check=True,
+                       capture_output=True)
+        return [own, key, own]
+
+    async def test_strangers(self) -> None:
+        """Over TLS, who has not the address and the certificate is given nothing, and is not believed."""
+        ours, theirs = self.certificate('ours'), self.certificate('theirs')
+        setattr(self.feed, '_context', context_of(ours, True))
+        await self.fed(self.stands_by(tls=ours))
+        with self.assertLogs('e1gw.service.feed') as told:
+            for files, words in (theirs, 'certificate verify failed'), ([*theirs[:2], ours[2]], NO_CERTIFICATE):
+                its = self.stands_by(tls=files)
+                await self.until(lambda: its.why)
+                self.assertIn(words, its.why)
+            self.assertIn('certificate verify failed', str([each.getMessage() for each in told.records]))
+            with suppress(OSError):
+                reader, _ = await asyncio.open_connection(*self.place, ssl=ssl._create_unverified_context())
+                self.assertEqual(await reader.read(1), b'')         # (it shows none)
+            reader, _ = await asyncio.open_connection(*self.place, local_addr=('127.0.0.9', 0))
+            self.assertEqual(await reader.read(), b'')
+        self.assertIn('feed: 127.0.0.9 is not --standby, and is fed nothing', [
+            each.getMessage() for each in told.records])
 
 
 class PairRoleTests(unittest.IsolatedAsyncioTestCase):
@@ -204,6 +270,39 @@ class PairRoleTests(unittest.IsolatedAsyncioTestCase):
         self.assertEqual((self.carrier.trunk.finish.await_count, self.feed.finish.await_args), (1, mock.call(GRACE)))
 
 
+    async def test_where_it_feeds(self) -> None:
+        """A port that is taken ends no trunk that goes on."""
+        self.carrier.places.folder = '/none'
+        with socket.create_server((HOST, 0)) as held:
+            port = held.getsockname()[1]
+            asked = argparse.Namespace(feed=f'{HOST}:{port}', standby=f'{HOST}:9', tls=None, insecure=False)
+            taken = f'^cannot listen: --feed {HOST}:{port}: .*address already in use$'
+            with self.assertRaisesRegex(CannotBegin, taken) as refused:
+                await open_pair(asked, self.carrier, None)
+            with self.assertLogs('e1gw.service.pair') as told:
+                its = await open_pair(asked, self.carrier, mock.Mock(is_active=True))
+        self.assertRegex(told.records[0].getMessage(), taken)
+        self.assertEqual((refused.exception.status, its and its.is_active), (2, True))
+        await open_pair(asked, self.carrier, None)
+        _, writer = await asyncio.open_connection(HOST, port)
+        writer.close()
+
+    async def test_taken_over(self) -> None:
+        """The next program begins with what was fed, behind the time since octets came, or with nothing."""
+        carrier, fed = self.carrier, mock.Mock(came=7.0, place=3, octets=9)
+        carrier.trunk.line.satop = mock.Mock()
+        for known, lost in (fed, ', 2 of them ones'), (None, ', too old; all calls begin anew'):
+            words = lost.partition(';')[0] if known else 'too old'
+            its = mock.Mock(fed=fed, goes_to=mock.AsyncMock(return_value=(known, words)))
+            with mock.patch('shutil.rmtree') as removed:
+                await TrunkPair(carrier, its, self.feed, True)._take_over()
+            its.goes_to.assert_awaited_once_with(carrier.places.log, True)
+            self.assertEqual((carrier.silent, carrier.lost, carrier.why, carrier.was_up), (7.0, lost, 'promoted', True))
+            self.assertEqual(carrier.reader.begins_anew.call_args.args, ((3, 9),) if known else ())
+            self.assertEqual(removed.call_args_list, [mock.call(carrier.places.log, ignore_errors=True)] * (not known))
+        self.assertEqual((carrier.trunk.zero, carrier.trunk.ones), (fed.zero, fed.ones))
+
+
 class ReadAgainTests(unittest.TestCase):
     def test_more_than_a_pipe_has_room_for(self) -> None:
         """All is given, then its end, and all that is told is read."""
@@ -223,5 +322,102 @@ class ReadAgainTests(unittest.TestCase):
         self.assertEqual(taken, [bytes(range(256)) * 1000])
 
 
-if __name__ == '__main__':
-    unittest.main()
+class StandbyCase(support.LoopCase):
+    def standby(self) -> TrunkStandby:
+        """One that nobody feeds."""
+        return TrunkStandby((HOST, 1), '', (), mock.Mock(), self.folder, mock.Mock())
+
+
+class FedLogTests(support.FolderCase):
+    """When octets came at the other machine, by its clock and what comes of them here."""
+
+    def test_closed(self) -> None:
+        """Nothing is open then, and its folder is gone, unless a program has it."""
+        for is_kept in True, False:
+            fed = FedLog(self.folder, 0, 0, 0)
+            fed.begin(b'')
+            self.assertEqual(len(self.held()), 4)
+            fed.close(is_kept)
+            self.assertEqual((self.held(), os.path.exists(fed.folder)), ([], is_kept))
+
+    def test_when_they_came_last(self) -> None:
+        """The last ones wait for the word that all was sent, which may wait here. Ones for less than the time without
+        octets put the trunk behind by 5 ms a move. Behind a gap, whose octets are lost, it is not known so well."""
+        chance, record = support.chance_of(self), trunk_record(bytes(MULTIFRAME))
+        time = mock.Mock()
+        with mock.patch.object(standby, 'time', time):
+            time.monotonic.return_value = 1000.0
+            fed, given, comes = FedLog(self.folder, 0, 0, 0), 0, 0
+            self.addCleanup(fed.close)
+            fed.begin(b'')
+            for word in accumulate([0.012 + 0.008 * chance.random() for _ in range(200)], initial=1000.0):
+                comes = int((word - 1000) / RECORD)
+                fed.take(record * (comes - given))
+                time.monotonic.return_value = word + 0.001 + 0.02 * chance.random()
+                fed.is_all(word - 77)
+                given, last = comes, word
+            time.monotonic.return_value = last + 0.03       # (the program has ended meanwhile)
+            fed.take(record)
+            fed.is_all(last + 0.02 - 77)
+            self.assertAlmostEqual(fed.came, 1000 + (comes + 1) * RECORD, delta=0.004)
+            for fresh in last + 5, last + 5.01:
+                time.monotonic.return_value = fresh + 0.01
+                fed.is_all(fresh - 77)
+                fed.take(record)
+            self.assertAlmostEqual(fed.came, last + 5, delta=0.011)
+
+
+class OldLogTests(StandbyCase):
+    async def test_what_is_too_old(self) -> None:
+        """It is not taken, nor is what there is not."""
+        its = self.standby()
+        self.assertEqual(await its.goes_to(self.path('log'), False), (None, 'nothing is known'))
+        in_time = ', 0 of them ones'            # (a far end that is sent the last packets has them)
+        for age, is_given, limit, words in (3000.0, False, 9.0, 'what is known is 3000 s old'), (
+                0.5, True, support.SECONDS, in_time), (0.5, False, support.SECONDS, ''), (0.5, True, 0.1, ''):
+            with mock.patch.multiple(standby, MOST_AGE=2000.0, IN_TIME=limit):
+                its.fed = fed = FedLog(self.folder, 0, 0, 0)
+                fed.begin(b'state')
+                fed.came = fed.fresh = time.monotonic() - age
+                found, told = await its.goes_to(self.path('log'), is_given)
+            self.assertEqual((found, told[:len(words)], its.fed), (None if age > 1 else fed, words, None))
+            self.assertEqual(told == in_time, words == in_time)
+        self.assertEqual((os.listdir(self.folder), self.held()), (['log'], []))
+
+
+class HandedTests(StandbyCase):
+    """A standby that is to carry the trunk, and whose program does."""
+
+    async def said(self, *words: int) -> tuple[float, list[bool]]:
+        """What it says last, and whether it gives the trunk back, if the other machine has said this and leaves."""
+        handed, reader, writer = list[bool](), asyncio.StreamReader(), mock.Mock()
+        writer.is_closing.return_value = False
+        its = self.standby()
+        its.is_handed, its.carries = handed.append, lambda: True
+        reader.feed_data(b''.join(PIECE.pack(0.0, word) for word in words))
+        reader.feed_eof()
+        await its._says_so(reader, writer)
+        return float(MARK.unpack(writer.write.call_args.args[0])[0]), handed
+
+    async def test_what_the_other_machine_says(self) -> None:
+        """One that stood still would carry it beside the machine that had taken it back. One that dies takes nothing
+        back."""
+        self.assertEqual([await self.said(BACK), await self.said()], [(TAKES, [False]), (CARRIES, [])])
+
+    async def told(self, carried: bool, leaves: bool) -> list[bytes]:
+        """What a machine says to the standby to which it hands the trunk over, if that carries it, or leaves, or is
+        silent."""
+        its, left = FeedServer('', mock.Mock(), mock.Mock(), mock.Mock(), mock.Mock()), asyncio.Future[None]()
+        its._writer, its.is_carried = mock.Mock(), carried
+        if leaves:
+            left.set_result(None)
+        with mock.patch('asyncio.wait', mock.AsyncMock()) as waits:
+            await its._handed(left)
+        self.assertLess(sum(call.kwargs['timeout'] for call in waits.call_args_list), 1.0)
+        return [call.args[0] for call in its._writer.write.call_args_list]
+
+    async def test_what_is_taken_back(self) -> None:
+        """It says so within a second, if the standby does not say that it carries the trunk."""
+        for carried, leaves in (False, False), (False, True), (True, False):
+            with self.subTest(carried=carried, leaves=leaves):
+                self.assertEqual(await self.told(carried, leaves), [] if carried else [PIECE.pack(0.0, BACK)])

@@ -12,16 +12,15 @@ import sys
 import threading
 import unittest
 from concurrent.futures import ThreadPoolExecutor
+from pathlib import Path
 
 from . import support
 from .support import SECONDS
-from .test_program_killed import CIRCUITS, KeeperCase
-from .test_service_killed import RestartedKeeperCase
+from .keepers import CIRCUITS, KeeperCase, RestartedKeeperCase
 from .test_trunk_served import octets_in
 from .world import LAUNCHER
 from e1gw.service import trunk
 from e1gw.service.commands import MOST_CLIENTS
-from e1gw.service.events import EventFile
 from e1gw.service.pages import MOST_READERS, MOST_VISITORS
 from e1gw.service.handover import CannotBegin
 from e1gw.service.log_folder import RECORDS_ROOM, LogFiles
@@ -94,6 +93,8 @@ class FolderTests(KeeperCase):
         """As /run/e1gw/NAME, whose parent is root's: the log goes on elsewhere."""
         self.starts('--control', self.path('its-control'), '--tell', self.path('tell'))
         self.calls()
+        files = Path(f'/proc/{self.keeper.pid}/fd')
+        support.until(lambda: any('/log/records' in os.path.realpath(file) for file in files.iterdir()))
         os.rename(self.memory, away := f'{self.memory}.away')
         self.write(self.memory, '')
         self.awaits('the folder of the sockets is gone, and cannot be made again: ')
@@ -122,8 +123,8 @@ class FolderTests(KeeperCase):
                 make_own(path)
 
 
-class StoredStateTests(RestartedKeeperCase):
-    def test_it_cannot_be_removed(self) -> None:
+class BadStartTests(RestartedKeeperCase):
+    def test_a_state_that_cannot_be_removed(self) -> None:
         """The unit did not come up then."""
         self.begins('--state', self.path('state'), '--reopen')
         self.leaves_nothing()
@@ -145,24 +146,23 @@ class StoredStateTests(RestartedKeeperCase):
         self.keeper.terminate()
         self.keeper.wait(SECONDS)
 
-
-class LineFileTests(support.FolderCase):
-    def test_a_file_that_is_moved_away(self) -> None:
-        """Lines went on into it, or into one that nobody could read any more."""
-        ended: list[str] = []
-        file = EventFile('calls', self.path('calls'), lambda name, why: ended.append(why), 'head')
-        for number in range(3):
-            file.put(f'line {number}')
-            support.until(lambda: os.path.exists(self.path('calls'))
-                          and support.text_of(self.path('calls')).endswith(f'line {number}\n'))
-            if number == 0:
-                os.rename(self.path('calls'), self.path('moved'))
-            elif number == 1:
-                os.unlink(self.path('calls'))
-        file.close()
-        self.assertEqual({os.stat(self.path(name)).st_mode & 0o777 for name in ('moved', 'calls')}, {0o640})
-        moved, calls = (support.text_of(self.path(name)) for name in ('moved', 'calls'))
-        self.assertEqual((moved, calls, ended), ('head\nline 0\n', 'head\nline 2\n', []))
+    def test_an_update_that_fails(self) -> None:
+        """A service that could not take up ended the trunk. The program goes on, and the next service takes it up."""
+        self.command[2] = self.path('e1gw-trunk')
+        os.symlink(LAUNCHER, self.command[2])
+        self.begins()
+        os.unlink(self.command[2])
+        self.write('e1gw-trunk', 'raise RuntimeError("an update with a fault")\n')
+        self.keeper.send_signal(signal.SIGUSR2)
+        self.assertEqual(self.keeper.wait(), 1)
+        self.step(20)
+        os.unlink(self.command[2])
+        os.symlink(LAUNCHER, self.command[2])
+        self.comes_back()
+        self.dies()
+        self.step(20)
+        self.as_uncut()
+        self.ends()
 
 
 class OpeningTests(unittest.IsolatedAsyncioTestCase):

@@ -1,26 +1,16 @@
 """The folder of a log: what is read of it while it is written, killed inside a write and damaged."""
 from __future__ import annotations
 
-import asyncio
 import os
 import subprocess
 import sys
-import time
-import unittest
 from typing import Callable
 from unittest import mock
 
 from . import support
-from .logs import WrittenLog
-from .test_reports import BEGIN, row
-from e1gw.clock import TICK, ClockFinding
-from e1gw.counts import DatagramCounts
-from e1gw.service import log_folder, reader, status
+from e1gw.service import log_folder
 from e1gw.service.log_folder import (HEAD_LEN, RECORDS, STATES, FolderReader, LogBegun, LogFiles, LogNews, LogPair,
                                      LogPiece, LogState, LogTurn, LogWriter, NoRoom, head_of, holder_of)
-from e1gw.service.reader import LogReader
-from e1gw.service.recordings import RecordingWants
-from e1gw.session import MULTIFRAME, OCTETS_A_SECOND
 
 ROOM = 1 << 12              # octets of the files
 STEPS = 300
@@ -160,17 +150,6 @@ class FolderReaderTests(LogFolderCase):
             place = self.is_told(news, place)
         self.assertEqual(place, len(self.written))
 
-    def test_the_newest(self) -> None:
-        files = self.files()
-        for turn in range(1, 6):
-            before = len(self.written)
-            self.assertEqual(files.last(), LogPair(turn, before, self.states[before], b''))
-            for _ in range(2):
-                self.writer.append(octets := self.chance.randbytes(100))
-                self.written += octets
-                self.assertEqual(files.last(), LogPair(turn, before, self.states[before], self.written[before:]))
-            self.turns()
-
     def test_on_from_a_place(self) -> None:
         """Another reader goes on where the one before it was; of another log it begins anew."""
         for _ in range(20):
@@ -299,115 +278,3 @@ class HolderTests(support.FolderCase):
             process.stdin.close()
             process.wait()
         self.assertEqual(holder_of(self.folder), 0)
-
-
-class OvertakenTests(support.FolderCase, unittest.IsolatedAsyncioTestCase):
-    """A part of the log was written over before it was read."""
-
-    def setUp(self) -> None:
-        super().setUp()
-        self.log, self.reader = WrittenLog(self.path('log')), self.reads()
-        self.addCleanup(self.log.close)
-
-    def reads(self) -> LogReader:
-        return LogReader(self.path('log'), 0.1, None, lambda: None, bytes)
-
-    def written(self, at: float) -> None:
-        """The log was written last at this time."""
-        for name in RECORDS:
-            os.utime(self.path(f'log/{name}'), (at, at))
-
-    def goes_on(self) -> int:
-        """The log goes on, so that who has read it up to now is overtaken. How many octets of the trunk come."""
-        before = self.log.octets
-        for _ in range(3):
-            for _ in range(500):
-                self.log.multiframe()
-            self.log.turns()
-        self.log.multiframe()
-        return self.log.octets - before
-
-    async def test_its_program_has_died(self) -> None:
-        """Nobody can say where it was: what nobody read had the octets of its time, and the next program begins behind
-        them. So does one of another service. If a clock was set meanwhile, no more than the log had."""
-        self.log.multiframe()
-        self.written(at := 1e9)
-        self.reader.look()
-        for is_another in (False, True):
-            if is_another:
-                note, self.reader = self.reader.noted(), self.reads()
-                self.reader.take_up(note, None)
-            self.written(at := at + self.goes_on() / OCTETS_A_SECOND)
-            with self.assertLogs('e1gw.service.reader', 'WARNING'):
-                await self.reader.copied()
-            self.assertEqual(self.reader.octets, self.log.octets)
-        before, place = self.log.octets, self.log.place
-        octets = self.goes_on()
-        self.written(at + 1e6)
-        with self.assertLogs('e1gw.service.reader', 'WARNING'):
-            await self.reader.copied()
-        self.assertEqual(self.reader.octets, before + octets + (self.log.place - place - octets) - 4)
-
-    async def test_it_ends(self) -> None:
-        """And with it what tries a ring again."""
-        wants = RecordingWants(self.path('ring'), 60, 'west', 'c', 200)
-        reader = LogReader(self.path('log'), 0.1, wants, lambda: None, bytes)
-        runs = asyncio.create_task(reader.run())
-        for _ in range(3):
-            await asyncio.sleep(0)
-        self.assertEqual(len(asyncio.all_tasks()), 3)
-        runs.cancel()
-        await asyncio.wait([runs])
-        for _ in range(3):
-            await asyncio.sleep(0)
-        self.assertEqual(asyncio.all_tasks(), {asyncio.current_task()})
-
-    async def test_what_is_not_read_is_no_gap(self) -> None:
-        """It was found as one, told as a slip, and all calls were resynchronised; then octets came too early."""
-        found, now, due = list[ClockFinding](), 5000.0, 0.0
-        self.reader.found = found.append
-        clock = mock.Mock(**{'monotonic.side_effect': lambda: now, 'time': time.time})
-        with mock.patch.object(reader, 'time', clock), self.assertLogs('e1gw.service.reader', 'WARNING'):
-            for step in range(2500):                    # (5 s of the trunk, of which the third is not read)
-                now += MULTIFRAME / OCTETS_A_SECOND
-                self.log.multiframe()
-                if 1000 < step < 1500:
-                    if step % 100 == 0:
-                        self.log.turns()
-                elif now >= due:
-                    due = now + TICK
-                    self.reader.look()
-                if step == 1600:
-                    self.assertTrue(self.reader.has_missed)
-                    self.reader.count_on(self.log.octets - self.reader.octets)
-        self.assertEqual(found, [])
-
-    async def test_its_program_does_not_say_where_it_is(self) -> None:
-        """It hangs, or has no octets: what it tells otherwise is read, and it is asked again."""
-        config, tell = self.write('trunk.toml', 'law = "A"\n[[circuit]]\nnumber = 1\n'), self.path('tell')
-        carrier = mock.Mock(reader=self.reader, pair=None, **{
-            'places.tell': tell, 'version.return_value.config_path.return_value': config, 'program.begun': 0,
-            'trunk.facts.return_value': {}})
-        trunk = status.OperatedTrunk(carrier, mock.Mock())
-        setattr(trunk, 'missed', mock.AsyncMock(return_value=None))
-        with support.listening(tell) as listener, mock.patch.object(status, 'PATIENCE', 0.01, create=True), \
-                mock.patch.object(status, 'REST', 0.0):
-            its = status.TrunkStatus(trunk, 'west', lambda event: None, DatagramCounts(), lambda line: None)
-            follows = asyncio.create_task(its.follow())
-            await asyncio.sleep(0)
-            with listener.accept()[0] as line:
-                line.sendall('\n'.join([*BEGIN, 'now', '']).encode())
-                while not its.lines.live:
-                    await asyncio.sleep(0.001)
-                self.reader.has_missed = True
-                for state in 'seized', 'acked':
-                    line.sendall(f'{row(1, state)}\n'.encode())
-                    while its.lines.lines[1].state != state:
-                        await asyncio.sleep(0.001)
-                self.assertTrue(self.reader.has_missed)
-            follows.cancel()
-            await asyncio.wait([follows])
-
-
-if __name__ == '__main__':
-    unittest.main()

@@ -1,4 +1,4 @@
-"""Outages by the events of a trunk: figures worked by hand, and those of a recording."""
+"""Outages by the events of a trunk: figures worked by hand."""
 from __future__ import annotations
 
 import json
@@ -7,14 +7,9 @@ from math import inf
 from typing import Any
 
 from . import support
-from .test_recorder import LONG
-from .test_trunk import FOUR, aligned, call
-from .world import World, config_of
 from e1gw.ctl_calls import lines_of
 from e1gw.outages import NO_OCTETS, SLIP, TrunkOutage, outages_in
-from e1gw.picture.beginning import begin
-from e1gw.picture.main import gathered, parser
-from e1gw.session import MULTIFRAME, OCTETS_A_SECOND
+from e1gw.session import OCTETS_A_SECOND
 from e1gw.session_clock import FileNote, SessionClock, breaks_of
 
 
@@ -26,7 +21,6 @@ def event(time: float, name: str, place: int, **fields: Any) -> dict[str, Any]:
     return {'time': time, 'event': name, 'place': place, **fields}
 
 
-RECORD = 2048               # octets that are read at once, behind which a change is told
 SEIZED = event(90.0, 'state', 1, circuit=3, was='idle', state='seized', call='a-3-1')
 LFA = event(110.0, 'alarm', 1000, what='frame', on=True), event(121.0, 'alarm', 20_000, what='frame', on=False)
 AWAY = (event(112.0, 'stalled', 1500, seconds=1.0), event(120.0, 'flows', 1501, seconds=9.0),
@@ -40,26 +34,6 @@ class OutageFileTests(support.FolderCase):
             self.write(name, f'{json.dumps(each)}\n')
         self.assertEqual([(each.begin, each.end) for each in outages_in(lines_of(self.path('events')), 0.0, inf)],
                          [(110.0, 121.0)])
-
-
-class RecordedOutageTests(unittest.TestCase):
-    def test_events_and_a_recording(self) -> None:
-        """Both tell of the same outages of a trunk with a call: at which octets, but for those of one record."""
-        with World(config_of(FOUR), '--session', '@/ring', '--keep', LONG, '--json', '@/events') as world:
-            aligned(world)
-            call(world, 1)
-            for _ in range(2):
-                world.give(b'\xff' * 20 * MULTIFRAME)
-                aligned(world)
-            world.quit()
-            found = outages_in(lines_of(world.path('events')), 0.0, inf)
-            begun, _ = begin(world.path('ring'), None, None, support.program(), None)
-            facts, _ = gathered(parser().parse_args([world.path('ring')]), begun)
-        for kind, what in ('LFA', 'frame'), ('slot 16', 'multiframe'):
-            told = [(each.first, each.last or inf) for each in found if each.kind == kind][-2:]
-            kept = [(first, last) for first, last, on in facts.alarms['here', what].between(0, facts.place) if on][-2:]
-            self.assertEqual(len(kept), 2, kind)
-            self.assertLess(max(abs(a - b) for both in zip(told, kept) for a, b in zip(*both)), RECORD, kind)
 
 
 class OutageTests(unittest.TestCase):

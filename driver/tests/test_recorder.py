@@ -8,11 +8,10 @@ import os
 import signal
 
 from . import support
-from .test_program_killed import KeeperCase
+from .keepers import KeeperCase
 from .test_trunk_served import octets_in
-from e1gw.priority import run_last
-from e1gw.session_files import by_time, front_of, kept, note_of, octets_of
 from e1gw.session import MULTIFRAME
+from e1gw.session_files import by_time, kept, note_of, octets_of
 
 LONG = '96h'                # of a ring whose files have to be of one program each: they are of eight hours
 
@@ -31,9 +30,6 @@ class RecorderCase(KeeperCase):
         """Octets of the trunk that a replay answers."""
         return octets_in(support.run('replay', '--config', self.config, *options, given=octets))
 
-    def heard_all(self) -> bytes:
-        return b''.join(piece or b'' for piece in self.heard)
-
     def files(self) -> list[str]:
         """The files of the ring without their endings, in their order."""
         return sorted((path.removesuffix('.json') for path in glob.glob(self.path('ring/*.json'))), key=by_time)
@@ -48,79 +44,28 @@ class RecorderCase(KeeperCase):
             self.assertEqual(self.answers(its, *load), octets[begin:end], begin)
         return fronts
 
-    def reloaded(self) -> None:
-        """A handover in which nothing is lost."""
-        self.under_way(lambda: self.keeper.send_signal(signal.SIGHUP))
-        self.goes_on()
-        self.step(self.chance.randrange(1, 40))
-
-
-class RecordedFileTests(RecorderCase):
-    def test_reader_that_stands_still(self) -> None:
-        """What waits for it stays in memory up to a bound. Then the recording ends, and no call does."""
-        os.mkfifo(self.path('kept'))
-        stands = os.open(self.path('kept'), os.O_RDWR)
-        self.addCleanup(os.close, stands)
-        self.starts('--session', self.path('kept'),
-                    **self.within(recordings_MOST_BEHIND=100_000, recordings_FLUSH=0.1))
-        self.calls()
-        while 'session ended, the calls go on: it takes too little' not in self.told():
-            self.step(20)
-        self.survives()
-
 
 class RecordedRingTests(RecorderCase):
-    def starts_ring(self, keep: str = LONG, **around: str) -> None:
-        self.starts('--session', self.path('ring'), '--keep', keep, '--name', 'west', **around)
+    def starts_ring(self, **around: str) -> None:
+        self.starts('--session', self.path('ring'), '--keep', LONG, '--name', 'west', **around)
         self.calls()
 
     def test_what_a_crash_lost(self) -> None:
-        """It is noted where the next file begins, which has a state. Who reads a ring reads it."""
+        """It is noted where the next file begins, which has a state."""
         self.starts_ring()
         os.kill(self.program, signal.SIGKILL)
         self.goes_on()
         self.step(40)
         self.ends()
-        first, about = [note_of(f'{front}.e1gw') for front in self.each_file_replays()]
-        self.assertEqual((first['begins'], 'slips' in first, about['begins'], about['config']),
-                         ('start', False, 'middle', self.config))
-        self.assertEqual(about['slips'], [[about['place'], 0.008]])
+        first, about = map(note_of, self.each_file_replays())
+        self.assertEqual((first['begins'], 'slips' in first, about['begins'], about['config'], about['slips']),
+                         ('start', False, 'middle', self.config, [[about['place'], 0.008]]))
         self.assertEqual(about['place'], len(self.given_trunk()) - 40 * MULTIFRAME)
-        page, picture = self.path('page.html'), os.path.join(support.TOP, 'driver', 'e1gw-picture')
-        records = os.path.join(support.TOP, 'tools', 'records')
-        for words in ([picture, '--program', support.program(), '-o', page, self.path('ring')],
-                      *([records, path] for front in self.files() for path in glob.glob(f'{front}.e1gw*')
-                        if not path.endswith('.part'))):
-            self.assertEqual(run_last(words)[0], 0, words)
-        self.assertTrue(os.path.exists(page))
-
-    def test_another_configuration(self) -> None:
-        """Of one with another circuit 7 all other circuits go on. What is read of the ring begins where it changed,
-        with the state."""
-        self.starts_ring()
-        self.reloaded()
-        self.write('trunk.toml', self.peers.config(prefill=400))
-        self.reloaded()
-        self.awaits('program: circuit 7 begins as new')
-        self.step(60)
-        self.assertNotEqual(self.device.exchange.signals[7], self.up()[7])
-        self.dies()
-        self.step(40)
-        self.ends()
-        self.assertEqual(self.told().count('begins as new'), 1)
-        session, files = kept(self.path('ring')), self.files()[2:]
-        self.assertEqual(([*map(front_of, session.files)], session.state, session.middle),      # (packed, or not yet)
-                         (files, f'{files[0]}.state', True))
-        self.assertEqual(self.answers(self.kept_of(self.path('ring')), '--load', session.state),
-                         self.heard_all()[session.place:])
-        self.write('trunk.toml', self.peers.config())
-        self.as_uncut(7)
 
     def test_a_ring_that_begins_again(self) -> None:
         """With no other program: the file that is begun has the state of a turn of the log, and replays from that."""
         self.write('ring', '')
-        self.starts('--session', self.path('ring'), '--keep', LONG, '--name', 'west', **self.within(reader_AGAIN=0.1))
-        self.calls()
+        self.starts_ring(**self.within(reader_AGAIN=0.1))
         support.until(lambda: 'session ended, the calls go on: File exists' in self.told())
         program = self.program
         os.unlink(self.path('ring'))

@@ -214,7 +214,7 @@ class ToldTests(unittest.TestCase):
             self.told.take(b'x' * 5000)
 
 
-class ReportReadingTests(support.FolderCase, unittest.IsolatedAsyncioTestCase):
+class ReportReadingTests(support.LoopCase):
     async def test_a_change_while_the_state_is_asked_for(self) -> None:
         """It was taken before the one that the loop had read and not taken yet: a line was in a state of long ago, or
         two halves of lines were none. What is not understood ends the connection."""
@@ -231,19 +231,16 @@ class ReportReadingTests(support.FolderCase, unittest.IsolatedAsyncioTestCase):
             await asyncio.sleep(0)
             with listener.accept()[0] as line:
                 line.sendall('\n'.join([*BEGIN, 'now', '']).encode())
-                while not its.lines.live:
-                    await asyncio.sleep(0.001)
+                await self.until(lambda: its.lines.live)
                 await asyncio.sleep(0.01)           # (it waits for more)
                 line.sendall(f'{row(1, "seized", "00 10")}\n'.encode())
                 await asyncio.sleep(0)
                 await asyncio.sleep(0)              # (the loop has seen it, and nobody was woken yet)
                 line.sendall(f'{row(1, "acked", "00 11")}\n'.encode())
                 its.take_now()
-                while its.lines.lines[1].state != 'acked':
-                    await asyncio.sleep(0.001)
+                await self.until(lambda: its.lines.lines[1].state == 'acked')
                 line.sendall(b'alarms perhaps\n')
-                while its.lines.live:
-                    await asyncio.sleep(0.001)
+                await self.until(lambda: not its.lines.live)
             follows.cancel()
             await asyncio.wait([follows])
         self.assertEqual([each.state for each in events if isinstance(each, LineChanged)], ['seized', 'acked'])

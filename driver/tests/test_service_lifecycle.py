@@ -18,8 +18,7 @@ from typing import Any, Callable
 from unittest import mock
 
 from . import support
-from .test_program_killed import CIRCUITS, NO_EFFECT
-from .test_service_killed import RestartedKeeperCase
+from .keepers import CIRCUITS, NO_EFFECT, RestartedKeeperCase
 from .test_recorder import RecorderCase
 from .test_trunk import catches
 from .world import words_of
@@ -30,14 +29,6 @@ HELD = 12                   # multiframes that a device holds which nobody reads
 NAMELESS = 35               # a signal of real time: the service could not tell it, and no program followed
 MORE = 5                    # events by chance behind these
 SIGNALS = NAMELESS, signal.SIGKILL, signal.SIGSTOP, signal.SIGTERM, signal.SIGSEGV
-
-
-def refusals(right: str) -> list[tuple[str | None, str]]:
-    """Configurations that are refused, by the program or before it reads them; None is a FIFO."""
-    name = right.replace('peer_port', 'peer_host = "no.such.invalid"\npeer_port', 1)
-    return [(right + 'x = 1\n', 'config 2 UnknownKey at 30: .*trunk.toml'), (name, 'no.such.invalid: '),
-            (right.replace('"A"', '"mu"'), 'state 5 Config at 0'), ('x = ' + '[' * 1200, 'config 1 Syntax'),
-            ('#' * 70_000, '.*more than 65536 octets'), (None, '.*trunk.toml is no file')]
 
 
 class ServiceEventsCase(RestartedKeeperCase, RecorderCase):
@@ -54,9 +45,7 @@ class ServiceEventsCase(RestartedKeeperCase, RecorderCase):
         if self.is_small:
             self.addCleanup(os.system, f'umount -l {self.memory}')
         self.right = support.text_of(self.config)
-        self.ended, skipped = 0, 3 * self.part
-        self.signals = itertools.islice(itertools.cycle(SIGNALS), skipped, None)
-        self.refused = itertools.islice(itertools.cycle(refusals(self.right)), skipped, None)
+        self.ended, self.signals = 0, itertools.islice(itertools.cycle(SIGNALS), 3 * self.part, None)
         own = [word for name in ('state', 'calls', 'json', 'control')
                for word in (f'--{name}', self.path(f'its-{name}'))]
         super().begins('--reopen', '--session', self.path('ring'), *own, *self.keeps, *options)
@@ -121,15 +110,9 @@ class ServiceEventsCase(RestartedKeeperCase, RecorderCase):
             line.close()
 
     def reload_is_refused(self) -> None:
-        text, words = next(self.refused)
-        os.unlink(self.config)
-        if text is None:
-            os.mkfifo(self.config)
-        else:
-            self.write('trunk.toml', text)
+        self.write('trunk.toml', f'{self.right}x = 1\n')
         self.keeper.send_signal(signal.SIGHUP)
-        self.awaits(f'reload: refused, the trunk goes on as it was: {words}')
-        os.unlink(self.config)
+        self.awaits('reload: refused, the trunk goes on as it was: config 2 UnknownKey at 30: .*trunk.toml')
         self.write('trunk.toml', self.right)
         os.kill(self.program, 0)
 
@@ -276,7 +259,7 @@ class ServiceSequenceTests(ServiceEventsCase):
 
     def happens(self) -> list[Callable[[], None]]:
         return [*[self.program_dies] * len(SIGNALS), self.service_stands_still, self.machine_stands_still,
-                self.end_is_asked_for, self.signals_come, self.reloaded, *[self.reload_is_refused] * 6, self.replaced,
+                self.end_is_asked_for, self.signals_come, self.reloaded, *[self.reload_is_refused] * 2, self.replaced,
                 self.signals_come_while_it_begins, self.service_dies, self.service_dies_unkept,
                 self.service_dies_in_a_reload, self.service_ends, self.trunk_is_lost, self.folder_is_gone,
                 self.folder_is_full, self.control_is_taken, self.client_asks, self.operator_asks_between_programs]

@@ -17,7 +17,8 @@ from unittest import mock
 
 from . import support
 from .manager import Manager
-from .support import config_text
+from .support import SECONDS, config_text
+from e1gw import crc4
 from e1gw.calls import CallRecord, CallsNote
 from e1gw.crc4 import Crc4Note
 from e1gw.events import AlarmChanged, AlignmentLost
@@ -333,19 +334,18 @@ class ControlSocketTests(support.FolderCase):
             given.assert_called_once_with(self.path('control~'), -1, 7 if group == '7' else os.getgid())
 
 
-class ProgramConnectionTests(support.FolderCase, unittest.IsolatedAsyncioTestCase):
+class ProgramConnectionTests(support.LoopCase):
     """Records that are given to programs, one after another, at a socket."""
 
     async def asyncSetUp(self) -> None:
-        asyncio.get_running_loop().set_debug(False)     # (a slow turn is no fault)
+        await super().asyncSetUp()
         path = self.path('program')
         self.listener, self.fault, self.hurries = support.listening(path), '', 0
         self.addCleanup(self.listener.close)
         self.stood = list[tuple[str, bool, str]]()
         self.its = ProgramConnection(lambda: path, lambda what, on, why: self.stood.append((what, on, why)),
                                      self.hurried, lambda: self.fault)
-        for name, limit in ('NEXT', 900.0), ('PATIENCE', 900.0), ('AGAIN', 0.0):
-            self.enterContext(mock.patch.object(connection, name, limit))
+        self.enterContext(mock.patch.multiple(connection, PATIENCE=SECONDS, AGAIN=0.0))
         self.addCleanup(asyncio.create_task(self.its.run()).cancel)
         self.line = await self.accepted()
 
@@ -355,8 +355,7 @@ class ProgramConnectionTests(support.FolderCase, unittest.IsolatedAsyncioTestCas
     async def accepted(self) -> socket.socket:
         line = (await asyncio.to_thread(self.listener.accept))[0]
         self.addCleanup(line.close)
-        while not self.stood or not self.stood[-1][1]:
-            await asyncio.sleep(0)
+        await self.until(lambda: self.stood and self.stood[-1][1])
         return line
 
     def asks(self, circuit: int, teller: object = None, **more: Any) -> asyncio.Task[Record]:
@@ -377,11 +376,11 @@ class ProgramConnectionTests(support.FolderCase, unittest.IsolatedAsyncioTestCas
         line.sendall(answer(3, CommandRefusal.NOT_IDLE))
         self.assertIs((await later).refusal, CommandRefusal.NOT_IDLE)
         line.sendall(answer(9))             # (nobody has asked)
-        while len(self.stood) < 4:
-            await asyncio.sleep(0)
+        await self.until(lambda: len(self.stood) > 3)
         gone = f'{self.path("program")}: it'
-        self.assertEqual(self.stood, [('control', True, ''), ('control', False, f'{gone} has closed the connection'),
-                                      ('control', True, ''), ('control', False, f'{gone} sent an unexpected record')])
+        self.assertEqual(self.stood[:4], [
+            ('control', True, ''), ('control', False, f'{gone} has closed the connection'), ('control', True, ''),
+            ('control', False, f'{gone} sent an unexpected record')])
 
     async def test_an_answer_waits_for_its_report(self) -> None:
         """Of two that are alike each has its own; one waits no more when nobody tells, or another one does."""
@@ -403,8 +402,7 @@ class ProgramConnectionTests(support.FolderCase, unittest.IsolatedAsyncioTestCas
         """Who waits is told why there is none; what may be left out waits for none."""
         self.listener.close()
         self.line.close()
-        while self.stood[-1][1]:
-            await asyncio.sleep(0)
+        await self.until(lambda: not self.stood[-1][1])
         with self.assertRaisesRegex(NoAnswer, '^no connection to the program$'):
             await self.asks(1, waits=False)
         waits = self.asks(1)
@@ -432,30 +430,24 @@ class PointTests(support.FolderCase):
         self.assertEqual(told.records[0].getMessage(), f'{taken} does not lead to the process of now: Is a directory')
 
 
-class TrunkEndTests(support.FolderCase, unittest.IsolatedAsyncioTestCase):
-    async def test_what_is_opened_too_late(self) -> None:
-        """It is closed: some devices can be opened once."""
-        goes, stream = threading.Event(), mock.Mock()
-
-        def opens() -> mock.Mock:
-            goes.wait()
-            return stream
-        opening = asyncio.create_task(trunk.opened(opens))
-        await asyncio.sleep(0)
-        opening.cancel()
-        with self.assertRaises(asyncio.CancelledError):
-            await opening
-        stream.close.assert_not_called()
-        goes.set()
-        while not stream.close.called:
-            await asyncio.sleep(0.001)
-
+class TrunkEndTests(support.LoopCase):
     async def test_a_card(self) -> None:
         """It is watched no more at the end."""
         its = trunk.TrunkFiles(trunk.LineOptions())
         its.card = card = mock.Mock()
         await its.finish()
         self.assertEqual((card.mock_calls, its.card, its.both), ([mock.call.end()], None, (-1, -1)))
+
+    async def test_what_the_next_service_knows(self) -> None:
+        """What was counted of its line."""
+        before, its = (trunk.TrunkFiles(trunk.LineOptions(crc4=True, clear=True)) for _ in range(2))
+        assert before.crc4 and before.slots
+        before.crc4.take(dict.fromkeys(crc4.COUNTS, 7))
+        [*before.slots.take('slots found 3')]
+        its.take_up({}, before.note())
+        self.assertEqual(replace(its.note(), since=0.0), replace(before.note(), since=0.0))
+        await its.finish()
+        self.assertIsNone(its.crc4 and its.crc4.status()['aligned'])
 
     async def test_what_fails_is_begun_again(self) -> None:
         """It is told where, in one line."""
@@ -474,7 +466,7 @@ class TrunkEndTests(support.FolderCase, unittest.IsolatedAsyncioTestCase):
         one, other = asyncio.Event(), asyncio.Event()
         await trunk.either(0.0, one, other)
         other.set()
-        await trunk.either(900.0, one, other)
+        await trunk.either(SECONDS, one, other)
         await asyncio.sleep(0)
         self.assertEqual(asyncio.all_tasks(), {asyncio.current_task()})
 

@@ -8,7 +8,6 @@ import os
 import re
 import signal
 import socket
-import tomllib
 from functools import partialmethod
 from typing import Any
 from unittest import mock
@@ -16,7 +15,7 @@ from unittest import mock
 from . import support
 from .in_process import ServiceCase, plain
 from .support import SECONDS
-from e1gw.lines import config_text
+from e1gw import writers
 from e1gw.service import decisions, lifecycle, service, version
 from e1gw.service.decisions import Takeover
 from e1gw.service.handover import Left, version_for
@@ -25,7 +24,7 @@ from e1gw.service.note import NoteFiles, note_in
 from e1gw.service.options import wants_of
 from e1gw.service.program import ProgramPlaces
 from e1gw.service.version import ProgramVersion, version_of_now
-from e1gw.testing.ports import free_port
+from e1gw.testing.ports import free_port, free_ports
 
 LOGGED = LogPair(1, 0, b'state', b'')
 HAND = ', what it had in hand is lost: 2048 octets (8 ms) at most'
@@ -179,6 +178,21 @@ class PlayedReloadTests(ServiceCase):
                 self.assertEqual(len(self.starts()) - before, int(answer.endswith('done')))
         await self.ends()
 
+    async def test_ports_that_are_gone(self) -> None:
+        """Their calls stay up without speech: a line says so, and they count as ended."""
+        ports = {n: {'local_port': port, 'peer_port': 9} for n, port in zip((3, 4, 5, 8), free_ports(4))}
+        answers: tuple[tuple[dict[int, dict[str, int]], str], ...] = (
+            ({}, f'refused, the trunk goes on as it was: it would end {FIVE}; reload force does'),
+            ({4: ports[4]}, 'it takes the ports of 3 calls (circuits 3, 5, 8)\nreload: done'))
+        self.write('trunk.toml', support.config_text(ports))
+        self.begins()
+        await self.says('carries')
+        for then, answer in answers:
+            self.write('trunk.toml', support.config_text(then))
+            self.plan(WAITS, new(), new(), what='check')
+            self.assertEqual(await self.ask('reload'), f'reload: {answer}')
+        await self.ends()
+
     async def test_two_deaths_of_a_new_version(self) -> None:
         """The first one is a death as others; the second one brings the version before back."""
         self.plan(WAITS, UP, UP, WAITS)
@@ -323,17 +337,6 @@ class PlayedVersionTests(ServiceCase):
         words = self.starts('check')[-1]
         self.assertEqual((len(self.starts('check')), words[words.index('--seizure-wait') + 1]), (6, '300'))
 
-    def test_spellings(self) -> None:
-        """Where names are replaced there is a file again, with the same meaning, however it was spelled."""
-        for text in ('law = """mu"""\nhost = \'127.0.0.1\'\ncircuit = []\n',
-                     '"law" = \'mu\'\n[[circuit]]\nnumber = 0x1\n"peer_host" = "west"\npeer_port = 9_000\n'
-                     '[[ "circuit" ]]\nnumber=+3\ncodec="g726-\\u00324"\npayload = 0b1100000\n',
-                     'circuit = [{number = 2, "peer_host" = "west", local_port = 5000},\n{ssrc = 7, number = 30}]'):
-            with self.subTest(text):
-                again = config_text(version.with_addresses(tomllib.loads(text), {'west': '10.0.0.1'}))
-                meant = tomllib.loads(text.replace('"west"', '"10.0.0.1"'))
-                self.assertEqual({'circuit': [], **tomllib.loads(again)}, {'circuit': [], **meant})
-
 
 class PlayedWatchTests(ServiceCase):
     """What an operator has of it."""
@@ -365,6 +368,30 @@ class PlayedWatchTests(ServiceCase):
         (folder,) = glob.glob(self.path('run/*'))
         note = note_in(NoteFiles(folder).read())
         self.assertEqual(note and (note.was_up, note.begun, note.program, note.is_active), (True, 0, '7.7', True))
+        await self.ends()
+
+    async def test_files_that_do_not_open(self) -> None:
+        """Each is reported once, and nothing ends for it."""
+        os.mkfifo(fifo := self.path('fifo'))
+        ends = {'json': f'nobody reads it: {fifo}', 'calls': 'No space left on device: /dev/full', 'session': None}
+        with mock.patch.object(writers, 'OPENS', 0.05):
+            self.begins('--json', fifo, '--calls', '/dev/full')
+            await self.says('carries')
+            while json.loads(await self.ask('status json'))['ended'] != ends:
+                pass
+        await self.ends()
+        said = [each.getMessage() for each in self.records if 'ended, the calls go on' in each.getMessage()]
+        self.assertEqual(sorted(said, reverse=True), [f'{what} ended, the calls go on: {ends[what]}' for what in (
+            'json', 'calls')])
+
+    async def test_a_card_that_keeps_slot_0(self) -> None:
+        """What the program says of slot 16 is told, and shown: the next one has not found it yet."""
+        self.plan(says('slots found 3', -9, up=1), WAITS)
+        self.begins('--clear')
+        await self.says('goes on after')
+        self.assertIn('slot 16 found, speech goes on', [each.getMessage() for each in self.records])
+        wanted = {'slots': 'clear', 'silent': True, 'slots_lost': 0, 'slots_moved': 0}
+        self.assertLessEqual(wanted.items(), json.loads(await self.ask('status json'))['transport'].items())
         await self.ends()
 
     async def test_names_of_sockets(self) -> None:
@@ -428,6 +455,19 @@ class PlayedPairTests(ServiceCase):
         self.assertEqual([each[7:14] for each in told], ['standby', *['the tru', 'program', 'standby'] * 2])
         await self.ends()
         self.assertEqual((len(self.starts()), os.listdir(self.path('run'))), (2, []))
+
+
+    async def test_a_trunk_that_does_not_open(self) -> None:
+        """Who is promoted waits for it, and for nothing more once it is asked back."""
+        none = self.path('none')
+        self.begins('--feed', f'127.0.0.1:{free_port()}', '--standby', '127.0.0.1:9', '--in', none, '--out', none)
+        await self.until(lambda: 'STATUS=standby' in self.manager.told)
+        promotes = asyncio.create_task(self.ask('promote'))
+        while await self.ask('role') != 'active, not fed, no program':
+            pass
+        self.assertEqual(await self.ask('demote'), 'demote: done')
+        self.assertEqual(await promotes, 'promote: refused: the reverse was asked for meanwhile')
+        await self.ends()
 
 
 class PlayedTakeoverTests(ServiceCase):

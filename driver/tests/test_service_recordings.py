@@ -1,4 +1,4 @@
-"""One process a trunk: what is kept of it, whatever ends meanwhile, and what its octets show of the flow."""
+"""One process a trunk: what is read of its log, and kept of it, whatever ends meanwhile."""
 from __future__ import annotations
 
 import asyncio
@@ -6,22 +6,25 @@ import glob
 import itertools
 import json
 import os
-import tempfile
+import threading
 import time
 import types
 import unittest
 from contextlib import closing
+from dataclasses import replace
 from unittest import mock
 
 from . import support
 from .logs import WrittenLog
-from .test_watch import FACTS
-from e1gw.clock import TICK
-from e1gw.service import reader, recordings, status, watch
-from e1gw.service.log_folder import RECORDS, LogFiles, LogState
-from e1gw.session import MULTIFRAME
-
-RECORD = MULTIFRAME / 256_000       # seconds
+from .support import SECONDS
+from .test_reports import BEGIN, row
+from e1gw.clock import TICK, ClockFinding
+from e1gw.counts import DatagramCounts
+from e1gw.service import reader, recordings, status
+from e1gw.service.log_folder import RECORDS, LogState
+from e1gw.service.reader import LogReader, ReadingNote
+from e1gw.service.recordings import RecordingNote, RecordingWants, TrunkRecording
+from e1gw.session import MULTIFRAME, OCTETS_A_SECOND
 
 
 class RoomTests(support.FolderCase):
@@ -38,7 +41,7 @@ class RoomTests(support.FolderCase):
 class RingAgainTests(unittest.IsolatedAsyncioTestCase):
     async def test_when_it_can_begin(self) -> None:
         """Once nothing is written any more, and there is room."""
-        its = reader.LogReader('none', 0.1, None, lambda: None, bytes)
+        its = LogReader('none', 0.1, None, lambda: None, bytes)
         for is_over, room in itertools.product((False, True), repeat=2):
             ended = mock.Mock(**{'is_over.return_value': is_over, 'wants.session': 'ring'})
             with mock.patch.object(reader, 'has_room', return_value=room) as looked:
@@ -46,62 +49,196 @@ class RingAgainTests(unittest.IsolatedAsyncioTestCase):
             self.assertEqual((ended.close.call_count, looked.mock_calls), (1, [mock.call('ring')] * is_over))
 
 
-class UnreadTests(unittest.TestCase):
-    def test_a_file_ends(self) -> None:
-        """If a part of the log was not read; of a ring another file begins."""
-        for keep, calls in (None, [mock.call('a part of the log was not read')]), (60, []):
-            its = reader.LogReader('none', 0.1, None, lambda: None, bytes)
-            its._begun = 0
-            its._recording = recording = mock.Mock(why='', **{'wants.keep': keep})
-            its._see_file(LogState(3, 99, b'state'), True)
-            self.assertEqual((recording.end.mock_calls, recording.begin.call_count), (calls, not calls))
+class AnotherFileTests(unittest.TestCase):
+    def test_at_a_state_of_the_log(self) -> None:
+        """Another file of a ring begins, if another program has begun or the file is long. If a part of the log was not
+        read, one of a ring does, and a recording that is one file ends."""
+        for is_break, is_cut, keep, octets in itertools.product(
+                (False, True), (False, True), (None, 60), (1_280_004, 1_280_005)):
+            its = LogReader('none', 0.1, None, lambda: None, bytes)
+            its._begun, its._is_cut, its.octets = 5, is_cut, octets
+            its._recording = recording = mock.Mock(why='', wants=RecordingWants('s', keep, 'w', 'c', 200))
+            its._see_file(LogState(3, 99, b'state'), is_break)
+            ends = [mock.call('a part of the log was not read')] * (is_break and not keep)
+            begins = keep is not None and (is_break or is_cut or octets == 1_280_005)
+            self.assertEqual((recording.begin.call_count, recording.end.mock_calls), (begins, ends))
 
 
-class ServiceFlowTests(support.FolderCase, unittest.IsolatedAsyncioTestCase):
-    """How octets flow, by the log and a clock of the test's own."""
+class RecordingTests(support.LoopCase):
+    def recording(self, path: str, left: RecordingNote | None, keep: int | None = None) -> TrunkRecording:
+        return TrunkRecording(RecordingWants(path, keep, 'west', 'c', 200), lambda: None, left)
+
+    async def test_what_was_not_noted_is_cut(self) -> None:
+        """The next service goes on behind what the one before it has noted."""
+        path = self.write('kept', 'noted more')
+        left = RecordingNote(path, None, '', (), path, 0, 5, 5, 5)
+        its = self.recording(path, left)
+        its.put(b' octets', 12, 9)
+        await its.has(12, SECONDS)
+        await asyncio.to_thread(its.close)
+        self.assertEqual((support.text_of(path), its.is_over()), ('noted octets', True))
+        self.assertEqual(its.note(0), replace(left, place=12, octets=9, size=12))
+
+    async def test_a_ring_that_was_left(self) -> None:
+        """It has the files and the fault that it had."""
+        ring = self.path('ring')
+        left = RecordingNote(ring, 60, 'no room', (('a', 0), ('b', 9)), f'{ring}/b', 3, 9, 5, 7)
+        its = self.recording(ring, left, 60)
+        await asyncio.to_thread(its.close)
+        self.assertEqual(its.note(3), left)
+
+    async def test_what_is_written_waits_no_more(self) -> None:
+        path = self.path('kept')
+        with mock.patch.object(recordings, 'MOST_BEHIND', 150):
+            its = self.recording(path, RecordingNote(path, None, '', (), path, 0, 0, 0, 0))
+            for place in 99, 198:
+                its.put(bytes(99), place, place)
+                await its.has(place, SECONDS)
+            await asyncio.to_thread(its.close)
+        self.assertEqual((its.why, os.path.getsize(path)), ('', 198))
+
+    async def test_who_closes_it_waits(self) -> None:
+        """Until all is written."""
+        goes_on, path = threading.Event(), self.path('kept')
+        its = self.recording(path, RecordingNote(path, None, '', (), path, 0, 0, 0, 0))
+        with mock.patch.object(its, '_write', goes_on.wait):
+            closes = asyncio.create_task(asyncio.to_thread(its.close))
+            await asyncio.sleep(0.01)
+            self.assertFalse(closes.done())
+            goes_on.set()
+            await closes
+        self.assertTrue(its.is_over())
+
+    async def test_one_that_is_too_slow(self) -> None:
+        """It ends, is told once, and takes no more."""
+        os.mkfifo(path := self.path('kept'))
+        with closing(os.fdopen(os.open(path, os.O_RDWR), 'rb', buffering=0)), \
+                mock.patch.object(recordings, 'MOST_BEHIND', 99), self.assertLogs('e1gw.service') as told:
+            its = self.recording(path, None)
+            self.assertEqual(its.note(7), RecordingNote(path, None, '', (), '', 7, 0, 0, 0))
+            with mock.patch.object(its, '_write'):
+                its.put(bytes(99), 99, 99)
+                self.assertEqual(its.why, '')
+                for _ in range(2):
+                    its.put(b'x', 100, 100)
+                await its.has(200, SECONDS)
+                await asyncio.to_thread(its.close)
+        its.put(b'x', 101, 101)
+        self.assertFalse(its._waiting)
+        self.assertEqual([each.getMessage() for each in told.records],
+                         [f'session ended, the calls go on: it takes too little: {path}'])
+
+
+class LogReaderTests(support.LoopCase):
+    """What is read of a log, by a clock of the test's own; a part may be written over before it is read."""
 
     def setUp(self) -> None:
         super().setUp()
         self.now, self.log = 5000.0, WrittenLog(self.path('log'))
         self.addCleanup(self.log.close)
-        clock = mock.patch.object(reader, 'time', types.SimpleNamespace(time=time.time, monotonic=lambda: self.now))
-        clock.start()
-        self.addCleanup(clock.stop)
-        self.reader = reader.LogReader(self.path('log'), 0.1, None, lambda: None, bytes)
+        self.enterContext(mock.patch.object(reader, 'time', types.SimpleNamespace(
+            time=time.time, monotonic=lambda: self.now)))
+        self.reader = self.reads()
 
-    def go(self, seconds: float, rate: float = 1.0, comes: bool = True, looks: bool = True) -> None:
+    def reads(self, wants: RecordingWants | None = None) -> LogReader:
+        return LogReader(self.path('log'), 0.1, wants, lambda: None, bytes)
+
+    def go(self, seconds: float, comes: bool = True, looks: bool = True) -> None:
         until, due = self.now + seconds, self.now + TICK
         while self.now < until:
-            self.now += RECORD / rate
+            self.now += MULTIFRAME / OCTETS_A_SECOND
             if comes:
                 self.log.multiframe()
             if looks and self.now >= due:
                 due = self.now + TICK
                 self.reader.look()
 
-    async def test_gaps(self) -> None:
-        """Each is as long as what was lost, is reported, counted and shown; a stall, and a handover, make none."""
-        with tempfile.NamedTemporaryFile('w') as config:
-            trunk = mock.Mock(flow=self.reader.clock.status, **{
-                'places.return_value.tell': config.name,
-                'config_path.return_value': config.name, 'place.return_value': 0, 'facts.return_value': FACTS})
-            found = watch.TrunkWatch(watch.WatchWants(name='west'), trunk)
-            self.reader.found = found.flowed
-            with mock.patch.object(found, 'tell') as tells:
-                self.go(2)
-                self.go(0.25, comes=False)
-                self.go(2)
-                self.go(5, looks=False)
-                self.go(2)
-                self.reader.follows(True)
-                self.log.turns()
-                self.go(2)
-                shown = await found.pages.fresh()
-        (((event,), _),) = tells.call_args_list
-        self.assertEqual((event.name, round(event.seconds, 2)), ('gap', 0.25))
-        clock = shown.status['clock']
-        self.assertEqual((clock['gaps'], clock['gap_seconds'], clock['stalls']), (1, 0.25, 0))
-        self.assertRegex(shown.table, r'stalls 0, slips 1 \(0\.[23] s\)')
+    def written(self, at: float) -> None:
+        """The log was written last at this time."""
+        for name in RECORDS:
+            os.utime(self.path(f'log/{name}'), (at, at))
+
+    def goes_on(self) -> int:
+        """The log goes on, so that who has read it up to now is overtaken. How many octets of the trunk come."""
+        before = self.log.octets
+        for _ in range(3):
+            for _ in range(500):
+                self.log.multiframe()
+            self.log.turns()
+        self.log.multiframe()
+        return self.log.octets - before
+
+    async def test_its_program_has_died(self) -> None:
+        """Nobody can say where it was: what nobody read had the octets of its time, and the next program begins behind
+        them. So does one of another service. If a clock was set meanwhile, no more than the log had."""
+        self.log.multiframe()
+        self.written(at := 1e9)
+        self.reader.look()
+        for is_another in (False, True):
+            if is_another:
+                note, self.reader = self.reader.noted(), self.reads()
+                self.reader.take_up(note, None)
+            self.written(at := at + self.goes_on() / OCTETS_A_SECOND)
+            with self.assertLogs('e1gw.service.reader', 'WARNING'):
+                await self.reader.copied()
+            self.assertEqual(self.reader.octets, self.log.octets)
+        before, place = self.log.octets, self.log.place
+        octets = self.goes_on()
+        self.written(at + 1e6)
+        with self.assertLogs('e1gw.service.reader', 'WARNING'):
+            await self.reader.copied()
+        self.assertEqual(self.reader.octets, before + octets + (self.log.place - place - octets) - 4)
+
+    async def test_it_ends(self) -> None:
+        """And with it what tries a ring again."""
+        runs = asyncio.create_task(self.reads(RecordingWants(self.path('ring'), 60, 'west', 'c', 200)).run())
+        for _ in range(3):
+            await asyncio.sleep(0)
+        self.assertEqual(len(asyncio.all_tasks()), 3)
+        runs.cancel()
+        await asyncio.wait([runs])
+        for _ in range(3):
+            await asyncio.sleep(0)
+        self.assertEqual(asyncio.all_tasks(), {asyncio.current_task()})
+
+    async def test_what_is_not_read_is_no_gap(self) -> None:
+        """It was found as one, told as a slip, and all calls were resynchronised; then octets came too early."""
+        found = list[ClockFinding]()
+        self.reader.found = found.append
+        self.go(2)
+        for _ in range(5):
+            self.go(0.2, looks=False)
+            self.log.turns()
+        with self.assertLogs('e1gw.service.reader', 'WARNING'):
+            self.go(0.2)
+        self.assertTrue(self.reader.has_missed)
+        self.reader.count_on(self.log.octets - self.reader.octets)
+        self.go(2)
+        self.assertEqual(found, [])
+
+    async def test_its_program_does_not_say_where_it_is(self) -> None:
+        """It hangs, or has no octets: what it tells otherwise is read, and it is asked again."""
+        config, tell = self.write('trunk.toml', 'law = "A"\n[[circuit]]\nnumber = 1\n'), self.path('tell')
+        carrier = mock.Mock(reader=self.reader, pair=None, **{
+            'places.tell': tell, 'version.return_value.config_path.return_value': config, 'program.begun': 0,
+            'trunk.facts.return_value': {}})
+        trunk = status.OperatedTrunk(carrier, mock.Mock())
+        setattr(trunk, 'missed', mock.AsyncMock(return_value=None))
+        with support.listening(tell) as listener, mock.patch.object(status, 'PATIENCE', 0.01, create=True), \
+                mock.patch.object(status, 'REST', 0.0):
+            its = status.TrunkStatus(trunk, 'west', lambda event: None, DatagramCounts(), lambda line: None)
+            follows = asyncio.create_task(its.follow())
+            await asyncio.sleep(0)
+            with listener.accept()[0] as line:
+                line.sendall('\n'.join([*BEGIN, 'now', '']).encode())
+                await self.until(lambda: its.lines.live)
+                self.reader.has_missed = True
+                for state in 'seized', 'acked':
+                    line.sendall(f'{row(1, state)}\n'.encode())
+                    await self.until(lambda: its.lines.lines[1].state == state)
+                self.assertTrue(self.reader.has_missed)
+            follows.cancel()
+            await asyncio.wait([follows])
 
     async def test_overtaken(self) -> None:
         """Who missed a part counts on from where the program says that the trunk is, and no octet twice."""
@@ -119,33 +256,6 @@ class ServiceFlowTests(support.FolderCase, unittest.IsolatedAsyncioTestCase):
         self.log.multiframe()
         self.reader.look()
         self.assertEqual(self.reader.octets, told + MULTIFRAME)
-
-    async def test_a_log_that_has_gone_on(self) -> None:
-        """Who has read nothing of it yet counts from where the program says that the trunk is."""
-        for _ in range(3):
-            self.log.multiframe()
-        for _ in range(2):
-            self.log.turns()
-            self.log.multiframe()
-        self.reader.told = lambda: 9 * MULTIFRAME
-        self.reader.look()
-        self.assertEqual((self.reader.octets, self.reader.has_missed), (9 * MULTIFRAME, True))
-
-    async def test_what_was_written_over(self) -> None:
-        """It is not read as what was there before."""
-        self.log.multiframe()
-        with closing(LogFiles(self.path('log'))) as files:
-            number = files.newest() or 0
-            head = files.heads(number)
-            assert head
-            before = files.octets(RECORDS[number], head)
-            self.log.multiframe()
-            self.assertEqual(files.octets(RECORDS[number], head), before)       # (more is behind it)
-            for _ in range(2):
-                self.log.turns()
-                for _ in range(3):
-                    self.log.multiframe()
-            self.assertIsNone(files.octets(RECORDS[number], head))
 
     async def test_where_a_program_says_that_it_is(self) -> None:
         """Who has missed a part counts on from there. One that does not say it has told something else, or has gone."""
@@ -170,18 +280,16 @@ class ServiceFlowTests(support.FolderCase, unittest.IsolatedAsyncioTestCase):
 
     async def test_slips_are_noted(self) -> None:
         """Beside the file of a ring, at the place where octets were lost; and what a program had in hand."""
-        with tempfile.TemporaryDirectory() as folder:
-            wants = recordings.RecordingWants(os.path.join(folder, 'ring'), 60, 'west', '/etc/west.toml', 200)
-            self.reader = reader.LogReader(self.path('log'), 0.1, wants, lambda: None, bytes)
-            self.reader.take_up(reader.ReadingNote(), None)
-            self.reader.follows(True)
-            self.go(2)
-            place = self.log.octets
-            self.go(0.25, comes=False)
-            self.go(2)
-            await self.reader.finish()
-            (path,) = glob.glob(os.path.join(wants.session, '*.json'))
-            slips = json.loads(support.text_of(path))['slips']
+        self.reader = self.reads(RecordingWants(self.path('ring'), 60, 'west', '/etc/west.toml', 200))
+        self.reader.take_up(ReadingNote(), None)
+        self.reader.follows(True)
+        self.go(2)
+        place = self.log.octets
+        self.go(0.25, comes=False)
+        self.go(2)
+        await self.reader.finish()
+        (path,) = glob.glob(self.path('ring/*.json'))
+        slips = json.loads(support.text_of(path))['slips']
         self.assertEqual(slips[0], [0, 0.008])
         self.assertEqual([seconds for _, seconds in slips[1:]], [0.25])
-        self.assertLess(abs(slips[1][0] - place), 0.2 * 256_000)
+        self.assertLess(abs(slips[1][0] - place), 0.2 * OCTETS_A_SECOND)

@@ -1,26 +1,24 @@
-"""One process a trunk: what its options ask for, how processes end, and what is kept of the trunk."""
+"""One process a trunk: what its options ask for, how processes end, and what a program lacks."""
 from __future__ import annotations
 
-import asyncio
 import io
 import os
+import signal
+import subprocess
 import unittest
-from contextlib import closing
-from dataclasses import replace
 from typing import Any
 from unittest import mock
 
 from . import support
-from e1gw.service import program, recordings
+from .support import SECONDS
+from e1gw.service import program
 from e1gw.service.decisions import ProgramFault
-from e1gw.service.feed import FeedHead, configured
 from e1gw.service.memory import give_back, given_back, in_memory, reserve
 from e1gw.service.options import folder_of, opens_of, recording_of, wants_of, watched_of
-from e1gw.service.process import UNKNOWN, Child, ran, signal_words
+from e1gw.service.process import UNKNOWN, Child, ran, signal_words, start_of
 from e1gw.service.program import MOST_PATH, WORDS, ProgramPlaces, TrunkProgram
-from e1gw.service.recordings import RecordingNote, RecordingWants, TrunkRecording
+from e1gw.service.recordings import RecordingWants
 from e1gw.service.service import parser
-from e1gw.service.standby import TrunkStandby
 from e1gw.service.version import ProgramVersion, is_address, with_addresses
 from e1gw.service.watch import WatchWants
 
@@ -180,6 +178,20 @@ class ChildEndTests(unittest.IsolatedAsyncioTestCase):
         await child.end_within(0.0)
         child.signal(9)
 
+    async def test_a_number_that_another_process_has(self) -> None:
+        """A process is known by its number and when it was started. One that is stopped is killed."""
+        said = subprocess.run(['sh', '-c', f'sleep {SECONDS} > /dev/null & echo $!'], check=True,
+                              stdout=subprocess.PIPE).stdout
+        pid = int(said)
+        when = start_of(pid)
+        its, other = Child(pid, when), Child(pid, when + 1)
+        self.assertEqual((its.over.is_set(), other.over.is_set()), (False, True))
+        await other.kill()
+        self.assertEqual(start_of(pid), when)
+        os.kill(pid, signal.SIGSTOP)
+        await its.over.wait()
+        self.assertEqual((its.status, its.words()), (UNKNOWN, 'ended'))
+
 
 class ProgramFaultTests(support.FolderCase, unittest.IsolatedAsyncioTestCase):
     LINES = (('fault 5 Read at 3', ProgramFault.TRUNK), ('fault 6 Write at 3', ProgramFault.TRUNK),
@@ -242,58 +254,3 @@ class VersionTests(support.FolderCase):
         self.assertEqual(with_addresses(tables, {'west': '10.0.0.1'}), {'law': 'A', 'circuit': [
             {'number': 1, 'peer_host': '10.0.0.1'}, {'number': 2}, {'number': 3, 'peer_host': '10.0.0.3'}]})
         self.assertEqual(with_addresses({'law': 'A'}, {}), {'law': 'A', 'circuit': []})
-
-    def test_ports(self) -> None:
-        ports: dict[int, dict[str, object]] = {3: {'local_port': 1, 'peer_port': 2}, 4: {},
-                                               9: {'local_port': 3, 'peer_port': 4}}
-        self.assertEqual(self.version(support.config_text(ports)).ports(), {3, 9})
-
-    def test_a_standby_after_a_reload(self) -> None:
-        """What differs at the other machine is found by the configuration of then."""
-        versions = [self.version(support.config_text({3: {'ptime': each}})) for each in (20, 30)]
-        now = versions[:1]
-        standby = TrunkStandby(('127.0.0.1', 1), '127.0.0.2', (), lambda: now[0], self.folder, print)
-        head = FeedHead(*configured(versions[1].config_path()), 1, 0, 0, 0, 0)
-        self.assertEqual(standby._differs(head), [3])
-        now[0] = versions[1]
-        self.assertEqual(standby._differs(head), [])
-
-
-class RecordingTests(support.FolderCase, unittest.IsolatedAsyncioTestCase):
-    async def test_what_was_not_noted_is_cut(self) -> None:
-        """The next service goes on behind what the one before it has noted."""
-        path = self.write('kept', 'noted more')
-        left = RecordingNote(path, None, '', (), path, 0, 5, 5, 5)
-        its = TrunkRecording(RecordingWants(path, None, 'west', 'c', 200), lambda: None, left)
-        its.put(b' octets', 12, 9)
-        await its.has(12, 900.0)
-        await asyncio.to_thread(its.close)
-        self.assertEqual((support.text_of(path), its.is_over()), ('noted octets', True))
-        self.assertEqual(its.note(0), replace(left, place=12, octets=9, size=12))
-
-    async def test_what_is_written_waits_no_more(self) -> None:
-        path = self.path('kept')
-        with mock.patch.object(recordings, 'MOST_BEHIND', 150):
-            its = TrunkRecording(RecordingWants(path, None, 'west', 'c', 200), lambda: None,
-                                 RecordingNote(path, None, '', (), path, 0, 0, 0, 0))
-            for place in 99, 198:
-                its.put(bytes(99), place, place)
-                await its.has(place, 900.0)
-            await asyncio.to_thread(its.close)
-        self.assertEqual((its.why, os.path.getsize(path)), ('', 198))
-
-    async def test_one_that_is_too_slow(self) -> None:
-        """It ends, is told once, and takes no more."""
-        os.mkfifo(path := self.path('kept'))
-        with closing(os.fdopen(os.open(path, os.O_RDWR), 'rb', buffering=0)), \
-                mock.patch.object(recordings, 'MOST_BEHIND', 99), self.assertLogs('e1gw.service') as told:
-            its = TrunkRecording(RecordingWants(path, None, 'west', 'c', 200), lambda: None, None)
-            with mock.patch.object(its, '_write'):
-                its.put(bytes(99), 99, 99)
-                self.assertEqual(its.why, '')
-                for _ in range(2):
-                    its.put(b'x', 100, 100)
-                await its.has(200, 900.0)
-                await asyncio.to_thread(its.close)
-        self.assertEqual([each.getMessage() for each in told.records],
-                         [f'session ended, the calls go on: it takes too little: {path}'])

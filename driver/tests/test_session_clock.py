@@ -1,18 +1,15 @@
-"""The time of each place of a kept session: the picture, the .json of its files and the journal tell the same."""
+"""The time of each place of a kept session: the .json of its files and the journal tell the same."""
 from __future__ import annotations
 
 import asyncio
 import random
-import re
 import types
 import unittest
 from dataclasses import dataclass
-from datetime import datetime
 from unittest import mock
 
 from . import support
 from .logs import WrittenLog
-from .picture_made import page_of
 from e1gw import session_clock
 from e1gw.clock import TICK, ClockFinding
 from e1gw.service import reader, recordings
@@ -22,7 +19,6 @@ from e1gw.session_files import kept
 
 RECORD = MULTIFRAME / OCTETS_A_SECOND       # seconds
 DAY = 1_800_000_000.0
-OUTAGES = re.compile(r'(\d\d:\d\d:\d\d\.\d{3}) to (\d\d:\d\d:\d\d\.\d{3}) \(([\d.]+) s\)')
 
 
 @dataclass
@@ -130,13 +126,10 @@ class KeptSession:
         self.log.close()
 
 
-class SessionClockTests(support.FolderCase, unittest.IsolatedAsyncioTestCase):
+class SessionClockTests(support.LoopCase):
     def setUp(self) -> None:
         super().setUp()
         self.config = self.write('west.toml', 'law = "A"\n')
-
-    async def asyncSetUp(self) -> None:
-        asyncio.get_running_loop().set_debug(False)
 
     async def session(self, name: str, steps: list[Stretch]) -> KeptSession:
         """A session that is kept in a folder of this name."""
@@ -152,7 +145,7 @@ class SessionClockTests(support.FolderCase, unittest.IsolatedAsyncioTestCase):
     async def test_sessions(self) -> None:
         """Sessions with gaps: each octet has the time at which it came, and each outage is told once."""
         chance = support.chance_of(self)
-        for name, steps in [*SESSIONS.items(), *((f'made {n}', made(chance)) for n in range(5))]:
+        for name, steps in [*SESSIONS.items(), *((f'made {n}', made(chance)) for n in range(9))]:
             with self.subTest(name, steps=steps):
                 its = await self.session(name, steps)
                 session = kept(its.wants.session)
@@ -164,7 +157,7 @@ class SessionClockTests(support.FolderCase, unittest.IsolatedAsyncioTestCase):
                     missing = sum(step.away for step in steps if step.away > 0.1)
                     self.assertAlmostEqual(sum(its.journal), missing, delta=0.05)
 
-    def told_once(self, its: KeptSession) -> list[tuple[float, float, float]]:
+    def told_once(self, its: KeptSession) -> None:
         """The .json tell the outages that there were: from when to when, and for how long."""
         session = kept(its.wants.session)
         clock = SessionClock(session.begin, tuple(session.breaks))
@@ -175,23 +168,6 @@ class SessionClockTests(support.FolderCase, unittest.IsolatedAsyncioTestCase):
             # (a gap is found up to a tenth of a second behind it)
             for is_true, is_told, delta in zip((first, last, last - first), each, (0.3, 0.3, 0.05)):
                 self.assertAlmostEqual(is_true, is_told, delta=delta)
-        return told
-
-    async def test_picture(self) -> None:
-        """It has the same outages."""
-        its = await self.session('twice', SESSIONS['twice'])
-        page, _ = page_of(its.wants.session)
-        drawn = OUTAGES.findall(page.partition('from ')[2].partition('<span')[0])
-        self.assertEqual(len(drawn), len(told := self.told_once(its)))
-        for (first, last, seconds), each in zip(drawn, told):
-            for is_drawn, is_told in zip((second_of(first), second_of(last)), each):
-                self.assertAlmostEqual(is_drawn, is_told % 86400, delta=0.011)
-            self.assertAlmostEqual(float(seconds), each[2], delta=0.011)
-
-
-def second_of(text: str) -> float:
-    """The second of the day."""
-    return (datetime.strptime(text, '%H:%M:%S.%f') - datetime(1900, 1, 1)).total_seconds()
 
 
 class NotedTwiceTests(unittest.TestCase):

@@ -11,8 +11,7 @@ import threading
 from unittest import mock
 
 from . import support
-from .test_program_killed import CIRCUITS, GOES_ON
-from .test_service_killed import RestartedKeeperCase
+from .keepers import CIRCUITS, GOES_ON, RestartedKeeperCase
 from e1gw.service.log_folder import LogFiles
 from e1gw.service.memory import in_memory, octets_in
 from e1gw.service.sockets import AGAIN, NAME, CircuitSockets, address_in, addresses_of, name_of
@@ -61,60 +60,34 @@ class HeldSocketTests(RestartedKeeperCase):
         """How many each peer has sent."""
         return dict.fromkeys(CIRCUITS, self._spoken - self.since + 1)
 
-    def killed_and_missed(self) -> int:
-        """The program is killed. How many multiframes are sent before another one begins, with packets."""
-        with support.stopped(self.keeper.pid):
-            os.kill(self.program, signal.SIGKILL)
-            support.until(lambda: support.state_of(self.program) in ('', 'Z'))
-            return self.send(MISSED)
-
-    def test_a_program_killed(self) -> None:
-        self.speaks()
-        waiting = self.killed_and_missed()
+    def follows(self, waiting: int) -> None:
+        """Another program goes on, which answers this number of multiframes first."""
         self.goes_on_behind()
         self.take(waiting)
         self.step(20)
-        self.assertEqual(self.got(), self.spoken())
-        self.assertEqual(self.device.exchange.signals, self.up())
-        self.ends()
 
-    def reloaded(self, senders: str) -> None:
-        self.speaks('--senders', senders)
+    def is_killed(self) -> None:
+        """Multiframes and packets come before another program begins."""
+        with support.stopped(self.keeper.pid):
+            os.kill(self.program, signal.SIGKILL)
+            support.until(lambda: support.state_of(self.program) in ('', 'Z'))
+            waiting = self.send(MISSED)
+        self.follows(waiting)
+
+    def is_reloaded(self) -> None:
         self.write('held', '')
         reload = threading.Thread(target=ask, args=(self.path('its-control'), b'reload'), daemon=True)
         reload.start()
         support.until(lambda: os.path.exists(self.path('waits')))
         waiting = self.send(MISSED)
         os.unlink(self.path('held'))
-        self.goes_on_behind()
-        self.take(waiting)
+        self.follows(waiting)
         reload.join()
-        self.assertEqual(self.got(), self.spoken())
-        self.assertEqual(self.device.exchange.signals, self.up())
-        self.leaves_nothing()
 
-    def test_a_reload(self) -> None:
-        self.reloaded('any')
-
-    def test_a_reload_of_sockets_that_are_joined(self) -> None:
-        """They show their own address and the peer's: they are found, parted, and joined again."""
-        self.reloaded('peer')
-
-    def kept(self) -> set[int]:
-        """The sockets of the circuits that systemd has."""
-        self.manager.take_all()
-        return {os.fstat(file).st_ino for name, file in self.manager.files.items() if name.startswith(NAME)}
-
-    def test_all_killed(self) -> None:
-        """systemd has the sockets while neither the service nor a program is there."""
-        self.speaks()
-        before, waiting = self.kept(), self.all_killed()
-        self.again()
-        self.goes_on_behind()
-        self.take(waiting)
-        self.assertEqual((len(before), self.kept()), (len(CIRCUITS), before))
-        self.assertEqual(self.got(), self.spoken())
-        self.ends()
+    def is_replaced(self) -> None:
+        """Another service in place of this one has them by the same numbers."""
+        self.keeper.send_signal(signal.SIGUSR2)
+        self.awaits(GOES_ON)
 
     def all_killed(self) -> int:
         """The service and its program. How many multiframes are sent behind that, with packets."""
@@ -123,16 +96,30 @@ class HeldSocketTests(RestartedKeeperCase):
         support.until(lambda: support.state_of(self.program) in ('', 'Z'))
         return self.send(MISSED)
 
-    def test_another_service(self) -> None:
-        """One in place of this one has them by the same numbers; the program that follows then loses nothing."""
-        self.speaks()
-        self.keeper.send_signal(signal.SIGUSR2)
-        self.awaits(GOES_ON)
-        waiting = self.killed_and_missed()
-        self.goes_on()
-        self.take(waiting)
-        self.assertEqual(self.got(), self.spoken())
-        self.ends()
+    def kept(self) -> set[int]:
+        """The sockets of the circuits that systemd has."""
+        self.manager.take_all()
+        return {os.fstat(file).st_ino for name, file in self.manager.files.items() if name.startswith(NAME)}
+
+    def nothing_is_lost(self, senders: str) -> None:
+        """Whatever ends. systemd has the sockets while neither the service nor a program is there."""
+        self.speaks('--senders', senders)
+        before = self.kept()
+        for happens in self.is_killed, self.is_reloaded, self.is_replaced, self.is_killed:
+            happens()
+        waiting = self.all_killed()
+        self.again()
+        self.follows(waiting)
+        self.assertEqual((len(before), self.kept()), (len(CIRCUITS), before))
+        self.assertEqual((self.got(), self.device.exchange.signals), (self.spoken(), self.up()))
+        self.leaves_nothing()
+
+    def test_sockets(self) -> None:
+        self.nothing_is_lost('any')
+
+    def test_sockets_that_are_joined(self) -> None:
+        """They show their own address and the peer's: they are found, parted, and joined again."""
+        self.nothing_is_lost('peer')
 
     def test_nobody_there_for_long(self) -> None:
         """What has waited then is old speech, and is dropped. The sockets are made anew, in the cgroup of now: of those
@@ -142,8 +129,7 @@ class HeldSocketTests(RestartedKeeperCase):
             kept, before, waiting = self.kept(), self._spoken, self.all_killed()
             missed = self._spoken - before
             self.again()
-        self.goes_on_behind()
-        self.take(waiting)
+        self.follows(waiting)
         support.until(lambda: len(self.kept() - kept) == len(CIRCUITS))
         self.assertEqual(self.kept() & kept, set())
         self.assertGreater(missed, 0)
@@ -161,13 +147,10 @@ class HeldSocketTests(RestartedKeeperCase):
             other.bind(('127.0.0.1', port))
             self.again()
             self.awaits(f'circuit 3 has no port: port {port} is in use')
-            self.goes_on_behind()
-            self.take(waiting)
-            self.step(20)
+            self.follows(waiting)
             count = len(self.peers.packets[3])
         self.awaits('a socket, a port or the log is to be had again: (?=program)')
-        self.goes_on_behind()
-        self.step(20)
+        self.follows(0)
         self.assertGreater(len(self.peers.packets[3]), count)
         self.assertEqual(self.device.exchange.signals, self.up())
         self.ends()

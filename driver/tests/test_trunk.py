@@ -1,17 +1,24 @@
-"""e1gw-trunk in service: commands, what ends without ending calls, and how all of it ends."""
+"""e1gw-trunk in service: commands, trunks of each kind and with filters, and descriptors that are closed."""
 from __future__ import annotations
 
 import json
 import os
+import pty
+import signal
 import socket
+import subprocess
 import unittest
 from functools import partial
-from typing import TypeVar
+from typing import Any, Callable, TypeVar
 
 from . import support
-from .world import World, config_of
+from .test_trunk_served import octets_in
+from .world import World, children, config_of, trunk_command
+from e1gw.session import FRAME, MULTIFRAME, trunk_record
+from e1gw.trunks import host_and_port
 
 FOUR = range(1, 5)
+OCTETS = bytes(range(256)) * 2
 
 W = TypeVar('W', bound=World)
 
@@ -65,10 +72,6 @@ class StatusTests(unittest.TestCase):
             return {cause: found.get(cause, 0) for cause in causes}
         world.until(lambda: all(counts().values()))
         self.assertEqual(counts(), dict.fromkeys(causes, 1))
-        self.assertEqual([row['state'] for row in world.status()['circuits'][:3]], ['answered', 'idle', 'idle'])
-        table = world.ask('status').splitlines()
-        self.assertEqual(len(table), 34)
-        self.assertRegex(table[1], r' s of the trunk at ..:..:.. UTC, aligned; the other end: no alarm')
         world.quit()
         told = [json.loads(line) for line in events]
         self.assertTrue(all(event.pop('time') > 1e9 and event.pop('place') >= 0 for event in told))
@@ -79,31 +82,123 @@ class StatusTests(unittest.TestCase):
 
 
 class BesideCallsTests(unittest.TestCase):
-    """Something ends; the calls go on."""
-
-    def goes_on(self, world: World, **ended: str) -> None:
-        """A call comes up, and nothing else has ended."""
-        aligned(world)
-        call(world, 1)
-        self.assertEqual({what: why for what, why in world.status()['ended'].items() if why}, ended)
-
-    def test_readers_that_go_and_readers_that_stand_still(self) -> None:
-        reads, writes = os.pipe()
-        with World(config_of(FOUR), '--json', '-', stdout=writes) as world:
-            os.close(writes)
-            deaf = [support.connected(world.path('ctl')) for _ in range(5)]
-            for line in deaf:
-                line.sendall(b'events\n' + b'status\n' * 2000)
-            os.close(reads)
-            world.until(lambda: world.told()['ended']['json'])
-            self.goes_on(world, json='Broken pipe')
-            for line in deaf:
-                line.close()
-            call(world, 2)
-
     def test_closed_descriptors(self) -> None:
+        """Calls come up all the same."""
         for words in ('<&-', '>&-', '2>&-', '<&- >&- 2>&-'):
             front = ('sh', '-c', f'exec "$@" {words}', 'sh')
             with self.subTest(words), World(config_of(FOUR), front=front, stderr=None) as world:
-                self.goes_on(world)
+                call(aligned(world), 1)
+                self.assertEqual({*world.status()['ended'].values()}, {None})
                 self.assertEqual(world.quit()[0], 0)
+
+
+class PlaceTests(unittest.TestCase):
+    def test_hosts_and_ports(self) -> None:
+        self.assertEqual(host_and_port('127.0.0.1:1'), ('127.0.0.1', 1))
+        self.assertEqual(host_and_port('[::1]:65535'), ('::1', 65535))
+        for text in ('', ':', 'a', 'a:', ':1', 'a:0', 'a:65536', 'a:99999', 'a:-1', 'a:٣', '.x:1', 'a..b:1', '[]:1'):
+            with self.subTest(text), self.assertRaises(ValueError):
+                host_and_port(text)
+
+
+class TrunkKindServiceTests(support.FolderCase):
+    def test_each_kind(self) -> None:
+        """Octets go both ways, whatever they are, and on behind a program that is killed; FIFOs and TCP end the trunk.
+        (Other tests have Unix sockets and files.)"""
+        config, listener = self.write('trunk.toml', 'law = "A"\n'), socket.create_server(('127.0.0.1', 0))
+        self.addCleanup(listener.close)
+        terminal, theirs = pty.openpty()
+        name, fifos = os.ttyname(theirs), [self.path(name) for name in ('in', 'out')]
+        for path in fifos:
+            os.mkfifo(path)
+        wanted = octets_in(support.run('replay', '--config', config, given=trunk_record(OCTETS * 2)))
+        kinds: list[tuple[list[str], Callable[[], tuple[int, int]]]] = [
+            (['--in', name, '--out', name], lambda: (terminal, terminal)),
+            (['--tcp', f'127.0.0.1:{listener.getsockname()[1]}'], lambda: (listener.accept()[0].detach(),) * 2),
+            (['--in', fifos[0], '--out', fifos[1]], lambda: (os.open(fifos[0], os.O_WRONLY), os.open(fifos[1], 0)))]
+        for words, opens in kinds:
+            with self.subTest(words), subprocess.Popen(trunk_command('--config', config, *words),
+                                                       stdin=subprocess.DEVNULL, stderr=subprocess.PIPE) as process:
+                self.addCleanup(process.kill)
+                assert process.stderr
+                into, out = opens()
+                back = b''
+                for says in b'carries', b'goes on':
+                    while says not in process.stderr.readline():        # (a terminal is raw from then on)
+                        pass
+                    os.write(into, OCTETS)
+                    back += self.read(out)
+                    for program in children(process.pid, 'trunk') if says == b'carries' else ():
+                        os.kill(program, signal.SIGKILL)
+                self.assertEqual(back, wanted)
+                if into == terminal:
+                    process.terminate()
+                    process.wait(support.SECONDS)
+                for file in {into, out}:
+                    os.close(file)
+                process.stderr.read()
+            self.assertEqual(process.returncode, 0)
+        os.close(theirs)
+
+    def read(self, file: int) -> bytes:
+        """What is sent for octets that have come."""
+        back = b''
+        while len(back) < len(OCTETS):
+            back += os.read(file, 1000)
+        return back
+
+
+class HearingTests(unittest.TestCase):
+    def test_octets_before_the_first_multiframe(self) -> None:
+        """The exchange waits for that, and hears it."""
+        exchange = support.Exchange()
+        exchange.hear(b'\xff' * 600)
+        self.assertFalse(exchange.aligned)
+        exchange.hear(support.Exchange().multiframe())
+        self.assertEqual((exchange.aligned, exchange.remote_alarms, len(exchange.heard[1])), (True, False, 16))
+
+
+class FilteredWorld(World):
+    """A trunk with CRC-4 and four circuits, whose exchange is three bits late with --align."""
+
+    def __init__(self, *options: str, **more: Any) -> None:
+        self.is_late, self.last = '--align' in options, 0xFF
+        super().__init__(config_of(FOUR), '--crc4', *options, **more)
+
+    def give(self, octets: bytes) -> bytes:
+        return super().give(self.on_the_line(octets))
+
+    def on_the_line(self, octets: bytes) -> bytes:
+        """As they come."""
+        front, self.last = bytes([self.last & 7]), octets[-1]
+        return (int.from_bytes(front + octets, 'big') >> 3).to_bytes(len(octets), 'big') if self.is_late else octets
+
+
+class FilterTests(unittest.TestCase):
+    """(Check bits and errors are proved, and scripts/look has their figures.)"""
+
+    def goes_on(self, world: FilteredWorld) -> None:
+        """A call is up, and the exchange hears frames and CRC multiframes where they were (G.704, tables 5A and 5B)."""
+        begun = len(world.heard)
+        world.step(60)
+        heard = world.heard[begun:]
+        firsts = [octet >> 7 for octet in heard[FRAME::2 * FRAME]]          # of frames 1, 3, ..
+        self.assertEqual([firsts[at:at + 6] for at in range(0, len(firsts), 8)], [[0, 0, 1, 0, 1, 1]] * 60)
+        self.assertEqual({octet & 0x7F for octet in heard[::2 * FRAME]}, {0x1B})
+        self.assertEqual(world.state(1), 'answered')
+
+    def test_the_program_dies_inside_a_multiframe(self) -> None:
+        """The exchange keeps the alignment of frames and multiframes."""
+        for options in (), ('--align',):
+            world = FilteredWorld(*options, within={'service.decisions.WITHIN': 0.0})
+            self.addCleanup(world.__exit__)
+            call(aligned(world), 1)
+            for count in 0, 77, 500:
+                with self.subTest(count, options=options):
+                    octets = world.on_the_line(world.exchange.multiframe())
+                    world.line.sendall(octets[:count])
+                    back = support.read_from(world.line, count)
+                    world.kill('trunk')
+                    world.line.sendall(octets[count:])
+                    world.exchange.hear(back + support.read_from(world.line, MULTIFRAME - count))
+                    self.goes_on(world)

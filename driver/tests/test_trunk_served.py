@@ -1,7 +1,6 @@
 """`e1gw trunk` over a socket pair, in lock step: what is sent is read back before more is sent."""
 from __future__ import annotations
 
-import itertools
 import os
 import socket
 import subprocess
@@ -10,7 +9,7 @@ from typing import Sequence
 
 from . import support
 from .support import SECONDS
-from e1gw.session import Command, CommandRefusal, Kind, command_record, records_in
+from e1gw.session import Kind, records_in
 
 
 def octets_in(session: bytes) -> bytes:
@@ -77,32 +76,6 @@ class TrunkClientTests(support.FolderCase):
         self.addCleanup(trunk.__exit__, None, None, None)
         self.assertEqual(len(trunk.passes(bytes(64))), 64)
         return trunk
-
-    def test_commands_right_before_a_hang_up(self) -> None:
-        blocks = b''.join(command_record(circuit, Command.BLOCK) for circuit in range(1, 31))
-        trunk = self.trunk('--record', self.recording)
-        with support.stopped(trunk.serving.pid), trunk.client() as client:
-            client.sendall(blocks + blocks[:3])
-        for _ in range(40):
-            self.assertEqual(len(trunk.passes(bytes(32))), 32)
-        self.assertEqual(trunk.ends()[0], 0)
-        given = [each.circuit for each in records_in(support.octets_of(self.recording)) if each.kind is Kind.COMMAND]
-        self.assertEqual(given, list(range(1, 31)))
-
-    def test_end_that_a_descriptor_asks_for(self) -> None:
-        """It is closed, or octets come of it; the trunk waits for octets, or its reads wait."""
-        for closes, waits in itertools.product((True, False), repeat=2):
-            with self.subTest(closes=closes, waits=waits):
-                near, far = socket.socketpair()
-                with far:
-                    trunk = self.trunk('--totals', '--end', str(far.fileno()), passed=(far.fileno(),), waits=waits)
-                with near, trunk.client() as client:
-                    client.sendall(command_record(7, Command.BLOCK))
-                    self.assertEqual(support.read_from(client, 6)[4:], bytes([Kind.COMMAND, CommandRefusal.NOT_IDLE]))
-                    self.assertEqual(len(trunk.passes(bytes(5000))), 5000)
-                    near.close() if closes else near.sendall(b'\n')
-                    status, told = trunk.ended()
-                self.assertEqual((status, 'octets 5064\n' in told), (0, True))
 
     def test_a_recording_that_nobody_reads(self) -> None:
         """It ends when the pipe (65,536 octets) is full, and the trunk goes on."""

@@ -1,47 +1,139 @@
-"""A trunk that two machines have: one dies with thirty calls up, or both are active; standbys and feeds are bad."""
+"""A trunk that two machines have: one dies with thirty calls up; a standby dies, or is replaced. Both are on this one,
+which has all of 127.0.0.0/8: the addresses that move, too."""
 from __future__ import annotations
 
-import asyncio
-import contextlib
+import glob
 import json
-import math
 import os
 import re
 import select
 import signal
 import socket
-import ssl
-import struct
 import subprocess
-import time
-import unittest
-from itertools import accumulate
 from typing import Callable
-from unittest import mock
 
 from . import support
+from .hand_clock import HandClock
+from .keepers import CIRCUITS, KeeperCase
 from .logs import LogCopy
-from .machines import ADDRESSES, OTHER_SPEECH, SPEECH, TRUNK, Machine, PairCase
 from .support import SECONDS
-from .test_program_killed import CIRCUITS
-from e1gw.ctl_all import TrunkLine
-from e1gw.metrics import exposition
-from e1gw.service import standby
-from e1gw.service.feed import BACK, CARRIES, MARK, MOST_PIECE, PIECE, TAKES, TICK, FeedServer
-from e1gw.service.standby import IN_TIME, FedLog, TrunkStandby
-from e1gw.session import MULTIFRAME, OCTETS_A_SECOND, packet_of, trunk_record
+from .world import children, trunk_command, words_of
+from e1gw.service.feed import TICK
+from e1gw.session import MULTIFRAME, OCTETS_A_SECOND, packet_of
 from e1gw.testing.ports import free_port
+from e1gw.testing.service import answer_of, ask
 
-STRANGERS = 200             # connections, of fewer descriptors than a unit may have
-RECORD = MULTIFRAME / OCTETS_A_SECOND       # seconds of a record
+ADDRESSES = {'a': '127.0.0.11', 'b': '127.0.0.12'}      # of the machines
+SPEECH, OTHER_SPEECH = '127.0.0.101', '127.0.0.102'     # RTP, wherever the trunk is; of a machine that has another one
 SILENCE = 1.0               # seconds: more than the jitter buffers have room for
 WAITS = 100                 # milliseconds that a takeover takes, besides what its processes have to do
-SIGNAL, SIGNALS = 0x9B, 64   # the octet with the frame alignment signal, and octets from one to the next
-SIZE, MANY = 1248, 16       # octets of a packet of SAToP, which no 50 to 68 multiframes fill; packets: few
 
 
-class DeathTests(PairCase):
-    """A machine that dies ends no call, and the other one sends what one uncut program would have sent."""
+class Machine:
+    """A machine, whose control is `ask`."""
+
+    def __init__(self, case: support.FolderCase, name: str, ports: dict[str, int], *words: str, **around: str) -> None:
+        self.name, self._case, memory = name, case, support.in_memory()
+        case.addCleanup(memory.cleanup)
+        case.addCleanup(self.power_off)
+        self._memory = memory.name
+        self.control, self._told, self._from = case.path(f'{name}.control'), case.path(f'{name}.told'), 0
+        feed, standby = (f'{ADDRESSES[each]}:{ports[each]}' for each in (name, 'ab'.replace(name, '')))
+        words += '--control', self.control, '--folder', memory.name, '--feed', feed, '--standby', standby
+        with open(self._told, 'wb') as told:
+            self.process = subprocess.Popen(trunk_command(*words), stderr=told, stdin=subprocess.DEVNULL,
+                                            env={**os.environ, **around})
+        self.awaits('is to be standby')
+        support.until(lambda: os.path.exists(self.control))
+
+    def log(self, name: str = 'log') -> LogCopy:
+        """The log of its program."""
+        def folder() -> str:
+            (first, *others) = glob.glob(f'{self._memory}/*/{name}') or ['']
+            return '' if others else first
+        copy = LogCopy(self._case, support.until(folder))
+        copy.look()
+        return copy
+
+    def fed_log(self) -> LogCopy:
+        """The log that it is fed."""
+        return self.log('fed-*')
+
+    def told(self) -> str:
+        return support.text_of(self._told)
+
+    def awaits(self, pattern: str) -> re.Match[str]:
+        """What it says next that is so."""
+        found = support.said_by(self.process, self._told, pattern, self._from)
+        self._from = found.end()
+        return found
+
+    def ask(self, command: str) -> str:
+        return ask(self.control, command.encode())
+
+    def asks(self, word: str) -> Callable[[], str]:
+        """Asks it, and goes on; returns what waits for the answer."""
+        line = support.connected(self.control)
+        self._case.addCleanup(line.close)
+        line.sendall(f'{word}\n'.encode())
+        return lambda: answer_of(line)
+
+    def power_off(self, link_down: bool = False) -> None:
+        """Nothing of it goes on. With its link down its connections end for nobody."""
+        if self.process.poll() is None:
+            self.process.send_signal(signal.SIGSTOP)
+            support.until(lambda: support.state_of(self.process.pid) in 'TZ')       # (it starts no other one)
+            for pid in (pids := children(self.process.pid)):
+                os.kill(pid, signal.SIGKILL)
+            support.until(lambda: not any(words_of(pid) for pid in pids))
+            if not link_down:
+                self.process.kill()
+                self.process.wait(SECONDS)
+
+
+class TwoMachinesTests(KeeperCase):
+    """A trunk in lock step with thirty calls, whose peers speak by the trunk's time, and two machines: one that dies
+    ends no call, and the other one sends what one uncut program would have sent."""
+
+    def setUp(self) -> None:
+        super().setUp()
+        self.device.listener.listen(8)
+        self.text = f'host = "{SPEECH}"\n' + self.peers.config().replace(']]\n', ']]\nprefill = 1200\n')
+        self.config, self.speech_to = self.write('trunk.toml', self.text), SPEECH
+        # Where the link of a machine is down its service stands still here, and has its sockets.
+        self.other_config = self.write('other.toml', self.text.replace(SPEECH, OTHER_SPEECH))
+        self.ports = {name: free_port(address) for name, address in ADDRESSES.items()}
+        self.clock = HandClock(self.path('clock'))
+
+    def machine(self, name: str, config: str = '', *more: str) -> Machine:
+        words = '--config', config or self.config, '--program-control', self.path(f'{name}.program'), '--unix'
+        return Machine(self, name, self.ports, *words, self.device.path, *more, **self.clock.around)
+
+    def promoted(self, machine: Machine) -> None:
+        """It carries the trunk from now on."""
+        self.control = f'{machine.name}.program'
+        self.assertEqual(machine.ask('promote'), 'promote: done', machine.told())
+        self.device.accept()
+
+    def calls_with_standby(self, **given: Machine) -> tuple[Machine, Machine]:
+        """Thirty calls at machine a, for which machine b stands by."""
+        a, b = (given.get(name) or self.machine(name) for name in 'ab')
+        self.promoted(a)
+        self.calls()
+        self.fed(b)
+        return a, b
+
+    def fed(self, machine: Machine) -> None:
+        """The trunk goes on until a machine is fed."""
+        while machine.ask('role') != 'standby, fed':
+            self.step(4)
+
+    def up_again(self) -> None:
+        """Within 16 ms of the trunk the other end has alignment again, and no call has ended."""
+        self.step(8)
+        self.assertFalse(self.device.exchange.remote_alarms)
+        self.step(60)
+        self.assertEqual(self.device.exchange.signals, self.up())
 
     def takes_over(self, machine: Machine, since: float, until: float, by: Machine | None = None) -> None:
         """A machine takes over, as it is asked to, or `by` another one that is asked to hand over. Octets came last
@@ -130,31 +222,6 @@ class DeathTests(PairCase):
         log.look()
         self.assertIn(log.records[-20_000:], self.copy.records)
 
-
-class PairTests(PairCase):
-    """What a standby, a stranger or a bad feed may do does nothing to the machine that carries the trunk."""
-
-    def test_two_that_are_active(self) -> None:
-        """Without fencing the second one has no ports; it is demoted, and is fed again."""
-        a, b = self.calls_with_standby()
-        promotes = b.asks('promote')
-        line = self.device.listener.accept()[0]
-        support.until(lambda: b.ask('role') == 'active, not fed, no program', 0.01)
-        self.up_again()
-        self.assertEqual(b.ask('demote'), 'demote: done')
-        line.close()
-        self.fed(b)
-        self.up_again()
-        for machine, role in (a, 1), (b, 0):
-            for words in f'e1gw_role {role}\n', 'e1gw_fed 1\n', f'e1gw_trunk_up {role}\n', 'e1gw_feed_age_seconds ':
-                support.until(lambda: f'\n{words}' in exposition(json.loads(machine.ask('status json'))))
-        self.assertEqual(promotes(), 'promote: refused: the reverse was asked for meanwhile')
-        self.assertEqual((b.ask('quit'), b.process.wait(SECONDS)), ('quit: done', 0))
-        while a.ask('role') != 'active, not fed':
-            self.step(4)
-        support.until(lambda: TrunkLine.of('a', json.loads(a.ask('status json'))).state.endswith('; not fed'))
-        self.up_again()
-
     def test_a_move_to_nobody(self) -> None:
         """A standby that stands still is found before anything is given up; of one that dies when it has taken the
         trunk, and cannot open it, that is taken back."""
@@ -196,264 +263,3 @@ class PairTests(PairCase):
         self.device.exchange.aligned = False
         self.step(68)
         self.assertEqual(self.device.exchange.signals, self.up())
-
-    def test_standby_that_stands_still(self) -> None:
-        """It is dropped, and joins again without a gap. It says which calls it has otherwise, and the others go on."""
-        other = self.write('other.toml', self.text.replace('number = 7\n', 'number = 7\nptime = 30\n'))
-        a, b = self.calls_with_standby(a=self.machine('a', feed_PATIENCE=1000),
-                                       b=self.machine('b', other))
-        b.awaits('another configuration: the calls of circuits 7 will not go on here')
-        self.assertIn('"differs": [7]', b.ask('status json'))
-        self.assertIn('configured otherwise there: circuits 7', b.ask('status'))
-        os.kill(a.process_of('trunk'), signal.SIGKILL)      # (the next program has another log)
-        a.awaits('goes on after')
-        self.step(4)
-        b.awaits(f'program {a.process_of("trunk")} there')
-        b.process.send_signal(signal.SIGSTOP)
-        while ': it is too far behind' not in a.told():
-            self.step(50)
-        b.process.send_signal(signal.SIGCONT)
-        b.awaits(f'program {a.process_of("trunk")} there')
-        a.power_off()
-        self.promoted(b)
-        self.device.exchange.aligned = False        # (b may have been fed a part of what came last)
-        self.step(68)
-        self.assertEqual({**self.device.exchange.signals, 7: 0}, {**self.up(), 7: 0})
-
-    def test_bad_feeds(self) -> None:
-        a, b = self.calls_with_standby()
-        b.power_off()
-        good = b''
-        with socket.create_connection((ADDRESSES['a'], self.ports['a']), SECONDS, (ADDRESSES['b'], 0)) as line:
-            while b'\n' not in good:
-                good += line.recv(4000)
-            begun = good.index(b'\n') + 1 + json.loads(good[:good.index(b'\n')])['state']
-            while len(good) < begun + 20_000:
-                good += line.recv(4000)
-                self.step()
-        a.awaits(f'feed of {ADDRESSES["b"]}: ')
-        a.power_off()
-        with socket.create_server((ADDRESSES['a'], self.ports['a'])) as listener:
-            b = self.machine('b', standby_AGAIN=0.001, standby_MOST_AGAIN=0.001)
-            for octets, words in (
-                    (b'', 'it carries no trunk'),
-                    (good[:begun] + PIECE.pack(math.nan, 0), 'a piece of the feed is too long'),
-                    (good.replace(b'"law": "A"', b'"law": "mu"'), 'its law is mu, and here it is A'),
-                    (good.replace(b'"e1gw_feed": 7', b'"e1gw_feed": 6'), 'a feed of version 6, and this is 7'),
-                    (b'SSH-2.0-OpenSSH_9.2p1\r\n', 'what comes there is no feed'),
-                    (good.replace(b'"program": ', b'"program": 0.5e'), ''), (b'{"e1gw_feed": 7, "law": "A"}\n', ''),
-                    (b'[' * 60_000 + b'\n', ''), (b'x' * 200_000, ''),
-                    (good[:begun] + PIECE.pack(1.0, MOST_PIECE + 1), 'a piece of the feed is too long'),
-                    *((good[:length], '') for length in (
-                        *range(1, 12), *range(12, begun, 9000), *range(begun - 2, len(good), len(good) // 9)))):
-                with listener.accept()[0] as line, contextlib.suppress(ConnectionError):    # (of one who reads no more)
-                    line.sendall(octets)
-                if words:
-                    b.awaits(f'not fed by {ADDRESSES["a"]}:{self.ports["a"]}: {words}')
-            b.awaits('the feed has ended')
-            self.assertEqual(b.ask('role'), 'standby, not fed')
-            self.assertNotIn('the service goes on', b.told())
-
-    def setUp(self) -> None:
-        super().setUp()
-        self.tls = dict[str, list[str]]()
-
-    def words(self, name: str) -> list[str]:
-        """The options of a certificate that is its own authority."""
-        key, own = self.path(f'{name}.key'), self.path(f'{name}.pem')
-        words = f'req -x509 -newkey ec -pkeyopt ec_paramgen_curve:P-256 -nodes -subj /CN=e1gw -keyout {key} -out {own}'
-        subprocess.run(['openssl', *words.split(), '-addext', f'subjectAltName=IP:{ADDRESSES["a"]}'],
-                       check=True, capture_output=True)
-        self.tls[name] = ['--tls', own, key, own]
-        return self.tls[name]
-
-    def test_strangers(self) -> None:
-        """Over TLS, who has not the address and the certificate is given nothing, holds nothing and is not believed."""
-        a, b = self.calls_with_standby(*self.words('ours'))
-        place, descriptors = (ADDRESSES['a'], self.ports['a']), f'/proc/{a.process.pid}/fd'
-        before = len(os.listdir(descriptors))
-        with contextlib.ExitStack() as lines:
-            for _ in range(STRANGERS):
-                line = lines.enter_context(socket.create_connection(place, SECONDS, ('127.0.0.9', 0)))
-            self.assertEqual(line.recv(1), b'')
-            a.awaits('feed: 127.0.0.9 is not --standby, and is fed nothing')
-            support.until(lambda: len(os.listdir(descriptors)) < before + STRANGERS // 10)
-        self.fed(b)
-        b.power_off()
-        b = self.machine('b', '', *self.words('theirs'))
-        b.awaits('not fed by .*certificate verify failed')
-        b.power_off()
-        (_, ours, _, _), (word, *theirs, _) = self.tls['ours'], self.tls['theirs']
-        b = self.machine('b', '', word, *theirs, ours)
-        b.awaits('not fed by .*: it refuses the certificate of this machine')
-        a.awaits('feed of .*certificate verify failed')
-        with socket.create_connection(place, SECONDS, (ADDRESSES['b'], 0)) as line, contextlib.suppress(OSError):
-            self.assertEqual(ssl._create_unverified_context().wrap_socket(line).recv(1), b'')     # (it shows none)
-        self.up_again()
-
-
-class FedLogTests(support.FolderCase):
-    """When octets came at the other machine, by its clock and what comes of them here."""
-
-    def test_closed(self) -> None:
-        """Nothing is open then, and its folder is gone, unless a program has it."""
-        for is_kept in True, False:
-            fed = FedLog(self.folder, 0, 0, 0)
-            fed.begin(b'')
-            self.assertEqual(len(self.held()), 4)
-            fed.close(is_kept)
-            self.assertEqual((self.held(), os.path.exists(fed.folder)), ([], is_kept))
-
-    def test_when_they_came_last(self) -> None:
-        """The last ones wait for the word that all was sent, which may wait here. Ones for less than the time without
-        octets put the trunk behind by 5 ms a move. Behind a gap, whose octets are lost, it is not known so well."""
-        chance, record = support.chance_of(self), trunk_record(bytes(MULTIFRAME))
-        time = mock.Mock()
-        with mock.patch.object(standby, 'time', time):
-            time.monotonic.return_value = 1000.0
-            fed, given, comes = FedLog(self.folder, 0, 0, 0), 0, 0
-            self.addCleanup(fed.close)
-            fed.begin(b'')
-            for word in accumulate([0.012 + 0.008 * chance.random() for _ in range(200)], initial=1000.0):
-                comes = int((word - 1000) / RECORD)
-                fed.take(record * (comes - given))
-                time.monotonic.return_value = word + 0.001 + 0.02 * chance.random()
-                fed.is_all(word - 77)
-                given, last = comes, word
-            time.monotonic.return_value = last + 0.03       # (the program has ended meanwhile)
-            fed.take(record)
-            fed.is_all(last + 0.02 - 77)
-            self.assertAlmostEqual(fed.came, 1000 + (comes + 1) * RECORD, delta=0.004)
-            for fresh in last + 5, last + 5.01:
-                time.monotonic.return_value = fresh + 0.01
-                fed.is_all(fresh - 77)
-                fed.take(record)
-            self.assertAlmostEqual(fed.came, last + 5, delta=0.011)
-
-
-class OldLogTests(support.FolderCase, unittest.IsolatedAsyncioTestCase):
-    async def test_what_is_too_old(self) -> None:
-        """It is not taken, nor is what there is not."""
-        its = TrunkStandby(('127.0.0.1', 1), '', (), mock.Mock(), self.folder, mock.Mock())
-        self.assertEqual(await its.goes_to(self.path('log'), False), (None, 'nothing is known'))
-        for age, words in (3000.0, 'what is known is 3000 s old'), (0.0, ''):
-            with mock.patch.object(standby, 'MOST_AGE', 2000.0):
-                its.fed = fed = FedLog(self.folder, 0, 0, 0)
-                fed.begin(b'state')
-                fed.came = fed.fresh = time.monotonic() - age
-                found, told = await its.goes_to(self.path('log'), False)
-            self.assertEqual((found, told[:len(words)], its.fed), (None if words else fed, words, None))
-        self.assertEqual((os.listdir(self.folder), self.held()), (['log'], []))
-
-
-class HandedTests(support.FolderCase, unittest.IsolatedAsyncioTestCase):
-    """A standby that is to carry the trunk, and whose program does."""
-
-    async def said(self, *words: int) -> tuple[float, list[bool]]:
-        """What it says last, and whether it gives the trunk back, if the other machine has said this and leaves."""
-        handed, reader, writer = list[bool](), asyncio.StreamReader(), mock.Mock()
-        writer.is_closing.return_value = False
-        its = TrunkStandby(('127.0.0.1', 1), '', (), mock.Mock(), self.folder, mock.Mock())
-        its.is_handed, its.carries = handed.append, lambda: True
-        reader.feed_data(b''.join(PIECE.pack(0.0, word) for word in words))
-        reader.feed_eof()
-        await its._says_so(reader, writer)
-        return float(MARK.unpack(writer.write.call_args.args[0])[0]), handed
-
-    async def test_what_the_other_machine_says(self) -> None:
-        """One that stood still would carry it beside the machine that had taken it back. One that dies takes nothing
-        back."""
-        self.assertEqual([await self.said(BACK), await self.said()], [(TAKES, [False]), (CARRIES, [])])
-
-    async def told(self, carried: bool, leaves: bool) -> list[bytes]:
-        """What a machine says to the standby to which it hands the trunk over, if that carries it, or leaves, or is
-        silent."""
-        its, left = FeedServer('', mock.Mock(), mock.Mock(), mock.Mock(), mock.Mock()), asyncio.Future[None]()
-        its._writer, its.is_carried = mock.Mock(), carried
-        if leaves:
-            left.set_result(None)
-        with mock.patch('asyncio.wait', mock.AsyncMock()) as waits:
-            await its._handed(left)
-        self.assertLess(sum(call.kwargs['timeout'] for call in waits.call_args_list), 1.0)
-        return [call.args[0] for call in its._writer.write.call_args_list]
-
-    async def test_what_is_taken_back(self) -> None:
-        """It says so within a second, if the standby does not say that it carries the trunk."""
-        for carried, leaves in (False, False), (False, True), (True, False):
-            with self.subTest(carried=carried, leaves=leaves):
-                self.assertEqual(await self.told(carried, leaves), [] if carried else [PIECE.pack(0.0, BACK)])
-
-
-class SatopNumberTests(PairCase):
-    """Over SAToP, with a socket as the far end: the packets go on at the other machine."""
-
-    def setUp(self) -> None:
-        super().setUp()
-        self.packets, self.waits, self.line = list[bytes](), 0, socket.socket(socket.AF_INET, socket.SOCK_DGRAM)
-        self.addCleanup(self.line.close)
-        self.line.setsockopt(socket.SOL_SOCKET, socket.SO_RCVBUF, 8 << 20)     # (for a program that begins late)
-        self.line.bind(('127.0.0.1', 0))
-        self.near = TRUNK, free_port(TRUNK, socket.SOCK_DGRAM)
-        self.trunk = ['--satop', f'{TRUNK}:{self.near[1]},127.0.0.1:{self.line.getsockname()[1]}', '--satop-size',
-                      str(SIZE), '--satop-jitter', '0']
-
-    def come(self) -> list[bytes]:
-        """Takes the packets that have come, and sends one, unless none has come for MANY: more do not wait there."""
-        self.waits += 1
-        while select.select([self.line], [], [], 0)[0]:
-            self.packets.append(self.line.recv(2048))
-            self.waits = 0
-        if self.waits < MANY or not self.waits % 256:       # (those before may be lost)
-            self.line.sendto(struct.pack('>HH', 0, self.now & 0xffff) + bytes(SIZE), self.near)
-            self.now += 1
-        return self.packets
-
-    def goes(self, holds: Callable[[], object]) -> None:
-        """Packets come and go until something holds."""
-        support.until(lambda: [self.come()] and holds(), 0.001)
-
-    def takes_over(self, machine: Machine, answer: Callable[[], str], *services: int) -> int:
-        """A machine takes over, as was asked when the clock stood. The octet of the trunk behind which it goes on."""
-        count = machine.told().count('promoted: ')
-        self.clock.steps(lambda: [self.come()] and machine.told().count('promoted: ') > count, *services)
-        self.clock.goes_on(*services)
-        octets = int(machine.awaits(r'promoted: .* behind octet (\d+), \d+ of them ones')[1])
-        count = len(self.packets) + MANY
-        self.goes(lambda: len(self.packets) > count)
-        self.assertIn(': done', answer())
-        return octets
-
-    def numbers(self, packets: list[bytes]) -> list[int]:
-        """From that of the first packet of all."""
-        first, *_ = (int.from_bytes(packet[2:4], 'big') for packet in self.packets)
-        return [int.from_bytes(packet[2:4], 'big') - first & 0xffff for packet in packets]
-
-    def are_from(self, octets: int, packets: list[bytes]) -> None:
-        """They are those from this octet of the trunk on, each of them, behind ones, with signals in their places."""
-        self.assertEqual(self.numbers(packets), [octets // SIZE + n for n in range(len(packets))])
-        ones = octets % SIZE
-        self.assertEqual(packets[0][4:4 + ones], b'\xff' * ones)
-        self.assertEqual({*b''.join(packet[4:] for packet in packets)[ones + -octets % SIGNALS::SIGNALS]}, {SIGNAL})
-
-    def test_packets_go_on(self) -> None:
-        configs = {'a': self.config, 'b': self.other_config}
-        a, b = (self.machine(*each, process_LOOK=1e3) for each in configs.items())  # (what is stopped is not killed)
-        pids, promotes = [each.process.pid for each in (a, b)], a.asks('promote')
-        self.goes(lambda: len(self.packets) > MANY and b.ask('role') == 'standby, fed')
-        self.assertEqual(promotes(), 'promote: done')
-        self.clock.stops()                                  # it is moved in order: none is lost
-        octets = self.takes_over(b, a.asks('move'), *pids)
-        first = self.numbers(self.packets).index(octets // SIZE)
-        self.are_from(0, self.packets[:first])
-        self.are_from(octets, self.packets[first:])
-        self.goes(lambda: re.search('(?<!not )fed by', a.told()))       # (until then it knows what it had itself)
-        self.clock.stops()                                  # the machine dies
-        log, fed = b.log(), a.fed_log()
-        os.kill(b.process_of('satop'), signal.SIGSTOP)      # (it sends nothing more)
-        self.clock.steps(lambda: fed.look() == log.look(), *pids)
-        b.power_off(link_down=True)
-        first = len(self.come())
-        self.clock.stops(IN_TIME)
-        self.are_from(self.takes_over(a, a.asks('promote'), *pids[:1]), self.packets[first:])
-        before, after = self.numbers(self.packets[first - 1:first + 1])
-        self.assertIn(after - before, range(int(IN_TIME * OCTETS_A_SECOND) // SIZE, 100))   # (room of a jitter buffer)

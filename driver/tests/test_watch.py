@@ -9,7 +9,8 @@ from types import SimpleNamespace
 from typing import Any
 from unittest import mock
 
-from . import support
+from . import limits, support
+from .test_reports import BEGIN, counts, row
 from e1gw.calls import CallsNote
 from e1gw.clock import ClockFinding
 from e1gw.events import CallsCleared, Event, FlowChanged, Flows, Stalled, WatchEnded
@@ -17,14 +18,15 @@ from e1gw.lines import Role, State
 from e1gw.service import decisions, status, trunk, watch
 from e1gw.service.commands import MOST_HELD, ControlPeer
 from e1gw.service.journal import NOTICE, LineFormatter
+from e1gw.service.missed import MissedReports
 from e1gw.service.pages import MOST_VISITORS, WebServer
-from e1gw.session import Command, command_record
+from e1gw.session import OCTETS_A_SECOND, Command, command_record
 
 
 FACTS: dict[str, Any] = {'since': 0.0, 'fault': '', 'version': '', 'carried': {}, 'pair': {}, 'session': None}
 
 
-class TrunkWatchCase(support.FolderCase, unittest.IsolatedAsyncioTestCase):
+class TrunkWatchCase(support.LoopCase):
     """A trunk without a program; `facts` are what is known of it. `given` has the records for the program, `told` the
     events."""
 
@@ -32,7 +34,8 @@ class TrunkWatchCase(support.FolderCase, unittest.IsolatedAsyncioTestCase):
         config = self.write('trunk.toml', 'law = "A"\n')
         its = mock.Mock(flow=dict, **{
             'places.return_value.tell': config, 'config_path.return_value': config, 'place.return_value': 0,
-            'outage.return_value': None, 'facts.return_value': FACTS | facts})
+            'outage.return_value': None, 'facts.return_value': FACTS | facts, 'starts.return_value': (),
+            'begun.return_value': 0})
         found = watch.TrunkWatch(watch.WatchWants(name='west', calls=self.path('calls')), its)
         self.addCleanup(found._close)
         self.given, self.told = list[bytes](), list[Event]()
@@ -61,6 +64,19 @@ class WatchEdgeTests(TrunkWatchCase):
             self.assertEqual([record[:2] for record in self.given], given)
             self.assertEqual(found._values()['renewed'], len(given))
 
+    async def test_refused_datagrams_restart_their_call(self) -> None:
+        """By what the program tells of them."""
+        found = self.watched()
+        found.drains = mock.Mock()
+        lines = [*BEGIN, row(3, 'answered', '00 11'), 'now']
+        lines += [each for n in range(1, 5) for each in (f'at {30_000 * n}', counts(3, 0, Full=n))]
+        found._lines.begin(0)
+        found._lines.take('\n'.join([*lines, '']).encode())
+        looks = asyncio.create_task(found._look())
+        await self.until(lambda: self.given)
+        looks.cancel()
+        self.assertEqual([record[:2] for record in self.given], [b'K\x03'])
+
     async def test_a_standby_writes_no_calls(self) -> None:
         for role, lines in ('standby', 0), ('active', 1):
             found = self.watched(pair={'role': role})
@@ -76,6 +92,29 @@ class WatchEdgeTests(TrunkWatchCase):
         found.take_up(CallsNote(0, 0.0, {}, (), {}, ('a line', 'another line')))
         found._close()
         self.assertEqual(support.text_of(self.path('calls')), 'a line\nanother line\n')
+
+    async def test_a_log_that_does_not_reach(self) -> None:
+        """For how long nothing is known is told, if how the lines stood before is."""
+        text = '\n'.join([*BEGIN, 'now', 'at 1024', 'end', '']).encode()
+        for is_known in True, False:
+            its = self.watched().status
+            if is_known:
+                its.take_up(CallsNote(OCTETS_A_SECOND, 0.0, {}, (), {}, ()))
+            missed = MissedReports(OCTETS_A_SECOND, False, 3 * OCTETS_A_SECOND, 3 * OCTETS_A_SECOND + 1024, text)
+            with mock.patch.object(its._trunk, 'missed', mock.AsyncMock(return_value=missed)), \
+                    mock.patch.object(status, 'logger') as told:
+                await its._catch_up(missed.last)
+            self.assertEqual([call.args[1] for call in told.warning.call_args_list], [2.0] * is_known)
+            self.assertEqual(its.lines.place, missed.last * is_known)
+
+    async def test_circuits_that_are_configured_otherwise(self) -> None:
+        """Of those a reload has ended the calls."""
+        its = self.watched().status
+        self.write('trunk.toml', 'law = "A"\n[[circuit]]\nnumber = 3\n')
+        with mock.patch.object(its._trunk, 'missed', mock.AsyncMock(return_value=None)):
+            for changed in {3}, set():
+                await its.came(mock.Mock(), 'session', 0)
+                self.assertEqual(its.calls.changed, changed)
 
     def test_who_takes_too_little(self) -> None:
         """He is closed; who is gone is told nothing."""
@@ -138,13 +177,14 @@ class PauseTests(unittest.TestCase):
     now = 1.0
 
     def test_it_grows(self) -> None:
-        """Of what ends soon; what has gone for longer is begun again at once."""
-        clock = SimpleNamespace(monotonic=lambda: self.now)
-        with mock.patch.object(trunk, 'MOST_PAUSE', 2.0), mock.patch.object(trunk, 'time', clock):
+        """Of what ends soon, up to a second: however often a device could not be opened, it is taken soon behind
+        that. What has gone for longer is begun again at once."""
+        clock, most = SimpleNamespace(monotonic=lambda: self.now), limits.USUAL['service.trunk.MOST_PAUSE']
+        with mock.patch.multiple(trunk, MOST_PAUSE=most, time=clock):
             pause = trunk.Pause()
             self.assertEqual(pause.ends(), 0.0)
             pause.begins()
-            self.assertEqual([pause.ends() for _ in range(5)], [0.25, 0.5, 1.0, 2.0, 2.0])
+            self.assertEqual([pause.ends() for _ in range(5)], [0.25, 0.5, 1.0, 1.0, 1.0])
             self.now += trunk.QUICK
             self.assertEqual(pause.ends(), 0.0)
 

@@ -1,16 +1,18 @@
-"""Places that cannot be written to."""
+"""Files of lines: places that cannot be written to, files that are moved away and full ones."""
 from __future__ import annotations
 
 import os
-import re
+import threading
+from unittest import mock
 
 from . import support
-from .test_trunk import FOUR, aligned, call
-from .world import World, config_of
+from e1gw.calls import FIELDS, KEPT, MOST_OCTETS
+from e1gw.service import events
 from e1gw.service.events import EventFile
+from e1gw.writers import write_all
 
 
-class WriterOpeningTests(support.FolderCase):
+class LineFileTests(support.FolderCase):
     def setUp(self) -> None:
         super().setUp()
         self.fifo = self.path('fifo')
@@ -26,6 +28,18 @@ class WriterOpeningTests(support.FolderCase):
             file.close()
         self.assertEqual(self.ended, [])
 
+    def test_what_somebody_has_made_non_blocking(self) -> None:
+        """All is written."""
+        reads, writes = os.pipe()
+        self.addCleanup(os.close, reads)
+        os.set_blocking(writes, False)
+        (thread := threading.Thread(target=write_all, args=(writes, bytes(200_000)), daemon=True)).start()
+        left = 200_000
+        while left:
+            left -= len(os.read(reads, left))
+        thread.join()
+        os.close(writes)
+
     def test_a_place_that_cannot_be_had(self) -> None:
         for path, why in ((f'{self.fifo}/none', 'Not a directory'), ('/dev/full', 'No space left on device')):
             with self.subTest(path):
@@ -36,21 +50,34 @@ class WriterOpeningTests(support.FolderCase):
                 self.assertEqual(self.ended, [f'{why}: {path}'])
                 file.close()
 
-    def test_a_trunk_whose_files_do_not_open(self) -> None:
-        """Each is reported once, and no call ends."""
-        support.program()
-        ended = {'json': f'nobody reads it: {self.fifo}', 'calls': 'No space left', 'session': 'No space left'}
-        with World(config_of(FOUR), '--json', self.fifo, '--calls', '/dev/full', '--session', '/dev/full',
-                   within={'writers.OPENS': 0.1}) as world:
-            aligned(world)
-            call(world, 1)
-            world.ask('clear 1')
-            world.until(lambda: all(world.told()['ended'][what] for what in ended))
-            world.kill('trunk')
-            world.connected()
-            world.until(lambda: world.state(1) == 'idle')
-            call(world, 2)
-            status, said = world.quit()
-            for what, why in ended.items():
-                lines = re.findall(f'{what} ended, the calls go on: .*{why}', said)
-                self.assertEqual((status, len(lines)), (0, 1), said)
+    def test_a_file_that_is_moved_away(self) -> None:
+        """Lines went on into it, or into one that nobody could read any more."""
+        ended: list[str] = []
+        file = EventFile('calls', self.path('calls'), lambda name, why: ended.append(why), 'head')
+        for number in range(3):
+            file.put(f'line {number}')
+            support.until(lambda: os.path.exists(self.path('calls'))
+                          and support.text_of(self.path('calls')).endswith(f'line {number}\n'))
+            if number == 0:
+                os.rename(self.path('calls'), self.path('moved'))
+            elif number == 1:
+                os.unlink(self.path('calls'))
+        file.close()
+        self.assertEqual({os.stat(self.path(name)).st_mode & 0o777 for name in ('moved', 'calls')}, {0o640})
+        moved, calls = (support.text_of(self.path(name)) for name in ('moved', 'calls'))
+        self.assertEqual((moved, calls, ended), ('head\nline 0\n', 'head\nline 2\n', []))
+
+    def test_a_full_file_is_moved_away(self) -> None:
+        self.assertIn(f'A file of {MOST_OCTETS >> 20} MiB is renamed', support.text_of(
+            f'{support.TOP}/dist/man/e1gw-trunk.1'))
+        for kind, head in ('calls', ','.join(FIELDS) + '\n'), ('events', ''):
+            with mock.patch.object(events, 'MOST_OCTETS', len(head) + 25):
+                file = EventFile(kind, self.path(kind), lambda _, why: self.fail(why), head.strip())
+                for number in range(10, 40):
+                    file.put(f'line of {number}')
+                file.close()
+            names = sorted(name for name in os.listdir(self.folder) if name.startswith(kind))
+            self.assertEqual(names, [kind, *(f'{kind}.{n}' for n in range(1, KEPT + 1))])
+            for name, line in ((kind, '39'), (f'{kind}.1', '37'), (f'{kind}.{KEPT}', '21')):
+                text = support.text_of(self.path(name))
+                self.assertEqual((text.startswith(head), line in text), (True, True), name)

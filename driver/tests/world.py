@@ -179,11 +179,6 @@ class World:
 
     # ---- the trunk ----
 
-    def new_listener(self) -> socket.socket:
-        """Another socket, for a service that opens its trunk again."""
-        os.unlink(self.path('card'))
-        return support.listening(self.path('card'))
-
     def take(self, listener: socket.socket) -> None:
         """Takes the service that comes there."""
         self.line = listener.accept()[0]

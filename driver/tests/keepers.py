@@ -1,26 +1,34 @@
-"""A trunk in service: its program is killed, stopped and replaced with calls up.
+"""A trunk in service with thirty calls, whose program or service is killed, stopped or replaced. The next service goes
+on with the program that is there, or its state.
 
 It goes in lock step, in records of one multiframe: the exchange waits for what comes back, or for the service to say
 that another program goes on. What it hears is what one uncut replay of all records gives."""
 from __future__ import annotations
 
 import contextlib
+import glob
+import json
 import os
 import random
 import re
 import signal
 import socket
 import subprocess
+import time
 from typing import Any, Callable
 
 from . import limits, support
+from .manager import Manager
 from .support import SECONDS
 from .test_trunk_served import octets_in
 from .world import trunk_command, words_of
 from e1gw.exchange import ACKNOWLEDGED, ANSWERED, SEIZED
+from e1gw.service.note import NoteFiles, ServiceNote, note_in
+from e1gw.service.sockets import name_of
 from e1gw.session import (FRAME, MULTIFRAME, Codec, Command, Kind, Packet, codec_record, command_record, packet_of,
                           records_in, trunk_record)
 from e1gw.testing.ports import free_ports
+from e1gw.testing.service import ask
 
 NO_EFFECT = codec_record(1, Codec.G726_16, 1)    # no payload type of the codec: it is refused
 CIRCUITS = range(1, 31)
@@ -63,11 +71,11 @@ class RtpPeers:
         self.circuits = {port: circuit for circuit, port in zip(CIRCUITS, free_ports(30))}
         self.packets: dict[int, list[bytes]] = {circuit: [] for circuit in CIRCUITS}
 
-    def config(self, **of_seven: int) -> str:
-        """Odd circuits are incoming, even ones outgoing. Circuit 7 has these keys too."""
+    def config(self) -> str:
+        """Odd circuits are incoming, even ones outgoing."""
         return support.config_text({circuit: {
             'role': 'incoming' if circuit % 2 else 'outgoing', 'local_port': port,
-            'peer_port': self.socket.getsockname()[1], **(of_seven if circuit == 7 else {})}
+            'peer_port': self.socket.getsockname()[1]}
             for port, circuit in self.circuits.items()})
 
     def take(self) -> None:
@@ -285,18 +293,15 @@ class KeeperCase(support.FolderCase):
                 packets[record.circuit].append(record.body)
         return octets, packets
 
-    def as_uncut(self, but: int = 0) -> None:
-        """All that was heard and received is what the uncut session gives, but for what is lost and for a circuit. All
-        other calls are up."""
+    def as_uncut(self) -> None:
+        """All that was heard and received is what the uncut session gives, but for what is lost. All calls are up."""
         octets, packets = self.uncut()
         self.assertEqual(len(octets), len(self.heard))
         for place, (mine, its) in enumerate(zip(self.heard, octets)):
-            if mine is not None:
-                one, other = (support.without(octets, but) if but else octets for octets in (mine, its))
-                self.assertEqual(one, other, f'record {place}')
+            self.assertIn(mine, (its, None), f'record {place}')
         lost = self.heard.count(None)
         self.peers.take()
-        for circuit in sorted({*CIRCUITS} - {but}):
+        for circuit in CIRCUITS:
             due, came = packets[circuit], self.peers.packets[circuit]
             both = {*due} & {*came}
             got = [packet for packet in came if packet in both]
@@ -308,15 +313,8 @@ class KeeperCase(support.FolderCase):
             self.assertLessEqual(len(early), self.unknown, f'circuit {circuit}')
             self.assertLessEqual({*early}, {*numbers}, f'circuit {circuit}')
             self.assertEqual(numbers, list(range(numbers[0], numbers[0] + len(numbers))))
-        self.assertEqual({**self.device.exchange.signals, but: 0}, {**self.up(), but: 0})
+        self.assertEqual(self.device.exchange.signals, self.up())
         self.assertFalse(self.device.exchange.remote_alarms)
-
-    def survives(self) -> None:
-        """All goes on over a death of the program, and the trunk ends in order."""
-        self.dies()
-        self.step(20)
-        self.as_uncut()
-        self.ends()
 
     def ends(self) -> None:
         self.keeper.terminate()
@@ -324,19 +322,83 @@ class KeeperCase(support.FolderCase):
         self.assertFalse(os.path.lexists(self.path('control')))
 
 
-class KeeperLateTests(KeeperCase):
-    def test_a_second_is_lost(self) -> None:
-        """Behind a late takeover each datagram is Full, by the time that no octets came: calls are restarted, once."""
-        self.speech_to = '127.0.0.1'
-        self.starts()
+class RestartedKeeperCase(KeeperCase):
+    """A service that is started again."""
+
+    def setUp(self) -> None:
+        super().setUp()
+        self.manager = Manager(self.path('notify'))
+        self.addCleanup(self.manager.close)
+        self.addCleanup(self._end_all)
+
+    def _end_all(self) -> None:
+        with contextlib.suppress(ProcessLookupError):
+            if self.program:
+                os.kill(self.program, signal.SIGKILL)
+
+    def begins(self, *options: str) -> None:
+        """The first start, with thirty calls."""
+        self.options = options
+        self.again()
+        self.device.accept()
+        self.goes_on()
         self.calls()
-        self.assertEqual(self.peers_heard(), {*CIRCUITS})
-        self.dies()
-        self.now += 500
+        self.settles()
+
+    def again(self) -> None:
+        with open(self.path('told'), 'ab') as told:
+            self.told_from = len(self.told())
+            self.keeper = self.manager.starts([*self.command, *self.options], told.fileno())
+        self.addCleanup(self._end)
+
+    def settles(self) -> None:
+        """Until systemd has the descriptors of the trunk and of thirty sockets, and what is noted is of now."""
+        sockets = {name_of(('127.0.0.1', port)) for port in self.peers.circuits}
+        support.until(lambda: (note := self.noted()) and {*note.trunk.names} | sockets == {*self.manager.files})
+
+    def noted(self) -> ServiceNote | None:
+        """What the service of now has noted, with a program that was up; None before that."""
+        found = None
+        for folder in glob.glob(os.path.join(glob.escape(self.memory), '*')):
+            found = note_in(NoteFiles(folder).read()) or found
+        return found if found and found.pid == self.keeper.pid and found.was_up else None
+
+    def known(self, holds: Callable[[list[dict[str, Any]]], object]) -> dict[str, Any]:
+        """The status at --control its-control, once the service knows the circuits and this holds of them. A program
+        tells at the next octets."""
+        pause = 0.001
+        while True:
+            with contextlib.suppress(OSError, EOFError):
+                status: dict[str, Any] = json.loads(ask(self.path('its-control'), b'status json'))
+                if status['program'] and holds(status['circuits']):
+                    return status
+            self.step()
+            time.sleep(pause := min(2 * pause, 1.0))
+
+    def comes_back(self) -> None:
+        """The service is begun again, and goes on with the program that is there."""
+        self.again()
+        self.awaits('the service was killed[;:] (?=program)')
+        self.goes_on()
+        self.settles()
+
+    def kill_keeper(self) -> None:
+        self.keeper.kill()
+        self.keeper.wait()
+
+    def dies_unkept(self) -> None:
+        """The service is killed where nobody keeps descriptors, and the next one opens the device again."""
+        self.kill_keeper()
         self.step(20)
-        self.assertEqual(self.peers_heard(), set())
-        while self.peers_heard() != {*CIRCUITS}:
-            self.step(10)
-        self.step(300)
-        self.assertEqual(self.peers_heard(300), {*CIRCUITS})
-        self.assertIn('resynchronised, datagrams are refused for their time: circuits ', self.told())
+        self.manager.forget()
+        self.again()
+        line = self.device.line
+        self.device.accept()
+        line.close()
+
+    def leaves_nothing(self) -> None:
+        """The trunk ends, and nothing of it is left."""
+        self.ends()
+        self.assertEqual(os.listdir(self.memory), [])
+        self.manager.take_all()
+        self.assertEqual(self.manager.files, {})
