@@ -9,8 +9,9 @@ import re
 import select
 import signal
 import socket
+import struct
 import subprocess
-from typing import Callable
+from typing import Any, Callable
 
 from . import support
 from .hand_clock import HandClock
@@ -19,14 +20,18 @@ from .logs import LogCopy
 from .support import SECONDS
 from .world import children, trunk_command, words_of
 from e1gw.service.feed import TICK
+from e1gw.service.standby import IN_TIME
 from e1gw.session import MULTIFRAME, OCTETS_A_SECOND, packet_of
 from e1gw.testing.ports import free_port
 from e1gw.testing.service import answer_of, ask
 
 ADDRESSES = {'a': '127.0.0.11', 'b': '127.0.0.12'}      # of the machines
-SPEECH, OTHER_SPEECH = '127.0.0.101', '127.0.0.102'     # RTP, wherever the trunk is; of a machine that has another one
+TRUNK, SPEECH = '127.0.0.100', '127.0.0.101'            # of the trunk, wherever it is: SAToP and RTP
+OTHER_SPEECH = '127.0.0.102'                            # of a machine that has another one
 SILENCE = 1.0               # seconds: more than the jitter buffers have room for
 WAITS = 100                 # milliseconds that a takeover takes, besides what its processes have to do
+SIGNAL, SIGNALS = 0x9B, 64   # the octet with the frame alignment signal, and octets from one to the next
+SIZE, MANY = 1248, 16       # octets of a packet of SAToP, which no 50 to 68 multiframes fill; packets: few
 
 
 class Machine:
@@ -78,6 +83,10 @@ class Machine:
         line.sendall(f'{word}\n'.encode())
         return lambda: answer_of(line)
 
+    def process_of(self, word: str) -> int:
+        """The process of it that has this subcommand, if need be waited for."""
+        return support.until(lambda: next(iter(children(self.process.pid, word)), 0))
+
     def power_off(self, link_down: bool = False) -> None:
         """Nothing of it goes on. With its link down its connections end for nobody."""
         if self.process.poll() is None:
@@ -91,12 +100,14 @@ class Machine:
                 self.process.wait(SECONDS)
 
 
-class TwoMachinesTests(KeeperCase):
-    """A trunk in lock step with thirty calls, whose peers speak by the trunk's time, and two machines: one that dies
-    ends no call, and the other one sends what one uncut program would have sent."""
+class PairCase(KeeperCase):
+    """A trunk in lock step with thirty calls, whose peers speak by the trunk's time, and two machines."""
+
+    copy: LogCopy               # of the log of the one that carries it
 
     def setUp(self) -> None:
         super().setUp()
+        self.trunk = ['--unix', self.device.path]
         self.device.listener.listen(8)
         self.text = f'host = "{SPEECH}"\n' + self.peers.config().replace(']]\n', ']]\nprefill = 1200\n')
         self.config, self.speech_to = self.write('trunk.toml', self.text), SPEECH
@@ -105,9 +116,9 @@ class TwoMachinesTests(KeeperCase):
         self.ports = {name: free_port(address) for name, address in ADDRESSES.items()}
         self.clock = HandClock(self.path('clock'))
 
-    def machine(self, name: str, config: str = '', *more: str) -> Machine:
-        words = '--config', config or self.config, '--program-control', self.path(f'{name}.program'), '--unix'
-        return Machine(self, name, self.ports, *words, self.device.path, *more, **self.clock.around)
+    def machine(self, name: str, config: str = '', *more: str, **within: Any) -> Machine:
+        words = '--config', config or self.config, '--program-control', self.path(f'{name}.program'), *self.trunk
+        return Machine(self, name, self.ports, *words, *more, **self.within(**within), **self.clock.around)
 
     def promoted(self, machine: Machine) -> None:
         """It carries the trunk from now on."""
@@ -186,6 +197,10 @@ class TwoMachinesTests(KeeperCase):
         self.step(4)
         self.clock.steps(lambda: self.copy.look() == log.look(), *pids)
 
+
+class TwoMachinesTests(PairCase):
+    """One that dies ends no call, and the other one sends what one uncut program would have sent."""
+
     def test_a_machine_dies_and_comes_back(self) -> None:
         """What came last has waited for a standby that stood still, and is as old as it is. (It came behind the word
         that was said of octets before it, which are of no time before the clock stood.)"""
@@ -263,3 +278,78 @@ class TwoMachinesTests(KeeperCase):
         self.device.exchange.aligned = False
         self.step(68)
         self.assertEqual(self.device.exchange.signals, self.up())
+
+
+class SatopNumberTests(PairCase):
+    """Over SAToP, with a socket as the far end: the packets go on at the other machine."""
+
+    def setUp(self) -> None:
+        super().setUp()
+        self.packets, self.waits, self.line = list[bytes](), 0, socket.socket(socket.AF_INET, socket.SOCK_DGRAM)
+        self.addCleanup(self.line.close)
+        self.line.setsockopt(socket.SOL_SOCKET, socket.SO_RCVBUF, 8 << 20)     # (for a program that begins late)
+        self.line.bind(('127.0.0.1', 0))
+        self.near = TRUNK, free_port(TRUNK, socket.SOCK_DGRAM)
+        self.trunk = ['--satop', f'{TRUNK}:{self.near[1]},127.0.0.1:{self.line.getsockname()[1]}', '--satop-size',
+                      str(SIZE), '--satop-jitter', '0']
+
+    def come(self) -> list[bytes]:
+        """Takes the packets that have come, and sends one, unless none has come for MANY: more do not wait there."""
+        self.waits += 1
+        while select.select([self.line], [], [], 0)[0]:
+            self.packets.append(self.line.recv(2048))
+            self.waits = 0
+        if self.waits < MANY or not self.waits % 256:       # (those before may be lost)
+            self.line.sendto(struct.pack('>HH', 0, self.now & 0xffff) + bytes(SIZE), self.near)
+            self.now += 1
+        return self.packets
+
+    def goes(self, holds: Callable[[], object]) -> None:
+        """Packets come and go until something holds."""
+        support.until(lambda: [self.come()] and holds(), 0.001)
+
+    def is_taken_over(self, machine: Machine, answer: Callable[[], str], *services: int) -> int:
+        """A machine takes over, as was asked when the clock stood. The octet of the trunk behind which it goes on."""
+        count = machine.told().count('promoted: ')
+        self.clock.steps(lambda: [self.come()] and machine.told().count('promoted: ') > count, *services)
+        self.clock.goes_on(*services)
+        octets = int(machine.awaits(r'promoted: .* behind octet (\d+), \d+ of them ones')[1])
+        count = len(self.packets) + MANY
+        self.goes(lambda: len(self.packets) > count)
+        self.assertIn(': done', answer())
+        return octets
+
+    def numbers(self, packets: list[bytes]) -> list[int]:
+        """From that of the first packet of all."""
+        first, *_ = (int.from_bytes(packet[2:4], 'big') for packet in self.packets)
+        return [int.from_bytes(packet[2:4], 'big') - first & 0xffff for packet in packets]
+
+    def are_from(self, octets: int, packets: list[bytes]) -> None:
+        """They are those from this octet of the trunk on, each of them, behind ones, with signals in their places."""
+        self.assertEqual(self.numbers(packets), [octets // SIZE + n for n in range(len(packets))])
+        ones = octets % SIZE
+        self.assertEqual(packets[0][4:4 + ones], b'\xff' * ones)
+        self.assertEqual({*b''.join(packet[4:] for packet in packets)[ones + -octets % SIGNALS::SIGNALS]}, {SIGNAL})
+
+    def test_packets_go_on(self) -> None:
+        configs = {'a': self.config, 'b': self.other_config}
+        a, b = (self.machine(*each, process_LOOK=1e3) for each in configs.items())  # (what is stopped is not killed)
+        pids, promotes = [each.process.pid for each in (a, b)], a.asks('promote')
+        self.goes(lambda: len(self.packets) > MANY and b.ask('role') == 'standby, fed')
+        self.assertEqual(promotes(), 'promote: done')
+        self.clock.stops()                                  # it is moved in order: none is lost
+        octets = self.is_taken_over(b, a.asks('move'), *pids)
+        first = self.numbers(self.packets).index(octets // SIZE)
+        self.are_from(0, self.packets[:first])
+        self.are_from(octets, self.packets[first:])
+        self.goes(lambda: re.search('(?<!not )fed by', a.told()))       # (until then it knows what it had itself)
+        self.clock.stops()                                  # the machine dies
+        log, fed = b.log(), a.fed_log()
+        os.kill(b.process_of('satop'), signal.SIGSTOP)      # (it sends nothing more)
+        self.clock.steps(lambda: fed.look() == log.look(), *pids)
+        b.power_off(link_down=True)
+        first = len(self.come())
+        self.clock.stops(IN_TIME)
+        self.are_from(self.is_taken_over(a, a.asks('promote'), *pids[:1]), self.packets[first:])
+        before, after = self.numbers(self.packets[first - 1:first + 1])
+        self.assertIn(after - before, range(int(IN_TIME * OCTETS_A_SECOND) // SIZE, 100))   # (room of a jitter buffer)
