@@ -2,6 +2,7 @@
 use Rattle.std.specs.Prelude.{◌≡◌, ◌⊎◌, ⊤, ℕ, Bool, true, false, List, [], ◌∷◌, Option, Some, None}
 use Rattle.std.specs.Prelude.{Result, Ok, Err, is_ok, map}
 pub use Rattle.gw_machine.specs.Calls.{Makes, MakesSuch}
+use Rattle.gw_machine.specs.declared.program_fault.ProgramFault.{ProgramFault}
 
 -- A call on files, and whether the system did it. (A look has no such mark: it changes nothing. The mark of a
 -- write says whether all octets were taken.) Or a line on standard error.
@@ -25,6 +26,7 @@ pub data FileCall : Type 0 where
   Rename : (from to : List ℕ) → (done : Bool) → FileCall
   Remove : (path : List ℕ) → (done : Bool) → FileCall
   TellNew : (circuit : ℕ) → FileCall
+  TellFault : (fault : ProgramFault) → FileCall
 
 -- the system did a call that had this result
 abbrev pub is_done : {T E : Type 0} → Result T E → Bool

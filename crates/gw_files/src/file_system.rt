@@ -13,7 +13,7 @@ use crate::lock_process::{holder, note_process};
 use crate::log_folder::LogLock;
 use crate::recording_file::RecordingFile;
 use crate::room::fill_file;
-use gw_machine::Machine;
+use gw_machine::{ErrorLines, Machine, ProgramFault, StandardError};
 use log_files::{FileStore, StoreFault};
 use std::alloc::Global;
 use std::fs::File;
@@ -33,6 +33,7 @@ pub trait FileSystem {
     ghost use Rattle.gw_files.specs.LogFolder.{SystemShowsLen};
     ghost use Rattle.gw_files.specs.Recording.{SystemLetsWait, SystemNeverWaits};
     ghost use Rattle.gw_files.specs.ReportsFile.{SystemOpensBoth};
+    ghost use Rattle.gw_machine.specs.Lines.{Line, SystemWrites};
     ghost use Rattle.gw_machine.specs.Renewals.{SystemTellsNew};
     ghost use Rattle.gw_machine.specs.Setup.{IsUnreadAt, PathGives};
     ghost use Rattle.gw_files.specs.FileCalls.{FileCall, Makes, has_done, is_done, shown};
@@ -193,6 +194,11 @@ pub trait FileSystem {
     fn tell_new(&mut self, circuit: usize)
         ensures told { SystemTellsNew circuit }
         ensures calls { Makes has_made self.old self.new (FileCall.TellNew circuit ∷ []) };
+
+    /// Reports a fault.
+    fn tell_fault(&mut self, program_fault: &ProgramFault)
+        ensures told { SystemWrites (Line.OfFault program_fault.now ∷ []) }
+        ensures calls { Makes has_made self.old self.new (FileCall.TellFault program_fault.now ∷ []) };
 }
 
 /// The files of this machine.
@@ -319,5 +325,9 @@ impl<R: Machine> FileSystem for LocalFiles<'_, R> {
 
     fn tell_new(&mut self, circuit: usize) {
         tell_new(self.rt, circuit);
+    }
+
+    fn tell_fault(&mut self, program_fault: &ProgramFault) {
+        StandardError::new(self.rt).write_line(program_fault);
     }
 }

@@ -1,40 +1,87 @@
 -- What a system was asked, by the calls that were made for it.
-use Rattle.std.proofs.Common.{◌≡◌, ◌∷◌, [], ℕ, Bool, false, List, Option, Some, None, is_some, refl}
+use Rattle.std.proofs.Common.{◌≡◌, ◌∷◌, [], ℕ, Bool, false, List, Option, Some, None, is_some, refl, append-nil}
 use Rattle.gw_files.specs.declared.recording.Recording.{Recording}
 use Rattle.gw_machine.specs.CommandLine.{CommandLine, config_path_in, load_in, log_in, save_in}
-use Rattle.gw_machine.specs.Calls.{Makes, MakesSuch, followed_by}
+use Rattle.gw_machine.specs.Calls.{Makes, MakesSuch}
 use Rattle.gw_machine.specs.SystemCalls.{SystemCall}
 use Rattle.gw_files.specs.FileCalls.{FileCall, Tries}
 use Rattle.gw_files.specs.FolderCalls.{begins_log}
-use Rattle.gw_system.specs.LocalCalls.{AreMadeFor, CallsFiles, CallsFor, CallsIn, HasAsked, IsRecordingIn}
-use Rattle.gw_system.specs.LocalCalls.{TapeBy}
+use Rattle.gw_trunk.specs.Door.{DoorCall, HasMadeSuch}
+use Rattle.gw_system.specs.declared.used.Used.{Used}
+use Rattle.gw_config.specs.declared.config.Config.{Config}
+use Rattle.gw_udp.specs.Sockets.{SocketsCall}
+use Rattle.gw_udp.specs.declared.inherited.Descriptors.{Descriptors}
+use Rattle.gw_udp.specs.declared.source_filter.SourceFilter.{SourceFilter}
+use Rattle.gw_system.specs.LocalCalls.{AreMadeFor, CallsAsked, CallsFor, CallsIn, HasAsked, HasUsed}
+use Rattle.gw_system.specs.LocalCalls.{IsRecordingIn, HasMadeNone, Makers, MakesCalls, SocketsFor, TapeBy}
 
 -- such calls were made for something
-pub asked_by : {F : Type 0} {has_made : F → List FileCall → Type 0} {For : SystemCall → List FileCall → Type 0}
-    {old new : F} (call : SystemCall) → MakesSuch has_made old new (For call)
-    → Makes (HasAsked has_made For) old new (call ∷ [])
-asked_by call such asked a = record {
-  calls = followed_by a.calls such.calls;
-  made = such.made a.calls a.made;
-  are = (a.calls, such.calls, a.are, such.are, refl);
+made_for : {F C : Type 0} {joined : List C → List C → List C} {has_made : F → List C → Type 0}
+    {For : SystemCall → List C → Type 0} {old new : F} (call : SystemCall) (calls : List C) → For call calls
+    → ((before : List C) → has_made old before → has_made new (joined before calls))
+    → (asked : List SystemCall) → HasAsked joined has_made For old asked
+    → HasAsked joined has_made For new (call ∷ asked)
+made_for call calls are made asked a = record {
+  calls = _;
+  made = made a.calls a.made;
+  are = (a.calls, calls, a.are, are, refl);
+}
+
+-- .. on files, at doors and of sockets
+pub asked_by : {F D N : Type 0} {made : Makers F D N} {For : CallsAsked} {old new : Used F D N} (call : SystemCall)
+    → MakesSuch made.on_files old.files new.files (For.on_files call)
+    → HasMadeSuch made.at_doors old.doors new.doors (For.at_doors call)
+    → MakesSuch made.of_sockets old.sockets new.sockets (For.of_sockets call)
+    → Makes (HasUsed made For) old new (call ∷ [])
+asked_by call files doors sockets asked u = record {
+  on_files = made_for call files.calls files.are files.made asked u.on_files;
+  at_doors = made_for call doors.calls doors.are doors.made asked u.at_doors;
+  of_sockets = made_for call sockets.calls sockets.are sockets.made asked u.of_sockets;
+}
+
+-- nothing was done at doors
+pub no_door : {D : Type 0} {was_at : D → List DoorCall → Type 0} {door : D} {Are : List DoorCall → Type 0}
+    → Are [] → HasMadeSuch was_at door door Are
+no_door are = record { calls = []; are = are; made = λ before made. rw (append-nil before) made }
+
+-- a system that makes no call was asked for nothing
+pub none_asked : {F D N : Type 0} {made : Makers F D N} {For : CallsAsked} (used : Used F D N)
+    → HasMadeNone made used → HasUsed made For used []
+none_asked used none = record {
+  on_files = record { calls = []; made = none.on_files; are = refl };
+  at_doors = record { calls = []; made = none.at_doors; are = refl };
+  of_sockets = record { calls = []; made = none.of_sockets; are = refl };
 }
 
 -- calls that were made for what was asked were made for what is more
-made_for : {For For' : SystemCall → List FileCall → Type 0}
-    → ((call : SystemCall) (calls : List FileCall) → For call calls → For' call calls)
-    → (asked : List SystemCall) (calls : List FileCall) → AreMadeFor For asked calls → AreMadeFor For' asked calls
-made_for is [] calls none = none
-made_for is (call ∷ asked) calls (earlier, made, before, its, all) =
-    (earlier, made, made_for is asked earlier before, is call made its, all)
+more_for : {C : Type 0} (joined : List C → List C → List C) {For For' : SystemCall → List C → Type 0}
+    → ((call : SystemCall) (calls : List C) → For call calls → For' call calls)
+    → (asked : List SystemCall) (calls : List C) → AreMadeFor joined For asked calls
+    → AreMadeFor joined For' asked calls
+more_for joined is [] calls none = none
+more_for joined is (call ∷ asked) calls (earlier, made, before, its, all) =
+    (earlier, made, more_for joined is asked earlier before, is call made its, all)
+
+-- .. by who makes them
+asked_for : {F C : Type 0} {joined : List C → List C → List C} {has_made : F → List C → Type 0}
+    {For For' : SystemCall → List C → Type 0} {maker : F}
+    → ((call : SystemCall) (calls : List C) → For call calls → For' call calls)
+    → (asked : List SystemCall) → HasAsked joined has_made For maker asked → HasAsked joined has_made For' maker asked
+asked_for is asked a = record { calls = a.calls; made = a.made; are = more_for _ is asked a.calls a.are }
 
 -- .. so a system that makes them makes those
-pub calls_files : {F : Type 0} {has_made : F → List FileCall → Type 0}
-    {For For' : SystemCall → List FileCall → Type 0}
-    → ((call : SystemCall) (calls : List FileCall) → For call calls → For' call calls)
-    → CallsFiles has_made For' (HasAsked has_made For)
-calls_files is = record {
-  first = λ files none. record { calls = []; made = none; are = refl };
-  all = λ files asked a. record { calls = a.calls; made = a.made; are = made_for is asked a.calls a.are };
+pub makes_calls : {F D N : Type 0} {made : Makers F D N} {For For' : CallsAsked}
+    → ((call : SystemCall) (calls : List FileCall) → For.on_files call calls → For'.on_files call calls)
+    → ((call : SystemCall) (calls : List DoorCall) → For.at_doors call calls → For'.at_doors call calls)
+    → ((call : SystemCall) (calls : List SocketsCall) → For.of_sockets call calls → For'.of_sockets call calls)
+    → MakesCalls made For' (HasUsed made For)
+makes_calls on at of = record {
+  first = λ used none. none_asked used none;
+  all = λ used asked u. record {
+    on_files = asked_for on asked u.on_files;
+    at_doors = asked_for at asked u.at_doors;
+    of_sockets = asked_for of asked u.of_sockets;
+  };
 }
 
 -- what is done for a system whose paths and recording are those of the command is what the command has done
@@ -46,14 +93,17 @@ pub done_in : (command : CommandLine) (waits : Bool) (path : List ℕ) (log load
 done_in command waits path log load save recording named logs loads saves is call calls its =
     (path, named, recording, is, rw (← logs, ← loads, ← saves) its)
 
--- a system that makes no call on files was asked for nothing
-pub none_asked : {F : Type 0} {has_made : F → List FileCall → Type 0} {For : SystemCall → List FileCall → Type 0}
-    (files : F) → has_made files [] → HasAsked has_made For files []
-none_asked files none = record { calls = []; made = none; are = refl }
-
 -- what is recorded on a log does with files what begins the log
 pub on_log : (log : Option (List ℕ)) (recording : Option Recording) (folder : List ℕ) (done : Bool)
     (calls : List FileCall) → log ≡ Some folder → is_some recording ≡ false → Tries (begins_log folder) done calls
     → TapeBy log recording done calls
 on_log log None folder done calls named none tries = rw named tries
 on_log log (Some asked) folder done calls named none tries = absurd cc
+
+-- the sockets of a configuration were opened
+pub opened : {N : Type 0} {has_opened : N → List SocketsCall → Type 0} {old new : N} {config : Config}
+    {senders : SourceFilter} {among : Descriptors} (asked done : Bool)
+    → ((before : List SocketsCall) → has_opened old before
+    → has_opened new (SocketsCall.Open config senders among done ∷ before))
+    → MakesSuch has_opened old new (SocketsFor senders among (SystemCall.OpenPorts config asked))
+opened asked done made = record { calls = _; are = (_, refl); made = made }

@@ -1,11 +1,11 @@
-//! What a session or a trunk takes from this machine: files, sockets, and what the command line says of them.
+//! What a session or a trunk takes from this machine, files, doors and sockets, as the command line says.
 #![tactic(auto)]
 
 mod asked;
-mod fileless;
 mod local;
 mod systems;
+mod used;
 
-pub use fileless::Fileless;
 pub use local::{Local, local_of};
 pub use systems::{LocalSystems, Systems};
+pub use used::{Edge, Used};

@@ -8,9 +8,10 @@ ghost use Rattle.gw_system.specs.Asked.{AreSenders, AreSockets, IsRepeat};
 ghost use Rattle.gw_system.specs.Lacking.{SystemRefusesTeller};
 ghost use Rattle.gw_system.specs.Opening.{trouble_of_opening};
 ghost use Rattle.gw_system.specs.Telling.{TellsFrom};
+ghost use Rattle.gw_trunk.specs.Door.{HasMadeSuch, TriesDoor};
 
 use crate::asked::{recording_asked, repeat_asked, senders_asked, sockets_asked};
-use crate::fileless::Fileless;
+use crate::used::Used;
 use clap::ArgMatches;
 use gw_command::{load_of, log_of, save_of, seizure_wait_of, tell_of};
 use gw_config::Config;
@@ -19,14 +20,14 @@ use gw_files::{
     keep_gateway, lock_log, read_config,
 };
 use gw_log::TrunkLog;
-use gw_machine::{ErrorLines, Machine, ProgramFault, StandardError, System};
+use gw_machine::{ProgramFault, System};
 use gw_repeat::{Repeating, packet_words};
 use gw_session::Recorder;
 use gw_switch::Gateway;
 use gw_tell::Teller;
-use gw_trunk::LocalDoors;
+use gw_trunk::Doors;
 use gw_udp::{
-    Descriptors, OpenFault, Resting, Socket, SourceFilter, SystemSocket, UdpPorts, open_sockets,
+    Descriptors, OpenFault, Resting, Socket, Sockets, SourceFilter, SystemSocket, UdpPorts,
 };
 use log_files::FileStore;
 use std::alloc::Global;
@@ -47,25 +48,26 @@ fn of_opening(fault: OpenFault) -> ProgramFault
 
 // Opens the socket of `--tell` at a path. The error is the system's, or that memory was refused.
 #[tactic(auto, unfolding(crate::specs::Lacking::SystemRefusesTeller))]
-pub(crate) fn open_teller(
-    rt: &impl Machine,
+fn open_teller<D: Doors>(
+    alloc: Global,
+    doors: &mut D,
     path: &str,
     config: &Config,
     gateway: &Gateway,
 ) -> io::Result<Teller>
     ensures ok { IfOk result (TellsFrom path.now config.now gateway.now) }
     ensures err { IfErr result (SystemRefusesTeller path.now) }
+    ensures calls { HasMadeSuch D.has_made doors.old doors.new (TriesDoor path.now) }
 {
-    let law = config.gateway.law;
-    Teller::open(rt.alloc(), &mut LocalDoors::new(rt), path, law, gateway)
+    Teller::open(alloc, doors, path, config.gateway.law, gateway)
 }
 
 /// What a session or a trunk takes from this system, by the matches of the command line.
 #[derive(Drop)]
-pub struct Local<'m, R, F> {
+pub struct Local<'m, R, F, D, N> {
     rt: &'m R,
-    // The files that it uses.
-    files: PhantomData<F>,
+    // What it uses.
+    used: PhantomData<Used<F, D, N>>,
     // The path of the configuration.
     path: &'m str,
     // Who may send to the circuits.
@@ -88,8 +90,9 @@ pub struct Local<'m, R, F> {
     tell: Option<&'m str>,
 }
 
-impl<R: Fileless, F: FileSystem + Drop> System for Local<'_, R, F> {
-    ghost use Rattle.gw_system.specs.LocalCalls.{CallsFor, HasAsked};
+impl<R: AllocGlobal, F: FileSystem + Drop, D: Doors + Drop, N: Sockets + Drop> System
+    for Local<'_, R, F, D, N> {
+    ghost use Rattle.gw_system.specs.LocalCalls.{HasUsed, calls_for, made_by};
     ghost use Rattle.gw_system.specs.Asked.{waits_for};
     ghost use Rattle.std.specs.Prelude.{IsSomeAnd, MatchOption, None, string_bytes, [], ◌∷◌};
     ghost use Rattle.gw_machine.specs.System.{IsBegun};
@@ -111,7 +114,7 @@ impl<R: Fileless, F: FileSystem + Drop> System for Local<'_, R, F> {
     ghost use Rattle.gw_udp.specs.Calls.{IsFresh};
     ghost use Rattle.gw_repeat.specs.Words.{HasPacketWords};
 
-    type Files = F;
+    type Files = Used<F, D, N>;
 
     type Lock = Option<LogLock>;
 
@@ -121,8 +124,10 @@ impl<R: Fileless, F: FileSystem + Drop> System for Local<'_, R, F> {
 
     type Watch = Option<Teller>;
 
-    ghost has_asked = { λ s. HasAsked F.has_made (CallsFor s.path.now (option_map (λ path. path.now) s.log)
-        (option_map (λ path. path.now) s.load) (option_map (λ path. path.now) s.save) s.recording) };
+    ghost has_asked = { λ s. HasUsed (made_by F.has_made D.has_made N.has_opened)
+        (calls_for s.path.now (option_map (λ path. path.now) s.log) (option_map (λ path. path.now) s.load)
+        (option_map (λ path. path.now) s.save) s.recording (option_map (λ path. path.now) s.tell) s.senders
+        s.among) };
 
     ghost waits = { λ s. waits_for s.recording };
 
@@ -180,51 +185,60 @@ impl<R: Fileless, F: FileSystem + Drop> System for Local<'_, R, F> {
         self.rt.alloc()
     }
 
-    fn lock_log(&self, files: &mut F) -> Result<Option<LogLock>, ProgramFault> {
+    fn lock_log(&self, used: &mut Used<F, D, N>) -> Result<Option<LogLock>, ProgramFault> {
         match self.log {
-            Some(folder) => Ok(Some(lock_log(files, folder)?)),
+            Some(folder) => Ok(Some(lock_log(&mut used.files, folder)?)),
             None => Ok(None),
         }
     }
 
-    fn read_config(&self, files: &mut F) -> Result<Config, ProgramFault> {
-        read_config(files, self.path)
+    fn read_config(&self, used: &mut Used<F, D, N>) -> Result<Config, ProgramFault> {
+        read_config(&mut used.files, self.path)
     }
 
-    fn begin_gateway(&self, files: &mut F, config: &Config) -> Result<Gateway, ProgramFault> {
+    fn begin_gateway(
+        &self,
+        used: &mut Used<F, D, N>,
+        config: &Config,
+    ) -> Result<Gateway, ProgramFault> {
+        let files = &mut used.files;
         begin_gateway(files, &config.gateway, self.log, self.load, self.wait)
     }
 
     fn save_gateway(
         &self,
-        files: &mut F,
+        used: &mut Used<F, D, N>,
         config: &Config,
         gateway: &Gateway,
     ) -> Result<(), ProgramFault> {
-        keep_gateway(files, &config.gateway, gateway, self.save)
+        keep_gateway(&mut used.files, &config.gateway, gateway, self.save)
     }
 
     fn begin_tape(
         &self,
-        files: &mut F,
+        used: &mut Used<F, D, N>,
         config: &Config,
         gateway: &Gateway,
     ) -> Result<Self::Tape, ProgramFault> {
         let Some(folder) = self.log else {
-            return Ok(OneOf::First(begin(files, self.recording)?));
+            return Ok(OneOf::First(begin(&mut used.files, self.recording)?));
         };
         if self.recording.is_some() {
             return Err(ProgramFault::TwoRecordings);
         }
-        match begin_log(files, folder, &config.gateway, gateway) {
+        match begin_log(&mut used.files, folder, &config.gateway, gateway) {
             Ok(log) => Ok(OneOf::Second(log)),
             Err(fault) => Err(fault),
         }
     }
 
-    fn open_ports(&self, files: &mut F, config: &Config) -> Result<Self::Ports, ProgramFault> {
+    fn open_ports(
+        &self,
+        used: &mut Used<F, D, N>,
+        config: &Config,
+    ) -> Result<Self::Ports, ProgramFault> {
         let alloc = self.rt.alloc();
-        let ports = match open_sockets(self.rt, alloc, config, self.senders, self.among) {
+        let ports = match used.sockets.open(alloc, config, self.senders, self.among) {
             Ok(ports) => ports,
             Err(fault) => return Err(of_opening(fault)),
         };
@@ -237,38 +251,39 @@ impl<R: Fileless, F: FileSystem + Drop> System for Local<'_, R, F> {
 
     fn open_watch(
         &self,
-        files: &mut F,
+        used: &mut Used<F, D, N>,
         config: &Config,
         gateway: &Gateway,
     ) -> Result<Option<Teller>, ProgramFault> {
         let Some(path) = self.tell else {
             return Ok(None);
         };
-        match self.rt.teller_at(path, config, gateway) {
+        let alloc = self.rt.alloc();
+        match open_teller(alloc, &mut used.doors, path, config, gateway) {
             Ok(teller) => Ok(Some(teller)),
             Err(error) => Err(ProgramFault::of(&error, ProgramFault::Tell)),
         }
     }
 
-    fn end_watch(&self, files: &mut F, watch: &mut Option<Teller>) {
+    fn end_watch(&self, used: &mut Used<F, D, N>, watch: &mut Option<Teller>) {
         if let Some(teller) = watch {
             teller.end();
         }
     }
 
-    fn tell(&self, files: &mut F, program_fault: &ProgramFault) {
-        StandardError::new(self.rt).write_line(program_fault);
+    fn tell(&self, used: &mut Used<F, D, N>, program_fault: &ProgramFault) {
+        used.files.tell_fault(program_fault);
     }
 }
 
 /// What the matches say of the session or the trunk that they ask for, with its configuration at the path.
 /// `waits` says whether its recording is waited for: that of a trunk never is.
-pub fn local_of<'m, R: Fileless, F>(
+pub fn local_of<'m, R, F, D, N>(
     rt: &'m R,
     matches: &'m ArgMatches<'_>,
     path: &'m str,
     waits: bool,
-) -> Local<'m, R, F>
+) -> Local<'m, R, F, D, N>
     ensures path { result.path.now ≡ path.now }
     ensures senders { AreSenders (subcommand_rows_of matches.now) result.senders }
     ensures among { AreSockets (subcommand_rows_of matches.now) result.among }
@@ -287,7 +302,7 @@ pub fn local_of<'m, R: Fileless, F>(
 {
     Local {
         rt,
-        files: PhantomData,
+        used: PhantomData,
         path,
         senders: senders_asked(matches),
         among: sockets_asked(matches),

@@ -2,8 +2,9 @@
 
 ghost use Rattle.std.specs.Prelude.{◌≡◌, ◌∷◌, [], true, List, Option, is_ok, IfOk, IfErr, IfSome, IfNone};
 ghost use Rattle.gw_trunk.specs.System.{SystemAccepted, SystemHasNobody, SystemListens, SystemRefusesDoor};
+ghost use Rattle.gw_trunk.specs.System.{SystemWasCalled};
 ghost use Rattle.gw_trunk.specs.Door.{ClearsBy, HasMadeSuch, HasSocket, ListensBy, LooksBy, OpensBy};
-ghost use Rattle.gw_trunk.specs.Door.{is_refused};
+ghost use Rattle.gw_trunk.specs.Door.{DoorCall, is_refused};
 
 use mio::net::{UnixListener, UnixStream};
 use std::fs::{self, Permissions};
@@ -90,8 +91,11 @@ pub struct LocalDoors<'r, R> {
 }
 
 impl<'r, R> LocalDoors<'r, R> {
-    /// The doors of a machine.
-    pub fn new(rt: &'r R) -> LocalDoors<'r, R> {
+    /// The doors of a machine, at which nothing was done since.
+    #[tactic(auto, unfolding(crate::specs::System::SystemWasCalled))]
+    pub fn new(rt: &'r R) -> LocalDoors<'r, R>
+        ensures { SystemWasCalled {C = DoorCall} result [] }
+    {
         LocalDoors { rt }
     }
 }

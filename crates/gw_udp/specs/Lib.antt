@@ -11,3 +11,4 @@ pub mod System
 pub mod Resting
 pub mod Ready
 pub mod Given
+pub mod Sockets

@@ -19,7 +19,7 @@ pub use inherited::Descriptors;
 pub use names::NameLookup;
 pub use resting::Resting;
 pub use socket::Socket;
-pub use sockets::open_sockets;
+pub use sockets::{LocalSockets, Sockets};
 pub use source_filter::SourceFilter;
 pub use system_socket::SystemSocket;
 pub use udp::{OpenFault, UdpPorts};

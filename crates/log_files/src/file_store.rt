@@ -6,6 +6,7 @@ ghost use Rattle.log_files.specs.Stores.{TellsFault, WhereKnown, WritesAt, Write
 
 use crate::store::{Store, StoreFault};
 use std::fs::File;
+use std::io;
 use std::os::unix::fs::FileExt;
 
 /// A file that is written over. What it holds is not known to proofs.
@@ -16,16 +17,13 @@ pub struct FileStore {
     failed: bool,
 }
 
-// Writes octets to a file, all of them, from an octet on.
+// Writes octets to a file, all of them, from an octet on. The error is the system's.
 #[tactic(auto, unfolding(crate::specs::Files::SystemPutsAt, crate::specs::Files::SystemFailsToPutAt))]
-fn put_at(file: &File, at: u64, octets: &[u8]) -> Result<(), StoreFault>
+fn put_at(file: &File, at: u64, octets: &[u8]) -> io::Result<()>
     ensures ok { OnOk result (SystemPutsAt file.now at octets.now) }
     ensures err { OnErr result (SystemFailsToPutAt file.now at octets.now) }
 {
-    match file.write_all_at(octets, at) {
-        Ok(()) => Ok(()),
-        Err(_) => Err(StoreFault),
-    }
+    file.write_all_at(octets, at)
 }
 
 impl FileStore {
@@ -47,11 +45,13 @@ impl FileStore {
         ensures fault { TellsFault self.old.failed self.new.failed result }
         ensures same { self.new ≡ record self.old { failed = self.new.failed } }
     {
-        let put = put_at(&self.file, at, octets);
-        if put.is_err() {
-            self.failed = true;
+        match put_at(&self.file, at, octets) {
+            Ok(()) => Ok(()),
+            Err(_) => {
+                self.failed = true;
+                Err(StoreFault)
+            }
         }
-        put
     }
 }
 

@@ -1,5 +1,5 @@
 -- A trunk over SAToP, as the command line asks for it (module `carrying`).
-use Rattle.std.specs.Prelude.{◌≡◌, ◌⊎◌, ◌*◌, ◌/◌, ⊤, ℕ, Bool, true, List, [], ◌∷◌, ◌++◌, Some, None}
+use Rattle.std.specs.Prelude.{◌≡◌, ◌≢◌, ◌⊎◌, ◌*◌, ◌/◌, ⊤, ℕ, Bool, true, List, [], ◌∷◌, ◌++◌, Some, None}
 use Rattle.std.specs.Prelude.{is_some, pos}
 use Rattle.std.specs.declared.net.socket_addr.SocketAddr.{SocketAddr}
 use Rattle.mio.specs.declared.interest.TheConstants.Interest.{READABLE, WRITABLE}
@@ -29,10 +29,10 @@ use Rattle.gw_machine.specs.Status.{SaysRefused}
 use Rattle.gw_machine.specs.declared.program_fault.ProgramFault.{ProgramFault}
 use Rattle.gw_machine.specs.declared.program_fault.ProgramFault.TheVariants as program_faults
 
--- a read of the trunk failed, and all that was played had gone; or a write failed
+-- a read of the trunk failed, and all that was played had gone; or a write failed, and something had not
 abbrev pub IsDeviceFault : List ℕ → ProgramFault → Type 0
 IsDeviceFault left (program_faults.Session faults.Read) = left ≡ []
-IsDeviceFault left (program_faults.Session faults.Write) = ⊤
+IsDeviceFault left (program_faults.Session faults.Write) = left ≢ []
 IsDeviceFault left _ = ⊥
 
 -- A circuit after all that happened to it: both halves, the pace and the counts; the datagrams that came and

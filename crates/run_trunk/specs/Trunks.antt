@@ -22,8 +22,8 @@ use Rattle.gw_trunk.specs.System.{SystemRefusesDoor, SystemRefusesStream, System
 use Rattle.gw_trunk.specs.Waiting.{WaitsFor}
 use Rattle.run_trunk.specs.Filters.{Comes, EndIsTold, Goes, IsPlaceOf, LiveIsTold}
 use Rattle.run_trunk.specs.Serving.{Carried, Traffic}
-use Rattle.gw_machine.specs.System.{EndedSaved, LacksTapeOrPorts, NotBegun, Serves, SystemFiles}
-use Rattle.gw_machine.specs.CommandLine.{ByGateway, CommandLine, OnNewStreams, save_in}
+use Rattle.gw_machine.specs.System.{EndedSaved, LacksSession, LacksTapeOrPorts, NotBegun, Serves, SystemFiles}
+use Rattle.gw_machine.specs.CommandLine.{ByGateway, CommandLine, OnNewStreams, files_in, save_in}
 use Rattle.gw_machine.specs.State.{IsSaved}
 use Rattle.gw_machine.specs.SystemCalls.{AsksThen, EndsSo, SystemCall}
 use Rattle.gw_machine.specs.Lines.{SystemWrites}
@@ -44,6 +44,13 @@ abbrev pub LacksServing : (ProgramFault → Type 0) → (ProgramFault → Type 0
     → ProgramFault → Type 0
 LacksServing lacks_tape lacks_ports lacks_watch fault =
     LacksTapeOrPorts lacks_tape lacks_ports fault ⊎ lacks_watch fault
+
+-- why the session of a trunk that the command names is not begun: it has no configuration or no gateway, or
+-- there is no tape, ports or watch
+abbrev pub LacksToServe : CommandLine → (ProgramFault → Type 0) → (Config → ProgramFault → Type 0)
+    → (ProgramFault → Type 0) → ProgramFault → Type 0
+LacksToServe command lacks_tape lacks_ports lacks_watch = LacksSession (files_in command)
+    (λ config. LacksServing lacks_tape (lacks_ports config) lacks_watch)
 
 -- A trunk asks its system for its tape, its ports and its watch, and then for the end of this and its own. If
 -- there is one of these not, nothing more.

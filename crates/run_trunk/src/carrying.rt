@@ -3,15 +3,14 @@
 ghost use Rattle.std.specs.Prelude.{◌≡◌, ◌⊎◌, ◌%◌, [], IfOk, IfErr, None, OnOk, codes, false, is_some, pos};
 ghost use Rattle.clap.specs.Words.{subcommand_rows_of};
 ghost use Rattle.gw_command.specs.Command.{HasFlag, text_in};
-ghost use Rattle.gw_machine.specs.System.{LacksSession};
 ghost use Rattle.gw_machine.specs.SystemCalls.{AsksThen};
-ghost use Rattle.gw_machine.specs.CommandLine.{TakesAsked, files_in};
+ghost use Rattle.gw_machine.specs.CommandLine.{TakesAsked};
 ghost use Rattle.gw_trunk.specs.Door.{HasMadeSuch, OpensAt, TriesDoor};
 ghost use Rattle.gw_machine.specs.Calls.{Makes, MakesSuch};
 ghost use Rattle.run_trunk.specs.Filters.{AreAsked, EndIsTold, LiveIsTold, totals_told};
 ghost use Rattle.run_trunk.specs.Trunks.{IsEndedBy, IsInputOf, IsOutput, IsReported, LacksControl};
-ghost use Rattle.run_trunk.specs.Trunks.{LacksServing, LacksStream, ServesBy, ServesTrunk, ServingAsks};
-ghost use Rattle.run_trunk.specs.Trunks.{CarryingAsks, TrunkAsks, told_behind};
+ghost use Rattle.run_trunk.specs.Trunks.{LacksServing, LacksStream, LacksToServe, ServesBy, ServesTrunk};
+ghost use Rattle.run_trunk.specs.Trunks.{CarryingAsks, ServingAsks, TrunkAsks, told_behind};
 
 use crate::fileless::Fileless;
 use crate::filters::{
@@ -268,9 +267,8 @@ fn carry<
     requires told { A.went ends.answers ≡ [] }
     requires filters { AreAsked (subcommand_rows_of matches.now) ends.filters }
     ensures serves { ServesTrunk (subcommand_rows_of matches.now)
-        (LacksSession (files_in (subcommand_rows_of matches.now))
-        (λ config. LacksServing (Y.lacks_tape system.now) (Y.lacks_ports system.now config)
-        (Y.lacks_watch system.now))) result }
+        (LacksToServe (subcommand_rows_of matches.now) (Y.lacks_tape system.now)
+        (Y.lacks_ports system.now) (Y.lacks_watch system.now)) result }
     ensures asked { MakesSuch (Y.has_asked system.now) files.old files.new
         (AsksThen (Y.files system.now) ServingAsks) }
 {
@@ -299,9 +297,8 @@ fn serve_alone<R: Fileless, Y: System>(
     requires takes { TakesAsked (subcommand_rows_of matches.now) (Y.files system.now) }
     requires alone { text_in (codes "control") (subcommand_rows_of matches.now) ≡ None }
     ensures serves { ServesTrunk (subcommand_rows_of matches.now)
-        (LacksSession (files_in (subcommand_rows_of matches.now))
-        (λ config. LacksServing (Y.lacks_tape system.now) (Y.lacks_ports system.now config)
-        (Y.lacks_watch system.now))) result }
+        (LacksToServe (subcommand_rows_of matches.now) (Y.lacks_tape system.now)
+        (Y.lacks_ports system.now) (Y.lacks_watch system.now)) result }
     ensures asked { MakesSuch (Y.has_asked system.now) files.old files.new
         (CarryingAsks (Y.files system.now)) }
 {
@@ -333,9 +330,8 @@ fn serve_clients<R: Fileless, Y: System>(
     requires asked { incoming.asked.octets ≡ [] }
     requires told { answers.log.octets ≡ [] }
     ensures serves { ServesTrunk (subcommand_rows_of matches.now)
-        (LacksSession (files_in (subcommand_rows_of matches.now))
-        (λ config. LacksServing (Y.lacks_tape system.now) (Y.lacks_ports system.now config)
-        (Y.lacks_watch system.now))) result }
+        (LacksToServe (subcommand_rows_of matches.now) (Y.lacks_tape system.now)
+        (Y.lacks_ports system.now) (Y.lacks_watch system.now)) result }
     ensures asked { MakesSuch (Y.has_asked system.now) files.old files.new
         (CarryingAsks (Y.files system.now)) }
 {
@@ -363,9 +359,8 @@ fn serve_at<R: Fileless, D: Doors, Y: System>(
 ) -> Result<Totals, ProgramFault>
     requires takes { TakesAsked (subcommand_rows_of matches.now) (Y.files system.now) }
     ensures serves { ServesTrunk (subcommand_rows_of matches.now)
-        (LacksSession (files_in (subcommand_rows_of matches.now))
-        (λ config. LacksServing (Y.lacks_tape system.now) (Y.lacks_ports system.now config)
-        (Y.lacks_watch system.now))) result }
+        (LacksToServe (subcommand_rows_of matches.now) (Y.lacks_tape system.now)
+        (Y.lacks_ports system.now) (Y.lacks_watch system.now)) result }
     ensures calls { OpensAt D.has_made doors.old doors.new
         (text_in (codes "control") (subcommand_rows_of matches.now)) }
     ensures asked { MakesSuch (Y.has_asked system.now) files.old files.new
@@ -401,10 +396,9 @@ pub fn serve<R: Fileless, D: Doors, Y: System>(
 ) -> Result<Totals, ProgramFault>
     requires takes { TakesAsked (subcommand_rows_of matches.now) (Y.files system.now) }
     requires waits { Y.waits system.now ≡ false }
-    ensures serves { ServesTrunk (subcommand_rows_of matches.now)
-        (λ fault. LacksSession (files_in (subcommand_rows_of matches.now))
-        (λ config. LacksServing (Y.lacks_tape system.now) (Y.lacks_ports system.now config)
-        (Y.lacks_watch system.now)) fault ⊎ Y.lacks_lock system.now fault) result }
+    ensures serves { ServesTrunk (subcommand_rows_of matches.now) (λ fault. LacksToServe
+        (subcommand_rows_of matches.now) (Y.lacks_tape system.now) (Y.lacks_ports system.now)
+        (Y.lacks_watch system.now) fault ⊎ Y.lacks_lock system.now fault) result }
     ensures calls { (doors.new ≡ doors.old) ⊎ OpensAt D.has_made doors.old doors.new
         (text_in (codes "control") (subcommand_rows_of matches.now)) }
     ensures asked { MakesSuch (Y.has_asked system.now) files.old files.new (TrunkAsks (Y.files system.now)) }

@@ -11,7 +11,10 @@ pub returns-in_default : goal.returns-in_default
 returns-in_default g c = (
   no_session (g.Y.Systems.command c.args.self.now.systems) c.args.session _ _ _
       (inl (refl, rw c.in_default.is at c.system.ensures.none)),
-  λ none. ([], inl (rw c.in_default.is at c.system.ensures.none, refl), none_asked _ none),
+  record {
+    asks = λ none. ([], inl (rw c.in_default.is at c.system.ensures.none, refl), none_asked _ none);
+    shut = refl;
+  },
 )
 
 pub perform_session-requires : goal.perform_session-requires
@@ -25,9 +28,12 @@ returns g c =
           (files_in (g.Y.Systems.command c.args.self.now.systems)) _ _
           (more_in c.args.session _ _ _ _ some.some.watch some.some.ends) fault why))
           (session_done some.some.takes _ _ _ _ _ c.perform_session.ensures.performed (λ e. rw e refl)),
-      λ none. (
-        asks.calls,
-        inr (asked_in some.some.takes asks.calls asks.are),
-        some.calls.all _ _ (asks.made [] (some.calls.first _ none)),
-      ),
+      record {
+        asks = λ none. (
+          asks.calls,
+          inr (asked_in some.some.takes asks.calls asks.are),
+          some.calls.all _ _ (asks.made [] (some.calls.first _ none)),
+        );
+        shut = refl;
+      },
     )

@@ -9,7 +9,10 @@ use Rattle.gateway_main.proofs.StandardCommands.trunk.Goals as goal
 pub returns-in_default : goal.returns-in_default
 returns-in_default g c = (
   nothing_served _ _ _ (inr (inl (inl (refl, rw c.in_default.is at c.system.ensures.none)))),
-  λ none. ([], inl (rw c.in_default.is at c.system.ensures.none, refl), none_asked _ none),
+  record {
+    asks = λ none. ([], inl (rw c.in_default.is at c.system.ensures.none, refl), none_asked _ none);
+    opens = inl refl;
+  },
 )
 
 pub returns : goal.returns
@@ -22,11 +25,14 @@ returns g c =
         | inr lock ↦ inr (some.some.lock fault lock)
       ])
           (rw c.matches-matches.ensures at c.serve.ensures.serves),
-      λ none. (
-        asks.calls,
-        inr (trunk_asks some.some.takes asks.calls asks.are),
-        some.calls.all _ _ (asks.made [] (some.calls.first _ none)),
-      ),
+      record {
+        asks = λ none. (
+          asks.calls,
+          inr (trunk_asks some.some.takes asks.calls asks.are),
+          some.calls.all _ _ (asks.made [] (some.calls.first _ none)),
+        );
+        opens = rw c.matches-matches.ensures at c.serve.ensures.calls;
+      },
     )
 
 pub serve-requires-clause-takes : goal.serve-requires-clause-takes

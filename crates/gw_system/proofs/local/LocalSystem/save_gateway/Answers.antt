@@ -1,9 +1,10 @@
-use Rattle.std.proofs.Common.{is_ok}
+use Rattle.std.proofs.Common.{is_ok, refl}
+use Rattle.gw_machine.proofs.Made.{none}
 use Rattle.gw_machine.specs.SystemCalls.{SystemCall}
-use Rattle.gw_system.proofs.Made.{asked_by}
+use Rattle.gw_system.proofs.Made.{asked_by, no_door}
 use Rattle.gw_system.proofs.local.LocalSystem.save_gateway.Goals as goal
 
 pub returns-clause-asked : goal.returns-clause-asked
 returns-clause-asked g c =
     asked_by (SystemCall.SaveGateway c.args.config.now c.args.gateway.now (is_ok c.keep_gateway.result))
-    c.keep_gateway.ensures.calls
+    c.keep_gateway.ensures.calls (no_door refl) (none refl)

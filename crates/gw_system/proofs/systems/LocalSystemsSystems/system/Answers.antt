@@ -4,7 +4,7 @@ use Rattle.gw_machine.proofs.Streams.{takes_asked}
 use Rattle.gw_files.specs.LogFolder.{FailsToLock}
 use Rattle.gw_system.specs.Lacking.{LacksTeller}
 use Rattle.gw_system.proofs.Lacked.{ends_in, named_so}
-use Rattle.gw_system.proofs.Made.{calls_files, done_in}
+use Rattle.gw_system.proofs.Made.{makes_calls, done_in}
 use Rattle.gw_system.proofs.systems.LocalSystemsSystems.system.Goals as goal
 
 pub returns-clause-some : goal.returns-clause-some
@@ -25,10 +25,11 @@ returns-clause-some g c =
 pub returns-clause-calls : goal.returns-clause-calls
 returns-clause-calls g c =
     let local = c.local_of in
-    calls_files (done_in (subcommand_rows_of c.args.self.now.matches.now) c.args.waits local.result.path.now _ _ _
+    makes_calls (done_in (subcommand_rows_of c.args.self.now.matches.now) c.args.waits local.result.path.now _ _ _
     local.result.recording (rw local.ensures.path (sym c.in_ok-path.ensures)) local.ensures.log local.ensures.load
     local.ensures.save (record {
       path = local.ensures.recording;
       over = local.ensures.over;
       waits_is = local.ensures.waits;
-    }))
+    })) (λ call calls at. rw local.ensures.tell at at)
+    (λ call calls of. (local.result.senders, local.ensures.senders, local.result.among, local.ensures.among, of))
