@@ -149,9 +149,9 @@ impl<O: TrunkOutput, F: PieceFilter> TrunkOutput for FilteredOutput<O, F> {
 
     ghost is_slow = { λ d. O.is_slow d.outgoing };
 
-    ghost has_waited = { λ d. O.has_waited d.outgoing };
+    ghost has_waited = { λ d d'. O.has_waited d.outgoing d'.outgoing };
 
-    ghost has_looked = { λ d. O.has_looked d.outgoing };
+    ghost has_looked = { λ d d'. O.has_looked d.outgoing d'.outgoing };
 
     ghost may_have_room = { λ d d'. O.may_have_room d.outgoing d'.outgoing };
 

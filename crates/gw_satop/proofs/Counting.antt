@@ -1,5 +1,5 @@
 -- What of an emulated circuit's counts changes with an event.
-use Rattle.std.proofs.Common.{◌≡◌, ℕ, ◌+◌, ◌-◌, ◌^◌, min, not, Bool, true, false, List, [], ◌∷◌, ◌++◌, length, count_by}
+use Rattle.std.proofs.Common.{◌≡◌, ◌+◌, ◌-◌, ◌^◌, min, not, Bool, true, false, List, [], ◌∷◌, ◌++◌, count_by}
 use Rattle.std.proofs.Common.{Option, Some, None, refl, sym, ap, ◌∙◌, arith, append_assoc, append-nil, length-append}
 use Rattle.std.proofs.Common.{cond, zero-add}
 use Rattle.std.proofs.lemmas.Int.{clamps}

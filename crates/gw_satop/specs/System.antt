@@ -10,9 +10,9 @@ use Rattle.gw_satop.specs.declared.counts.Counts.{Counts}
 unfoldable pub SystemShows : {I : Type 0} → I → Option Duration → Type 0
 SystemShows started passed = ⊤
 
--- counts were printed on standard error
-unfoldable pub SystemPrintsCounts : Counts → Type 0
-SystemPrintsCounts counts = ⊤
+-- counts were printed once on standard error
+unfoldable pub SystemPrintsCounts : {P : Type 0} → P → P → Counts → Type 0
+SystemPrintsCounts printer printer' counts = ⊤
 
 -- the whole microseconds of a time, up to the greatest u64
 abbrev pub micros : Duration → ℕ

@@ -31,17 +31,22 @@ pub trait Clock {
     /// Relates a clock before and after a wait to the time that it waited until.
     ghost waits_until: { Self → Self → ℕ → Type 0 } = { λ _ _ _. ⊤ };
 
-    /// Holds of the counts that it reported last.
-    ghost has_told: { Self → Counts → Type 0 } = { λ _ _. ⊤ };
+    /// Relates a clock before and after a report to the counts.
+    ghost has_told: { Self → Self → Counts → Type 0 } = { λ _ _ _. ⊤ };
+
+    /// Holds of a clock that was asked for the time. After a wait it is not known.
+    ghost is_asked: { Self → Type 0 } = { λ _. ⊤ };
 
     /// The time, in microseconds of one clock.
     fn now(&mut self) -> u64
         ensures time { result ≡ time self.new }
         ensures tells { tells self.old self.new result }
+        ensures asked { is_asked self.new }
         ensures waits { waits self.new ≡ waits self.old };
 
-    /// Waits until something may have come, or for this time.
+    /// Waits until something may have come, or for this time, once it was asked for the time.
     fn wait(&mut self, until: u64)
+        requires { is_asked self.old }
         ensures waits { waits self.new ≡ waits self.old + 1 }
         ensures until { waits_until self.old self.new until };
 
@@ -49,7 +54,8 @@ pub trait Clock {
     fn report(&mut self, counts: &Counts)
         ensures time { time self.new ≡ time self.old }
         ensures waits { waits self.new ≡ waits self.old }
-        ensures told { has_told self.new counts.now };
+        ensures asked { is_asked self.old → is_asked self.new }
+        ensures told { has_told self.old self.new counts.now };
 }
 
 // Reports the counts if they have changed, at most once a second. Returns those reported last, and when.
@@ -59,9 +65,10 @@ fn report_changes<M: Clock>(
     counts: Counts,
     last: (Counts, u64),
 ) -> (Counts, u64)
-    ensures reports { ReportsChanges now counts last (M.has_told moments.new) result }
+    ensures reports { ReportsChanges now counts last (M.has_told moments.old moments.new) result }
     ensures time { M.time moments.new ≡ M.time moments.old }
     ensures waits { M.waits moments.new ≡ M.waits moments.old }
+    ensures asked { M.is_asked moments.old → M.is_asked moments.new }
 {
     if counts == last.0 || now.saturating_sub(last.1) < REPORT_US {
         return last;
@@ -95,10 +102,9 @@ pub fn carry_satop<I: TrunkInput, O: TrunkOutput, P: Peer, M: Clock>(
     ensures whole { IfOk result (λ _. circuit.new.left.items ≡ []) }
     ensures ended { IfOk result (λ _. I.has_ended circuit.new.incoming) }
     ensures hears { IfOk result (λ _. (before : P) × HearsAll P.received P.has_none before circuit.new.peer) }
-    ensures told { IfOk result (λ _. M.has_told moments.new circuit.new.counts) }
     ensures time { IfOk result (λ _. circuit.new.pace.counted ≡ M.time moments.new) }
     ensures tells { IfOk result (λ _. (before : M) × (then : M)
-        × M.tells before then circuit.new.pace.counted) }
+        × M.tells before then circuit.new.pace.counted × M.has_told then moments.new circuit.new.counts) }
     ensures fault { IfErr result (λ _. (I.has_failed circuit.new.incoming
         ⊎ RefusesOctets O.has_failed O.has_taken O.waits circuit.new.outgoing)
         ⊎ (2 ^ 63 ≤ M.waits moments.new)) }

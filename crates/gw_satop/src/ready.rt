@@ -1,8 +1,9 @@
 //! The trunk of `satop` on standard input, read only if the system reports octets (`WhenReady`).
 
-ghost use Rattle.std.specs.Prelude.{◌≡◌, ◌⊎◌, [], length, false, IfOk, IfErr, ⊤};
+ghost use Rattle.std.specs.Prelude.{◌≡◌, ◌⊎◌, [], length, true, false, IfOk, IfErr, ⊤};
+ghost use Rattle.gw_trunk.specs.declared.readiness.Poller.{Poller};
 ghost use Rattle.gw_trunk.specs.System.{SystemReportedNone};
-ghost use Rattle.gw_trunk.specs.Waiting.{Waits, WaitsFor};
+ghost use Rattle.gw_trunk.specs.Waiting.{FindsNone, MayBeReady, Waits, WaitsFor};
 ghost use Rattle.gw_satop.specs.Opening.{SystemRefusesTrunk};
 
 use gw_records::Log;
@@ -21,12 +22,20 @@ pub trait Readiness {
     /// Holds if it was found last that nothing has come.
     ghost is_unready: { Self → Type 0 } = { λ _. ⊤ };
 
+    /// Relates a descriptor before and after it was found that nothing has come.
+    ghost finds_none: { Self → Self → Type 0 } = { λ _ _. ⊤ };
+
+    /// .. or that something may have.
+    ghost finds_some: { Self → Self → Type 0 } = { λ _ _. ⊤ };
+
     /// Relates a descriptor before and after a wait for it.
     ghost sleeps: { Self → Self → Type 0 } = { λ _ _. ⊤ };
 
     /// Whether something may have come. It never waits.
     fn is_ready(&mut self) -> bool
-        ensures { result ≡ false → is_unready self.new };
+        ensures unready { result ≡ false → is_unready self.new }
+        ensures none { result ≡ false → finds_none self.old self.new }
+        ensures some { result ≡ true → finds_some self.old self.new };
 
     /// Waits until something may have come. What was found last stays.
     fn sleep(&mut self)
@@ -35,7 +44,11 @@ pub trait Readiness {
 }
 
 impl Readiness for Waiting {
-    ghost is_unready = { λ w. SystemReportedNone w 0 };
+    ghost is_unready = { λ w. (before : Poller) × SystemReportedNone before w.poller 0 };
+
+    ghost finds_none = { FindsNone 0 };
+
+    ghost finds_some = { MayBeReady 0 };
 
     ghost sleeps = { Waits };
 
@@ -136,7 +149,9 @@ impl<I: TrunkInput, W: Readiness> TrunkInput for WhenReady<I, W> {
 
     ghost has_failed = { λ r. I.has_failed r.incoming };
 
-    ghost reads = { λ r r' room read. W.is_unready r'.waiting ⊎ I.reads r.incoming r'.incoming room read };
+    ghost reads = { λ r r' room read.
+        (W.is_unready r'.waiting × W.finds_none r.waiting r'.waiting × (r'.incoming ≡ r.incoming))
+        ⊎ (W.finds_some r.waiting r'.waiting × I.reads r.incoming r'.incoming room read) };
 
     ghost sleeps = { λ r r'. W.sleeps r.waiting r'.waiting × (r'.incoming ≡ r.incoming) };
 

@@ -1,22 +1,18 @@
 //! How `satop` waits, for the socket and the trunk until a time, and reports counts (`SystemClock`).
 
-ghost use Rattle.std.specs.Prelude.{◌≡◌, ◌⊎◌, Bool, Some, length, pos, IfErr, IfOk};
-ghost use Rattle.std.specs.Duration.{as_nanos};
-ghost use Rattle.mio.specs.Events.{items};
+ghost use Rattle.std.specs.Prelude.{◌≡◌, length, pos, IfErr, IfOk};
 ghost use Rattle.gw_satop.specs.Opening.{SystemRefusesTrunk};
-ghost use Rattle.gw_satop.specs.ClockWaits.{HasTrunkAt, WaitsUntil};
+ghost use Rattle.gw_satop.specs.ClockWaits.{ReportsBoth, ReportsSocket, TellsCounts, TellsNow, WaitsUntil};
 ghost use Rattle.gw_satop.specs.System.{SystemShows, SystemPrintsCounts, TellsTime, micros};
-ghost use Rattle.gw_trunk.specs.System.{SystemRenews, SystemReportedNone, SystemReports, SystemWatches};
 ghost use Rattle.gw_trunk.specs.Waiting.{WaitsFor};
 
 use crate::carrying::Clock;
 use crate::counts::Counts;
 use crate::peer::UdpPeer;
 use gw_records::Log;
-use gw_trunk::Waiting;
+use gw_trunk::{Poller, Waiting};
 use gw_udp::Socket;
-use mio::unix::SourceFd;
-use mio::{Events, Interest, Poll, Token};
+use mio::{Interest, Poll, Token};
 use std::net::Net;
 use std::time::{Duration, Instant};
 use std::{io, rt};
@@ -28,6 +24,12 @@ const FAR_END: usize = 1;
 // The descriptor of standard error.
 const STDERR: i32 = 2;
 
+// What counts are printed by.
+#[derive(Drop)]
+struct CountsPrinter<'r, R> {
+    rt: &'r R,
+}
+
 /// The clock of this system, the descriptor that the trunk's octets come from, the socket, and standard
 /// error.
 #[derive(Drop)]
@@ -35,12 +37,30 @@ pub struct SystemClock<'r, R> {
     rt: &'r R,
     started: Instant,
     now: u64,
-    poll: Poll,
-    events: Events,
+    poller: Poller,
     descriptor: i32,
     errors: Waiting,
+    printer: CountsPrinter<'r, R>,
     // An octet for each wait.
     waits: Log,
+}
+
+// What a clock waits by: the system reports what comes to the socket of the far end there, if it agrees.
+#[tactic(auto, unfolding(crate::specs::Opening::SystemRefusesTrunk))]
+fn open_poller<S: Socket>(
+    rt: &(impl Net + AllocGlobal),
+    peer: &mut UdpPeer<S>,
+) -> io::Result<Poller>
+    ensures received { peer.new.received ≡ peer.old.received }
+    ensures sent { peer.new.sent ≡ peer.old.sent }
+    ensures opened { peer.new.opened ≡ peer.old.opened }
+    ensures address { peer.new.address ≡ peer.old.address }
+    ensures watched { IfOk result (ReportsSocket S.watches peer.new.socket) }
+    ensures err { IfErr result SystemRefusesTrunk }
+{
+    let poll = Poll::new(rt)?;
+    let _ = peer.watch(&poll, Token(FAR_END));
+    Poller::of(rt, poll, 4)
 }
 
 impl<'r, R: Net + rt::Clock + Eprint + AllocGlobal> SystemClock<'r, R> {
@@ -55,60 +75,26 @@ impl<'r, R: Net + rt::Clock + Eprint + AllocGlobal> SystemClock<'r, R> {
         ensures sent { peer.new.sent ≡ peer.old.sent }
         ensures opened { peer.new.opened ≡ peer.old.opened }
         ensures address { peer.new.address ≡ peer.old.address }
-        ensures trunk { IfOk result (HasTrunkAt descriptor) }
-        ensures watched { IfOk result (λ clock. (agreed : Bool)
-            × S.watches peer.new.socket clock.poll 1 agreed) }
+        ensures trunk { IfOk result (λ clock. clock.descriptor ≡ descriptor) }
+        ensures watched { IfOk result (λ clock.
+            ReportsBoth S.watches peer.new.socket descriptor clock.poller) }
         ensures errors { IfOk result (λ clock. WaitsFor (pos 2) Interest.WRITABLE clock.errors) }
         ensures err { IfErr result SystemRefusesTrunk }
     {
-        let poll = Poll::new(rt)?;
-        let events = Events::with_capacity(rt.alloc(), 4)?;
+        let mut poller = open_poller(rt, peer)?;
         // (A regular file can't be waited for, and never has to be.)
-        let _ = watch_trunk(&poll, descriptor);
-        let _ = peer.watch(&poll, Token(FAR_END));
+        let _ = poller.watch_descriptor(descriptor, TRUNK, Interest::READABLE);
         Ok(SystemClock {
             rt,
             started: Instant::now(rt)?,
             now: 0,
-            poll,
-            events,
+            poller,
             descriptor,
             errors: Waiting::open(rt, STDERR, Interest::WRITABLE)?,
+            printer: CountsPrinter { rt },
             waits: Log::new(),
         })
     }
-}
-
-// Has the system report what comes of the trunk's descriptor. False if it does not.
-#[tactic(auto, unfolding(gw_trunk::specs::System::SystemWatches))]
-fn watch_trunk(poll: &Poll, descriptor: i32) -> bool
-    ensures { SystemWatches poll.now descriptor 0 result }
-{
-    let registry = poll.registry();
-    let trunk = &mut SourceFd(&descriptor);
-    registry
-        .register(trunk, Token(TRUNK), Interest::READABLE)
-        .is_ok()
-}
-
-// Has the system report anew what came of it before. False if it does not.
-#[tactic(auto, unfolding(gw_trunk::specs::System::SystemRenews))]
-fn renew_trunk(poll: &Poll, descriptor: i32) -> bool
-    ensures { SystemRenews poll.now descriptor Interest.READABLE result }
-{
-    let registry = poll.registry();
-    let trunk = &mut SourceFd(&descriptor);
-    registry
-        .reregister(trunk, Token(TRUNK), Interest::READABLE)
-        .is_ok()
-}
-
-// Waits once for events, for this time at most. There are none if the system refuses.
-#[tactic(auto, unfolding(gw_trunk::specs::System::SystemReports))]
-fn wait_for_events(poll: &mut Poll, events: &mut Events, limit: Duration)
-    ensures { SystemReports poll.old poll.new (Some (as_nanos limit)) (items events.new) }
-{
-    let _ = poll.poll(events, Some(limit));
 }
 
 // The whole microseconds of a time.
@@ -136,12 +122,14 @@ fn time_since(rt: &impl rt::Clock, started: &Instant, last: u64) -> u64
     }
 }
 
-// Prints counts on standard error.
-#[tactic(auto, unfolding(crate::specs::System::SystemPrintsCounts))]
-fn print_counts(rt: &impl Eprint, counts: &Counts)
-    ensures { SystemPrintsCounts counts.now }
-{
-    let _ = eprintln!(rt; "{}", counts);
+impl<R: Eprint> CountsPrinter<'_, R> {
+    // Prints counts on standard error.
+    #[tactic(auto, unfolding(crate::specs::System::SystemPrintsCounts))]
+    fn print(&mut self, counts: &Counts)
+        ensures { SystemPrintsCounts self.old self.new counts.now }
+    {
+        let _ = eprintln!(self.rt; "{}", counts);
+    }
 }
 
 impl<R: rt::Clock + Eprint> Clock for SystemClock<'_, R> {
@@ -149,11 +137,11 @@ impl<R: rt::Clock + Eprint> Clock for SystemClock<'_, R> {
 
     ghost waits = { λ s. length s.waits.octets };
 
-    ghost tells = { λ s s' told. TellsTime s.started s.now told };
+    ghost tells = { TellsNow };
 
     ghost waits_until = { WaitsUntil };
 
-    ghost has_told = { λ s counts. SystemPrintsCounts counts ⊎ SystemReportedNone s.errors 0 };
+    ghost has_told = { TellsCounts };
 
     fn now(&mut self) -> u64 {
         self.now = time_since(self.rt, &self.started, self.now);
@@ -164,15 +152,15 @@ impl<R: rt::Clock + Eprint> Clock for SystemClock<'_, R> {
         self.now = time_since(self.rt, &self.started, self.now);
         let left = until.saturating_sub(self.now);
         // (It is registered again each time, so that the system reports what came before.)
-        let agreed = renew_trunk(&self.poll, self.descriptor);
+        let agreed = self.poller.renew(self.descriptor, Interest::READABLE);
         let limit = Duration::from_micros(if agreed { left } else { 0 });
-        wait_for_events(&mut self.poll, &mut self.events, limit);
+        self.poller.wait(Some(limit));
         self.waits.append(&[0], 1);
     }
 
     fn report(&mut self, counts: &Counts) {
         if self.errors.wait_for(Duration::ZERO) {
-            print_counts(self.rt, counts);
+            self.printer.print(counts);
         }
     }
 }

@@ -17,8 +17,9 @@ use Rattle.gw_trunk.specs.declared.client.Client.{Client}
 use Rattle.gw_trunk.specs.declared.clients.Clients.{Clients}
 use Rattle.gw_trunk.specs.Device.{AnswersByKind, GaveBehind, passed_count, is_broken_pipe}
 use Rattle.gw_trunk.specs.Pieces.{AsksRecord, client_kinds}
-use Rattle.gw_trunk.specs.System.{SystemAccepted, SystemHasNobody, SystemGave, SystemRenews, SystemReports}
-use Rattle.gw_trunk.specs.System.{SystemWatches, SystemWrote}
+use Rattle.gw_trunk.specs.declared.readiness.Poller.{Poller}
+use Rattle.gw_trunk.specs.System.{SystemAccepted, SystemHasNobody, SystemGave, SystemOpened, SystemRenews}
+use Rattle.gw_trunk.specs.System.{SystemReports, SystemWatches, SystemWrote}
 use Rattle.gw_records.specs.declared.records.RecordsEnd.{RecordsEnd}
 use Rattle.gw_records.specs.Records.{end_of, is_open}
 use Rattle.gw_records.specs.Streams.{at_most}
@@ -223,14 +224,13 @@ AreWoken events places places' = (k : ℕ) → k < 8
 -- The system was asked for events once, for a time at most, and they are noted: those of the trunk, of the
 -- door, of what asks for the end, and of clients.
 pub record Looks (limit : Option ℕ) (clients clients' : Clients) : Type 0 where
-  pub reported : SystemReports clients.poll clients'.poll limit (items clients'.events)
-  pub octets_is : clients'.octets ≡ (comes 0 (items clients'.events) || clients.octets)
-  pub knocks_is : clients'.knocks ≡ (comes 1 (items clients'.events) || clients.knocks)
-  pub ends_is : clients'.ends ≡ (comes 10 (items clients'.events) || clients.ends)
-  pub woken : AreWoken (items clients'.events) clients.places clients'.places
+  pub reported : SystemReports clients.poller clients'.poller limit (items clients'.poller.events)
+  pub octets_is : clients'.octets ≡ (comes 0 (items clients'.poller.events) || clients.octets)
+  pub knocks_is : clients'.knocks ≡ (comes 1 (items clients'.poller.events) || clients.knocks)
+  pub ends_is : clients'.ends ≡ (comes 10 (items clients'.poller.events) || clients.ends)
+  pub woken : AreWoken (items clients'.poller.events) clients.places clients'.places
   pub same : clients' ≡ record clients {
-    poll = clients'.poll;
-    events = clients'.events;
+    poller = clients'.poller;
     octets = clients'.octets;
     knocks = clients'.knocks;
     ends = clients'.ends;
@@ -239,8 +239,10 @@ pub record Looks (limit : Option ℕ) (clients clients' : Clients) : Type 0 wher
 
 -- the same, once the system was asked to report octets of the trunk that came before
 abbrev pub LooksAnew : Option ℕ → Clients → Clients → Type 0
-LooksAnew limit clients clients' = (interest : Interest) × (agreed : Bool) × (is_readable interest ≡ true)
-    × SystemRenews clients.poll clients.descriptor interest agreed × Looks limit clients clients'
+LooksAnew limit clients clients' = (interest : Interest) × (agreed : Bool) × (renewed : Poller)
+    × (is_readable interest ≡ true)
+    × SystemRenews clients.poller renewed clients.descriptor interest agreed
+    × Looks limit (record clients { poller = renewed }) clients'
 
 -- The rank of a place for a new client: it takes the lowest, a free one, else that of a client that has left,
 -- else that of the one that came first of those who never gave a record; never one of the last rank.
@@ -267,17 +269,22 @@ IsNew stream number (Some client) = (client.start.value ≡ stream) × (client.n
 
 -- a connection is that of a client who is new at this place
 pub record HasNew (stream : UnixStream) (place : ℕ) (clients clients' : Clients) : Type 0 where
-  pub watched : SystemWatches clients.poll stream (place + 2) true
+  pub watched : SystemWatches clients.poller clients'.poller stream (place + 2) true
   pub is_new : IsNew stream clients.came (at clients'.places place)
   pub others : OnlyAt place clients.places clients'.places
-  pub same : clients' ≡ record clients { places = clients'.places; came = at_most (clients.came + 1) }
+  pub same : clients' ≡ record clients {
+    poller = clients'.poller;
+    places = clients'.places;
+    came = at_most (clients.came + 1);
+  }
 
 -- A connection is that of a new client, at the place of one. It is dropped if each place has a client that is
 -- there and gave a record, or if the system refuses to report what comes of it.
 abbrev pub Places : UnixStream → Clients → Clients → Type 0
 Places stream clients clients' = (AreAllKnown clients.places × (clients' ≡ clients))
     ⊎ ((place : ℕ) × MakesRoom clients.places place × (HasNew stream place clients clients'
-    ⊎ (SystemWatches clients.poll stream (place + 2) false × (clients' ≡ clients))))
+    ⊎ (SystemWatches clients.poller clients'.poller stream (place + 2) false
+    × (clients' ≡ record clients { poller = clients'.poller }))))
 
 -- a connection was accepted at the door
 abbrev pub Accepts : UnixStream → Clients → Clients → Type 0
@@ -349,13 +356,17 @@ GivesAnswer clients clients' = MatchOption clients.asker (clients' ≡ clients) 
     × HasAnswered SystemWrote (GaveBehind (AnswersByKind SystemGave clients'.answers.reader)
     clients.answers.log.octets clients'.answers.log.octets) clients.places clients'.places place)
 
+-- the system was asked to report what comes of a trunk, and whether it agreed; then of a door; nothing else
+abbrev pub WatchesBoth : ℤ → UnixListener → Bool → Poller → Type 0
+WatchesBoth descriptor door agreed poller = (opened : Poller) × (asked : Poller) × SystemOpened opened
+    × SystemWatches opened asked descriptor 0 agreed × SystemWatches asked poller door 1 true
+
 -- There are no clients, and somebody may knock. The system reports what comes of the trunk, unless it refuses
 -- to, and of the door.
 pub record AreOpened (descriptor : ℤ) (door : UnixListener) (answers : UnixStream) (clients : Clients)
     : Type 0 where
   pub descriptor_is : clients.descriptor ≡ descriptor
-  pub watched : SystemWatches clients.poll descriptor 0 clients.is_waited_for
-  pub door_watched : SystemWatches clients.poll door 1 true
+  pub watched : WatchesBoth descriptor door clients.is_waited_for clients.poller
   pub door_is : clients.door.listener ≡ door
   pub answers_are : clients.answers.reader ≡ answers
   pub nobody : (k : ℕ) → k < 8 → at clients.places k ≡ None

@@ -42,26 +42,31 @@ SystemAccepted door door' stream = ⊤
 unfoldable pub SystemHasNobody : {D : Type 0} → D → D → Type 0
 SystemHasNobody door door' = ⊤
 
--- the system was asked to report what comes of a source under a token, and this is whether it agreed
-unfoldable pub SystemWatches : {P S : Type 0} → P → S → ℕ → Bool → Type 0
-SystemWatches poll source token agreed = ⊤
+-- what is waited by was opened, and nothing was asked of it yet
+unfoldable pub SystemOpened : {P : Type 0} → P → Type 0
+SystemOpened poller = ⊤
+
+-- One more call was made of what is waited by. The system was asked to report what comes of a source under a
+-- token, and this is whether it agreed.
+unfoldable pub SystemWatches : {P S : Type 0} → P → P → S → ℕ → Bool → Type 0
+SystemWatches poller poller' source token agreed = ⊤
 
 -- .. to report anew what came of a descriptor before
-unfoldable pub SystemRenews : {P S I : Type 0} → P → S → I → Bool → Type 0
-SystemRenews poll descriptor interest agreed = ⊤
+unfoldable pub SystemRenews : {P S I : Type 0} → P → P → S → I → Bool → Type 0
+SystemRenews poller poller' descriptor interest agreed = ⊤
 
 -- .. to wait for events once, for this many nanoseconds at most if there is a limit, and reported these; none
 -- if it refused
 unfoldable pub SystemReports : {P E : Type 0} → P → P → Option ℕ → List E → Type 0
-SystemReports poll poll' nanoseconds events = ⊤
+SystemReports poller poller' nanoseconds events = ⊤
 
--- the system was asked to wait for this many nanoseconds at most, and reported nothing
-unfoldable pub SystemReportedNone : {S : Type 0} → S → ℕ → Type 0
-SystemReportedNone waiting nanoseconds = ⊤
+-- .. and reported nothing in this many nanoseconds
+unfoldable pub SystemReportedNone : {P : Type 0} → P → P → ℕ → Type 0
+SystemReportedNone poller poller' nanoseconds = ⊤
 
 -- .. or it reported something, or refused to wait
-unfoldable pub SystemIsReady : {S : Type 0} → S → ℕ → Type 0
-SystemIsReady waiting nanoseconds = ⊤
+unfoldable pub SystemIsReady : {P : Type 0} → P → P → ℕ → Type 0
+SystemIsReady poller poller' nanoseconds = ⊤
 
 -- all calls that were made at doors
 unfoldable pub SystemWasCalled : {D C : Type 0} → D → List C → Type 0

@@ -82,3 +82,11 @@ pub record CommandsInTurn {R : Type 0} {m : _} (d d' : WithClients R m) (told : 
 -- It is waited for the clients, unless nothing comes any more.
 abbrev pub Sleeps : {R : Type 0} {m : _} → WithClients R m → WithClients R m → Type 0
 Sleeps d d' = ((d.ended ≡ true) × (d'.clients ≡ d.clients)) ⊎ ((d.ended ≡ false) × Waits d.clients d'.clients)
+
+-- what is waited by was asked, and all else is as it was
+pub record AsksPoller {R : Type 0} {m : _} (d d' : WithClients R m) : Type 0 where
+  pub clients_are : d'.clients ≡ record d.clients { poller = d'.clients.poller }
+  pub reader_is : d'.reader ≡ d.reader
+  pub turn_is : (d'.turn ≡ d.turn) × (d'.empty ≡ d.empty)
+  pub ended_is : (d'.ended ≡ d.ended) × (d'.end_asked ≡ d.end_asked)
+  pub asked_is : (d'.asked ≡ d.asked) × (d'.waits ≡ d.waits)

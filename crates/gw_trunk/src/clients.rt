@@ -18,10 +18,10 @@ use crate::client_stream::ClientStream;
 use crate::device_calls::DeviceReader;
 use crate::door::Door;
 use crate::logged_reader::LoggedReader;
-use crate::readiness::{open_poll, renew, wait_for_events, watch, watch_descriptor};
+use crate::readiness::Poller;
 use mio::event::Event;
 use mio::net::{UnixListener, UnixStream};
-use mio::{Events, Interest, Poll};
+use mio::{Events, Interest};
 use std::io::{self, ErrorKind};
 use std::net::Net;
 use std::time::Duration;
@@ -49,8 +49,7 @@ const END: usize = 10;
 /// The clients of a Unix socket, and what all is waited for by.
 #[derive(Drop)]
 pub struct Clients {
-    poll: Poll,
-    events: Events,
+    poller: Poller,
     descriptor: i32,
     // Whether the descriptor can be waited for: a regular file can't be, and never has to be.
     is_waited_for: bool,
@@ -231,12 +230,13 @@ impl Clients {
         ensures ok { IfOk result (AreOpened descriptor door answers) }
         ensures err { IfErr result SystemRefusesStream }
     {
-        let (poll, events) = open_poll(rt, 16)?;
-        let is_waited_for = watch_descriptor(&poll, descriptor, TRUNK, Interest::READABLE).is_ok();
-        watch(&poll, &mut door, DOOR)?;
+        let mut poller = Poller::open(rt, 16)?;
+        let is_waited_for = poller
+            .watch_descriptor(descriptor, TRUNK, Interest::READABLE)
+            .is_ok();
+        poller.watch(&mut door, DOOR)?;
         Ok(Clients {
-            poll,
-            events,
+            poller,
             descriptor,
             is_waited_for,
             octets: false,
@@ -255,20 +255,22 @@ impl Clients {
 
     /// Has the system report what comes of a descriptor, its end too: that asks for the end. The error is the
     /// system's.
-    pub fn watch_end(&self, descriptor: i32) -> io::Result<()>
-        ensures watched { SystemWatches self.now.poll descriptor 10 (is_ok result) }
+    pub fn watch_end(&mut self, descriptor: i32) -> io::Result<()>
+        ensures watched { SystemWatches self.old.poller self.new.poller descriptor 10 (is_ok result) }
+        ensures same { self.new ≡ record self.old { poller = self.new.poller } }
         ensures err { IfErr result SystemRefusesStream }
     {
-        watch_descriptor(&self.poll, descriptor, END, Interest::READABLE)
+        self.poller
+            .watch_descriptor(descriptor, END, Interest::READABLE)
     }
 
     // Notes the events of trunk, door, end and clients; waits for them as long as it is asked to.
     fn look(&mut self, limit: Option<Duration>)
         ensures { Looks (option_map as_nanos limit) self.old self.new }
     {
-        wait_for_events(&mut self.poll, &mut self.events, limit);
+        self.poller.wait(limit);
         note_all(
-            &self.events,
+            &self.poller.events,
             &mut self.octets,
             &mut self.knocks,
             &mut self.ends,
@@ -280,7 +282,7 @@ impl Clients {
     fn look_anew(&mut self, limit: Option<Duration>)
         ensures { LooksAnew (option_map as_nanos limit) self.old self.new }
     {
-        let _ = renew(&self.poll, self.descriptor, Interest::READABLE);
+        let _ = self.poller.renew(self.descriptor, Interest::READABLE);
         self.look(limit);
     }
 
@@ -372,7 +374,8 @@ impl Clients {
         let Some(place) = place_for_one(&self.places) else {
             return;
         };
-        if watch(&self.poll, &mut stream, FIRST_CLIENT + place).is_ok() {
+        let watched = self.poller.watch(&mut stream, FIRST_CLIENT + place);
+        if watched.is_ok() {
             self.places[place] = Some(Client::new(stream, self.came));
             self.came = self.came.saturating_add(1);
         }

@@ -7,8 +7,8 @@ ghost use Rattle.std.specs.Io.KnownBytes.{IsAtEnd};
 ghost use Rattle.gw_trunk.specs.Device.{IsTaken, WasRead, ReadResult, octets_taken, written_of, IsForLater};
 ghost use Rattle.gw_trunk.specs.Device.{HasFailed, IfTaken};
 ghost use Rattle.gw_trunk.specs.Pieces.{AsksRecord};
-ghost use Rattle.gw_trunk.specs.System.{SystemIsReady, SystemRefusesStream, SystemReportedNone};
-ghost use Rattle.gw_trunk.specs.Waiting.{Rests, Waits, WaitsFor};
+ghost use Rattle.gw_trunk.specs.System.{SystemRefusesStream};
+ghost use Rattle.gw_trunk.specs.Waiting.{FindsNone, MayBeReady, Rests, Waits, WaitsFor};
 
 use crate::device_calls::{DeviceReader, DeviceWriter, is_for_later};
 use crate::logged_reader::LoggedReader;
@@ -126,7 +126,7 @@ pub trait TrunkOutput {
     /// The octets that went.
     ghost went: { Self → List ℕ };
 
-    /// Holds of a device if a write found no room.
+    /// Holds of a device if its last write found no room. After a wait it is not known.
     ghost is_full: { Self → Type 0 } = { λ _. ⊤ };
 
     /// Holds of a device if a write to it has failed.
@@ -150,11 +150,11 @@ pub trait TrunkOutput {
     /// Whether a wait for a while ended without room since the last octets were taken.
     ghost is_slow: { Self → Bool } = { λ _. false };
 
-    /// Holds of a device if it was waited for 20 ms, and no room was reported.
-    ghost has_waited: { Self → Type 0 } = { λ _. ⊤ };
+    /// Relates a device before and after a wait of 20 ms in which no room was reported.
+    ghost has_waited: { Self → Self → Type 0 } = { λ _ _. ⊤ };
 
-    /// Holds of a device if it was asked for room without a wait, and none was reported.
-    ghost has_looked: { Self → Type 0 } = { λ _. ⊤ };
+    /// Relates a device before and after it was asked for room without a wait, and none was reported.
+    ghost has_looked: { Self → Self → Type 0 } = { λ _ _. ⊤ };
 
     /// Relates a device before and after a wait for a while that ended because it may have room.
     ghost may_have_room: { Self → Self → Type 0 } = { λ _ _. ⊤ };
@@ -171,20 +171,22 @@ pub trait TrunkOutput {
         ensures given { was_given self.new octets.now }
         ensures err { IfErr result (λ _. has_failed self.new) };
 
-    /// Waits until it may take octets.
+    /// Waits until it may take octets, after a write that found no room.
     fn wait(&mut self)
+        requires full { is_full self.old }
         ensures went { went self.new ≡ went self.old }
         ensures waits { waits self.new ≡ waits self.old + 1 }
         ensures slow { slow_waits self.new ≡ slow_waits self.old }
         ensures sleeps { sleeps self.old self.new };
 
-    /// Waits until it may take octets, until it has taken none for 20 ms at most. Returns whether it may. It
-    /// rests for a moment where one that might have taken octets took none.
+    /// Waits until it may take octets, until it has taken none for 20 ms at most, after a write that found no
+    /// room. Returns whether it may. It rests for a moment where one that might have taken octets took none.
     fn wait_a_while(&mut self) -> bool
+        requires full { is_full self.old }
         ensures went { went self.new ≡ went self.old }
         ensures slow { slow_waits self.new ≡ slow_waits self.old + (if result then 0 else 1) }
-        ensures waited { result ≡ false → is_slow self.old ≡ false → has_waited self.new }
-        ensures looked { result ≡ false → is_slow self.old ≡ true → has_looked self.new }
+        ensures waited { result ≡ false → is_slow self.old ≡ false → has_waited self.old self.new }
+        ensures looked { result ≡ false → is_slow self.old ≡ true → has_looked self.old self.new }
         ensures room { result ≡ true → may_have_room self.old self.new };
 }
 
@@ -343,13 +345,12 @@ impl<W: DeviceWriter> TrunkOutput for ToDevice<W> {
 
     ghost is_slow = { λ d. d.is_slow };
 
-    ghost has_waited = { λ d. SystemReportedNone d.waiting 20_000_000 };
+    ghost has_waited = { λ d d'. FindsNone 20_000_000 d.waiting d'.waiting };
 
-    ghost has_looked = { λ d. SystemReportedNone d.waiting 0 };
+    ghost has_looked = { λ d d'. FindsNone 0 d.waiting d'.waiting };
 
     ghost may_have_room = { λ d d'. Rests d.waiting d'.waiting ⊎ ((d.waiting.is_refused ≡ false)
-        × (d'.waiting.is_refused ≡ true)
-        × SystemIsReady d'.waiting (if d.is_slow then 0 else 20_000_000)) };
+        × MayBeReady (if d.is_slow then 0 else 20_000_000) d.waiting d'.waiting) };
 
     fn write(&mut self, octets: &[u8]) -> Result<Option<usize>, DeviceFault> {
         match self.writer.write_now(octets) {

@@ -24,6 +24,7 @@ pub use device_calls::{DeviceReader, DeviceWriter};
 pub use door::{Door, Doors, LocalDoors, open_door};
 pub use held::drop_first;
 pub use multiframe_dropper::{MultiframeDropper, give_held};
+pub use readiness::Poller;
 pub use sink::TrunkRecordSink;
 pub use source::TrunkRecordSource;
 pub use waiting::Waiting;

@@ -2,12 +2,11 @@
 
 ghost use Rattle.std.specs.Prelude.{◌≡◌, true, false, IfOk, IfErr};
 ghost use Rattle.std.specs.Duration.{as_nanos};
-ghost use Rattle.gw_trunk.specs.System.{SystemIsReady, SystemRefusesStream, SystemReportedNone};
-ghost use Rattle.gw_trunk.specs.Waiting.{Rests, Waits, WaitsFor};
+ghost use Rattle.gw_trunk.specs.System.{SystemRefusesStream};
+ghost use Rattle.gw_trunk.specs.Waiting.{FindsNone, MayBeReady, Rests, Waits, WaitsFor};
 
-use crate::readiness::{open_poll, renew, wait_for_events, watch_descriptor};
-use mio::unix::SourceFd;
-use mio::{Events, Interest, Poll, Token};
+use crate::readiness::Poller;
+use mio::Interest;
 use std::io;
 use std::net::Net;
 use std::time::Duration;
@@ -18,8 +17,7 @@ const A_MOMENT_MS: u64 = 1;
 /// Waits for one descriptor of the system, which the caller keeps open.
 #[derive(Drop)]
 pub struct Waiting {
-    poll: Poll,
-    events: Events,
+    poller: Poller,
     descriptor: i32,
     interest: Interest,
     // Whether the last wait has ended and nothing came of it since: a device may have an event that somebody
@@ -37,12 +35,11 @@ impl Waiting {
         ensures ok { IfOk result (WaitsFor descriptor interest) }
         ensures err { IfErr result SystemRefusesStream }
     {
-        let (poll, events) = open_poll(rt, 1)?;
+        let mut poller = Poller::open(rt, 1)?;
         // (A regular file can't be waited for, and never has to be.)
-        let _ = watch_descriptor(&poll, descriptor, 0, interest);
+        let _ = poller.watch_descriptor(descriptor, 0, interest);
         Ok(Waiting {
-            poll,
-            events,
+            poller,
             descriptor,
             interest,
             is_refused: false,
@@ -65,8 +62,7 @@ impl Waiting {
             return false;
         }
         self.is_refused = false;
-        let moment = Duration::from_millis(A_MOMENT_MS);
-        wait_for_events(&mut self.poll, &mut self.events, Some(moment));
+        self.poller.wait(Some(Duration::from_millis(A_MOMENT_MS)));
         true
     }
 
@@ -78,32 +74,23 @@ impl Waiting {
         if self.rest() {
             return;
         }
-        if renew(&self.poll, self.descriptor, self.interest) {
-            wait_for_events(&mut self.poll, &mut self.events, None);
+        if self.poller.renew(self.descriptor, self.interest) {
+            self.poller.wait(None);
             self.is_refused = true;
         }
     }
 
     /// Waits until the descriptor is ready, for this time at most, or a signal comes. Returns whether it may
     /// be ready: the system reported it, or refused to wait.
-    #[tactic(auto, unfolding(crate::specs::System::SystemReportedNone, crate::specs::System::SystemIsReady))]
     pub fn wait_for(&mut self, limit: Duration) -> bool
-        ensures none { result ≡ false → SystemReportedNone self.new (as_nanos limit) }
-        ensures some { result ≡ true → SystemIsReady self.new (as_nanos limit) }
-        ensures noted { self.new.is_refused ≡ result }
+        ensures none { result ≡ false → FindsNone (as_nanos limit) self.old self.new }
+        ensures some { result ≡ true → MayBeReady (as_nanos limit) self.old self.new }
     {
         self.is_refused = true;
-        let registry = self.poll.registry();
-        let source = &mut SourceFd(&self.descriptor);
-        if registry
-            .reregister(source, Token(0), self.interest)
-            .is_err()
-        {
+        if !self.poller.renew(self.descriptor, self.interest) {
             return true;
         }
-        if self.poll.poll(&mut self.events, Some(limit)).is_ok() {
-            self.is_refused = !self.events.is_empty();
-        }
+        self.is_refused = self.poller.may_have_come(limit);
         self.is_refused
     }
 }

@@ -49,6 +49,8 @@ pub struct WithClients<R: DeviceReader> {
 }
 
 impl<R: DeviceReader + Drop> WithClients<R> {
+    ghost use Rattle.gw_trunk.specs.Turns.{AsksPoller};
+
     /// What comes from the reader, whose descriptor this is, and from those who connect to `door`. The
     /// answers to them come from `answers`, which never waits. The error is the system's.
     pub fn open(
@@ -79,8 +81,10 @@ impl<R: DeviceReader + Drop> WithClients<R> {
 
     /// Has a descriptor ask for the end, when anything comes of it or it is closed at its other end. The
     /// error is the system's.
-    pub fn end_by(&self, descriptor: i32) -> io::Result<()>
-        ensures watched { SystemWatches self.now.clients.poll descriptor 10 (is_ok result) }
+    pub fn end_by(&mut self, descriptor: i32) -> io::Result<()>
+        ensures watched { SystemWatches self.old.clients.poller self.new.clients.poller descriptor 10
+            (is_ok result) }
+        ensures same { AsksPoller self.old self.new }
         ensures err { IfErr result SystemRefusesStream }
     {
         self.clients.watch_end(descriptor)

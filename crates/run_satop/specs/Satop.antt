@@ -3,9 +3,8 @@ use Rattle.std.specs.Prelude.{◌≡◌, ◌≢◌, ◌⊎◌, ◌*◌, ◌/◌,
 use Rattle.std.specs.Prelude.{is_some, pos}
 use Rattle.std.specs.declared.net.socket_addr.SocketAddr.{SocketAddr}
 use Rattle.mio.specs.declared.interest.TheConstants.Interest.{READABLE, WRITABLE}
-use Rattle.mio.specs.declared.poll.Poll.{Poll}
+use Rattle.gw_trunk.specs.declared.readiness.Poller.{Poller}
 use Rattle.gw_trunk.specs.declared.waiting.Waiting.{Waiting}
-use Rattle.gw_trunk.specs.System.{SystemWatches}
 use Rattle.gw_trunk.specs.Waiting.{WaitsFor}
 use Rattle.gw_udp.specs.System.{IsBoundAt, SystemJoins, SystemRegisters}
 use Rattle.gw_udp.specs.declared.system_socket.SystemSocket.{SystemSocket}
@@ -18,6 +17,7 @@ use Rattle.gw_satop.specs.declared.counts.Counts.{Counts}
 use Rattle.gw_satop.specs.declared.line.Receiver.{Receiver}
 use Rattle.gw_satop.specs.declared.pace.PlayClock.{PlayClock}
 use Rattle.gw_satop.specs.declared.sender.Sender.{Sender}
+use Rattle.gw_satop.specs.ClockWaits.{ReportsBoth}
 use Rattle.gw_satop.specs.Counts.{CountsSends}
 use Rattle.gw_satop.specs.Opening.{FailsToJoin, IsJoined, SystemRefusesTrunk}
 use Rattle.gw_satop.specs.Session.{PlaysAll, SendsAll}
@@ -141,10 +141,9 @@ pub record HasFarEnd (command : CommandLine) (socket : SystemSocket) (address : 
   pub says_peer : text_in (codes "peer") command ≡ Some peer
   pub joined : IsJoined IsBoundAt SystemJoins local peer socket address
 
--- one poll has what comes of standard input and to a socket
-abbrev pub ReportsBoth : Poll → SystemSocket → Type 0
-ReportsBoth poll socket = ((agreed : Bool) × SystemWatches poll (pos 0) 0 agreed)
-    × ((agreed : Bool) × SystemRegisters socket poll 1 agreed)
+-- one poll has what comes to a socket and of standard input, and nothing else
+abbrev pub ReportsEnds : Poller → SystemSocket → Type 0
+ReportsEnds poller socket = ReportsBoth SystemRegisters socket (pos 0) poller
 
 -- A circuit has the far end that the command says, and standard input and output. Both are waited for there,
 -- and what comes to the socket with the first.
@@ -153,8 +152,8 @@ pub record HasEnds (command : CommandLine) : Type 0 where
   pub address : SocketAddr
   pub far_end : HasFarEnd command opened address
   pub socket : SystemSocket
-  pub poll : Poll
-  pub reported : ReportsBoth poll socket
+  pub poller : Poller
+  pub reported : ReportsEnds poller socket
   pub input : Waiting
   pub input_is : WaitsFor (pos 0) READABLE input
   pub output : Waiting

@@ -3,7 +3,7 @@
 ghost use Rattle.std.specs.Prelude.{◌≡◌, ◌⊎◌, ◌≤◌, ◌^◌, [], IfOk, IfErr, pos};
 ghost use Rattle.clap.specs.Words.{subcommand_rows_of};
 ghost use Rattle.run_satop.specs.Asked.{IsAsked};
-ghost use Rattle.run_satop.specs.Satop.{CarriesSatop, DoesSatop, HasFarEnd, ReportsBoth};
+ghost use Rattle.run_satop.specs.Satop.{CarriesSatop, DoesSatop, HasFarEnd, ReportsEnds};
 ghost use Rattle.mio.specs.declared.interest.TheConstants.Interest.{READABLE, WRITABLE};
 ghost use Rattle.gw_trunk.specs.Waiting.{WaitsFor};
 ghost use Rattle.gw_machine.specs.CommandLine.{CommandLine};
@@ -43,7 +43,8 @@ fn perform_satop<
     ensures same { HasSettings circuit.old.receiver circuit.new.receiver
         circuit.old.sender circuit.new.sender circuit.old.pace circuit.new.pace }
     ensures ended { IfOk result (λ _. I.has_ended circuit.new.incoming) }
-    ensures told { IfOk result (λ _. M.has_told moments.new circuit.new.counts) }
+    ensures told { IfOk result (λ _. (before : M) × (then : M)
+        × M.tells before then circuit.new.pace.counted × M.has_told then moments.new circuit.new.counts) }
     ensures fault { IfErr result (λ _. (I.has_failed circuit.new.incoming
         ⊎ RefusesOctets O.has_failed O.has_taken O.waits circuit.new.outgoing)
         ⊎ (2 ^ 63 ≤ M.waits moments.new)) }
@@ -80,7 +81,7 @@ fn emulate_between<
 ) -> Result<Totals, ProgramFault>
     requires input { WaitsFor (pos 0) READABLE (I.ready ends.incoming) }
     requires output { WaitsFor (pos 1) WRITABLE (O.waiting ends.outgoing) }
-    requires reported { ReportsBoth (M.poll ends.clock) (P.socket ends.peer) }
+    requires reported { ReportsEnds (M.poller ends.clock) (P.socket ends.peer) }
     requires came { I.came ends.incoming ≡ [] }
     requires went { O.went ends.outgoing ≡ [] }
     requires received { P.received ends.peer ≡ [] }
@@ -110,7 +111,7 @@ fn emulate_over<P: Peer + FarEnd + Drop, M: Clock + CircuitClock + Drop>(
     clock: M,
     streams: (Stdin, Stdout),
 ) -> Result<Totals, ProgramFault>
-    requires reported { ReportsBoth (M.poll clock) (P.socket peer) }
+    requires reported { ReportsEnds (M.poller clock) (P.socket peer) }
     requires received { P.received peer ≡ [] }
     requires sent { P.sent peer ≡ [] }
     ensures { (command : CommandLine)

@@ -5,7 +5,7 @@ ghost use Rattle.clap.specs.Words.{subcommand_rows_of};
 ghost use Rattle.gw_state.specs.Memory.{MemoryIsRefused};
 ghost use Rattle.mio.specs.declared.interest.TheConstants.Interest.{READABLE, WRITABLE};
 ghost use Rattle.gw_trunk.specs.Waiting.{WaitsFor};
-ghost use Rattle.run_satop.specs.Satop.{FailsToOpen, HasFarEnd, LacksStream, ReportsBoth};
+ghost use Rattle.run_satop.specs.Satop.{FailsToOpen, HasFarEnd, LacksStream, ReportsEnds};
 ghost use Rattle.run_satop.specs.Satop.{IsDrawn16, IsDrawn32, SystemFills};
 ghost use Rattle.gw_satop.specs.Line.{HasPlayed};
 
@@ -148,7 +148,7 @@ pub(crate) fn open_clock<'r, R: Fileless>(
     ensures sent { peer.new.sent ≡ peer.old.sent }
     ensures opened { peer.new.opened ≡ peer.old.opened }
     ensures address { peer.new.address ≡ peer.old.address }
-    ensures reported { IfOk result (λ clock. ReportsBoth clock.poll peer.new.socket) }
+    ensures reported { IfOk result (λ clock. ReportsEnds clock.poller peer.new.socket) }
     ensures err { IfErr result LacksStream }
 {
     match SystemClock::open(rt, STDIN, peer) {

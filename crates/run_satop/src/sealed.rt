@@ -3,7 +3,7 @@
 //! What passes octets on to one of these, or puts others in their place, is refused by its type.
 
 ghost use Rattle.std.specs.declared.net.socket_addr.SocketAddr.{SocketAddr};
-ghost use Rattle.mio.specs.declared.poll.Poll.{Poll};
+ghost use Rattle.gw_trunk.specs.declared.readiness.Poller.{Poller};
 ghost use Rattle.gw_trunk.specs.declared.waiting.Waiting.{Waiting};
 ghost use Rattle.gw_udp.specs.declared.system_socket.SystemSocket.{SystemSocket};
 
@@ -37,7 +37,7 @@ pub(crate) trait FarEnd {
 /// The system's clock.
 pub(crate) trait CircuitClock {
     /// What the system reports the trunk and the socket to.
-    ghost poll: { Self → Poll };
+    ghost poller: { Self → Poller };
 }
 
 impl TrunkSource for WhenReady<FromDevice<Stdin>, Waiting> {
@@ -57,5 +57,5 @@ impl FarEnd for UdpPeer<SystemSocket> {
 }
 
 impl<R> CircuitClock for SystemClock<'_, R> {
-    ghost poll = { λ clock. clock.poll };
+    ghost poller = { λ clock. clock.poller };
 }

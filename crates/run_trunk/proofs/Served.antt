@@ -1,7 +1,7 @@
 -- A trunk that was served with what the command line names.
 use Rattle.std.proofs.Common.{◌≡◌, ◌∙◌, ◌⊎◌, inl, inr, ℕ, Bool, List, [], Some, None, Result, Ok, Err, refl, ap}
 use Rattle.std.specs.Prelude.{IsErrAnd, codes}
-use Rattle.mio.specs.declared.poll.Poll.{Poll}
+use Rattle.gw_trunk.specs.declared.readiness.Poller.{Poller}
 use Rattle.e1_g711.specs.declared.Law.{Law}
 use Rattle.gw_config.specs.declared.config.Config.{Config}
 use Rattle.gw_records.specs.declared.outcome.Totals.{Totals}
@@ -55,10 +55,10 @@ pub end_alone : (command : CommandLine) (lacks : ProgramFault → Type 0) (descr
 end_alone command lacks descriptor none named =
     nothing_served command lacks program_faults.Nothing (inl (inr (inr (refl, (none, (descriptor, named))))))
 
--- where the command names no descriptor for the end, nothing is to be asked
-pub none_asked : (command : CommandLine) (poll : Poll) → ((n : ℕ) → ¬ SaysNumberIn 16 (codes "end") command n)
-    → IsEndedBy command poll
-none_asked command poll none n named = absurd (none n named)
+-- where the command names no descriptor for the end, nothing is asked
+pub none_asked : (command : CommandLine) (poller : Poller)
+    → ((n : ℕ) → ¬ SaysNumberIn 16 (codes "end") command n) → IsEndedBy command poller poller
+none_asked command poller none = ((λ n named. absurd (none n named)), λ _. refl)
 
 module _ (s s' : SourceState) (k k' : SinkState) {X P T : Type 0} {x x' : X} {command : CommandLine}
     {law : Law} {lacks : ProgramFault → Type 0} {saves : Result (Unit {0}) ProgramFault → Type 0}
@@ -93,7 +93,7 @@ trunk_so : {command : CommandLine} {law : Law} {gateway : Gateway}
     → ((passed : Traffic) (ended : Result Totals ProgramFault) → does passed ended → does' passed ended)
     → HasTrunk command law gateway does told → HasTrunk command law gateway does' told
 trunk_so is t = record {
-  poll = t.poll;
+  poller = t.poller;
   input = t.input;
   waiting = t.waiting;
   output_is = t.output_is;

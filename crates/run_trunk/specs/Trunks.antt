@@ -3,7 +3,8 @@ use Rattle.std.specs.Prelude.{◌≡◌, ◌⊎◌, ◌∷◌, ℕ, ℤ, Bool, p
 use Rattle.std.specs.Prelude.{Result, codes}
 use Rattle.gw_config.specs.declared.config.Config.{Config}
 use Rattle.mio.specs.declared.interest.TheConstants.Interest.{WRITABLE}
-use Rattle.mio.specs.declared.poll.Poll.{Poll}
+use Rattle.mio.specs.declared.net.uds.listener.UnixListener.{UnixListener}
+use Rattle.gw_trunk.specs.declared.readiness.Poller.{Poller}
 use Rattle.e1_g711.specs.declared.Law.{Law}
 use Rattle.gw_switch.specs.declared.GatewayConfig.{GatewayConfig}
 use Rattle.gw_switch.specs.declared.gateway.Gateway.{Gateway}
@@ -18,7 +19,7 @@ use Rattle.gw_session.specs.Tape.{TapeState}
 use Rattle.gw_command.specs.Command.{SaysNumberIn, text_in}
 use Rattle.gw_trunk.specs.declared.device.DeviceFault.{DeviceFault}
 use Rattle.gw_trunk.specs.declared.waiting.Waiting.{Waiting}
-use Rattle.gw_trunk.specs.System.{SystemRefusesDoor, SystemRefusesStream, SystemWatches}
+use Rattle.gw_trunk.specs.System.{SystemOpened, SystemRefusesDoor, SystemRefusesStream, SystemWatches}
 use Rattle.gw_trunk.specs.Waiting.{WaitsFor}
 use Rattle.run_trunk.specs.Filters.{Comes, EndIsTold, Goes, IsPlaceOf, LiveIsTold}
 use Rattle.run_trunk.specs.Serving.{Carried, Traffic}
@@ -99,18 +100,22 @@ abbrev pub LacksControl : List ℕ → ProgramFault → Type 0
 LacksControl path fault =
     SaysRefused (λ e. SystemRefusesDoor path e ⊎ SystemRefusesStream e) program_faults.Control fault
 
--- the system reports what comes of the descriptor that the command names for the end, if it names one
-abbrev pub IsEndedBy : {P : Type 0} → CommandLine → P → Type 0
-IsEndedBy command poll = (descriptor : ℕ) → SaysNumberIn 16 (codes "end") command descriptor
-    → SystemWatches poll (pos descriptor) 10 true
+-- the system was asked to report what comes of the descriptor that the command names for the end, and nothing
+-- else; nothing if it names none
+abbrev pub IsEndedBy : CommandLine → Poller → Poller → Type 0
+IsEndedBy command poller poller' = ((descriptor : ℕ) → SaysNumberIn 16 (codes "end") command descriptor
+    → SystemWatches poller poller' (pos descriptor) 10 true)
+    × (((descriptor : ℕ) → ¬ SaysNumberIn 16 (codes "end") command descriptor) → poller' ≡ poller)
 
--- the system was asked to report what comes of a descriptor
-abbrev pub IsReported : ℤ → Poll → Type 0
-IsReported descriptor poll = (agreed : Bool) × SystemWatches poll descriptor 0 agreed
+-- the system was asked to report what comes of a descriptor, and then of a door if there is one; nothing else
+abbrev pub IsReported : ℤ → Poller → Type 0
+IsReported descriptor poller = (opened : Poller) × (asked : Poller) × (agreed : Bool)
+    × SystemOpened opened × SystemWatches opened asked descriptor 0 agreed
+    × ((poller ≡ asked) ⊎ ((door : UnixListener) × SystemWatches asked poller door 1 true))
 
--- .. of standard input, and of what the command names for the end
-abbrev pub IsInputOf : CommandLine → Poll → Type 0
-IsInputOf command poll = IsReported (pos 0) poll × IsEndedBy command poll
+-- .. of standard input, and then of what the command names for the end
+abbrev pub IsInputOf : CommandLine → Poller → Type 0
+IsInputOf command poller = (first : Poller) × IsReported (pos 0) first × IsEndedBy command first poller
 
 -- standard output is what is waited for, until it can be written
 abbrev pub IsOutput : Waiting → Type 0
@@ -129,8 +134,8 @@ told_behind (Err fault) output = Err fault
 -- ended well.
 pub record HasTrunk (command : CommandLine) (law : Law) (gateway : Gateway)
     (does : Traffic → Result Totals ProgramFault → Type 0) (told : Result Totals ProgramFault) : Type 0 where
-  pub poll : Poll
-  pub input : IsInputOf command poll
+  pub poller : Poller
+  pub input : IsInputOf command poller
   pub waiting : Waiting
   pub output_is : IsOutput waiting
   pub passed : Traffic

@@ -43,7 +43,7 @@ const STDOUT: i32 = 1;
 // Opens the trunk at standard input, without clients.
 fn open_stdin(rt: &impl Fileless, input: Stdin) -> Result<FromDevice<Stdin>, ProgramFault>
     ensures came { IfOk result (λ incoming. incoming.reader.log.octets ≡ []) }
-    ensures reported { IfOk result (λ incoming. IsReported (pos 0) incoming.waiting.poll) }
+    ensures reported { IfOk result (λ incoming. IsReported (pos 0) incoming.waiting.poller) }
     ensures err { IfErr result LacksStream }
 {
     match FromDevice::open(rt, input, STDIN) {
@@ -75,7 +75,7 @@ fn open_control<R: Fileless, D: Doors>(
     ensures came { IfOk result (λ both. both.0.reader.log.octets ≡ []) }
     ensures asked { IfOk result (λ both. both.0.asked.octets ≡ []) }
     ensures told { IfOk result (λ both. both.1.log.octets ≡ []) }
-    ensures reported { IfOk result (λ both. IsReported (pos 0) both.0.clients.poll) }
+    ensures reported { IfOk result (λ both. IsReported (pos 0) both.0.clients.poller) }
     ensures calls { HasMadeSuch D.has_made doors.old doors.new (TriesDoor path.now) }
     ensures err { IfErr result (LacksControl path.now) }
 {
@@ -86,8 +86,14 @@ fn open_control<R: Fileless, D: Doors>(
 }
 
 // Has the descriptor that the matches name for it, if they name one, ask for the end of the trunk.
-fn end_as_asked(matches: &ArgMatches<'_>, incoming: &WithClients<Stdin>) -> Result<(), ProgramFault>
-    ensures ok { OnOk result (IsEndedBy (subcommand_rows_of matches.now) incoming.now.clients.poll) }
+fn end_as_asked(
+    matches: &ArgMatches<'_>,
+    incoming: &mut WithClients<Stdin>,
+) -> Result<(), ProgramFault>
+    ensures ok { OnOk result (IsEndedBy (subcommand_rows_of matches.now)
+        incoming.old.clients.poller incoming.new.clients.poller) }
+    ensures came { incoming.new.reader ≡ incoming.old.reader }
+    ensures asked { incoming.new.asked ≡ incoming.old.asked }
     ensures err { IfErr result LacksStream }
 {
     let Some(descriptor) = end_of(matches) else {
@@ -183,7 +189,7 @@ fn carry_from<
     gateway: &mut Gateway,
     ends: TrunkEnds<I, O, A>,
 ) -> Result<Totals, ProgramFault>
-    requires input { IsInputOf (subcommand_rows_of matches.now) (I.poll ends.incoming) }
+    requires input { IsInputOf (subcommand_rows_of matches.now) (I.poller ends.incoming) }
     requires output { IsOutput (O.waiting ends.outgoing) }
     requires came { I.came ends.incoming ≡ [] }
     requires asked { I.asked ends.incoming ≡ [] }
@@ -259,7 +265,7 @@ fn carry<
     ends: TrunkEnds<I, O, A>,
 ) -> Result<Totals, ProgramFault>
     requires takes { TakesAsked (subcommand_rows_of matches.now) (Y.files system.now) }
-    requires input { IsInputOf (subcommand_rows_of matches.now) (I.poll ends.incoming) }
+    requires input { IsInputOf (subcommand_rows_of matches.now) (I.poller ends.incoming) }
     requires output { IsOutput (O.waiting ends.outgoing) }
     requires came { I.came ends.incoming ≡ [] }
     requires asked { I.asked ends.incoming ≡ [] }
@@ -325,7 +331,7 @@ fn serve_clients<R: Fileless, Y: System>(
     output: Stdout,
 ) -> Result<Totals, ProgramFault>
     requires takes { TakesAsked (subcommand_rows_of matches.now) (Y.files system.now) }
-    requires input { IsInputOf (subcommand_rows_of matches.now) incoming.clients.poll }
+    requires input { IsInputOf (subcommand_rows_of matches.now) incoming.clients.poller }
     requires came { incoming.reader.log.octets ≡ [] }
     requires asked { incoming.asked.octets ≡ [] }
     requires told { answers.log.octets ≡ [] }
@@ -369,8 +375,8 @@ fn serve_at<R: Fileless, D: Doors, Y: System>(
     let Some(path) = control_of(matches) else {
         return serve_alone(rt, matches, system, files, input, output);
     };
-    let (incoming, answers) = open_control(rt, doors, path, input)?;
-    end_as_asked(matches, &incoming)?;
+    let (mut incoming, answers) = open_control(rt, doors, path, input)?;
+    end_as_asked(matches, &mut incoming)?;
     serve_clients(rt, matches, system, files, incoming, answers, output)
 }
 

@@ -2,7 +2,7 @@
 //!
 //! What passes octets on to one of these, or puts others in their place, is refused by its type.
 
-ghost use Rattle.mio.specs.declared.poll.Poll.{Poll};
+ghost use Rattle.gw_trunk.specs.declared.readiness.Poller.{Poller};
 ghost use Rattle.gw_trunk.specs.declared.waiting.Waiting.{Waiting};
 
 use crate::fileless::Fileless;
@@ -16,7 +16,7 @@ use std::rt::{Stdin, Stdout};
 /// Standard input, with clients or without.
 pub(crate) trait TrunkSource {
     /// What the system reports its octets to.
-    ghost poll: { Self → Poll };
+    ghost poller: { Self → Poller };
 }
 
 /// The same with all slots, aligned and then checked.
@@ -35,11 +35,11 @@ pub(crate) trait MultiframeDevice {}
 pub(crate) trait AnswersDevice {}
 
 impl TrunkSource for FromDevice<Stdin> {
-    ghost poll = { λ d. d.waiting.poll };
+    ghost poller = { λ d. d.waiting.poller };
 }
 
 impl TrunkSource for WithClients<Stdin> {
-    ghost poll = { λ d. d.clients.poll };
+    ghost poller = { λ d. d.clients.poller };
 }
 
 impl<

@@ -21,7 +21,7 @@ returns-clause-serves g c =
     let align : HasFlag (codes "align") command g.K.Switch.is_on = rw c.requires.align at c.requires.filters.align in
     let crc4 : HasFlag (codes "crc4") command g.L.Switch.is_on = rw c.requires.crc4 at c.requires.filters.asks_crc4 in
     served_by _ _ _ _ _ _ _ _ _ _ c.perform_trunk-ended.ensures.served (λ does done. record {
-      poll = _;
+      poller = _;
       input = c.requires.input;
       waiting = _;
       output_is = c.requires.output;

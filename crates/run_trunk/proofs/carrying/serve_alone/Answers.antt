@@ -19,6 +19,7 @@ returns-in_err-filters_as_asked-clause-serves g c =
 
 pub carry-requires-clause-input : goal.carry-requires-clause-input
 carry-requires-clause-input g c = (
+  _,
   c.in_ok-open_stdin.ensures.reported,
   none_asked (subcommand_rows_of c.args.matches.now) _ c.in_default.ensures.none,
 )
