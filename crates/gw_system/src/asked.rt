@@ -1,9 +1,8 @@
 //! What the command line says of senders, of repeats and of the recording.
 
-ghost use Rattle.std.specs.Prelude.{◌≡◌, IfSome, option_map, codes};
 ghost use Rattle.clap.specs.Words.{subcommand_rows_of};
-ghost use Rattle.gw_command.specs.Command.{HasFlag, text_in};
 ghost use Rattle.gw_system.specs.Asked.{AreSenders, AreSockets, IsRepeat};
+ghost use Rattle.gw_system.specs.LocalCalls.{IsRecordingIn};
 
 use clap::ArgMatches;
 use gw_command::{recording_of, records_over, repeat_of, senders_of, sockets_of};
@@ -42,11 +41,7 @@ pub(crate) fn sockets_asked(matches: &ArgMatches<'_>) -> Descriptors
 
 // The recording that the matches ask for. `waits` says whether it is waited for.
 pub(crate) fn recording_asked<'m>(matches: &'m ArgMatches<'_>, waits: bool) -> Option<Recording<'m>>
-    ensures path { option_map (λ recording. recording.path.now) result
-        ≡ text_in (codes "record") (subcommand_rows_of matches.now) }
-    ensures over { IfSome result (λ recording.
-        HasFlag (codes "record-over") (subcommand_rows_of matches.now) recording.over) }
-    ensures waits { IfSome result (λ recording. recording.waits ≡ waits) }
+    ensures { IsRecordingIn (subcommand_rows_of matches.now) waits result }
 {
     let path = recording_of(matches)?;
     Some(Recording {

@@ -1,10 +1,11 @@
 //! The system of a session: this machine's files and sockets, as the command line names them.
 
-ghost use Rattle.std.specs.Prelude.{◌≡◌, IfErr, IfOk, IfSome, option_map, codes};
+ghost use Rattle.std.specs.Prelude.{◌≡◌, IfErr, IfOk, option_map, codes};
 ghost use Rattle.clap.specs.Words.{subcommand_rows_of};
-ghost use Rattle.gw_command.specs.Command.{HasFlag, text_in};
+ghost use Rattle.gw_command.specs.Command.{text_in};
 ghost use Rattle.gw_machine.specs.CommandLine.{load_in, log_in, save_in, AsksWait};
 ghost use Rattle.gw_system.specs.Asked.{AreSenders, AreSockets, IsRepeat};
+ghost use Rattle.gw_system.specs.LocalCalls.{IsRecordingIn};
 ghost use Rattle.gw_system.specs.Lacking.{SystemRefusesTeller};
 ghost use Rattle.gw_system.specs.Opening.{trouble_of_opening};
 ghost use Rattle.gw_system.specs.Telling.{TellsFrom};
@@ -288,16 +289,12 @@ pub fn local_of<'m, R, F, D, N>(
     ensures senders { AreSenders (subcommand_rows_of matches.now) result.senders }
     ensures among { AreSockets (subcommand_rows_of matches.now) result.among }
     ensures repeat { IsRepeat (subcommand_rows_of matches.now) result.repeat }
-    ensures recording { option_map (λ recording. recording.path.now) result.recording
-        ≡ text_in (codes "record") (subcommand_rows_of matches.now) }
-    ensures over { IfSome result.recording (λ recording.
-        HasFlag (codes "record-over") (subcommand_rows_of matches.now) recording.over) }
-    ensures waits { IfSome result.recording (λ recording. recording.waits ≡ waits) }
+    ensures recording { IsRecordingIn (subcommand_rows_of matches.now) waits result.recording }
     ensures tell { option_map (λ path. path.now) result.tell
         ≡ text_in (codes "tell") (subcommand_rows_of matches.now) }
-    ensures log { option_map (λ path. path.now) result.log ≡ log_in (subcommand_rows_of matches.now) }
-    ensures load { option_map (λ path. path.now) result.load ≡ load_in (subcommand_rows_of matches.now) }
-    ensures save { option_map (λ path. path.now) result.save ≡ save_in (subcommand_rows_of matches.now) }
+    ensures files { (option_map (λ path. path.now) result.log ≡ log_in (subcommand_rows_of matches.now))
+        × (option_map (λ path. path.now) result.load ≡ load_in (subcommand_rows_of matches.now))
+        × (option_map (λ path. path.now) result.save ≡ save_in (subcommand_rows_of matches.now)) }
     ensures wait { AsksWait (subcommand_rows_of matches.now) result.wait }
 {
     Local {
