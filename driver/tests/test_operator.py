@@ -88,8 +88,6 @@ class OperatorTests(unittest.TestCase):
             world.give(b'\xff' * MULTIFRAME)
         self.assertEqual(self.next(events, event='cleared')['circuits'], [1])
 
-
-class ControlConnectionTests(unittest.TestCase):
     def test_many_clients(self) -> None:
         """Lines that come at once are answered, and a long one ends its connection. Those who say nothing lock nobody
         out; those who follow events stay, also where the socket is removed: another one is there soon."""

@@ -43,7 +43,11 @@ class PageRequestTests(unittest.TestCase):
             self.assertEqual(PageRequest.of(f'GET / HTTP/1.1\r\nHost: {host}\r\n\r\n'.encode()).host, found)
 
 
-class TextTests(unittest.TestCase):
+def line_changed(state: State) -> LineChanged:
+    return LineChanged(1, Role.OUTGOING, State.IDLE, state, 0)
+
+
+class PageTextTests(unittest.TestCase):
     def test_texts_stay_texts(self) -> None:
         """Whatever a name, a fault or an event says."""
         text = page_of(EVIL, {each: [[EVIL, EVIL], [EVIL]] for each in BODIES}, ['/trunks']).decode()
@@ -66,12 +70,6 @@ class TextTests(unittest.TestCase):
             text = trunks_page([TrunkHere(True, TrunkLine('a', state='secret'), more)], '').decode()
             self.assertEqual(('href' in text, 'secret' in text), (False, more is None))
 
-
-def line_changed(state: State) -> LineChanged:
-    return LineChanged(1, Role.OUTGOING, State.IDLE, state, 0)
-
-
-class StateTests(unittest.TestCase):
     def test_circuits_that_are_blocked(self) -> None:
         """An outgoing one stays idle: a tile and a square say that the operator has taken it. If the trunk is not open
         nothing is known of a line."""
@@ -84,8 +82,6 @@ class StateTests(unittest.TestCase):
             self.assertIn(f'<i data-s="{words}" title="7 {words}">',
                           trunk_row(TrunkHere(True, TrunkLine('a'), status), ''))
 
-
-class StandingTests(unittest.TestCase):
     def test_alarms_and_since_when(self) -> None:
         """By the events of e1gw-trunk(1): what begins an alarm, and what ends it."""
         frame, multiframe = Alignment.FRAME, Alignment.MULTIFRAME
@@ -109,8 +105,6 @@ class StandingTests(unittest.TestCase):
             self.assertEqual([each['time'] for each in events.alarms()], [1.0], begin)
             self.assertEqual(len(events.last), 4 if end else 3)
 
-
-class KeptCallTests(unittest.TestCase):
     def test_where_a_call_is_found(self) -> None:
         """By the rules of e1gw-call: its own folder and file, or those that are named."""
         for session, calls, kept in (('/var/lib/e1gw/a', '/var/lib/e1gw/a/calls.csv', ''), ('/b c', '/b c/calls.csv',

@@ -227,7 +227,6 @@ class ProgramFaultTests(support.FolderCase, unittest.IsolatedAsyncioTestCase):
             self.assertTrue(its.lacks())
             self.write(name, '')
 
-
     def test_room_for_what_is_said(self) -> None:
         """A log that takes all room of a disk leaves that for why it does not fit; else it is said in memory."""
         places = ProgramPlaces(self.folder)

@@ -50,7 +50,7 @@ def call(world: World, circuit: int) -> None:
     assert world.state(circuit) == 'answered'
 
 
-class StatusTests(unittest.TestCase):
+class TrunkTests(unittest.TestCase):
     def test_status_and_events(self) -> None:
         world = World(config_of(FOUR))
         self.addCleanup(world.__exit__)
@@ -80,8 +80,6 @@ class StatusTests(unittest.TestCase):
         self.assertEqual(states, [('fault', 'idle'), ('idle', 'seized'), ('seized', 'acked'), ('acked', 'answered')])
         self.assertIn({'event': 'command', 'circuit': 1, 'command': 'seize', 'answer': 'done'}, told)
 
-
-class BesideCallsTests(unittest.TestCase):
     def test_closed_descriptors(self) -> None:
         """Calls come up all the same."""
         for words in ('<&-', '>&-', '2>&-', '<&- >&- 2>&-'):
@@ -91,14 +89,20 @@ class BesideCallsTests(unittest.TestCase):
                 self.assertEqual({*world.status()['ended'].values()}, {None})
                 self.assertEqual(world.quit()[0], 0)
 
-
-class PlaceTests(unittest.TestCase):
     def test_hosts_and_ports(self) -> None:
         self.assertEqual(host_and_port('127.0.0.1:1'), ('127.0.0.1', 1))
         self.assertEqual(host_and_port('[::1]:65535'), ('::1', 65535))
         for text in ('', ':', 'a', 'a:', ':1', 'a:0', 'a:65536', 'a:99999', 'a:-1', 'a:٣', '.x:1', 'a..b:1', '[]:1'):
             with self.subTest(text), self.assertRaises(ValueError):
                 host_and_port(text)
+
+    def test_octets_before_the_first_multiframe(self) -> None:
+        """The exchange waits for that, and hears it."""
+        exchange = support.Exchange()
+        exchange.hear(b'\xff' * 600)
+        self.assertFalse(exchange.aligned)
+        exchange.hear(support.Exchange().multiframe())
+        self.assertEqual((exchange.aligned, exchange.remote_alarms, len(exchange.heard[1])), (True, False, 16))
 
 
 class TrunkKindServiceTests(support.FolderCase):
@@ -146,16 +150,6 @@ class TrunkKindServiceTests(support.FolderCase):
         while len(back) < len(OCTETS):
             back += os.read(file, 1000)
         return back
-
-
-class HearingTests(unittest.TestCase):
-    def test_octets_before_the_first_multiframe(self) -> None:
-        """The exchange waits for that, and hears it."""
-        exchange = support.Exchange()
-        exchange.hear(b'\xff' * 600)
-        self.assertFalse(exchange.aligned)
-        exchange.hear(support.Exchange().multiframe())
-        self.assertEqual((exchange.aligned, exchange.remote_alarms, len(exchange.heard[1])), (True, False, 16))
 
 
 class FilteredWorld(World):

@@ -23,7 +23,7 @@ from e1gw.testing.ports import free_port
 TABLE = 'text/plain; charset=utf-8'
 
 
-class SocketTableTests(unittest.TestCase):
+class WebPartTests(unittest.IsolatedAsyncioTestCase):
     def test_a_socket_that_nobody_reads(self) -> None:
         """Octets wait there, and what has no room is dropped."""
         with socket.socket(socket.AF_INET, socket.SOCK_DGRAM) as line:
@@ -34,12 +34,9 @@ class SocketTableTests(unittest.TestCase):
         self.assertEqual([*found], [7])
         self.assertGreater(min(found[7].values()), 0)
 
-
-class SlowPageTests(unittest.IsolatedAsyncioTestCase):
-    """A picture that takes longer than somebody waits for it."""
-
     async def test_a_slow_picture(self) -> None:
-        """One process draws, however many ask; they learn it, and later get the page."""
+        """It takes longer than somebody waits for it. One process draws, however many ask; they learn it, and later get
+        the page."""
         drawn, begun = asyncio.Event(), list[Any]()
 
         async def ran(starts: Callable[[int, int], object], *_: object) -> tuple[int, str, bytes]:
