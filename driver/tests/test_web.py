@@ -12,7 +12,7 @@ from unittest import mock
 
 from . import support
 from .support import SECONDS
-from .test_recorder import LONG
+from .test_service_lifecycle import LONG
 from .test_trunk import FOUR, aligned, call
 from .world import World, config_of
 from e1gw.lines import Line
