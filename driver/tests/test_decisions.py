@@ -86,12 +86,6 @@ class DecisionTests(unittest.TestCase):
         self.assertEqual(Deaths((0.0, 0.5, 1.0, 1.5)).with_one(2.0).pause, 0.5)
         self.assertEqual(Deaths((0.0, 0.5, 1.0, 1.5)).with_one(2.01).pause, 0.0)
 
-    def test_slow_deaths_never_wait(self) -> None:
-        deaths = Deaths()
-        for place in range(20):
-            deaths = deaths.with_one(place * (WITHIN / (DEATHS - 1) + 0.01))
-            self.assertEqual(deaths.pause, 0.0)
-
     def test_figures_of_the_manual(self) -> None:
         """Of e1gw-trunk(1) and OPERATING.md."""
         self.assertEqual((DEATHS, WITHIN, FIRST_PAUSE, MOST_PAUSE), (5, 2.0, 0.5, 10.0))

@@ -110,9 +110,9 @@ def waiting_at(port: int) -> int:
 
 
 class PortsAskedTests(support.FolderCase):
-    """A datagram that was there before a read's octets is received with them: thirty incoming circuits, each with a port
-    and a peer's socket, in which the datagrams are before the octets are written. Expected is what `e1gw replay` does
-    with the same as records, each datagram before the octet that the definition receives it before."""
+    """A datagram that was there before a read's octets is received with them: thirty incoming circuits, each with a
+    port and a peer's socket, in which the datagrams are before the octets are written. Expected is what `e1gw replay`
+    does with the same as records, each datagram before the octet that the definition receives it before."""
 
     def setUp(self) -> None:
         super().setUp()
