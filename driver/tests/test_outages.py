@@ -2,11 +2,10 @@
 from __future__ import annotations
 
 import json
+import unittest
 from math import inf
 from typing import Any
 
-from . import support
-from e1gw.ctl_calls import lines_of
 from e1gw.outages import NO_OCTETS, SLIP, TrunkOutage, outages_in
 from e1gw.session import OCTETS_A_SECOND
 from e1gw.session_clock import FileNote, SessionClock, breaks_of
@@ -26,14 +25,7 @@ AWAY = (event(112.0, 'stalled', 1500, seconds=1.0), event(120.0, 'flows', 1501, 
         event(120.5, 'gap', 9000, seconds=9.25))
 
 
-class OutageTests(support.FolderCase):
-    def test_an_outage_over_two_files(self) -> None:
-        """Its begin is in the file that was renamed at 10 MiB."""
-        for name, each in ('events.1', LFA[0]), ('events', LFA[1]):
-            self.write(name, f'{json.dumps(each)}\n')
-        self.assertEqual([(each.begin, each.end) for each in outages_in(lines_of(self.path('events')), 0.0, inf)],
-                         [(110.0, 121.0)])
-
+class OutageTests(unittest.TestCase):
     def test_figures(self) -> None:
         """What is measured of no octets is told once; a call is concerned while it is up, and one that begins, too."""
         ended = event(111.5, 'state', 1400, circuit=3, was='seized', state='idle')

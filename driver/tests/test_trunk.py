@@ -109,10 +109,9 @@ class TrunkTests(unittest.TestCase):
 
 
 class OperatorTests(unittest.TestCase):
-    def world(self, *options: str, incoming: tuple[int, ...] = (), **within: float) -> World:
-        """Fifteen idle circuits, within these limits of modules of the service: decisions_QUIET is decisions.QUIET."""
-        modules = {f'service.{name.replace("_", ".", 1)}': value for name, value in within.items()}
-        world = World(config_of(range(1, 16), incoming=incoming), *options, within=modules)
+    def world(self, *options: str, incoming: tuple[int, ...] = (), **more: Any) -> World:
+        """Fifteen idle circuits."""
+        world = World(config_of(range(1, 16), incoming=incoming), *options, **more)
         self.addCleanup(world.__exit__)
         return aligned(world)
 
@@ -129,7 +128,7 @@ class OperatorTests(unittest.TestCase):
     def test_answers(self) -> None:
         """A change, then the answer to the command that made it, and a status that has it. Several clients at once get
         their own. Nobody seizes while the other end has no alignment, or the trunk no octets."""
-        world = self.world(decisions_QUIET=0.5)
+        world = self.world(within={'service.decisions.QUIET': 0.5})
         events = self.events(world)
         support.until(lambda: bool(world.told()['clock']['stalled']))
         self.assertEqual(world.ask('seize 1'), 'seize 1: the trunk is stalled')
