@@ -1,7 +1,7 @@
 """One process a trunk: what it does when something of it is killed, hangs, fails or is full, with thirty calls up, as
 calls in trunks before this one were ended; and its recordings, which replay to what was heard.
 
-It goes in lock step, as test_program_killed does; what is received is what one uncut replay of all records gives."""
+It goes in lock step; what is received is what one uncut replay of all records gives."""
 from __future__ import annotations
 
 import contextlib
