@@ -19,8 +19,7 @@ from typing import Any, Callable
 
 from . import limits, support
 from .manager import Manager
-from .support import SECONDS
-from .test_trunk_served import octets_in
+from .support import SECONDS, octets_in
 from .world import trunk_command, words_of
 from e1gw.exchange import ACKNOWLEDGED, ANSWERED, SEIZED
 from e1gw.service.note import NoteFiles, ServiceNote, note_in

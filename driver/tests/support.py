@@ -24,6 +24,7 @@ from typing import Any, Callable, Iterator, Mapping, TypeVar
 from . import limits
 from e1gw.__main__ import COMMANDS
 from e1gw.exchange import Exchange
+from e1gw.session import Kind, records_in
 from e1gw.testing import service
 from e1gw.testing.limited import SECONDS
 from e1gw.testing.service import Service
@@ -31,9 +32,9 @@ from e1gw.testing.service import Service
 TOP = os.path.dirname(os.path.dirname(os.path.dirname(os.path.abspath(__file__))))
 sys.dont_write_bytecode = not sys.pycache_prefix or 'E1GW_MUTANT' in os.environ
 
-__all__ = ['Exchange', 'FolderCase', 'LoopCase', 'SECONDS', 'Service', 'TOP', 'all_read', 'chance_of',
-           'config_text', 'connected', 'in_memory', 'launcher', 'listening', 'octets_of', 'program', 'read_from',
-           'ran', 'remove', 'run', 'said_by', 'state_of', 'stopped', 'text_of', 'until', 'whole_lines']
+__all__ = ['Exchange', 'FolderCase', 'LoopCase', 'SECONDS', 'Service', 'TOP', 'all_read', 'chance_of', 'config_text',
+           'connected', 'in_memory', 'launcher', 'listening', 'octets_in', 'octets_of', 'program', 'read_from', 'ran',
+           'remove', 'run', 'said_by', 'state_of', 'stopped', 'text_of', 'until', 'whole_lines']
 
 T = TypeVar('T')
 
@@ -69,6 +70,11 @@ def said_by(process: subprocess.Popen[bytes], path: str, pattern: str | re.Patte
             return found
         assert not has_ended, f'not said: {pattern}\n{text}'
         time.sleep(0.002)
+
+
+def octets_in(session: bytes) -> bytes:
+    """The octets of the trunk in a session."""
+    return b''.join(record.body for record in records_in(session) if record.kind == Kind.TRUNK)
 
 
 def config_text(circuits: Mapping[int, Mapping[str, object]], law: str = 'A') -> str:

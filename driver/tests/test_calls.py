@@ -44,6 +44,17 @@ class CallEndTests(unittest.TestCase):
             self.assertEqual(is_another_gateway(before, now), found, now)
         self.assertEqual([is_another_gateway({}, {'sent': n}) for n in (0, 1)], [True, False])
 
+    def test_what_was_missed(self) -> None:
+        """The state where it begins, and what was told behind that, up to an octet."""
+        state, more = b'e1gw tell 1 A\nat 8\n', b'at 512\nline  1 c\nat 1024\ncounts 1 9\nalarms 1\nend\n'
+        text = state + b'alarms 0\nline  1 a\nline  2 b\ncounts 1 5\nseizures 0\nnow\n' + more
+        first, then = b'line  1 a\nline  2 b\ncounts 1 5\n', b'line  1 c\nline  2 b\ncounts 1 5\n'
+        for since, last, at, circuits, changes in (
+                (108, 108, 8, first, b''), (100, 700, 8, first, more[:17]), (50, 5000, 8, first, more),
+                (612, 611, 512, then, b''), (700, 2000, 600, then, more[17:])):
+            self.assertEqual(MissedReports(since, False, 100, 1124, text).parts(last), (
+                b'e1gw tell 1 A\nat %d\nalarms 0\n' % at, circuits, b'now\n' + changes), (since, last))
+
 
 class CalledTrunk:
     """Two lines that come into any states, packets, and one who tells of them and is away now and then. Each call is
@@ -244,16 +255,3 @@ class MissedCallsTests(RestartedKeeperCase):
                          if row['circuit'] == '1' and not row['answered'])
         self.assertAlmostEqual((ended - seized).total_seconds(), 30 * MULTIFRAME / OCTETS_A_SECOND, delta=FAR)
         self.assertEqual(os.listdir(self.memory), [])
-
-
-class MissedReportsTests(unittest.TestCase):
-    def test_what_was_missed(self) -> None:
-        """The state where it begins, and what was told behind that, up to an octet."""
-        state, more = b'e1gw tell 1 A\nat 8\n', b'at 512\nline  1 c\nat 1024\ncounts 1 9\nalarms 1\nend\n'
-        text = state + b'alarms 0\nline  1 a\nline  2 b\ncounts 1 5\nseizures 0\nnow\n' + more
-        first, then = b'line  1 a\nline  2 b\ncounts 1 5\n', b'line  1 c\nline  2 b\ncounts 1 5\n'
-        for since, last, at, circuits, changes in (
-                (108, 108, 8, first, b''), (100, 700, 8, first, more[:17]), (50, 5000, 8, first, more),
-                (612, 611, 512, then, b''), (700, 2000, 600, then, more[17:])):
-            self.assertEqual(MissedReports(since, False, 100, 1124, text).parts(last), (
-                b'e1gw tell 1 A\nat %d\nalarms 0\n' % at, circuits, b'now\n' + changes), (since, last))

@@ -14,7 +14,7 @@ from e1gw.service.commands import CommandServer
 LOOK = 0.125                # seconds between two looks
 
 
-class PolicyTests(unittest.TestCase):
+class ClearingTests(unittest.TestCase):
     def test_words(self) -> None:
         """The limits of both times are of it, and nothing beside them."""
         for words, policy in (('keep', DisconnectPolicy()), ('clear 0', DisconnectPolicy(0.0)),
@@ -28,9 +28,7 @@ class PolicyTests(unittest.TestCase):
             with self.subTest(words), self.assertRaises(ValueError):
                 on_loss_of(words.split())
 
-
-class OutageWatchTests(unittest.TestCase):
-    def test_seconds(self) -> None:
+    def test_an_outage(self) -> None:
         """Once in each outage that lasts so long."""
         cleared: list[str] = []
         watch, never = OutageWatch(3.0, cleared.append), OutageWatch(None, cleared.append)
@@ -46,9 +44,7 @@ class OutageWatchTests(unittest.TestCase):
         watch.look(7.5, 'dark')
         self.assertEqual(cleared[1:], ['the trunk has been dark for 0.5 s'])
 
-
-class SilentClientTests(unittest.TestCase):
-    def test_once(self) -> None:
+    def test_a_silent_client(self) -> None:
         """Three seconds behind the one of silence by which it counts as gone calls are cleared, and not again."""
         cleared, now = list[float](), 100.0
         watch = DisconnectWatch(DisconnectPolicy(), lambda why, blocks: cleared.append(now))

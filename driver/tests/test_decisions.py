@@ -71,7 +71,7 @@ class AfterEndTests(unittest.TestCase):
         self.assertEqual(Trial().is_up(100.0).is_up(150.0), Trial(100.0 + TRIED))
 
 
-class DeathsTests(unittest.TestCase):
+class DecisionTests(unittest.TestCase):
     def test_pauses(self) -> None:
         """Five deaths in two seconds are too many; then there are pauses, up to ten seconds, until one has lived."""
         deaths, now, pauses = Deaths(), 100.0, list[float]()
@@ -86,22 +86,12 @@ class DeathsTests(unittest.TestCase):
         self.assertEqual(Deaths((0.0, 0.5, 1.0, 1.5)).with_one(2.0).pause, 0.5)
         self.assertEqual(Deaths((0.0, 0.5, 1.0, 1.5)).with_one(2.01).pause, 0.0)
 
-    def test_slow_deaths_never_wait(self) -> None:
-        deaths = Deaths()
-        for place in range(20):
-            deaths = deaths.with_one(place * (WITHIN / (DEATHS - 1) + 0.01))
-            self.assertEqual(deaths.pause, 0.0)
-
-
-class LimitsTests(unittest.TestCase):
     def test_figures_of_the_manual(self) -> None:
         """Of e1gw-trunk(1) and OPERATING.md."""
         self.assertEqual((DEATHS, WITHIN, FIRST_PAUSE, MOST_PAUSE), (5, 2.0, 0.5, 10.0))
         self.assertEqual((MOST_ENDED, MOST_DEATHS), (3, 2))
 
-
-class TakeoverTests(unittest.TestCase):
-    def test_each(self) -> None:
+    def test_takeovers(self) -> None:
         """A program that carries the trunk goes on if all descriptors are there; a standby starts none."""
         found = {(has_program, has_trunk): takeover_of(Found(has_program, has_trunk, True))
                  for has_program in (False, True) for has_trunk in (False, True)}
@@ -111,9 +101,7 @@ class TakeoverTests(unittest.TestCase):
             has_program, has_trunk = flags
             self.assertEqual(takeover_of(Found(has_program, has_trunk, False)), Takeover.STAND_BY)
 
-
-class ReloadEffectsTests(unittest.TestCase):
-    def test_random_circuits(self) -> None:
+    def test_what_a_reload_ends(self) -> None:
         chance = random.Random(f'{self.id()} {support.chance_of(self).random()}')
         for _ in range(300):
             calls, new, ports, then = (frozenset(n for n in range(1, 9) if chance.randrange(2)) for _ in range(4))
@@ -124,8 +112,6 @@ class ReloadEffectsTests(unittest.TestCase):
             many = len(effects.ended) + len(effects.mute) > MOST_ENDED
             self.assertEqual((effects.is_refused(False), effects.is_refused(True)), (many, False))
 
-
-class FlowTests(unittest.TestCase):
     def test_a_stall(self) -> None:
         """It is found after a second, once; what nobody reports is not missed; octets end it."""
         flow, change = Flow(0, 10.0).seen(0, 10.0 + QUIET - 0.01, True)
@@ -137,8 +123,6 @@ class FlowTests(unittest.TestCase):
         self.assertEqual(stalled.seen(7, 51.0, False), (Flow(7, 51.0, None, 1), FlowChange.FLOWS))
         self.assertEqual(Flow(7, 51.0, None, 1).seen(8, 99.0, True), (Flow(8, 99.0, None, 1), None))
 
-
-class ClientTests(unittest.TestCase):
     def test_who_goes(self) -> None:
         """The one idle for longest; one that follows events only if all do."""
         idle, busy, follows, old = (SimpleNamespace(follows=its, last=last) for its, last in (

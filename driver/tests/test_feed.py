@@ -269,7 +269,6 @@ class PairRoleTests(unittest.IsolatedAsyncioTestCase):
         self.carrier.trunk.tell.assert_called_once_with(RoleGiven('standby'))
         self.assertEqual((self.carrier.trunk.finish.await_count, self.feed.finish.await_args), (1, mock.call(GRACE)))
 
-
     async def test_where_it_feeds(self) -> None:
         """A port that is taken ends no trunk that goes on."""
         self.carrier.places.folder = '/none'
@@ -322,12 +321,6 @@ class ReadAgainTests(unittest.TestCase):
         self.assertEqual(taken, [bytes(range(256)) * 1000])
 
 
-class StandbyCase(support.LoopCase):
-    def standby(self) -> TrunkStandby:
-        """One that nobody feeds."""
-        return TrunkStandby((HOST, 1), '', (), mock.Mock(), self.folder, mock.Mock())
-
-
 class FedLogTests(support.FolderCase):
     """When octets came at the other machine, by its clock and what comes of them here."""
 
@@ -367,7 +360,12 @@ class FedLogTests(support.FolderCase):
             self.assertAlmostEqual(fed.came, last + 5, delta=0.011)
 
 
-class OldLogTests(StandbyCase):
+class StandbyTests(support.LoopCase):
+    """A standby that nobody feeds, and one that is to carry the trunk, and whose program does."""
+
+    def standby(self) -> TrunkStandby:
+        return TrunkStandby((HOST, 1), '', (), mock.Mock(), self.folder, mock.Mock())
+
     async def test_what_is_too_old(self) -> None:
         """It is not taken, nor is what there is not."""
         its = self.standby()
@@ -383,10 +381,6 @@ class OldLogTests(StandbyCase):
             self.assertEqual((found, told[:len(words)], its.fed), (None if age > 1 else fed, words, None))
             self.assertEqual(told == in_time, words == in_time)
         self.assertEqual((os.listdir(self.folder), self.held()), (['log'], []))
-
-
-class HandedTests(StandbyCase):
-    """A standby that is to carry the trunk, and whose program does."""
 
     async def said(self, *words: int) -> tuple[float, list[bool]]:
         """What it says last, and whether it gives the trunk back, if the other machine has said this and leaves."""

@@ -15,9 +15,8 @@ from concurrent.futures import ThreadPoolExecutor
 from pathlib import Path
 
 from . import support
-from .support import SECONDS
+from .support import SECONDS, octets_in
 from .keepers import CIRCUITS, KeeperCase, RestartedKeeperCase
-from .test_trunk_served import octets_in
 from .world import LAUNCHER
 from e1gw.service import trunk
 from e1gw.service.commands import MOST_CLIENTS

@@ -50,9 +50,7 @@ class LineTests(unittest.TestCase):
         self.assertEqual((line.opened, line.since), (None, 8.0))
         self.assertEqual((OPEN | {State.SEIZED}, SEIZURE_WAIT), (IN_CALL, 200))
 
-
-class ConfigLineTests(unittest.TestCase):
-    def test_lines(self) -> None:
+    def test_lines_of_a_configuration(self) -> None:
         config: dict[str, Any] = {'law': 'mu', 'circuit': [
             {'number': 2, 'role': 'incoming', 'codec': 'g726-16', 'payload': 96, 'prefill': 160, 'local_port': 4000}]}
         lines = lines_of(config)

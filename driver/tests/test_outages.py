@@ -6,8 +6,6 @@ import unittest
 from math import inf
 from typing import Any
 
-from . import support
-from e1gw.ctl_calls import lines_of
 from e1gw.outages import NO_OCTETS, SLIP, TrunkOutage, outages_in
 from e1gw.session import OCTETS_A_SECOND
 from e1gw.session_clock import FileNote, SessionClock, breaks_of
@@ -25,15 +23,6 @@ SEIZED = event(90.0, 'state', 1, circuit=3, was='idle', state='seized', call='a-
 LFA = event(110.0, 'alarm', 1000, what='frame', on=True), event(121.0, 'alarm', 20_000, what='frame', on=False)
 AWAY = (event(112.0, 'stalled', 1500, seconds=1.0), event(120.0, 'flows', 1501, seconds=9.0),
         event(120.5, 'gap', 9000, seconds=9.25))
-
-
-class OutageFileTests(support.FolderCase):
-    def test_an_outage_over_two_files(self) -> None:
-        """Its begin is in the file that was renamed at 10 MiB."""
-        for name, each in ('events.1', LFA[0]), ('events', LFA[1]):
-            self.write(name, f'{json.dumps(each)}\n')
-        self.assertEqual([(each.begin, each.end) for each in outages_in(lines_of(self.path('events')), 0.0, inf)],
-                         [(110.0, 121.0)])
 
 
 class OutageTests(unittest.TestCase):

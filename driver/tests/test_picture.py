@@ -1,13 +1,18 @@
-"""The picture of a session: what is gathered, what is found, and what the page says."""
+"""The picture of a session: what is gathered, what is found, and what the page says. Of sessions with a trouble each
+the figures are those of `e1gw check`, and the documents quote what is found in them."""
 from __future__ import annotations
 
 import html.parser
+import os
 import random
 import re
 import unittest
+from functools import partialmethod
 from unittest import mock
 
-from .picture_made import MadeSession, PictureSender, made_of, one_call, read_session, recorded, rtp
+from .picture_made import (CAPTURED, TROUBLES, MadeSession, PictureSender, captured, configured, made_of, one_call,
+                           page_of, read_session, recorded, rtp)
+from .support import TOP, FolderCase, run, text_of
 
 from e1gw.picture.facts import MOST, RANK, Facts, Row, Spans
 from e1gw.picture.findings import findings
@@ -239,3 +244,47 @@ class PicturePageTests(unittest.TestCase):
         self.assertEqual([words for _, words in day], [f'{4 * n} h' for n in range(7)])
         self.assertEqual([duration(each * OCTETS_A_SECOND) for each in (90, 600, 86_400, 9000)],
                          ['90.00 s', '10 min 0 s', '24 h 0 min', '2 h 30 min'])
+
+
+QUOTES = {name: who + words.replace("'", '&#x27;') for name, who, words in re.findall(
+    r'!\[\]\(pictures/([a-z-]+)\.svg\)\n\n> ([^:]+): (.*)\n', text_of(os.path.join(TOP, 'docs', 'SYMPTOMS.md')))}
+
+
+class PictureTroubleTests(FolderCase):
+    def is_quoted(self, name: str, page: str) -> None:
+        entries = [re.sub('<.*?>', '', entry) for entry in re.findall('<li.*?</li>', page, re.S)]
+        self.assertTrue(any(entry.startswith(QUOTES[name]) for entry in entries), (QUOTES[name], entries))
+
+    def has(self, name: str) -> None:
+        """A session with this trouble; in one without any nothing is found."""
+        (config, given), facts = recorded(name), made_of(name)
+        with configured(config) as path:
+            for line in run('check', '--config', path, given=given).decode().splitlines():
+                number, _, state, _, _, *counts, _, _ = line.split()
+                row = facts.rows[int(number)]
+                cell = row.count()
+                refused = sum(seen[0] for seen in cell.refused.values()) + cell.counts.get('repetitions', 0)
+                self.assertEqual([row.states.value, cell.sent, cell.admitted, refused],
+                                 [state, *map(int, counts)], line)
+        if name == 'sound':
+            self.assertEqual(findings(facts), [])
+        else:
+            self.is_quoted(name, draw(facts, name))
+
+    def has_captured(self, name: str) -> None:
+        config, given, capture = captured(name)
+        self.is_quoted(name, page_of('--config', self.write('trunk.toml', config), '--capture',
+                                     self.write('call.pcap', capture), '-', given=given)[0])
+
+    def test_each_is_in_the_documents(self) -> None:
+        """With a picture of its own."""
+        names = {*TROUBLES, *CAPTURED} - {'sound'}
+        folder = os.path.join(TOP, 'docs', 'pictures')
+        drawn = {text_of(os.path.join(folder, name)) for name in os.listdir(folder) if name.endswith('.svg')}
+        self.assertEqual(({*QUOTES}, len(drawn)), (names, len(names)))
+
+
+for each in TROUBLES:
+    setattr(PictureTroubleTests, f'test_{each}', partialmethod(PictureTroubleTests.has, each))
+for each in CAPTURED:
+    setattr(PictureTroubleTests, f'test_{each}', partialmethod(PictureTroubleTests.has_captured, each))

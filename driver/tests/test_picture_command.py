@@ -185,10 +185,6 @@ class PictureCommandTests(FolderCase):
         os.close(writes)
         self.assertEqual((done.returncode, done.stderr), (1, b''))
 
-
-class PictureAnswersTests(FolderCase):
-    """What `e1gw replay` says of a session."""
-
     def test_octets_where_a_session_is_wanted(self) -> None:
         """The page says it, with the command that makes a session of them; the status is 1."""
         pair = b'\x9b' + b'\xd5' * 15 + b'\x0b' + b'\xd5' * 15 + b'\xdf' + b'\xd5' * 15 + b'\x99' + b'\xd5' * 15

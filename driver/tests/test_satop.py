@@ -72,8 +72,6 @@ class SatopOptionTests(unittest.TestCase):
                  '--size 512 --jitter 8 --rtp 0 --fill ones --clock own')):
             self.assertEqual(' '.join(satop.words_of(self.parser.parse_args(words.split()))), given)
 
-
-class SatopOpeningTests(unittest.TestCase):
     def test_ends(self) -> None:
         self.assertEqual(satop.ends_of('127.0.0.1:5000,[::1]:5001'), (('127.0.0.1', 5000), ('::1', 5001)))
         for bad in ('', ',', '127.0.0.1:5000', '127.0.0.1:5000,', ':5000,127.0.0.1:1', 'a:0,b:1', 'a:65536,b:1',
@@ -92,8 +90,6 @@ class SatopOpeningTests(unittest.TestCase):
         for near, can in ('127.0.0.9', True), ('192.0.2.9', False):
             self.assertEqual(satop.can_send([f'{near}:5000', '127.0.0.1:5001', '--size']), can, near)
 
-
-class SatopCountLineTests(unittest.TestCase):
     def test_counts(self) -> None:
         self.assertEqual(counts_of('satop received=1000 sent=999 malformed_short=0'),
                          {'received': 1000, 'sent': 999, 'malformed_short': 0})

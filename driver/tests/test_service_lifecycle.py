@@ -1,7 +1,7 @@
 """One process a trunk: what it does when something of it is killed, hangs, fails or is full, with thirty calls up, as
-calls in trunks before this one were ended.
+calls in trunks before this one were ended; and its recordings, which replay to what was heard.
 
-It goes in lock step, as test_program_killed does; what is received is what one uncut replay of all records gives."""
+It goes in lock step; what is received is what one uncut replay of all records gives."""
 from __future__ import annotations
 
 import contextlib
@@ -18,17 +18,48 @@ from typing import Any, Callable
 from unittest import mock
 
 from . import support
-from .keepers import CIRCUITS, NO_EFFECT, RestartedKeeperCase
-from .test_recorder import RecorderCase
+from .keepers import CIRCUITS, NO_EFFECT, KeeperCase, RestartedKeeperCase
+from .support import octets_in
 from .test_trunk import catches
 from .world import words_of
-from e1gw.session import Codec, Kind, codec_record, records_in
+from e1gw.session import MULTIFRAME, Codec, Kind, codec_record, records_in
+from e1gw.session_files import by_time, kept, note_of, octets_of
 from e1gw.testing.service import ask
 
+LONG = '96h'                # of a ring whose files have to be of one program each: they are of eight hours
 HELD = 12                   # multiframes that a device holds which nobody reads
 NAMELESS = 35               # a signal of real time: the service could not tell it, and no program followed
 MORE = 5                    # events by chance behind these
 SIGNALS = NAMELESS, signal.SIGKILL, signal.SIGSTOP, signal.SIGTERM, signal.SIGSEGV
+
+
+class RecorderCase(KeeperCase):
+    """A trunk whose recordings are kept."""
+
+    def given_trunk(self) -> bytes:
+        return octets_in(b''.join(self.given))
+
+    def kept_of(self, path: str) -> bytes:
+        files = kept(path).files if os.path.exists(path) and (not os.path.isdir(path) or os.listdir(path)) else []
+        return b''.join(piece for file in files for piece in octets_of(file))
+
+    def answers(self, octets: bytes, *options: str) -> bytes:
+        """Octets of the trunk that a replay answers."""
+        return octets_in(support.run('replay', '--config', self.config, *options, given=octets))
+
+    def files(self) -> list[str]:
+        """The files of the ring without their endings, in their order."""
+        return sorted((path.removesuffix('.json') for path in glob.glob(self.path('ring/*.json'))), key=by_time)
+
+    def each_file_replays(self) -> list[str]:
+        """Each file of the ring replays from its state as an uncut session up to the next one. The files."""
+        fronts, octets = self.files(), b''.join(self.uncut()[0])
+        places = [note_of(f'{front}.e1gw')['place'] for front in fronts]
+        for front, begin, end in zip(fronts, places, [*places[1:], len(self.given_trunk())]):
+            load = ('--load', f'{front}.state') if begin else ()
+            its = b''.join(octets_of(f'{front}.e1gw'))
+            self.assertEqual(self.answers(its, *load), octets[begin:end], begin)
+        return fronts
 
 
 class ServiceEventsCase(RestartedKeeperCase, RecorderCase):
@@ -297,6 +328,41 @@ class ServiceSequenceRingTests(ServiceSequenceTests):
     def ends(self) -> None:
         super().ends()
         self.each_file_replays()
+
+
+class RecordedRingTests(RecorderCase):
+    def starts_ring(self, **around: str) -> None:
+        self.starts('--session', self.path('ring'), '--keep', LONG, '--name', 'west', **around)
+        self.calls()
+
+    def test_what_a_crash_lost(self) -> None:
+        """It is noted where the next file begins, which has a state."""
+        self.starts_ring()
+        os.kill(self.program, signal.SIGKILL)
+        self.goes_on()
+        self.step(40)
+        self.ends()
+        first, about = map(note_of, self.each_file_replays())
+        self.assertEqual((first['begins'], 'slips' in first, about['begins'], about['config'], about['slips']),
+                         ('start', False, 'middle', self.config, [[about['place'], 0.008]]))
+        self.assertEqual(about['place'], len(self.given_trunk()) - 40 * MULTIFRAME)
+
+    def test_a_ring_that_begins_again(self) -> None:
+        """With no other program: the file that is begun has the state of a turn of the log, and replays from that."""
+        self.write('ring', '')
+        self.starts_ring(**self.within(reader_AGAIN=0.1))
+        support.until(lambda: 'session ended, the calls go on: File exists' in self.told())
+        program = self.program
+        os.unlink(self.path('ring'))
+        self.awaits('the recording begins again')
+        while not self.files():                     # (at the next turn)
+            self.step(60)
+        self.step(60)
+        os.kill(program, 0)
+        self.as_uncut()
+        self.ends()
+        (front,) = self.each_file_replays()
+        self.assertGreater(note_of(f'{front}.e1gw')['place'], 0)
 
 
 def parted(octets: bytes) -> tuple[bytes, list[tuple[int, bytes]]]:

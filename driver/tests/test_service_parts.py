@@ -269,7 +269,6 @@ class HandoverTests(support.FolderCase):
             NoteFiles(self.folder).put(octets)
             self.assertIsNone(note_of(self.folder, opens), octets)
 
-
     def test_a_note_that_is_torn(self) -> None:
         """The one before it is whole: they are written in turn. What is there is not written again."""
         files, notes = NoteFiles(self.folder), [self.path(name) for name in ('note.0', 'note.1')]
@@ -332,6 +331,16 @@ class ControlSocketTests(support.FolderCase):
             with mock.patch('os.chown') as given:
                 unix_listener(self.path('control'), 0o660, group).close()
             given.assert_called_once_with(self.path('control~'), -1, 7 if group == '7' else os.getgid())
+
+    def test_a_name_leads_to_the_socket_of_now(self) -> None:
+        name, taken = self.path('name'), self.path('taken')
+        for path in 'a', 'a', 'b':
+            point(name, path)
+            self.assertEqual((os.readlink(name), os.listdir(self.folder)), (path, ['name']))
+        os.mkdir(taken)
+        with self.assertLogs('e1gw.service.lifecycle') as told:
+            point(taken, 'b')
+        self.assertEqual(told.records[0].getMessage(), f'{taken} does not lead to the process of now: Is a directory')
 
 
 class ProgramConnectionTests(support.LoopCase):
@@ -416,18 +425,6 @@ class ProgramConnectionTests(support.LoopCase):
 def answer(circuit: int, refusal: int = 0) -> bytes:
     """What a program answers to a command."""
     return bytes([Kind.ANSWER, circuit, 0, 2, Kind.COMMAND, refusal])
-
-
-class PointTests(support.FolderCase):
-    def test_a_name_leads_to_the_socket_of_now(self) -> None:
-        name, taken = self.path('name'), self.path('taken')
-        for path in 'a', 'a', 'b':
-            point(name, path)
-            self.assertEqual((os.readlink(name), os.listdir(self.folder)), (path, ['name']))
-        os.mkdir(taken)
-        with self.assertLogs('e1gw.service.lifecycle') as told:
-            point(taken, 'b')
-        self.assertEqual(told.records[0].getMessage(), f'{taken} does not lead to the process of now: Is a directory')
 
 
 class TrunkEndTests(support.LoopCase):

@@ -207,7 +207,6 @@ class PlayedReloadTests(ServiceCase):
             f'error: reload: refused, the version before comes back: {KILLED}',
             f'warning: the version before comes back: program D goes on after T ms{HAND}', QUIT])
 
-
     async def test_one_that_does_not_come_up(self) -> None:
         self.plan(WAITS, says('socket 1'), WAITS)
         self.plan(WAITS, WAITS, new(), new(), what='check')
@@ -455,7 +454,6 @@ class PlayedPairTests(ServiceCase):
         self.assertEqual([each[7:14] for each in told], ['standby', *['the tru', 'program', 'standby'] * 2])
         await self.ends()
         self.assertEqual((len(self.starts()), os.listdir(self.path('run'))), (2, []))
-
 
     async def test_a_trunk_that_does_not_open(self) -> None:
         """Who is promoted waits for it, and for nothing more once it is asked back."""

@@ -27,7 +27,7 @@ from e1gw.service.recordings import RecordingNote, RecordingWants, TrunkRecordin
 from e1gw.session import MULTIFRAME, OCTETS_A_SECOND
 
 
-class RoomTests(support.FolderCase):
+class RingBeginTests(support.FolderCase, unittest.IsolatedAsyncioTestCase):
     def test_room(self) -> None:
         ring = self.write('ring', '')
         self.assertFalse(recordings.has_room(ring))
@@ -37,8 +37,6 @@ class RoomTests(support.FolderCase):
         self.assertTrue(recordings.has_room(ring))
         self.assertEqual(os.listdir(ring), [])
 
-
-class RingAgainTests(unittest.IsolatedAsyncioTestCase):
     async def test_when_it_can_begin(self) -> None:
         """Once nothing is written any more, and there is room."""
         its = LogReader('none', 0.1, None, lambda: None, bytes)
@@ -48,9 +46,7 @@ class RingAgainTests(unittest.IsolatedAsyncioTestCase):
                 self.assertEqual(await its._can_begin(ended), is_over and room)
             self.assertEqual((ended.close.call_count, looked.mock_calls), (1, [mock.call('ring')] * is_over))
 
-
-class AnotherFileTests(unittest.TestCase):
-    def test_at_a_state_of_the_log(self) -> None:
+    def test_another_file_at_a_state_of_the_log(self) -> None:
         """Another file of a ring begins, if another program has begun or the file is long. If a part of the log was not
         read, one of a ring does, and a recording that is one file ends."""
         for is_break, is_cut, keep, octets in itertools.product(

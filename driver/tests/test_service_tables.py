@@ -104,12 +104,6 @@ class OptionTests(unittest.TestCase):
             picture=['--last', '60.0s', '--title', 'east', '--refresh', '10', '--program', 'p', f'{HERE}/s'],
             kept=f' {HERE}/s --calls {HERE}/l'))
 
-    def test_how_long_a_file_is(self) -> None:
-        """A twelfth of what is kept."""
-        ring, file = (RecordingWants('s', keep, 'west', 'c', 200) for keep in (60, None))
-        self.assertEqual([its.is_long(octets) for its in (ring, file) for octets in (1_279_999, 1_280_000)],
-                         [False, True, False, False])
-
 
 class ChildEndTests(unittest.IsolatedAsyncioTestCase):
     """How processes end, and what they say of it."""
@@ -226,7 +220,6 @@ class ProgramFaultTests(support.FolderCase, unittest.IsolatedAsyncioTestCase):
             os.unlink(self.path(name))
             self.assertTrue(its.lacks())
             self.write(name, '')
-
 
     def test_room_for_what_is_said(self) -> None:
         """A log that takes all room of a disk leaves that for why it does not fit; else it is said in memory."""

@@ -224,8 +224,8 @@ class TrunkTextTests(unittest.TestCase):
             self.assertEqual(str(ctl_all.TrunkLine.of('west', STATUS | more)), line)
 
 
-class EventTextTests(unittest.TestCase):
-    def test_each(self) -> None:
+class EventAndFaultTextTests(unittest.TestCase):
+    def test_each_event(self) -> None:
         rows: list[tuple[Event, str]] = [
             (LineChanged(3, Role.OUTGOING, State.IDLE, State.SEIZED, 0), '3: seized, was idle'),
             (LineChanged(3, Role.OUTGOING, State.IDLE, State.SEIZED, 0, call='a'), '3: seized, was idle, call a'),
@@ -256,8 +256,6 @@ class EventTextTests(unittest.TestCase):
         for event, words in rows:
             self.assertEqual(event.words(), words)
 
-
-class FaultTextTests(unittest.TestCase):
     def test_faults(self) -> None:
         none = FileNotFoundError(2, 'No such file', '/a')
         for fault, what, words in (

@@ -230,7 +230,6 @@ class CertifiedSiteTests(SiteCase):
             self.assertEqual(west.told, [], more)
             its.cancel()
 
-
     def test_any_certificate_is_told(self) -> None:
         """Who listens without a name for the other site reads what that means, and who names one does not."""
         for more, told in ((), [ANYBODY]), (('--peer', 'east'), []):

@@ -173,10 +173,10 @@ class WatchEdgeTests(TrunkWatchCase):
         self.assertEqual([each for each in self.told if isinstance(each, FlowChanged)], [Stalled(1.0), Flows(2.4)])
 
 
-class PauseTests(unittest.TestCase):
+class WatchPartTests(unittest.IsolatedAsyncioTestCase):
     now = 1.0
 
-    def test_it_grows(self) -> None:
+    def test_a_pause_grows(self) -> None:
         """Of what ends soon, up to a second: however often a device could not be opened, it is taken soon behind
         that. What has gone for longer is begun again at once."""
         clock, most = SimpleNamespace(monotonic=lambda: self.now), limits.USUAL['service.trunk.MOST_PAUSE']
@@ -188,8 +188,6 @@ class PauseTests(unittest.TestCase):
             self.now += trunk.QUICK
             self.assertEqual(pause.ends(), 0.0)
 
-
-class JournalLevelTests(unittest.TestCase):
     def test_levels_of_syslog(self) -> None:
         """Each line has its level; elsewhere the name of the program."""
         about = os.fstat(2)
@@ -201,9 +199,7 @@ class JournalLevelTests(unittest.TestCase):
             said = [form.format(logging.LogRecord('', level, '', 0, 'x\ny', None, None)) for level in levels]
             self.assertEqual(said, [f'{front}x\n{front}y' for front in fronts])
 
-
-class VisitorTests(unittest.IsolatedAsyncioTestCase):
-    async def test_the_oldest_goes(self) -> None:
+    async def test_the_oldest_visitor_goes(self) -> None:
         server, lines = WebServer(mock.AsyncMock()), list[asyncio.StreamReader]()
         tasks = []
         for _ in range(MOST_VISITORS + 2):

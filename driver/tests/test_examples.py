@@ -1,25 +1,73 @@
-"""The SIP front end of examples/sip: calls between an agent, which is this test, and the exchange of a trunk."""
+"""The examples: what is typed at the exchange, and the SIP front end, with calls between an agent, which is this test,
+and the exchange of a trunk."""
 from __future__ import annotations
 
 import math
 import os
 import re
 import socket
-import subprocess
 import sys
 from contextlib import ExitStack, suppress
+from subprocess import PIPE, Popen
 from unittest import mock
 
 from . import support, world
+from .support import SECONDS
 from .test_trunk import aligned
-from e1gw.exchange import ACKNOWLEDGED
+from e1gw.exchange import ACKNOWLEDGED, IDLE, SEIZED
 from e1gw.testing.datagrams import PACKET, packets, speech
 from e1gw.testing.ports import free_ports
 
+EXCHANGE = [sys.executable, '-B', os.path.join(support.TOP, 'examples', 'exchange')]
 FRONT_END = os.path.join(support.TOP, 'examples', 'sip', 'front_end')
 WAYS = ['<sip:192.0.2.1;lr>', '<sip:192.0.2.2:5070;lr>, <sip:192.0.2.3;lr>']       # of proxies, the last one first
 OFFER = ('v=0\r\no=- 1 1 IN IP4 127.0.0.1\r\ns=-\r\nc=IN IP4 127.0.0.1\r\nt=0 0\r\n'
          'm=audio {port} RTP/AVP {payload} 101\r\n')
+
+
+class TypedCommandTests(support.FolderCase):
+    def test_lines_that_come_at_once(self) -> None:
+        """Two lines and the half of a third one, then its rest: each circuit is seized. The multiframes that it sends
+        have the pairs ab of circuits n and n + 15 in slot 16 of frame n (ITU-T G.704). With --again the next trunk
+        finds it at the same socket, with all circuits idle."""
+        idle = dict.fromkeys(range(1, 16), IDLE)
+        exchange = Popen([*EXCHANGE, '--again', self.path('card')], stdin=PIPE, stdout=PIPE)
+        self.addCleanup(exchange.communicate)
+        self.addCleanup(exchange.kill)
+        assert exchange.stdin and exchange.stdout
+        with connected(self.path('card')) as line:
+            self.assertEqual(pairs(line), idle)
+            os.write(exchange.stdin.fileno(), b'seize 3\nseize 7\nhello\nsei')
+            self.until_seized(line, {3, 7})
+            os.write(exchange.stdin.fileno(), b'ze 9\nclear 3\n')
+            self.until_seized(line, {7, 9})
+            self.assertEqual(exchange.stdout.readline(), b'there are seize N and clear N\n')
+        with connected(self.path('card')) as line:
+            self.assertEqual(pairs(line), idle)
+
+    def test_a_socket_that_is_there(self) -> None:
+        """What is in the way is named, with what takes it away."""
+        path = self.write('card', '')
+        self.assertEqual(support.ran(*EXCHANGE, path), (1, '', f'exchange: {path}: Address already in use: another '
+                                                       f'exchange waits there, or one left it (rm {path})\n'))
+
+    def until_seized(self, line: socket.socket, circuits: set[int]) -> None:
+        support.until(lambda: {n for n, pair in pairs(line).items() if pair == SEIZED} == circuits, 0.0)
+
+
+def connected(path: str) -> socket.socket:
+    """A line to the exchange, once it is there."""
+    line = socket.socket(socket.AF_UNIX)
+    line.settimeout(SECONDS)
+    support.until(lambda: line.connect_ex(path) == 0)
+    return line
+
+
+def pairs(line: socket.socket) -> dict[int, int]:
+    """Those of circuits 1 to 15 in the next multiframe, which is answered by idle octets."""
+    octets = support.read_from(line, 512)
+    line.sendall(b'\xD5' * 512)
+    return {n: octets[32 * n + 16] >> 6 for n in range(1, 16)}
 
 
 class SipFrontEndTests(support.FolderCase):
@@ -34,9 +82,9 @@ class SipFrontEndTests(support.FolderCase):
                                     for n, local, peer in ((1, *ports[:2]), (2, *ports[2:]))})
         self.world = held.enter_context(world.World(text))
         aligned(self.world)
-        front_end = held.enter_context(subprocess.Popen(
+        front_end = held.enter_context(Popen(
             [sys.executable, '-B', FRONT_END, self.world.path('ctl'), self.world.config, '--sip', f'127.0.0.1:{sip}'],
-            stdout=subprocess.PIPE))
+            stdout=PIPE))
         held.callback(front_end.kill)
         assert front_end.stdout
         self.assertEqual(front_end.stdout.readline(), f'calls are taken at 127.0.0.1:{sip}\n'.encode())

@@ -1,20 +1,17 @@
-"""A datagram that was there before a read's octets is received with them, in `e1gw serve` and `e1gw trunk`.
-
-It goes in lock step: each datagram is in its socket before the octets are written, and what is sent for
-them is read back before more is written. Expected is what `e1gw replay` does with the same octets and
-datagrams as records, each datagram before the octet that the definition receives it before."""
+"""`e1gw serve` and `e1gw trunk` in lock step: what is sent for octets is read back before more are written."""
 from __future__ import annotations
 
 import contextlib
+import os
 import random
 import socket
+import subprocess
 from collections import deque
-from typing import Callable, Iterator
+from typing import Callable, Iterator, Sequence
 
 from . import support
 from .hand_clock import threads_of
-from .support import SECONDS
-from .test_trunk_served import TrunkProcess, octets_in
+from .support import SECONDS, octets_in
 from e1gw.exchange import SEIZED, ServeProcess, slot_of
 from e1gw.session import CIRCUITS, FRAME, Kind, Packet, datagram_record, records_in, trunk_record
 from e1gw.testing.ports import free_ports
@@ -24,6 +21,40 @@ Exchanges = Callable[[bytes], bytes]                # gives octets; returns thos
 CIRCUIT_IN = {slot_of(circuit): circuit for circuit in CIRCUITS}
 MOST = 4                                            # datagrams of a circuit before one octet
 PIECES = 60
+
+
+class TrunkProcess:
+    """A trunk in service over a socket pair, which it may wait for."""
+
+    def __init__(self, words: Sequence[str], passed: tuple[int, ...] = (), waits: bool = False) -> None:
+        self.here, there = socket.socketpair()
+        self.here.settimeout(SECONDS)
+        there.setblocking(waits)
+        self.serving = subprocess.Popen(words, stdin=there.fileno(), stdout=there.fileno(), stderr=subprocess.PIPE,
+                                        pass_fds=passed)
+        there.close()
+
+    def __enter__(self) -> TrunkProcess:
+        return self
+
+    def __exit__(self, *_: object) -> None:
+        self.here.close()
+        assert self.serving.stderr
+        self.serving.stderr.close()
+        self.serving.kill()
+        self.serving.wait()
+
+    def passes(self, octets: bytes) -> bytes:
+        """What comes back for these octets."""
+        self.here.sendall(octets)
+        return support.read_from(self.here, len(octets))
+
+    def ends(self) -> tuple[int, str]:
+        """The status and what was told, once no more octets come."""
+        self.here.shutdown(socket.SHUT_WR)
+        assert self.serving.stderr
+        told = self.serving.stderr.read().decode()
+        return self.serving.wait(SECONDS), told
 
 
 def calls_of(speech: random.Random) -> tuple[bytes, bytes]:
@@ -79,7 +110,9 @@ def waiting_at(port: int) -> int:
 
 
 class PortsAskedTests(support.FolderCase):
-    """Thirty incoming circuits, each with a port and a peer's socket."""
+    """A datagram that was there before a read's octets is received with them: thirty incoming circuits, each with a
+    port and a peer's socket, in which the datagrams are before the octets are written. Expected is what `e1gw replay`
+    does with the same as records, each datagram before the octet that the definition receives it before."""
 
     def setUp(self) -> None:
         super().setUp()
@@ -102,7 +135,7 @@ class PortsAskedTests(support.FolderCase):
 
     @contextlib.contextmanager
     def trunk(self) -> Iterator[tuple[int, Exchanges]]:
-        with TrunkProcess([support.program(), 'trunk', '--config', self.config], '', waits=True) as trunk:
+        with TrunkProcess([support.program(), 'trunk', '--config', self.config], waits=True) as trunk:
             yield trunk.serving.pid, trunk.passes
             self.assertEqual(trunk.ends(), (0, ''))
 
@@ -138,3 +171,16 @@ class PortsAskedTests(support.FolderCase):
                     sent = [self.peers[record.circuit].recv(2048) for record in packets]
                     self.assertEqual(back, octets_in(wanted))
                     self.assertEqual(sent, [record.body for record in packets])
+
+
+class RecordedTrunkTests(support.FolderCase):
+    def test_a_recording_that_nobody_reads(self) -> None:
+        """It ends when the pipe (65,536 octets) is full, and the trunk goes on."""
+        out, into = os.pipe()
+        self.addCleanup(os.close, out)
+        words = [support.program(), 'trunk', '--config', self.write('trunk.toml', 'law = "A"\n')]
+        with TrunkProcess([*words, '--record', f'/dev/fd/{into}'], (into,)) as trunk:
+            os.close(into)
+            for _ in range(65):
+                self.assertEqual(len(trunk.passes(bytes(2048))), 2048)
+            self.assertEqual(trunk.ends(), (0, 'recording ended: a write failed\n'))
