@@ -103,10 +103,14 @@ def records_of(steps: list[Step]) -> bytes:
 
 
 def waiting_at(port: int) -> int:
-    """The octets of memory that the datagrams in a socket take."""
-    with open('/proc/net/udp', encoding='ascii') as table:
-        rows = [line.split() for line in table]
-    return sum(int(row[4].partition(':')[2], 16) for row in rows if row[1].endswith(f':{port:04X}'))
+    """The octets of memory that the datagrams in a socket take. The table comes in pieces: where other sockets are opened
+    and closed meanwhile, a row may be there twice, or not at all."""
+    while True:
+        with open('/proc/net/udp', encoding='ascii') as table:
+            rows = [line.split() for line in table]
+        for row in rows:
+            if row[1].endswith(f':{port:04X}'):
+                return int(row[4].partition(':')[2], 16)
 
 
 class PortsAskedTests(support.FolderCase):
