@@ -103,8 +103,8 @@ def records_of(steps: list[Step]) -> bytes:
 
 
 def waiting_at(port: int) -> int:
-    """The octets of memory that the datagrams in a socket take. The table comes in pieces: where other sockets are opened
-    and closed meanwhile, a row may be there twice, or not at all."""
+    """The octets of memory that the datagrams in a socket take. The table comes in pieces: where other sockets are
+    opened and closed meanwhile, a row may be there twice, or not at all."""
     while True:
         with open('/proc/net/udp', encoding='ascii') as table:
             rows = [line.split() for line in table]
