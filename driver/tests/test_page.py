@@ -1,5 +1,5 @@
-"""The page of a trunk: who gets it, that texts stay texts, what is told of it, and to whom no more; and what only a
-system shows: sockets, a picture, and visitors of all kinds."""
+"""The page of a trunk: who may see it, that names are shown as text, what each visitor is sent, and when no more; and
+what needs sockets: a picture, and visitors of all kinds."""
 from __future__ import annotations
 
 import asyncio
