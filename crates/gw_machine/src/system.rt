@@ -26,9 +26,6 @@ pub trait System {
     /// The files that it uses, which have all calls.
     type Files: Drop;
 
-    /// What keeps the folder of a log, if one is named.
-    type Lock: Drop;
-
     /// The ports that receive and send the datagrams of the circuits.
     type Ports: Ports + Drop;
 
@@ -43,9 +40,6 @@ pub trait System {
 
     /// Whether its tape may be waited for.
     ghost waits: { Self → Bool };
-
-    /// Holds of what keeps the folder of the log.
-    ghost locks: { Self → Self.Lock → Type 0 };
 
     /// Holds of the fault if that folder was not taken.
     ghost lacks_lock: { Self → ProgramFault → Type 0 };
@@ -80,9 +74,8 @@ pub trait System {
     /// Where memory is taken.
     fn alloc(&self) -> Global;
 
-    /// Takes the folder of the log, if one is named.
-    fn lock_log(&self, used: &mut Self::Files) -> Result<Self::Lock, ProgramFault>
-        ensures ok { IfOk result (locks self.now) }
+    /// Takes the folder of the log, if one is named, and holds it.
+    fn lock_log(&self, used: &mut Self::Files) -> Result<(), ProgramFault>
         ensures err { IfErr result (lacks_lock self.now) }
         ensures asked { Makes (has_asked self.now) used.old used.new
             (SystemCall.LockLog (is_ok result) ∷ []) };

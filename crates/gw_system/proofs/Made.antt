@@ -1,5 +1,6 @@
 -- What a system was asked, by the calls that were made for it.
 use Rattle.std.proofs.Common.{◌≡◌, ◌∷◌, [], ℕ, Bool, false, List, Option, Some, None, is_some, refl, append-nil}
+use Rattle.gw_files.specs.declared.log_folder.LogLock.{LogLock}
 use Rattle.gw_files.specs.declared.recording.Recording.{Recording}
 use Rattle.gw_machine.specs.CommandLine.{CommandLine, config_path_in, load_in, log_in, save_in}
 use Rattle.gw_machine.specs.Calls.{Makes, MakesSuch}
@@ -32,11 +33,13 @@ pub asked_by : {F D N : Type 0} {made : Makers F D N} {For : CallsAsked} {old ne
     → MakesSuch made.on_files old.files new.files (For.on_files call)
     → HasMadeSuch made.at_doors old.doors new.doors (For.at_doors call)
     → MakesSuch made.of_sockets old.sockets new.sockets (For.of_sockets call)
+    → ((asked : List SystemCall) → For.holds old.lock asked → For.holds new.lock (call ∷ asked))
     → Makes (HasUsed made For) old new (call ∷ [])
-asked_by call files doors sockets asked u = record {
+asked_by call files doors sockets holds asked u = record {
   on_files = made_for call files.calls files.are files.made asked u.on_files;
   at_doors = made_for call doors.calls doors.are doors.made asked u.at_doors;
   of_sockets = made_for call sockets.calls sockets.are sockets.made asked u.of_sockets;
+  lock_is = holds asked u.lock_is;
 }
 
 -- nothing was done at doors
@@ -46,11 +49,12 @@ no_door are = record { calls = []; are = are; made = λ before made. rw (append-
 
 -- a system that makes no call was asked for nothing
 pub none_asked : {F D N : Type 0} {made : Makers F D N} {For : CallsAsked} (used : Used F D N)
-    → HasMadeNone made used → HasUsed made For used []
-none_asked used none = record {
+    → For.holds None [] → HasMadeNone made used → HasUsed made For used []
+none_asked used unheld none = record {
   on_files = record { calls = []; made = none.on_files; are = refl };
   at_doors = record { calls = []; made = none.at_doors; are = refl };
   of_sockets = record { calls = []; made = none.of_sockets; are = refl };
+  lock_is = rw none.lock_is unheld;
 }
 
 -- calls that were made for what was asked were made for what is more
@@ -74,13 +78,15 @@ pub makes_calls : {F D N : Type 0} {made : Makers F D N} {For For' : CallsAsked}
     → ((call : SystemCall) (calls : List FileCall) → For.on_files call calls → For'.on_files call calls)
     → ((call : SystemCall) (calls : List DoorCall) → For.at_doors call calls → For'.at_doors call calls)
     → ((call : SystemCall) (calls : List SocketsCall) → For.of_sockets call calls → For'.of_sockets call calls)
-    → MakesCalls made For' (HasUsed made For)
-makes_calls on at of = record {
-  first = λ used none. none_asked used none;
+    → ((lock : Option LogLock) (asked : List SystemCall) → For.holds lock asked → For'.holds lock asked)
+    → For.holds None [] → MakesCalls made For' (HasUsed made For)
+makes_calls on at of holds unheld = record {
+  first = λ used none. none_asked used unheld none;
   all = λ used asked u. record {
     on_files = asked_for on asked u.on_files;
     at_doors = asked_for at asked u.at_doors;
     of_sockets = asked_for of asked u.of_sockets;
+    lock_is = holds used.lock asked u.lock_is;
   };
 }
 

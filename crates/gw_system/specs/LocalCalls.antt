@@ -1,6 +1,6 @@
 -- Which calls on files, at doors and of sockets are made for what a system is asked (module `local`).
 use Rattle.std.specs.Prelude.{◌≡◌, ◌⊎◌, ◌++◌, ℕ, Bool, List, [], ◌∷◌, Option, Some, None, IfSome, codes}
-use Rattle.std.specs.Prelude.{option_map}
+use Rattle.std.specs.Prelude.{IsSomeAnd, MatchOption, option_map, true}
 use Rattle.gw_command.specs.Command.{HasFlag, text_in}
 use Rattle.gw_machine.specs.Calls.{followed_by}
 use Rattle.gw_machine.specs.CommandLine.{CommandLine, config_path_in, load_in, log_in, save_in}
@@ -8,8 +8,10 @@ use Rattle.gw_machine.specs.SystemCalls.{SystemCall}
 use Rattle.gw_files.specs.BeginCalls.{BeginsFromBy}
 use Rattle.gw_files.specs.FileCalls.{FileCall, IsOne, Tries}
 use Rattle.gw_files.specs.FolderCalls.{LocksBy, begins_log}
+use Rattle.gw_files.specs.LogFolder.{HasLocked}
 use Rattle.gw_files.specs.RecordingCalls.{RecordsBy}
 use Rattle.gw_files.specs.StateCalls.{SavesBy}
+use Rattle.gw_files.specs.declared.log_folder.LogLock.{LogLock}
 use Rattle.gw_files.specs.declared.recording.Recording.{Recording}
 use Rattle.gw_trunk.specs.Door.{DoorCall, TriesDoor}
 use Rattle.gw_udp.specs.Sockets.{SocketsCall}
@@ -63,11 +65,19 @@ SocketsFor senders among (SystemCall.OpenPorts config done) calls =
     (opened : Bool) × (calls ≡ SocketsCall.Open config senders among opened ∷ [])
 SocketsFor senders among asked calls = calls ≡ []
 
--- which calls are made for what a system is asked
+-- The lock of the folder of a log is held, if one is named, since it was taken. Else none is.
+abbrev pub HoldsLock : Option (List ℕ) → Option LogLock → List SystemCall → Type 0
+HoldsLock log lock [] = lock ≡ None
+HoldsLock log lock (SystemCall.LockLog true ∷ asked) =
+    MatchOption log (lock ≡ None) (λ folder. IsSomeAnd lock (HasLocked folder))
+HoldsLock log lock (call ∷ asked) = HoldsLock log lock asked
+
+-- which calls are made for what a system is asked, and what is held behind all that was asked
 pub record CallsAsked : Type 1 where
   pub on_files : SystemCall → List FileCall → Type 0
   pub at_doors : SystemCall → List DoorCall → Type 0
   pub of_sockets : SystemCall → List SocketsCall → Type 0
+  pub holds : Option LogLock → List SystemCall → Type 0
 
 abbrev pub calls_for : List ℕ → Option (List ℕ) → Option (List ℕ) → Option (List ℕ) → Option Recording
     → Option (List ℕ) → SourceFilter → Descriptors → CallsAsked
@@ -75,6 +85,7 @@ calls_for path log load save recording tell senders among = record {
   on_files = CallsFor path log load save recording;
   at_doors = DoorFor tell;
   of_sockets = SocketsFor senders among;
+  holds = HoldsLock log;
 }
 
 -- calls that were made behind others, where the first is the first; in other lists of calls it is the last
@@ -109,18 +120,20 @@ made_by on_files at_doors of_sockets = record {
   of_sockets = of_sockets;
 }
 
--- such calls were made by what a system uses
+-- such calls were made by what a system uses, and it holds the lock
 pub record HasUsed {F D N : Type 0} (made : Makers F D N) (For : CallsAsked) (used : Used F D N)
     (asked : List SystemCall) : Type 0 where
   pub on_files : HasAsked followed_by made.on_files For.on_files used.files asked
   pub at_doors : HasAsked behind made.at_doors For.at_doors used.doors asked
   pub of_sockets : HasAsked followed_by made.of_sockets For.of_sockets used.sockets asked
+  pub lock_is : For.holds used.lock asked
 
--- no call was made by what a system uses
+-- no call was made by what a system uses, and it holds no lock
 pub record HasMadeNone {F D N : Type 0} (made : Makers F D N) (used : Used F D N) : Type 0 where
   pub on_files : made.on_files used.files []
   pub at_doors : made.at_doors used.doors []
   pub of_sockets : made.of_sockets used.sockets []
+  pub lock_is : used.lock ≡ None
 
 -- A recording is the one that the command names, and whether it is waited for is as said.
 pub record IsRecordingIn (command : CommandLine) (waits : Bool) (recording : Option Recording) : Type 0 where
@@ -145,6 +158,7 @@ calls_named command waits = record {
   on_files = CallsIn command waits;
   at_doors = DoorFor (text_in (codes "tell") command);
   of_sockets = SocketsIn command;
+  holds = HoldsLock (log_in command);
 }
 
 -- A system makes such calls for what it is asked, and no others: where no call was made nothing was asked,

@@ -17,7 +17,7 @@ use clap::ArgMatches;
 use gw_command::{load_of, log_of, save_of, seizure_wait_of, tell_of};
 use gw_config::Config;
 use gw_files::{
-    FileSystem, LogLock, OneOf, Recording, RecordingFile, Tape, begin, begin_gateway, begin_log,
+    FileSystem, OneOf, Recording, RecordingFile, Tape, begin, begin_gateway, begin_log,
     keep_gateway, lock_log, read_config,
 };
 use gw_log::TrunkLog;
@@ -97,7 +97,7 @@ impl<R: AllocGlobal, F: FileSystem + Drop, D: Doors + Drop, N: Sockets + Drop> S
     ghost use Rattle.gw_system.specs.Asked.{waits_for};
     ghost use Rattle.std.specs.Prelude.{IsSomeAnd, MatchOption, None, string_bytes, [], ◌∷◌};
     ghost use Rattle.gw_machine.specs.System.{IsBegun};
-    ghost use Rattle.gw_files.specs.LogFolder.{FailsToLock, HasLocked};
+    ghost use Rattle.gw_files.specs.LogFolder.{FailsToLock};
     ghost use Rattle.gw_files.specs.Recording.{IsOpenedFor, LacksRecording};
     ghost use Rattle.gw_machine.specs.Lines.{Line, SystemWrites};
     ghost use Rattle.gw_machine.specs.Setup.{IsMeant, LacksConfigAt, PathGives};
@@ -117,8 +117,6 @@ impl<R: AllocGlobal, F: FileSystem + Drop, D: Doors + Drop, N: Sockets + Drop> S
 
     type Files = Used<F, D, N>;
 
-    type Lock = Option<LogLock>;
-
     type Ports = Repeating<UdpPorts<Resting<SystemSocket>>>;
 
     type Tape = OneOf<Tape, TrunkLog<FileStore>>;
@@ -131,9 +129,6 @@ impl<R: AllocGlobal, F: FileSystem + Drop, D: Doors + Drop, N: Sockets + Drop> S
         s.among) };
 
     ghost waits = { λ s. waits_for s.recording };
-
-    ghost locks = { λ s lock. MatchOption s.log (lock ≡ None)
-        (λ folder. IsSomeAnd lock (HasLocked folder.now)) };
 
     ghost lacks_lock = { λ s fault. IsSomeAnd s.log (λ folder. FailsToLock folder.now fault) };
 
@@ -186,11 +181,12 @@ impl<R: AllocGlobal, F: FileSystem + Drop, D: Doors + Drop, N: Sockets + Drop> S
         self.rt.alloc()
     }
 
-    fn lock_log(&self, used: &mut Used<F, D, N>) -> Result<Option<LogLock>, ProgramFault> {
-        match self.log {
-            Some(folder) => Ok(Some(lock_log(&mut used.files, folder)?)),
-            None => Ok(None),
-        }
+    fn lock_log(&self, used: &mut Used<F, D, N>) -> Result<(), ProgramFault> {
+        used.lock = match self.log {
+            Some(folder) => Some(lock_log(&mut used.files, folder)?),
+            None => None,
+        };
+        Ok(())
     }
 
     fn read_config(&self, used: &mut Used<F, D, N>) -> Result<Config, ProgramFault> {

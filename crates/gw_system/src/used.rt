@@ -1,6 +1,8 @@
 //! What commands use beside their streams: files, doors for clients, and sockets (`Edge`).
 
-/// What a system uses.
+use gw_files::LogLock;
+
+/// What a system uses, and what it holds.
 #[derive(Drop)]
 pub struct Used<F, D, N> {
     /// The files, and standard error.
@@ -9,6 +11,8 @@ pub struct Used<F, D, N> {
     pub doors: D,
     /// Where the sockets of the circuits are opened.
     pub sockets: N,
+    /// The lock of the folder of its log, if it has it.
+    pub lock: Option<LogLock>,
 }
 
 /// What a command uses: that of its system, and where the door of `--control` is opened.

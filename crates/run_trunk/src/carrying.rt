@@ -409,9 +409,8 @@ pub fn serve<R: Fileless, D: Doors, Y: System>(
         (text_in (codes "control") (subcommand_rows_of matches.now)) }
     ensures asked { MakesSuch (Y.has_asked system.now) files.old files.new (TrunkAsks (Y.files system.now)) }
 {
-    let _lock = match system.lock_log(files) {
-        Ok(lock) => lock,
-        Err(fault) => return Err(fault),
-    };
-    serve_at(rt, doors, matches, system, files, input, output)
+    match system.lock_log(files) {
+        Ok(()) => serve_at(rt, doors, matches, system, files, input, output),
+        Err(fault) => Err(fault),
+    }
 }

@@ -8,11 +8,11 @@ returns-in-Err-clause-serves g c = nothing_served _ _ _ (inr (inr c.in-Err.ensur
 pub returns-in-Err-clause-asked : goal.returns-in-Err-clause-asked
 returns-in-Err-clause-asked g c = record { calls = _; are = inl refl; made = c.in-Err.ensures.asked }
 
-pub returns-clause-serves : goal.returns-clause-serves
-returns-clause-serves g c = served_so _ _ _ c.serve_at.result (λ fault why. inl why) c.serve_at.ensures.serves
+pub returns-in-Ok-clause-serves : goal.returns-in-Ok-clause-serves
+returns-in-Ok-clause-serves g c = served_so _ _ _ c.serve_at.result (λ fault why. inl why) c.serve_at.ensures.serves
 
-pub returns-clause-asked : goal.returns-clause-asked
-returns-clause-asked g c = let more = c.serve_at.ensures.asked in record {
+pub returns-in-Ok-clause-asked : goal.returns-in-Ok-clause-asked
+returns-in-Ok-clause-asked g c = let more = c.serve_at.ensures.asked in record {
   calls = _;
   are = inr (more.calls, more.are, refl);
   made = λ before asked. more.made _ (c.in-Ok.ensures.asked before asked);
@@ -21,5 +21,5 @@ returns-clause-asked g c = let more = c.serve_at.ensures.asked in record {
 pub returns-in-Err-clause-calls : goal.returns-in-Err-clause-calls
 returns-in-Err-clause-calls g c = inl refl
 
-pub returns-clause-calls : goal.returns-clause-calls
-returns-clause-calls g c = inr c.serve_at.ensures.calls
+pub returns-in-Ok-clause-calls : goal.returns-in-Ok-clause-calls
+returns-in-Ok-clause-calls g c = inr c.serve_at.ensures.calls

@@ -12,11 +12,11 @@ returns-in-Err-clause-asked g c =
     let unasked : is_some c.args.self.now.recording ≡ false = cc in
     asked_by (SystemCall.BeginTape c.args.config.now c.args.gateway.now false) (so (λ calls tries.
     on_log _ c.args.self.now.recording c.in-Some.folder.now false calls (rw c.in-Some.is refl) unasked tries)
-    c.in-Err.ensures.calls) (no_door refl) (none refl)
+    c.in-Err.ensures.calls) (no_door refl) (none refl) (λ asked lock. lock)
 
 pub returns-in-Ok-clause-asked : goal.returns-in-Ok-clause-asked
 returns-in-Ok-clause-asked g c =
     let unasked : is_some c.args.self.now.recording ≡ false = cc in
     asked_by (SystemCall.BeginTape c.args.config.now c.args.gateway.now true) (so (λ calls tries.
     on_log _ c.args.self.now.recording c.in-Some.folder.now true calls (rw c.in-Some.is refl) unasked tries)
-    c.in-Ok.ensures.calls) (no_door refl) (none refl)
+    c.in-Ok.ensures.calls) (no_door refl) (none refl) (λ asked lock. lock)

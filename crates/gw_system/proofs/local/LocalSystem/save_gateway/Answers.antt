@@ -7,4 +7,4 @@ use Rattle.gw_system.proofs.local.LocalSystem.save_gateway.Goals as goal
 pub returns-clause-asked : goal.returns-clause-asked
 returns-clause-asked g c =
     asked_by (SystemCall.SaveGateway c.args.config.now c.args.gateway.now (is_ok c.keep_gateway.result))
-    c.keep_gateway.ensures.calls (no_door refl) (none refl)
+    c.keep_gateway.ensures.calls (no_door refl) (none refl) (λ asked lock. lock)

@@ -6,4 +6,4 @@ use Rattle.gw_system.proofs.local.LocalSystem.tell.Goals as goal
 
 pub returns-clause-asked : goal.returns-clause-asked
 returns-clause-asked g c = asked_by (SystemCall.Tell c.args.program_fault.now) (exactly _ c.tell_fault.ensures.calls)
-    (no_door refl) (none refl)
+    (no_door refl) (none refl) (λ asked lock. lock)

@@ -1,4 +1,4 @@
-use Rattle.std.proofs.Common.{sym}
+use Rattle.std.proofs.Common.{refl, sym}
 use Rattle.clap.specs.Words.{subcommand_rows_of}
 use Rattle.gw_machine.proofs.Streams.{takes_asked}
 use Rattle.gw_files.specs.LogFolder.{FailsToLock}
@@ -30,3 +30,4 @@ returns-clause-calls g c =
     local.ensures.files.1 local.ensures.files.2 local.ensures.recording)
     (λ call calls at. rw local.ensures.tell at at)
     (λ call calls of. (local.result.senders, local.ensures.senders, local.result.among, local.ensures.among, of))
+    (λ lock asked held. rw (← local.ensures.files.0) held) refl
