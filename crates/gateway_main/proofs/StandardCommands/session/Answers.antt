@@ -12,7 +12,7 @@ returns-in_default g c = (
   no_session (g.Y.Systems.command c.args.self.now.systems) c.args.session _ _ _
       (inl (refl, rw c.in_default.is at c.system.ensures.none)),
   record {
-    asks = λ none. ([], inl (rw c.in_default.is at c.system.ensures.none, refl), none_asked _ none);
+    asks = λ none. ([], inl (rw c.in_default.is at c.system.ensures.none, refl), none_asked _ refl none);
     shut = refl;
   },
 )

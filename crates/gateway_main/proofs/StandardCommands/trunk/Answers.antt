@@ -10,7 +10,7 @@ pub returns-in_default : goal.returns-in_default
 returns-in_default g c = (
   nothing_served _ _ _ (inr (inl (inl (refl, rw c.in_default.is at c.system.ensures.none)))),
   record {
-    asks = λ none. ([], inl (rw c.in_default.is at c.system.ensures.none, refl), none_asked _ none);
+    asks = λ none. ([], inl (rw c.in_default.is at c.system.ensures.none, refl), none_asked _ refl none);
     opens = inl refl;
   },
 )
