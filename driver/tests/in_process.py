@@ -125,6 +125,7 @@ class ServiceCase(support.LoopCase):
         self.addCleanup(self.end_left)
         self.records, journal, takes = list[logging.LogRecord](), logging.getLogger(TOP), logging.Handler()
         setattr(takes, 'emit', self.records.append)
+        self.addCleanup(lambda: [each.getMessage() for each in self.records])   # (it fails if one can't be printed)
         kept = mock.patch.multiple(journal, handlers=[takes], propagate=False, level=logging.INFO)
         kept.start()
         self.addCleanup(kept.stop)

@@ -67,6 +67,9 @@ ENDS: dict[str, tuple[str, list[dict[str, Any]], list[str], int]] = {
     'one never comes up later': ('', [UP, says('log y wants 8 octets'), WAITS], [
         BEGINS, 'program: log y wants 8 octets',
         'notice: the program says: log y wants 8 octets: program B goes on after T ms', QUIT], 0),
+    'a log with which each one dies': ('', [UP, *[{'ends': -9}] * 4, WAITS], [
+        BEGINS, f'error: {KILLED}: the log is put aside, and a new one begins',
+        f'warning: {KILLED}: program B goes on after T ms; all calls begin anew', QUIT], 0),
     'five deaths': ('--totals', [*[UP] * 5, WAITS], [
         BEGINS, *(f'warning: {KILLED}: program {each} goes on after T ms{HAND}' for each in 'BCDE'),
         f'error: {KILLED}: the next one begins in 0.5 s',

@@ -35,7 +35,7 @@ class RingBeginTests(support.FolderCase, unittest.IsolatedAsyncioTestCase):
         with mock.patch.object(recordings, 'LEAST', 1 << 62):
             self.assertFalse(recordings.has_room(ring))
         self.assertTrue(recordings.has_room(ring))
-        self.assertEqual(os.listdir(ring), [])
+        self.assertEqual((os.listdir(ring), os.stat(ring).st_mode & 0o7), ([], 0))
 
     async def test_when_it_can_begin(self) -> None:
         """Once nothing is written any more, and there is room."""
@@ -58,6 +58,8 @@ class RingBeginTests(support.FolderCase, unittest.IsolatedAsyncioTestCase):
             ends = [mock.call('a part of the log was not read')] * (is_break and not keep)
             begins = keep is not None and (is_break or is_cut or octets == 1_280_005)
             self.assertEqual((recording.begin.call_count, recording.end.mock_calls), (begins, ends))
+        its._see_file(LogState(4, 0, b'of a new gateway'), True)
+        self.assertEqual([each.args[0].state for each in recording.begin.mock_calls], [b'state', b''])
 
 
 class RecordingTests(support.LoopCase):
