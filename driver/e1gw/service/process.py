@@ -13,7 +13,7 @@ from contextlib import suppress
 from typing import Callable, Iterable, Sequence
 
 from ..crc4 import COUNTS
-from .memory import give_back, given_back, in_memory, octets_in
+from .memory import PAGE, give_back, given_back, in_memory, octets_in
 
 MOST_SAID = 1 << 20         # octets that are heard at once
 LOOK = 0.25                 # seconds between two looks whether a signal has stopped it
@@ -29,8 +29,8 @@ logger = logging.getLogger(__name__)
 
 def fields_of(pid: int) -> list[str]:
     """What proc(5) says of a process behind its name, the state first; empty if it is not seen."""
-    with suppress(OSError), open(f'/proc/{pid}/stat', encoding='ascii', errors='replace') as file:
-        return file.read().rpartition(')')[2].split()
+    with suppress(OSError), open(f'/proc/{pid}/stat', 'rb', 0) as file:
+        return file.read(PAGE).decode('ascii', 'replace').rpartition(')')[2].split()
     return []
 
 
@@ -81,7 +81,7 @@ class Child:
 
     def _hear(self) -> None:
         """Takes the whole lines that it has said since this was last done."""
-        if self.said < 0:
+        if self.said < 0 or os.fstat(self.said).st_size == self._heard:
             return
         octets = os.pread(self.said, MOST_SAID, self._heard)
         octets = octets if self.over.is_set() else octets[:octets.rfind(b'\n') + 1]

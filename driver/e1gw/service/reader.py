@@ -208,11 +208,11 @@ class LogReader:
         if self.rests or not (self._reader or self.has_log() and self._reader):
             return
         assert self._reader and self._files
-        before, written = self.octets, self._files.written()
-        its = self._reader.look()
+        before, its = self.octets, self._reader.look()
+        written = self._files.written(self._reader.number) if its else self._written
         for number, news in enumerate(its, 1):
             self._take(news, its[number:], written)
-        self._written = written if its else self._written
+        self._written = written
         now = time.monotonic()
         if self.octets > before:
             self.clock.took(self.octets - before, now)
