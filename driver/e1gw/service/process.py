@@ -14,9 +14,10 @@ from typing import Callable, Iterable, Sequence
 
 from ..crc4 import COUNTS
 from .memory import PAGE, give_back, given_back, in_memory, octets_in
+from .trunk import beat
 
 MOST_SAID = 1 << 20         # octets that are heard at once
-LOOK = 0.25                 # seconds between two looks whether a signal has stopped it
+LOOK = 0.24                 # seconds between two looks whether a signal has stopped it
 UNKNOWN = 255               # the status of a process that another one has started
 TOTALS = 'records', 'octets', 'datagrams', 'dropped', 'port_faults', 'discarded_multiframes'
 AT_END = {*TOTALS, *COUNTS, 'unreported'}       # what it counts at its end
@@ -150,7 +151,7 @@ class Child:
             logger.warning('process %d was stopped by a signal, and is killed', self.pid)
             self.signal(signal.SIGKILL)
         if not self.over.is_set():
-            asyncio.get_running_loop().call_later(LOOK, self._look)
+            asyncio.get_running_loop().call_at(beat(LOOK), self._look)
 
     def is_stopped(self) -> bool:
         """Whether a signal has stopped it."""

@@ -16,7 +16,7 @@ from ..session import OCTETS_A_SECOND, whole_records
 from .journal import NOTICE
 from .log_folder import FolderReader, LogBegun, LogFiles, LogNews, LogPair, LogPiece, LogState
 from .recordings import FileBegin, RecordingNote, RecordingWants, TrunkRecording, has_room
-from .trunk import again
+from .trunk import every
 
 AGAIN = 60.0                # seconds between two looks whether a ring that has ended can be written again
 MOST_LOST = 0.008           # seconds of the trunk that a program had in hand
@@ -67,7 +67,7 @@ class LogReader:
         self._written = 0.0                     # when that was written
         self._recording: TrunkRecording | None = None
         self._begun: int | None = None          # the octet of the trunk with which the file of now begins, if any
-        self._lost, self._is_cut, self._retry = 0.0, False, asyncio.Event()
+        self._lost, self._is_cut = 0.0, False
         self._found = list[LogPair]()           # what the log had when this service, and programs, began
 
     # ---- the log ----
@@ -192,16 +192,8 @@ class LogReader:
 
     async def run(self) -> None:
         """Until it is cancelled. Whatever fails is begun again."""
-        beside = asyncio.create_task(self._begin_again())
-        try:
-            await again(self._look_on, 'the reading of the log')
-        finally:
-            beside.cancel()
-
-    async def _look_on(self) -> None:
-        while True:
-            self.look()
-            await asyncio.sleep(TICK)
+        with every(TICK, self.look, 'the reading of the log'):
+            await self._begin_again()
 
     def look(self) -> None:
         """Reads what there is."""
@@ -268,16 +260,14 @@ class LogReader:
 
     async def _begin_again(self) -> None:
         """A ring that has ended is tried once a minute. If it can be written it goes on from the next state."""
-        while self._wants and self._wants.keep:
-            with suppress(TimeoutError):
-                async with asyncio.timeout(AGAIN):
-                    await self._retry.wait()
-            self._retry.clear()
+        while True:
+            await asyncio.sleep(AGAIN)
             try:
-                if self._recording and self._recording.why and await self._can_begin(self._recording):
+                ended = self._recording
+                if ended and ended.wants.keep and ended.why and await self._can_begin(ended):
                     self._begun = None
-                    before = replace(self._recording.note(0), why='', path='')
-                    self._recording = TrunkRecording(self._wants, self._note, before)
+                    before = replace(ended.note(0), why='', path='')
+                    self._recording = TrunkRecording(ended.wants, self._note, before)
                     logger.log(NOTICE, 'the recording begins again')
             except Exception as fault:      # pylint: disable=broad-exception-caught
                 logger.warning('the recording does not begin again: %s', words_of_fault(fault))

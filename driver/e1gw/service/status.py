@@ -28,7 +28,7 @@ from .program import ProgramPlaces, connected
 from .missed import MissedReports, told_again
 from .reload import ReloadRequests
 
-AGAIN = 0.1                 # seconds between two tries to connect, and two looks
+AGAIN = 0.1                 # seconds between two tries to connect
 REST, SHORT_REST = 0.05, 0.01       # between two reads of reports; the latter if somebody follows events
 ANSWERS, PATIENCE = 5, 0.2  # of a program where it is; seconds for them while it has told other things
 MOST_GREETING = 256         # octets, which come at once, in which a program tells where it is
@@ -369,17 +369,15 @@ class TrunkStatus:
 
     # ---- octets ----
 
-    async def look_at_flow(self) -> None:
-        """Whether octets of the trunk come."""
-        while True:
-            await asyncio.sleep(AGAIN)
-            now, before = time.monotonic(), self._flow
-            self._flow, change = before.seen(self.place(), now, self._line is not None)
-            if change is FlowChange.FLOWS:
-                self.tell(Flows(round(now - (before.stood or now), 3)))
-            elif change is FlowChange.STALLED:
-                self.stands('reports', True)
-                self.tell(Stalled(decisions.QUIET))
+    def look_at_flow(self, now: float) -> None:
+        """To be called a few times a second: whether octets of the trunk come."""
+        before = self._flow
+        self._flow, change = before.seen(self.place(), now, self._line is not None)
+        if change is FlowChange.FLOWS:
+            self.tell(Flows(round(now - (before.stood or now), 3)))
+        elif change is FlowChange.STALLED:
+            self.stands('reports', True)
+            self.tell(Stalled(decisions.QUIET))
 
     def place(self) -> int:
         """Octets of the trunk up to now. (Its log may have ended, and it goes on.)"""
