@@ -91,7 +91,7 @@ class TrunkCarrier:
         self._noted = -inf, trunk.note()        # when it was noted last what the next service has to know, and this
         self.silent, self._due = time.monotonic(), 0.0
         self._deaths, self._totals, self.drains = Deaths(), Counter[str](), KeptDrains(wants.drains)
-        trunk.place = self.place
+        trunk.place = lambda: self.reader.octets
 
     # ---- from the beginning to the end ----
 
@@ -242,7 +242,7 @@ class TrunkCarrier:
             return self.finish(self.ending if is_asked else failure if end.was_up else self.why, step.status)
         if step.act is Act.REOPEN:
             self.why = failure
-            logger.warning('%s, behind octet %d; it is opened again', failure, self.place())
+            logger.warning('%s, behind octet %d; it is opened again', failure, self.reader.octets)
             self.trunk.tell(TrunkLost(failure))
             await self.trunk.finish()
             self.trunk.fault = failure
@@ -269,7 +269,7 @@ class TrunkCarrier:
 
     def finish(self, why: str, status: int) -> None:
         """No other program follows."""
-        logger.log(logging.ERROR if status else logging.INFO, 'ends: %s, behind octet %d', why, self.place())
+        logger.log(logging.ERROR if status else logging.INFO, 'ends: %s, behind octet %d', why, self.reader.octets)
         if self.wants.totals:
             logger.info('totals: %s', ', '.join(f'{word} {count}' for word, count in self._totals.items()))
         self.notifier.tell('STOPPING=1')
@@ -306,10 +306,6 @@ class TrunkCarrier:
     def version(self) -> ProgramVersion:
         """That of the program of now, or of the next one."""
         return self.program.version if self.program else self.versions.now
-
-    def place(self) -> int:
-        """The octet of the trunk behind all that was taken."""
-        return self.reader.octets
 
     def note(self) -> None:
         """Notes what the next service has to know and to have if this one ends; nothing of a trunk that has ended."""
