@@ -82,17 +82,13 @@ class LogReader:
             return
         left = left if left and (left.session, left.keep) == (wants.session, wants.keep) else None
         self._recording = TrunkRecording(wants, self._note, left)
-        if left and left.path and self._reaches(left.place):
+        if left and left.path and any(state.place <= left.place for state in self._states()):   # (it has all behind it)
             self._begun, self._place, self.octets = left.begun, left.place, left.octets
             if left.keep and not os.path.exists(f'{left.path}.json'):       # (it had said no more than its name)
                 for state in self._states():
                     if state.place == left.place:
                         self._see_file(state, True)
             self._close()
-
-    def _reaches(self, place: int) -> bool:
-        """Whether the log has all behind a place."""
-        return any(state.place <= place for state in self._states())
 
     def _states(self) -> list[LogState]:
         """Those that the log has now."""

@@ -49,7 +49,8 @@ class SatopTrunk(TrunkFiles):
     # ---- opening ----
 
     async def open(self) -> None:
-        await self._hold_line()
+        if not self.files:
+            await self._open_line()
         self._why = ''
         try:
             self._join()

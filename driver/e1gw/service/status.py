@@ -271,10 +271,6 @@ class TrunkStatus:
             why = self._trunk.facts().get('fault') or why
             self.tell(Connected('program') if has else Disconnected('program', why))
 
-    def has_program(self) -> bool:
-        """Whether this service is connected with the program."""
-        return bool(self._stands)
-
     def teller(self) -> object:
         """The connection at which changes are told; None if there is none."""
         return self._line if self.lines.live else None
@@ -391,5 +387,5 @@ class TrunkStatus:
         """All that is known, as plain values."""
         return self.lines.status() | {
             'octets': self.place(), 'life': self.naming.life or None,
-            'trunk_up': self.has_program(), 'program': self.has_program(), 'program_since': round(self._since, 3),
+            'trunk_up': bool(self._stands), 'program': bool(self._stands), 'program_since': round(self._since, 3),
             'clock': {'stalled': self._flow.stood is not None, 'stalls': self._flow.stalls}}

@@ -106,14 +106,10 @@ class TrunkFiles:
 
     async def open(self) -> None:
         """OSError if it can't be opened."""
-        await self._hold_line()
-        self._set_ends()
-        self._tell_open()
-
-    async def _hold_line(self) -> None:
-        """Opens the line, unless it is held."""
         if not self.files:
             await self._open_line()
+        self._set_ends()
+        self._tell_open()
 
     async def _open_line(self) -> None:
         """Opens the device or the socket."""
@@ -228,7 +224,8 @@ class TrunkFiles:
 
     def status(self) -> dict[str, Any]:
         """What the transport tells of itself, as plain values."""
-        return {'trunk': self.name, 'waiting': unsent(self.both[1]), **(self.slots.status() if self.slots else {}),
+        unsent = waiting(self.both[1], termios.TIOCOUTQ)        # octets that the other end has not taken yet
+        return {'trunk': self.name, 'waiting': unsent, **(self.slots.status() if self.slots else {}),
                 **(self.card.status() if self.card else {})}
 
     def facts(self) -> dict[str, Any]:
@@ -256,11 +253,6 @@ def waiting(file: int, request: int = termios.FIONREAD) -> int:
     with suppress(OSError, ValueError):
         return int.from_bytes(fcntl.ioctl(file, request, bytes(4)), sys.byteorder)
     return 0
-
-
-def unsent(file: int) -> int:
-    """The octets that the other end has not taken yet; 0 if that is not known."""
-    return waiting(file, termios.TIOCOUTQ)
 
 
 async def opened(opens: Callable[[], Stream]) -> Stream:
