@@ -80,12 +80,6 @@ class CallNames:
             self._last, self._in_call = last, in_call
             self._note()
 
-    def saved(self, session: str, lines: Mapping[int, Line]) -> None:
-        """A session of this name is to begin where this one has ended."""
-        if self.life:
-            self._session, self._base = session, {n: line.seizures for n, line in lines.items()}
-            self._note()
-
     def _note(self) -> None:
         text = json.dumps({'life': self.life, 'session': self._session, 'base': self._base, 'last': self._last,
                            'in_call': self._in_call})

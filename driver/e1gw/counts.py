@@ -63,13 +63,13 @@ class CircuitCounts:
 
 
 class DatagramCounts:
-    """Counts datagrams. `counted(circuit, code, place)` is called for each, with what became of it, and where on the
-    trunk that was told."""
+    """Counts datagrams. `counted(circuit, code, place, count)` is called with how many more there are, by what became
+    of them, and where on the trunk that was told."""
 
-    def __init__(self, counted: Callable[[int, int, int], None] | None = None) -> None:
+    def __init__(self, counted: Callable[[int, int, int, int], None] | None = None) -> None:
         self.circuits = {n: CircuitCounts() for n in CIRCUITS}
         self.ended: str | None = None       # why the counts go on no more
-        self._counted = counted or (lambda circuit, code, place: None)
+        self._counted = counted or (lambda circuit, code, place, count: None)
 
     def stale(self) -> bool:
         """Whether the counts are not those of now."""
@@ -99,10 +99,12 @@ class DatagramCounts:
         """What a session has counted for a circuit up to this place of the trunk."""
         before = self.circuits[circuit].told
         self.take(circuit, told)
-        for code, more in zip((0, *REASONS), map(sub, (told.accepted, *told.refused),
-                                                 (before.accepted, *before.refused))):
-            for _ in range(more):
-                self._counted(circuit, int(code), place)
+        if told.accepted > before.accepted:
+            self._counted(circuit, 0, place, told.accepted - before.accepted)
+        if told.refused != before.refused:
+            for code, more in zip(REASONS, map(sub, told.refused, before.refused)):
+                if more > 0:
+                    self._counted(circuit, int(code), place, more)
 
     def status(self, circuit: int) -> dict[str, Any]:
         """The counts of a circuit, as plain values."""

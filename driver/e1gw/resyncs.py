@@ -41,19 +41,19 @@ class OpenCall:
     well: tuple[int, int] | None = None     # the first and the last datagram since one was refused
     why: str | None = None              # why it is to be restarted for lost octets
 
-    def take(self, place: int, refused: bool) -> None:
-        """What was answered to a datagram."""
+    def take(self, place: int, refused: bool, count: int) -> None:
+        """What was answered to so many datagrams."""
         if place < self.since:
             return
         self.fresh, first, seen = True, place - _SPAN, self.seen
         if refused and self.well and self.well[1] - self.well[0] >= WELL:
             self.refused_at, self.wait = -inf, FIRST
         self.well = None if refused else (self.well[0] if self.well else place, place)
-        seen.append(place)
+        seen.extend([place] * count)
         while seen[0] <= first:
             seen.popleft()
         if refused:
-            self.refused.append(place)
+            self.refused.extend([place] * count)
 
     def is_refused(self) -> bool:
         """Whether half of the datagrams are refused, for more than a moment."""
@@ -88,12 +88,12 @@ class Resyncs:
         self._restart, self._tell = restart, tell
         self._calls: dict[int, OpenCall] = {}
 
-    def counted(self, circuit: int, code: int, place: int) -> None:
-        """What was answered to a datagram that came at this place of the trunk."""
+    def counted(self, circuit: int, code: int, place: int, count: int) -> None:
+        """What was answered to datagrams that came up to this place of the trunk."""
         refused = _OF_TIME.get(code)
         if refused is not None:
             call = self._calls.get(circuit) or self._call(circuit)
-            call.take(place, refused)
+            call.take(place, refused, count)
 
     def want(self, circuits: Iterable[int], why: str) -> None:
         """Open calls are to be restarted."""
@@ -106,7 +106,7 @@ class Resyncs:
     def look(self, now: float, place: int, opened: list[int], counts: bool) -> None:
         """To be called each tick, with the trunk's place, the open circuits, and whether the counts are of now."""
         due: dict[str, list[int]] = {}
-        for n in [n for n in self._calls if n not in opened]:
+        for n in self._calls.keys() - opened:
             del self._calls[n]
         for n, call in self._calls.items():
             why = call.due(now, counts)

@@ -144,8 +144,7 @@ class ToldTests(unittest.TestCase):
         found = self.circuit()
         self.assertEqual(found['datagrams'], {'sent': 9, 'admitted': 3, 'Late': 1, 'PayloadType': 2})
         self.assertEqual([found[key] for key in ('lost', 'jitter_ms', 'stale')], [2, 0.62, False])
-        self.assertEqual(self.counted, [(1, 0, 65536), (1, 14, 65536), (1, 0, 131072), (1, 0, 131072),
-                                        (1, 11, 131072), (1, 11, 131072)])
+        self.assertEqual(self.counted, [(1, 0, 65536, 1), (1, 14, 65536, 1), (1, 0, 131072, 2), (1, 11, 131072, 2)])
         self.take(row(2, 'blocked', '11 10', counts=(0, 0, 3)))         # (a row is told before its counts)
         self.assertEqual(self.circuit(2)['datagrams'], {'sent': 0, 'admitted': 0})
         self.take(counts(2, 0, NotOpen=3))
@@ -224,7 +223,7 @@ class ReportReadingTests(support.LoopCase):
             'places.return_value.tell': tell, 'config_path.return_value': config, 'facts.return_value': {},
             'session.return_value': '', 'begun.return_value': 0, 'missed': mock.AsyncMock(return_value=None),
             'know_place': mock.AsyncMock()})
-        with support.listening(tell) as listener, mock.patch.object(status, 'REST', 0.0):
+        with support.listening(tell) as listener, mock.patch.object(status, 'REST', 0.001):
             its = status.TrunkStatus(trunk, 'west', events.append, DatagramCounts(), lambda line: None)
             its.stands('control', True)
             follows = asyncio.create_task(its.follow())

@@ -234,7 +234,7 @@ class LineProcessTests(support.LoopCase):
             its.take_up({'near': near.detach(), 'far': far.detach()}, replace(
                 its.note(), names=('near', 'far'), satop=SatopNote(('a', 'b'), 7, '', pid, started)))
             self.assertEqual((its.child and its.child.pid, its.is_open(), its.zero, len(its._works)),
-                             (pid or None, True, 7, 2))
+                             (pid or None, True, 7, 1))
             await its.finish()
 
     async def test_packets_that_are_missing(self) -> None:

@@ -289,6 +289,7 @@ class HandoverTests(support.FolderCase):
     def test_another_program_for_what_is_gone(self) -> None:
         """Once a minute at most; at once for a port that is free again."""
         carrier, program, wishes = mock.Mock(_due=0.0, _noted=(200.0, None)), mock.Mock(), list[Wish]()
+        program.process.over.is_set.return_value, carrier.want = False, lambda wish: setattr(carrier, 'wish', wish)
         carrier.trunk.note.return_value, carrier.sockets.look.return_value = None, False
         for now in 100.0, 130.0, 159.0, 160.0, 161.0:
             carrier.wish, carrier.sockets.look.return_value = Wish.NONE, now > 160

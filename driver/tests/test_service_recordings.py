@@ -192,7 +192,7 @@ class LogReaderTests(support.LoopCase):
         runs = asyncio.create_task(self.reads(RecordingWants(self.path('ring'), 60, 'west', 'c', 200)).run())
         for _ in range(3):
             await asyncio.sleep(0)
-        self.assertEqual(len(asyncio.all_tasks()), 3)
+        self.assertEqual(len(asyncio.all_tasks()), 2)
         runs.cancel()
         await asyncio.wait([runs])
         for _ in range(3):
@@ -223,7 +223,7 @@ class LogReaderTests(support.LoopCase):
         trunk = status.OperatedTrunk(carrier, mock.Mock())
         setattr(trunk, 'missed', mock.AsyncMock(return_value=None))
         with support.listening(tell) as listener, mock.patch.object(status, 'PATIENCE', 0.01, create=True), \
-                mock.patch.object(status, 'REST', 0.0):
+                mock.patch.object(status, 'REST', 0.001):
             its = status.TrunkStatus(trunk, 'west', lambda event: None, DatagramCounts(), lambda line: None)
             follows = asyncio.create_task(its.follow())
             await asyncio.sleep(0)

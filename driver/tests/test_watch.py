@@ -72,9 +72,8 @@ class WatchEdgeTests(TrunkWatchCase):
         lines += [each for n in range(1, 5) for each in (f'at {30_000 * n}', counts(3, 0, Full=n))]
         found._lines.begin(0)
         found._lines.take('\n'.join([*lines, '']).encode())
-        looks = asyncio.create_task(found._look())
+        found._look()
         await self.until(lambda: self.given)
-        looks.cancel()
         self.assertEqual([record[:2] for record in self.given], [b'K\x03'])
 
     async def test_a_standby_writes_no_calls(self) -> None:
@@ -159,15 +158,11 @@ class WatchEdgeTests(TrunkWatchCase):
         """They are counted; octets that are counted anew, by another machine, are no stall."""
         its = self.watched().status
         its._line = mock.Mock()
-        places = iter((1000, 1000, 1000, 1000, 1, 2))
-
-        async def sleep(_: float) -> None:
-            self.now += 0.6
-        clock = SimpleNamespace(monotonic=lambda: self.now, time=lambda: 0.0)
-        with (mock.patch.object(decisions, 'QUIET', 1.0), mock.patch.object(status, 'time', clock),
-              mock.patch('e1gw.service.status.asyncio.sleep', sleep), mock.patch.object(
-                  its._trunk, 'place', lambda: next(places)), self.assertRaises((StopIteration, RuntimeError))):
-            await its.look_at_flow()
+        with mock.patch.object(decisions, 'QUIET', 1.0):
+            for place in 1000, 1000, 1000, 1000, 1, 2:
+                self.now += 0.6
+                with mock.patch.object(its._trunk, 'place', lambda: place):
+                    its.look_at_flow(self.now)
         with mock.patch.object(its._trunk, 'place', lambda: 2):
             self.assertEqual(its.values()['clock'], {'stalled': False, 'stalls': 1})
         self.assertEqual([each for each in self.told if isinstance(each, FlowChanged)], [Stalled(1.0), Flows(2.4)])

@@ -30,7 +30,7 @@ from .process import start_of
 from .program import ProgramPlaces, TrunkProgram, config_in, end_left
 from .reader import LogReader, ReadingNote
 from .sockets import CircuitSockets
-from .trunk import LineOptions, TrunkFiles, again, either
+from .trunk import LineOptions, TrunkFiles, again, either, every
 from .version import ProgramVersion, VersionHistory
 
 if TYPE_CHECKING:
@@ -40,7 +40,7 @@ if TYPE_CHECKING:
 START, RELOADED = 10.0, 1.0     # seconds for a program to carry the trunk; for a new version, that has one before it
 GRACE = 5.0                 # seconds for a program to end in order
 OLD = 1.0                   # seconds for which speech may wait in sockets that no program reads
-TICK = 0.25                 # seconds between two looks while nothing happens
+TICK = 0.24                 # seconds between two looks while nothing happens
 NOTED = 1.0                 # seconds between two notes for the next service, while no call changes
 MEMORY = '/dev/shm'         # where the folder of a trunk is by default, and if its own cannot be made again
 APART = 60.0                # seconds between two programs that follow for a socket or a log that is gone
@@ -91,7 +91,7 @@ class TrunkCarrier:
         self._noted = -inf, trunk.note()        # when it was noted last what the next service has to know, and this
         self.silent, self._due = time.monotonic(), 0.0
         self._deaths, self._totals, self.drains = Deaths(), Counter[str](), KeptDrains(wants.drains)
-        trunk.place = self.place
+        trunk.place = lambda: self.reader.octets
 
     # ---- from the beginning to the end ----
 
@@ -177,23 +177,25 @@ class TrunkCarrier:
 
     async def _until_its_end(self, program: TrunkProgram) -> None:
         """Waits until a program has ended, of itself or since something is wanted."""
-        while not program.process.over.is_set():
-            if self.ending or self.wish is not Wish.NONE:
-                self.silent = time.monotonic()
-                return await program.end_within(GRACE)
-            await either(TICK, program.process.over, self.wake)
-            self.wake.clear()
-            if not program.process.over.is_set():
-                self._look(program)
+        over = program.process.over
+        with every(TICK, lambda: self._look(program), 'the service'):
+            while not (over.is_set() or self.ending or self.wish is not Wish.NONE):
+                self.wake.clear()
+                await either(None, over, self.wake)
+        if not over.is_set():
+            self.silent = time.monotonic()
+            await program.end_within(GRACE)
 
     def _look(self, program: TrunkProgram) -> None:
         """Sees to what runs alongside the program that carries the trunk."""
+        if program.process.over.is_set():
+            return
         now = time.monotonic()
         self.versions.look(now)
         self._pass_on(program)
         if now >= self._due and program.lacks() or self.sockets.look(program.version, now, not self.versions.before):
             self._due = now + APART     # (another program has them, once a minute at most)
-            self.wish = Wish.RENEW
+            self.want(Wish.RENEW)
         if now >= self._noted[0] + NOTED or self.trunk.note() != self._noted[1]:
             self.note()
 
@@ -240,7 +242,7 @@ class TrunkCarrier:
             return self.finish(self.ending if is_asked else failure if end.was_up else self.why, step.status)
         if step.act is Act.REOPEN:
             self.why = failure
-            logger.warning('%s, behind octet %d; it is opened again', failure, self.place())
+            logger.warning('%s, behind octet %d; it is opened again', failure, self.reader.octets)
             self.trunk.tell(TrunkLost(failure))
             await self.trunk.finish()
             self.trunk.fault = failure
@@ -267,7 +269,7 @@ class TrunkCarrier:
 
     def finish(self, why: str, status: int) -> None:
         """No other program follows."""
-        logger.log(logging.ERROR if status else logging.INFO, 'ends: %s, behind octet %d', why, self.place())
+        logger.log(logging.ERROR if status else logging.INFO, 'ends: %s, behind octet %d', why, self.reader.octets)
         if self.wants.totals:
             logger.info('totals: %s', ', '.join(f'{word} {count}' for word, count in self._totals.items()))
         self.notifier.tell('STOPPING=1')
@@ -304,10 +306,6 @@ class TrunkCarrier:
     def version(self) -> ProgramVersion:
         """That of the program of now, or of the next one."""
         return self.program.version if self.program else self.versions.now
-
-    def place(self) -> int:
-        """The octet of the trunk behind all that was taken."""
-        return self.reader.octets
 
     def note(self) -> None:
         """Notes what the next service has to know and to have if this one ends; nothing of a trunk that has ended."""

@@ -3,6 +3,7 @@ Whoever reads them is never waited for, and knows whether what he has read was w
 from __future__ import annotations
 
 import fcntl
+import functools
 import os
 import struct
 import zlib
@@ -37,6 +38,7 @@ class Head:
         return octets + SUM.pack(zlib.adler32(octets))
 
 
+@functools.lru_cache(4)         # (a reader finds the same ones again and again)
 def head_of(octets: bytes) -> Head | None:
     """The head that octets are; None if they are none that is whole."""
     if len(octets) < HEAD_LEN or zlib.adler32(octets[:HEAD.size]) != SUM.unpack_from(octets, HEAD.size)[0]:
@@ -98,9 +100,9 @@ class LogFiles:
                        for name, file in self._files.items())
         return False
 
-    def written(self) -> float:
-        """When records were written last, by the time of day."""
-        return max(os.fstat(self._files[name]).st_mtime for name in RECORDS)
+    def written(self, number: int) -> float:
+        """When the records of a pair were written last, by the time of day."""
+        return os.fstat(self._files[RECORDS[number]]).st_mtime
 
     def head(self, name: str) -> Head | None:
         """The head of a file, if it is whole."""
@@ -180,7 +182,7 @@ class FolderReader:
     def __init__(self, files: LogFiles, place: int = -1) -> None:
         """`place` is up to where it was read before, if it was. `base` is that of the newest state."""
         self.files, self.place, self.base = files, place, 0
-        self._turn, self._number = -1, 0    # of the pair that was read last
+        self._turn, self.number = -1, 0     # of the pair that was read last
 
     def look(self) -> list[LogNews]:
         """What there is of news. Nothing while it is written over faster than it is read."""
@@ -196,15 +198,15 @@ class FolderReader:
         if not state.place < self.place <= state.place + head.length:       # (else it was read before)
             found.append(self._at(state))
             self.place = state.place
-        self._turn, self._number, self.base = state.turn, number, state.place
+        self._turn, self.number, self.base = state.turn, number, state.place
         return found + self._more(number, head, state.place)
 
     def _newest(self) -> tuple[int, Head | None]:
         """The number of the newest pair, and the head of its records. It is mostly the one that was read last: the
         head of the other one's state, which is written behind all else of that, is of an earlier turn."""
-        other, head = self.files.head(STATES[1 - self._number]), self.files.head(RECORDS[self._number])
+        other, head = self.files.head(STATES[1 - self.number]), self.files.head(RECORDS[self.number])
         if head and head.turn == self._turn and not (other and other.turn > self._turn):
-            return self._number, head
+            return self.number, head
         number = self.files.newest()
         return (number, self.files.heads(number)) if number is not None else (0, None)
 

@@ -13,10 +13,11 @@ from contextlib import suppress
 from typing import Callable, Iterable, Sequence
 
 from ..crc4 import COUNTS
-from .memory import give_back, given_back, in_memory, octets_in
+from .memory import PAGE, give_back, given_back, in_memory, octets_in
+from .trunk import beat
 
 MOST_SAID = 1 << 20         # octets that are heard at once
-LOOK = 0.25                 # seconds between two looks whether a signal has stopped it
+LOOK = 0.24                 # seconds between two looks whether a signal has stopped it
 UNKNOWN = 255               # the status of a process that another one has started
 TOTALS = 'records', 'octets', 'datagrams', 'dropped', 'port_faults', 'discarded_multiframes'
 AT_END = {*TOTALS, *COUNTS, 'unreported'}       # what it counts at its end
@@ -29,8 +30,8 @@ logger = logging.getLogger(__name__)
 
 def fields_of(pid: int) -> list[str]:
     """What proc(5) says of a process behind its name, the state first; empty if it is not seen."""
-    with suppress(OSError), open(f'/proc/{pid}/stat', encoding='ascii', errors='replace') as file:
-        return file.read().rpartition(')')[2].split()
+    with suppress(OSError), open(f'/proc/{pid}/stat', 'rb', 0) as file:
+        return file.read(PAGE).decode('ascii', 'replace').rpartition(')')[2].split()
     return []
 
 
@@ -81,7 +82,7 @@ class Child:
 
     def _hear(self) -> None:
         """Takes the whole lines that it has said since this was last done."""
-        if self.said < 0:
+        if self.said < 0 or os.fstat(self.said).st_size == self._heard:
             return
         octets = os.pread(self.said, MOST_SAID, self._heard)
         octets = octets if self.over.is_set() else octets[:octets.rfind(b'\n') + 1]
@@ -150,7 +151,7 @@ class Child:
             logger.warning('process %d was stopped by a signal, and is killed', self.pid)
             self.signal(signal.SIGKILL)
         if not self.over.is_set():
-            asyncio.get_running_loop().call_later(LOOK, self._look)
+            asyncio.get_running_loop().call_at(beat(LOOK), self._look)
 
     def is_stopped(self) -> bool:
         """Whether a signal has stopped it."""

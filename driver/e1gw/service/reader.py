@@ -16,7 +16,7 @@ from ..session import OCTETS_A_SECOND, whole_records
 from .journal import NOTICE
 from .log_folder import FolderReader, LogBegun, LogFiles, LogNews, LogPair, LogPiece, LogState
 from .recordings import FileBegin, RecordingNote, RecordingWants, TrunkRecording, has_room
-from .trunk import again
+from .trunk import every
 
 AGAIN = 60.0                # seconds between two looks whether a ring that has ended can be written again
 MOST_LOST = 0.008           # seconds of the trunk that a program had in hand
@@ -67,7 +67,7 @@ class LogReader:
         self._written = 0.0                     # when that was written
         self._recording: TrunkRecording | None = None
         self._begun: int | None = None          # the octet of the trunk with which the file of now begins, if any
-        self._lost, self._is_cut, self._retry = 0.0, False, asyncio.Event()
+        self._lost, self._is_cut = 0.0, False
         self._found = list[LogPair]()           # what the log had when this service, and programs, began
 
     # ---- the log ----
@@ -82,17 +82,13 @@ class LogReader:
             return
         left = left if left and (left.session, left.keep) == (wants.session, wants.keep) else None
         self._recording = TrunkRecording(wants, self._note, left)
-        if left and left.path and self._reaches(left.place):
+        if left and left.path and any(state.place <= left.place for state in self._states()):   # (it has all behind it)
             self._begun, self._place, self.octets = left.begun, left.place, left.octets
             if left.keep and not os.path.exists(f'{left.path}.json'):       # (it had said no more than its name)
                 for state in self._states():
                     if state.place == left.place:
                         self._see_file(state, True)
             self._close()
-
-    def _reaches(self, place: int) -> bool:
-        """Whether the log has all behind a place."""
-        return any(state.place <= place for state in self._states())
 
     def _states(self) -> list[LogState]:
         """Those that the log has now."""
@@ -192,27 +188,19 @@ class LogReader:
 
     async def run(self) -> None:
         """Until it is cancelled. Whatever fails is begun again."""
-        beside = asyncio.create_task(self._begin_again())
-        try:
-            await again(self._look_on, 'the reading of the log')
-        finally:
-            beside.cancel()
-
-    async def _look_on(self) -> None:
-        while True:
-            self.look()
-            await asyncio.sleep(TICK)
+        with every(TICK, self.look, 'the reading of the log'):
+            await self._begin_again()
 
     def look(self) -> None:
         """Reads what there is."""
         if self.rests or not (self._reader or self.has_log() and self._reader):
             return
         assert self._reader and self._files
-        before, written = self.octets, self._files.written()
-        its = self._reader.look()
+        before, its = self.octets, self._reader.look()
+        written = self._files.written(self._reader.number) if its else self._written
         for number, news in enumerate(its, 1):
             self._take(news, its[number:], written)
-        self._written = written if its else self._written
+        self._written = written
         now = time.monotonic()
         if self.octets > before:
             self.clock.took(self.octets - before, now)
@@ -268,16 +256,14 @@ class LogReader:
 
     async def _begin_again(self) -> None:
         """A ring that has ended is tried once a minute. If it can be written it goes on from the next state."""
-        while self._wants and self._wants.keep:
-            with suppress(TimeoutError):
-                async with asyncio.timeout(AGAIN):
-                    await self._retry.wait()
-            self._retry.clear()
+        while True:
+            await asyncio.sleep(AGAIN)
             try:
-                if self._recording and self._recording.why and await self._can_begin(self._recording):
+                ended = self._recording
+                if ended and ended.wants.keep and ended.why and await self._can_begin(ended):
                     self._begun = None
-                    before = replace(self._recording.note(0), why='', path='')
-                    self._recording = TrunkRecording(self._wants, self._note, before)
+                    before = replace(ended.note(0), why='', path='')
+                    self._recording = TrunkRecording(ended.wants, self._note, before)
                     logger.log(NOTICE, 'the recording begins again')
             except Exception as fault:      # pylint: disable=broad-exception-caught
                 logger.warning('the recording does not begin again: %s', words_of_fault(fault))

@@ -18,9 +18,9 @@ from ..session import MULTIFRAME
 from ..udp_tables import has_socket
 from .process import UNKNOWN, Child
 from .program import ProgramPlaces
-from .trunk import LineOptions, Pause, SatopNote, TrunkFiles, TrunkNote, again, waiting
+from .trunk import LineOptions, Pause, SatopNote, TrunkFiles, TrunkNote, again, every, waiting
 
-LOOK, SOON = 0.25, 0.01     # seconds between two looks at what the process says, and at what it lacked
+LOOK, SOON = 0.24, 0.01     # seconds between two looks at what the process says, and at what it lacked
 GRACE = 1.0                 # seconds for the process to send what it was given last
 RECEIVES = 0.25             # seconds at most for it to receive
 ANEW = 0.2                  # seconds for the far end to take its packets as a new stream
@@ -49,7 +49,8 @@ class SatopTrunk(TrunkFiles):
     # ---- opening ----
 
     async def open(self) -> None:
-        await self._hold_line()
+        if not self.files:
+            await self._open_line()
         self._why = ''
         try:
             self._join()
@@ -106,14 +107,15 @@ class SatopTrunk(TrunkFiles):
 
     def _goes(self) -> None:
         """Sees to the process from now on."""
-        self._works = [asyncio.create_task(again(work, 'the line')) for work in (self._keep, self._look)]
+        self._works = [asyncio.create_task(again(self._keep, 'the line'))]
 
     # ---- while it is there ----
 
     async def _keep(self) -> None:
-        """Begins the process again each time that it dies, until the line ends."""
+        """Hears what the process says, and begins it again each time that it dies, until the line ends."""
         while child := self.child:
-            await child.over.wait()
+            with every(LOOK, self._hear, 'the line'):
+                await child.over.wait()
             self._hear()
             status, words = child.status or 0, self._end_words(child)
             ended_itself = 0 <= status < UNKNOWN
@@ -155,11 +157,6 @@ class SatopTrunk(TrunkFiles):
             self._restarts.begins()
             logger.error('%s cannot be started: %s', self.title, fault.strerror)
             return False
-
-    async def _look(self) -> None:
-        while True:
-            self._hear()
-            await asyncio.sleep(LOOK)
 
     def _hear(self) -> None:
         """Takes what the process has said."""

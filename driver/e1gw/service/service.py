@@ -33,12 +33,12 @@ from .reader import LogReader
 from .handover import CAUGHT, CannotBegin, Handover, Notifier, carrier_of, given_files, left_by
 from .reload import ReloadRequests
 from .status import OperatedTrunk
-from .trunk import Tasks
+from .trunk import Tasks, every
 from .version import NotYet, VersionRefused
 from .watch import TrunkWatch
 
 NAME = 'e1gw-trunk'
-SIGN = 0.25                 # seconds between two signs of life
+SIGN = 0.24                 # seconds between two signs that this process does not stand still
 
 logger = logging.getLogger(__name__)
 
@@ -48,13 +48,6 @@ def parser() -> argparse.ArgumentParser:
     words = Parser(NAME, description=__doc__, formatter_class=argparse.RawDescriptionHelpFormatter)
     add_options(words)
     return words
-
-
-async def sign_of_life(notifier: Notifier) -> None:
-    """Tells systemd that this process does not stand still."""
-    while True:
-        notifier.tell('WATCHDOG=1')
-        await asyncio.sleep(SIGN)
 
 
 async def opened_watch(asked: argparse.Namespace, carrier: TrunkCarrier, requests: ReloadRequests,
@@ -124,18 +117,19 @@ async def serve(asked: argparse.Namespace, wants: TrunkWants) -> int:
     carrier.reader.rests = carrier.pair is not None and not carrier.pair.is_active
     requests = ReloadRequests(carrier, handover, notifier)
     catch_signals(carrier, requests)
-    beside = [asyncio.create_task(sign_of_life(notifier)), asyncio.create_task(carrier.reader.run())]
-    watch = await opened_watch(asked, carrier, requests, left.note, left.is_anything)
-    beside.append(asyncio.create_task(watch.run()))
-    if not carrier.pair or carrier.pair.is_active:
-        await open_first(carrier)
-    status = await carrier.serve()
-    if wants.state and not await store(carrier.versions.now, carrier.reader, wants.state):
-        status = 1
-    for task in beside:
-        task.cancel()
-    await asyncio.wait(beside, timeout=GRACE)
-    await carrier.reader.finish()
+    with every(SIGN, lambda: notifier.tell('WATCHDOG=1'), 'the sign of life'):
+        beside = [asyncio.create_task(carrier.reader.run())]
+        watch = await opened_watch(asked, carrier, requests, left.note, left.is_anything)
+        beside.append(asyncio.create_task(watch.run()))
+        if not carrier.pair or carrier.pair.is_active:
+            await open_first(carrier)
+        status = await carrier.serve()
+        if wants.state and not await store(carrier.versions.now, carrier.reader, wants.state):
+            status = 1
+        for task in beside:
+            task.cancel()
+        await asyncio.wait(beside, timeout=GRACE)
+        await carrier.reader.finish()
     for path in filter(None, (wants.control, wants.tell)):
         if os.path.islink(path):
             os.unlink(path)

@@ -27,9 +27,10 @@ from .lifecycle import TrunkCarrier
 from .program import ProgramPlaces, connected
 from .missed import MissedReports, told_again
 from .reload import ReloadRequests
+from .trunk import beat
 
-AGAIN = 0.1                 # seconds between two tries to connect, and two looks
-REST, SHORT_REST = 0.05, 0.01       # between two reads of reports; the latter if somebody follows events
+AGAIN = 0.1                 # seconds between two tries to connect
+REST, SHORT_REST = 0.04, 0.01       # between two reads of reports; the latter if somebody follows events
 ANSWERS, PATIENCE = 5, 0.2  # of a program where it is; seconds for them while it has told other things
 MOST_GREETING = 256         # octets, which come at once, in which a program tells where it is
 FIRST = 2.0                 # seconds before it is reported that the program was never there
@@ -142,19 +143,14 @@ class OperatedTrunk:
         return await pair.asked(word) if pair else f'{word}: there is no other machine (--feed, --standby)'
 
 
-async def readable(line: socket.socket) -> None:
-    """Waits until something can be read of a socket, or its end."""
+async def place_told(line: socket.socket) -> int:
+    """At which octet of its session a program tells the state of now, which stays to be read; else OSError."""
     loop, comes = asyncio.get_running_loop(), asyncio.Event()
     loop.add_reader(line, comes.set)
     try:
         await comes.wait()
     finally:
         loop.remove_reader(line)
-
-
-async def place_told(line: socket.socket) -> int:
-    """At which octet of its session a program tells the state of now, which stays to be read; else OSError."""
-    await readable(line)
     if found := re.search(rb'^at (\d+)\n', line.recv(MOST_GREETING, socket.MSG_PEEK), re.M):
         return int(found[1])
     raise OSError(0, 'it does not tell where it is')
@@ -275,10 +271,6 @@ class TrunkStatus:
             why = self._trunk.facts().get('fault') or why
             self.tell(Connected('program') if has else Disconnected('program', why))
 
-    def has_program(self) -> bool:
-        """Whether this service is connected with the program."""
-        return bool(self._stands)
-
     def teller(self) -> object:
         """The connection at which changes are told; None if there is none."""
         return self._line if self.lines.live else None
@@ -299,8 +291,7 @@ class TrunkStatus:
                 line.connect(self._trunk.places().tell)
                 await self.came(line, session, self._trunk.begun() + await place_told(line))
                 while self.takes(line, 1 << 16):
-                    await self._rest()
-                    await readable(line)
+                    await self._more(line)
                     await self._trunk.know_place(PATIENCE)
             except OSError as fault:
                 self._why = words_of_fault(fault)
@@ -340,12 +331,16 @@ class TrunkStatus:
             if self._line:
                 self.takes(self._line, 1 << 20)
 
-    async def _rest(self) -> None:
-        """So that many small writes are one read."""
-        with suppress(TimeoutError):
-            async with asyncio.timeout(SHORT_REST if self.is_followed() else REST):
-                await self._read.wait()
-        self._read.clear()
+    async def _more(self, line: socket.socket) -> None:
+        """Waits until there is more to read, and a moment first, so that many small writes are one read."""
+        loop, rest = asyncio.get_running_loop(), SHORT_REST if self.is_followed() else REST
+        timer = loop.call_at(beat(rest), loop.add_reader, line, self._read.set)
+        try:
+            await self._read.wait()
+        finally:
+            timer.cancel()
+            loop.remove_reader(line)
+            self._read.clear()
 
     async def came(self, line: socket.socket, session: str, place: int) -> None:
         """There is a connection, at which a program, whose session has this name, tells the state at an octet."""
@@ -369,17 +364,15 @@ class TrunkStatus:
 
     # ---- octets ----
 
-    async def look_at_flow(self) -> None:
-        """Whether octets of the trunk come."""
-        while True:
-            await asyncio.sleep(AGAIN)
-            now, before = time.monotonic(), self._flow
-            self._flow, change = before.seen(self.place(), now, self._line is not None)
-            if change is FlowChange.FLOWS:
-                self.tell(Flows(round(now - (before.stood or now), 3)))
-            elif change is FlowChange.STALLED:
-                self.stands('reports', True)
-                self.tell(Stalled(decisions.QUIET))
+    def look_at_flow(self, now: float) -> None:
+        """To be called a few times a second: whether octets of the trunk come."""
+        before = self._flow
+        self._flow, change = before.seen(self.place(), now, self._line is not None)
+        if change is FlowChange.FLOWS:
+            self.tell(Flows(round(now - (before.stood or now), 3)))
+        elif change is FlowChange.STALLED:
+            self.stands('reports', True)
+            self.tell(Stalled(decisions.QUIET))
 
     def place(self) -> int:
         """Octets of the trunk up to now. (Its log may have ended, and it goes on.)"""
@@ -394,5 +387,5 @@ class TrunkStatus:
         """All that is known, as plain values."""
         return self.lines.status() | {
             'octets': self.place(), 'life': self.naming.life or None,
-            'trunk_up': self.has_program(), 'program': self.has_program(), 'program_since': round(self._since, 3),
+            'trunk_up': bool(self._stands), 'program': bool(self._stands), 'program_since': round(self._since, 3),
             'clock': {'stalled': self._flow.stood is not None, 'stalls': self._flow.stalls}}

@@ -11,10 +11,10 @@ import sys
 import termios
 import time
 import traceback
-from contextlib import suppress
+from contextlib import contextmanager, suppress
 from dataclasses import dataclass
 from math import inf
-from typing import Any, Awaitable, Callable, Coroutine, Sequence
+from typing import Any, Awaitable, Callable, Coroutine, Iterator, Sequence
 
 from ..crc4 import Crc4, Crc4Note, counts_in
 from ..events import Event, Tell, TrunkOpened
@@ -106,14 +106,10 @@ class TrunkFiles:
 
     async def open(self) -> None:
         """OSError if it can't be opened."""
-        await self._hold_line()
-        self._set_ends()
-        self._tell_open()
-
-    async def _hold_line(self) -> None:
-        """Opens the line, unless it is held."""
         if not self.files:
             await self._open_line()
+        self._set_ends()
+        self._tell_open()
 
     async def _open_line(self) -> None:
         """Opens the device or the socket."""
@@ -228,7 +224,8 @@ class TrunkFiles:
 
     def status(self) -> dict[str, Any]:
         """What the transport tells of itself, as plain values."""
-        return {'trunk': self.name, 'waiting': unsent(self.both[1]), **(self.slots.status() if self.slots else {}),
+        unsent = waiting(self.both[1], termios.TIOCOUTQ)        # octets that the other end has not taken yet
+        return {'trunk': self.name, 'waiting': unsent, **(self.slots.status() if self.slots else {}),
                 **(self.card.status() if self.card else {})}
 
     def facts(self) -> dict[str, Any]:
@@ -258,11 +255,6 @@ def waiting(file: int, request: int = termios.FIONREAD) -> int:
     return 0
 
 
-def unsent(file: int) -> int:
-    """The octets that the other end has not taken yet; 0 if that is not known."""
-    return waiting(file, termios.TIOCOUTQ)
-
-
 async def opened(opens: Callable[[], Stream]) -> Stream:
     """What a thread opens, however long that takes. It is closed if nobody waits for it any more."""
     opening = asyncio.ensure_future(asyncio.to_thread(opens))
@@ -278,12 +270,38 @@ def close_opened(opening: asyncio.Future[Stream]) -> None:
         opening.result().close()
 
 
-async def either(seconds: float, *events: asyncio.Event) -> None:
-    """Waits until one of these events is set, so long at most."""
+async def either(seconds: float | None, *events: asyncio.Event) -> None:
+    """Waits until one of these events is set, so long at most if that is said."""
     waits = [asyncio.ensure_future(event.wait()) for event in events]
     await asyncio.wait(waits, timeout=seconds, return_when=asyncio.FIRST_COMPLETED)
     for each in waits:
         each.cancel()
+
+
+def beat(seconds: float) -> float:
+    """The next moment that is a multiple of these seconds, a quarter of them from now at least, by the clock of the
+    loop. What waits for such moments side by side wakes this process once."""
+    return (asyncio.get_running_loop().time() / seconds + 1.25) // 1 * seconds
+
+
+@contextmanager
+def every(seconds: float, work: Callable[[], object], what: str) -> Iterator[None]:
+    """Does a work at each beat meanwhile. One that has failed is reported, and done again at the next."""
+    loop = asyncio.get_running_loop()
+    timer: asyncio.Handle
+
+    def does() -> None:
+        nonlocal timer
+        try:
+            work()
+        except Exception as fault:      # pylint: disable=broad-exception-caught
+            has_failed(what, fault)
+        timer = loop.call_at(beat(seconds), does)
+    timer = loop.call_at(beat(seconds), does)
+    try:
+        yield
+    finally:
+        timer.cancel()
 
 
 class Tasks(set[asyncio.Task[Any]]):
@@ -300,8 +318,13 @@ async def again(work: Callable[[], Awaitable[None]], what: str) -> None:
         try:
             return await work()
         except Exception as fault:      # pylint: disable=broad-exception-caught
-            at = traceback.extract_tb(fault.__traceback__)[-1]
-            logger.error('%s goes on: %s: %s (%s:%s in %s)', what, type(fault).__name__, fault,
-                         os.path.basename(at.filename), at.lineno, at.name, extra={'kind': 'fault'})
-            logger.debug('%s', what, exc_info=True)
+            has_failed(what, fault)
             await asyncio.sleep(AGAIN)
+
+
+def has_failed(what: str, fault: Exception) -> None:
+    """Reports a failure of a work that goes on."""
+    at = traceback.extract_tb(fault.__traceback__)[-1]
+    logger.error('%s goes on: %s: %s (%s:%s in %s)', what, type(fault).__name__, fault,
+                 os.path.basename(at.filename), at.lineno, at.name, extra={'kind': 'fault'})
+    logger.debug('%s', what, exc_info=True)

@@ -29,9 +29,9 @@ from .events import EventFile, json_line, tell_journal
 from .page import PageNotes
 from .pages import TrunkPages, WebServer
 from .status import OperatedTrunk, TrunkStatus
-from .trunk import Tasks, again
+from .trunk import Tasks, again, every
 
-TICK = 0.1                  # seconds between two looks
+TICK = 0.08                 # seconds between two looks
 BESIDE = 'json', 'calls'    # what may end without the calls
 
 
@@ -217,26 +217,30 @@ class TrunkWatch:
             self._listens.close()
         self._listens = await asyncio.start_unix_server(self._server.came, sock=listener, limit=MOST_LINE)
 
+    async def _listen_again(self, path: str) -> None:
+        with contextlib.suppress(OSError, CannotListen, KeyError):
+            await self._listen(path)
+
     async def run(self) -> None:
         """Watches, until it is cancelled. Whatever fails is begun again."""
-        works = self.status.follow, self._program.run, self.status.look_at_flow, self._look
+        what, works = 'the watch of the trunk', (self.status.follow, self._program.run)
         try:
-            await asyncio.gather(*(again(work, 'the watch of the trunk') for work in works))
+            with every(TICK, self._look, what):
+                await asyncio.gather(*(again(work, what) for work in works))
         finally:
             self._close()
 
-    async def _look(self) -> None:
-        """A few times a second: what is to become of calls, and whether somebody has removed the control socket."""
-        while True:
-            now = time.monotonic()
-            if self.wants.control and not os.path.lexists(self.wants.control):
-                with contextlib.suppress(OSError, CannotListen, KeyError):
-                    await self._listen(self.wants.control)
-            self._restarts.look(now, self._lines.place, self._lines.open_circuits(), not self._counts.stale())
-            self.disconnects.look(now)
-            self.drains.look()
-            self._outages.look(now, self.status.outage())
-            await asyncio.sleep(TICK)
+    def _look(self) -> None:
+        """A few times a second: whether octets come, what is to become of calls, and whether somebody has removed the
+        control socket."""
+        now = time.monotonic()
+        if self.wants.control and not os.path.lexists(self.wants.control):
+            self._tasks.begin(self._listen_again(self.wants.control))
+        self.status.look_at_flow(now)
+        self._restarts.look(now, self._lines.place, self._lines.open_circuits(), not self._counts.stale())
+        self.disconnects.look(now)
+        self.drains.look()
+        self._outages.look(now, self.status.outage())
 
     def _close(self) -> None:
         self.status.calls.finish()
