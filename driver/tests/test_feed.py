@@ -333,6 +333,13 @@ class FedLogTests(support.FolderCase):
             fed.close(is_kept)
             self.assertEqual((self.held(), os.path.exists(fed.folder)), ([], is_kept))
 
+    def test_ones(self) -> None:
+        """They stand for the time since octets came, each for its time once."""
+        with mock.patch.object(standby, 'time', mock.Mock(**{'monotonic.return_value': 1001.0})):
+            fed = FedLog(self.folder, 0, 0, 0)
+            fed.came = 1000.0
+            self.assertEqual((fed.ones(), fed.ones()), (256_000, 0))
+
     def test_when_they_came_last(self) -> None:
         """The last ones wait for the word that all was sent, which may wait here. Ones for less than the time without
         octets put the trunk behind by 5 ms a move. Behind a gap, whose octets are lost, it is not known so well."""

@@ -3,6 +3,7 @@ from __future__ import annotations
 
 import asyncio
 import grp
+import itertools
 import logging
 import os
 import signal
@@ -446,6 +447,24 @@ class TrunkEndTests(support.LoopCase):
         self.assertEqual(replace(its.note(), since=0.0), replace(before.note(), since=0.0))
         await its.finish()
         self.assertIsNone(its.crc4 and its.crc4.status()['aligned'])
+
+    async def test_lines_that_are_taken(self) -> None:
+        """Of CRC-4 and of slot 16, where these are asked for, and no others."""
+        live = 'live submultiframes 0 errored 0 far_end_errored 0 multiframes_found 0 multiframes_lost 0 given_up 0'
+        for is_crc4, is_clear in itertools.product((False, True), repeat=2):
+            its = trunk.TrunkFiles(trunk.LineOptions(crc4=is_crc4, clear=is_clear))
+            its.tell = mock.Mock()
+            taken = [its.takes(line) for line in (live, 'slots found 3', 'fault 5 Read at 7')]
+            self.assertEqual(taken, [is_crc4, is_clear, False])
+
+    async def test_what_does_not_go_on(self) -> None:
+        """If something between the line and the program is gone the rest of that is closed. The line stays."""
+        for lacks, kept in ('far', ['line-in']), ('line-out', []):
+            its, (line, near) = trunk.TrunkFiles(trunk.LineOptions()), os.pipe()
+            its.take_up({'line-in': line, 'near': near}, replace(its.note(), names=('line-in', 'near', lacks)))
+            self.assertEqual([*its.files], kept)
+            for file in its.files.values():
+                os.close(file)
 
     async def test_what_fails_is_begun_again(self) -> None:
         """It is told where, in one line."""

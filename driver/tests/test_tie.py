@@ -19,8 +19,8 @@ from e1gw.lines import Role, State
 from e1gw.session import CIRCUITS
 from e1gw.testing.ports import free_port
 from e1gw.tie.circuit import CircuitEnd, LinkState, TieCircuit
-from e1gw.tie.events import CallOver, SiteCame, Warned
-from e1gw.tie.main import main, parser, sign_of_life
+from e1gw.tie.events import CallOver, Ended, SiteCame, Warned
+from e1gw.tie.main import main, parser, sign_of_life, work
 from e1gw.tie.messages import BadMessage, Greeting, Message, SiteState, encode_message, message_of
 from e1gw.tie.pairs import pairs_of
 from e1gw.tie.status import serve_status, texts_of
@@ -119,6 +119,16 @@ class TieEndTests(unittest.TestCase):
             tie.out_of_service, tie.site = False, mock.Mock()
             tie.told(event)
             self.assertEqual(tie.site.send.call_args_list, [mock.call(SiteState(True, {}))] * is_dark, event)
+
+
+class TieFailureTests(unittest.IsolatedAsyncioTestCase):
+    async def test_its_status(self) -> None:
+        for fault, status in (None, 0), (OSError(5, 'odd'), 1):
+            tie = mock.Mock(follow=mock.AsyncMock(side_effect=fault), leave=mock.AsyncMock())
+            with mock.patch('sys.stderr', new_callable=io.StringIO) as said:
+                self.assertEqual(await work(tie, mock.Mock(run=asyncio.Event().wait), None, None), status)
+            self.assertEqual(said.getvalue(), f'e1gw-tie: {fault}\n' if fault else '')
+            self.assertEqual((tie.leave.await_count, tie.tell.mock_calls), (1, [mock.call(Ended(status))]))
 
 
 class TieOptionTests(unittest.TestCase):

@@ -13,7 +13,7 @@ from . import limits, support
 from .test_reports import BEGIN, counts, row
 from e1gw.calls import CallsNote
 from e1gw.clock import ClockFinding
-from e1gw.events import CallsCleared, Event, FlowChanged, Flows, Stalled, WatchEnded
+from e1gw.events import Burst, CallsCleared, Event, FlowChanged, Flows, RateChanged, Slip, Stalled, WatchEnded
 from e1gw.lines import Role, State
 from e1gw.service import decisions, status, trunk, watch
 from e1gw.service.commands import MOST_HELD, ControlPeer
@@ -53,12 +53,15 @@ class WatchEdgeTests(TrunkWatchCase):
 
     async def test_a_slip_restarts_open_calls(self) -> None:
         """Not of another rate, and not of those that are not open; what is counted shows how many."""
-        rows: list[tuple[str, list[bytes]]] = [('gap', [b'K\x03']), ('ahead', [b'K\x03']), ('rate', [])]
-        for what, given in rows:
+        rows: list[tuple[str, Event, list[bytes]]] = [
+            ('gap', Slip(0.25), [b'K\x03']), ('ahead', Burst(0.25), [b'K\x03']), ('rate', RateChanged(0.2), [])]
+        for what, event, given in rows:
             found = self.watched()
             for n, state in ((3, State.ANSWERED), (4, State.SEIZED)):
                 found._lines.lines[n].begin(state, 0.0)
-            found.flowed(ClockFinding(what, 0.25))
+            with mock.patch.object(found, 'tell') as tells:
+                found.flowed(ClockFinding(what, 0.25))
+            self.assertEqual(tells.mock_calls, [mock.call(event)])
             found._restarts.look(100.0, 0, found._lines.open_circuits(), True)
             await asyncio.sleep(0)
             self.assertEqual([record[:2] for record in self.given], given)
