@@ -221,7 +221,7 @@ class LogReader:
         if isinstance(news, LogBegun):
             self._is_overtaken(news, octets_in(behind), written)
         self._place = news.state.place
-        self._see_file(news.state, isinstance(news, LogBegun))
+        self._see_file(news.state, isinstance(news, LogBegun), octets_in(behind))
 
     def _is_overtaken(self, news: LogBegun, behind: int, written: float) -> None:
         """The reading begins at a state, perhaps behind what was not seen; these octets of the trunk are behind that,
@@ -236,8 +236,8 @@ class LogReader:
         elif news.is_anew or self._place < 0 and not self.is_loaded:
             self.octets, self.has_missed = max(0, self.told() - behind) * bool(news.state.place), news.state.place > 0
 
-    def _see_file(self, state: LogState, is_break: bool) -> None:
-        """Another file of a recording begins at a state, if it is to."""
+    def _see_file(self, state: LogState, is_break: bool, behind: int = 0) -> None:
+        """Another file of a recording begins at a state, if it is to; so many octets of the trunk came behind that."""
         recording, begun, cuts = self._recording, self._begun, self._is_cut
         if not recording or recording.why:
             return
@@ -250,7 +250,7 @@ class LogReader:
             return recording.end('a part of the log was not read')
         self._begun, lost, self._lost = self.octets, self._lost, 0.0
         recording.begin(FileBegin(self.octets, state.place, b'' if is_new else state.state, self._config(),
-                                  time.monotonic(), lost))
+                                  time.monotonic() - behind / OCTETS_A_SECOND, lost))
 
     # ---- a ring that has ended ----
 

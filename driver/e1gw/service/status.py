@@ -30,7 +30,7 @@ from .reload import ReloadRequests
 from .trunk import beat
 
 AGAIN = 0.1                 # seconds between two tries to connect
-REST, SHORT_REST = 0.04, 0.01       # between two reads of reports; the latter if somebody follows events
+REST, SHORT_REST = 0.06, 0.01       # between two reads of reports; the latter if somebody follows events
 ANSWERS, PATIENCE = 5, 0.2  # of a program where it is; seconds for them while it has told other things
 MOST_GREETING = 256         # octets, which come at once, in which a program tells where it is
 FIRST = 2.0                 # seconds before it is reported that the program was never there
