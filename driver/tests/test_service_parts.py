@@ -518,6 +518,8 @@ class TrunkEndTests(support.LoopCase):
         os.lseek(short, 0, os.SEEK_END)
         self.assertEqual([each.has_ended(7) for each in opened.values()], [True, True, True, False])
         self.assertTrue(opened['device'].has_ended(0))
+        with mock.patch.object(opened['device'], 'failure', lambda: 'its process has died'):
+            self.assertTrue(opened['device'].has_ended(7))
         for each in opened.values():
             await each.finish()
             self.assertFalse(each.is_open())

@@ -154,8 +154,8 @@ class LogBegun:
     `is_anew` if that was of another log."""
 
     state: LogState
-    missed: int = 0
-    is_anew: bool = False
+    missed: int
+    is_anew: bool
 
 
 @dataclass(frozen=True)
