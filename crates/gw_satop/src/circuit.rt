@@ -140,7 +140,7 @@ fn send_all<P: Peer>(
 }
 
 impl<I: TrunkInput, O: TrunkOutput, P: Peer> SatopCircuit<I, O, P> {
-    ghost use Rattle.gw_satop.specs.Playing.{OnlyPlays};
+    ghost use Rattle.gw_satop.specs.Playing.{OnlyFlushes, OnlyPlays};
 
     /// A circuit before any octet and datagram.
     pub fn new(
@@ -232,13 +232,7 @@ impl<I: TrunkInput, O: TrunkOutput, P: Peer> SatopCircuit<I, O, P> {
     pub fn flush(&mut self) -> Result<(), DeviceFault>
         ensures all { IfOk result (λ _. self.new.left.items ≡ []) }
         ensures fault { IfErr result (λ _. RefusesOctets O.has_failed O.has_taken O.waits self.new.outgoing) }
-        ensures same { HasSettings self.old.receiver self.new.receiver self.old.sender self.new.sender
-            self.old.pace self.new.pace }
-        ensures incoming { self.new.incoming ≡ self.old.incoming }
-        ensures receiver { self.new.receiver ≡ self.old.receiver }
-        ensures pace { self.new.pace ≡ self.old.pace }
-        ensures counts { self.new.counts ≡ self.old.counts }
-        ensures peer { self.new.peer ≡ self.old.peer }
+        ensures only { OnlyFlushes self.old self.new }
         ensures octets { O.went self.new.outgoing ++ self.new.left.items
             ≡ O.went self.old.outgoing ++ self.old.left.items }
     {
