@@ -6,7 +6,7 @@ ghost use Rattle.gw_trunk.specs.Device.{ReadResult};
 ghost use Rattle.gw_satop.specs.declared.line.Receiver.{Receiver};
 ghost use Rattle.gw_satop.specs.declared.pace.PlayClock.{PlayClock};
 ghost use Rattle.gw_satop.specs.Doing.{HasReadTrunk, HearsAll, IsDueNow, PlaysDue, RefusesOctets};
-ghost use Rattle.gw_satop.specs.Session.{HasSettings, PlaysAll, SendsAll};
+ghost use Rattle.gw_satop.specs.Session.{HasNoTraffic, HasSettings, PlaysAll, SendsAll};
 ghost use Rattle.gw_satop.specs.Counts.{counts_by_play, no_counts, CountsSends};
 ghost use Rattle.gw_satop.specs.Line.{HasPlayed};
 ghost use Rattle.gw_satop.specs.Pace.{HasListened, KeepsTime, after_play, is_due, new_pace, next_time};
@@ -151,14 +151,10 @@ impl<I: TrunkInput, O: TrunkOutput, P: Peer> SatopCircuit<I, O, P> {
         sender: Sender,
         pace: PlayClock,
     ) -> SatopCircuit<I, O, P>
-        requires came { I.came incoming ≡ [] }
-        requires went { O.went outgoing ≡ [] }
-        requires received { P.received peer ≡ [] }
-        requires sent { P.sent peer ≡ [] }
+        requires ends { HasNoTraffic (I.came incoming) (O.went outgoing) (P.received peer) (P.sent peer) }
         requires receiver { HasPlayed receiver [] }
         requires pace { pace ≡ new_pace pace.timing pace.counted }
-        requires sender { (sender.came.octets ≡ []) × (sender.log.flags ≡ [])
-            × (length sender.held.items < sender.start.size) }
+        requires sender { sender.came.octets ≡ [] }
         ensures receiver { result.receiver ≡ receiver }
         ensures sender { result.sender ≡ sender }
         ensures pace { result.pace ≡ pace }

@@ -8,7 +8,7 @@ ghost use Rattle.mio.specs.declared.interest.TheConstants.Interest.{READABLE, WR
 ghost use Rattle.gw_trunk.specs.Waiting.{WaitsFor};
 ghost use Rattle.gw_machine.specs.CommandLine.{CommandLine};
 ghost use Rattle.gw_satop.specs.Doing.{RefusesOctets};
-ghost use Rattle.gw_satop.specs.Session.{HasSettings};
+ghost use Rattle.gw_satop.specs.Session.{HasNoTraffic, HasSettings};
 
 use crate::asked::{CircuitAsked, circuit_asked};
 use crate::ends::{open_clock, open_far_end, open_receiver, open_stdin, open_stdout, start_of};
@@ -82,10 +82,8 @@ fn emulate_between<
     requires input { WaitsFor (pos 0) READABLE (I.ready ends.incoming) }
     requires output { WaitsFor (pos 1) WRITABLE (O.waiting ends.outgoing) }
     requires reported { ReportsEnds (M.poller ends.clock) (P.socket ends.peer) }
-    requires came { I.came ends.incoming ≡ [] }
-    requires went { O.went ends.outgoing ≡ [] }
-    requires received { P.received ends.peer ≡ [] }
-    requires sent { P.sent ends.peer ≡ [] }
+    requires begins { HasNoTraffic (I.came ends.incoming) (O.went ends.outgoing) (P.received ends.peer)
+        (P.sent ends.peer) }
     ensures { (command : CommandLine)
         → IsAsked command asked.settings asked.timing asked.rtp asked.sequence
         → HasFarEnd command (P.opened ends.peer) (P.address ends.peer) → DoesSatop command result }
