@@ -7,6 +7,7 @@ ghost use Rattle.run_satop.specs.Satop.{CarriesSatop, DoesSatop, HasFarEnd, Repo
 ghost use Rattle.mio.specs.declared.interest.TheConstants.Interest.{READABLE, WRITABLE};
 ghost use Rattle.gw_trunk.specs.Waiting.{WaitsFor};
 ghost use Rattle.gw_machine.specs.CommandLine.{CommandLine};
+ghost use Rattle.gw_satop.specs.Counts.{TellsLast};
 ghost use Rattle.gw_satop.specs.Doing.{RefusesOctets};
 ghost use Rattle.gw_satop.specs.Session.{HasNoTraffic, HasSettings};
 
@@ -43,8 +44,8 @@ fn perform_satop<
     ensures same { HasSettings circuit.old.receiver circuit.new.receiver
         circuit.old.sender circuit.new.sender circuit.old.pace circuit.new.pace }
     ensures ended { IfOk result (λ _. I.has_ended circuit.new.incoming) }
-    ensures told { IfOk result (λ _. (before : M) × (then : M)
-        × M.tells before then circuit.new.pace.counted × M.has_told then moments.new circuit.new.counts) }
+    ensures tells { IfOk result (λ _. TellsLast M.tells M.has_told M.time moments.new
+        circuit.new.pace.counted circuit.new.counts) }
     ensures fault { IfErr result (λ _. (I.has_failed circuit.new.incoming
         ⊎ RefusesOctets O.has_failed O.has_taken O.waits circuit.new.outgoing)
         ⊎ (2 ^ 63 ≤ M.waits moments.new)) }
