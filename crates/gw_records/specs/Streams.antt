@@ -73,6 +73,11 @@ pub record Refills (old new : List ℕ) (source source' : SourceState) (n : ℕ)
   pub gives : GivesOctets source source' octets
   pub ended : n ≡ 0 → IsAtEnd source'.to_come
 
+-- .. or it gave none, and the present ones are as they were
+pub record FailsToRefill (old new : List ℕ) (source source' : SourceState) : Type 0 where
+  pub holds : new ≡ old
+  pub gives : GivesOctets source source' []
+
 -- known octets grew by a prefix of these, and the last write was given all the others
 pub record GaveRest (old new : Option (List ℕ)) (octets : List ℕ) (WasGiven : List ℕ → Type 0) : Type 0 where
   pub written : List ℕ

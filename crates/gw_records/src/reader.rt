@@ -1,6 +1,6 @@
 //! When a session reads on, and where the octets that it has not used are kept (`Reader`).
-ghost use Rattle.std.specs.Prelude.{◌≡◌, ◌+◌, ◌-◌, ◌<◌, ◌≤◌, [], length, take, IfOk, OnErr};
-ghost use Rattle.gw_records.specs.Streams.{CountsRead, CountsTurn, Refills, GivesOctets};
+ghost use Rattle.std.specs.Prelude.{◌≡◌, ◌+◌, ◌-◌, ◌<◌, ◌≤◌, length, take, IfOk, OnErr};
+ghost use Rattle.gw_records.specs.Streams.{CountsRead, CountsTurn, FailsToRefill, Refills};
 ghost use Rattle.gw_records.specs.Records.{is_open};
 
 use crate::outcome::RunFault;
@@ -50,8 +50,8 @@ pub fn read_behind<S: Source>(
     ensures fits { IfOk result (λ n. filled + n ≤ length buffer.new) }
     ensures gives { IfOk result (λ n. Refills (take filled buffer.old) (take (filled + n) buffer.new)
         (S.tells source.old) (S.tells source.new) n) }
-    ensures kept { OnErr result (take filled buffer.new ≡ take filled buffer.old) }
-    ensures none { OnErr result (GivesOctets (S.tells source.old) (S.tells source.new) []) }
+    ensures none { OnErr result (FailsToRefill (take filled buffer.old) (take filled buffer.new)
+        (S.tells source.old) (S.tells source.new)) }
     ensures counts { CountsRead (S.tells source.old).failures (S.tells source.new).failures result }
     ensures turns { CountsTurn (S.tells source.old).reads (S.tells source.new).reads result }
     ensures len { length buffer.new ≡ length buffer.old }
@@ -64,7 +64,7 @@ pub fn read_behind<S: Source>(
 impl Reader {
     ghost use Rattle.std.specs.Prelude.{◌≡◌, ◌+◌, ◌-◌, ◌^◌, ◌<◌, ◌≤◌};
     ghost use Rattle.std.specs.Prelude.{[], length, drop, true, Some, IfOk, IfErr, OnErr};
-    ghost use Rattle.gw_records.specs.Streams.{CanCount, CountsRead, CountsTurn, Refills, GivesOctets};
+    ghost use Rattle.gw_records.specs.Streams.{CanCount, CountsRead, CountsTurn, FailsToRefill, Refills};
     ghost use Rattle.gw_records.specs.Streams.{HadRoom};
     ghost use Rattle.gw_records.specs.Records.{end_of, is_open};
     ghost use Rattle.gw_records.specs.Reader.{held, ReadsOn, FailsToRead};
@@ -141,8 +141,8 @@ impl Reader {
         requires turn { 0 < self.old.reads_left }
         ensures gives { IfOk result (λ n. Refills (held self.old) (held self.new)
             (S.tells source.old) (S.tells source.new) n) }
-        ensures kept { OnErr result (held self.new ≡ held self.old) }
-        ensures none { OnErr result (GivesOctets (S.tells source.old) (S.tells source.new) []) }
+        ensures none { OnErr result (FailsToRefill (held self.old) (held self.new)
+            (S.tells source.old) (S.tells source.new)) }
         ensures counts { CountsRead (S.tells source.old).failures (S.tells source.new).failures result }
         ensures reads { CountsTurn (S.tells source.old).reads (S.tells source.new).reads result }
         ensures turns { self.new.reads_left + 1 ≡ self.old.reads_left }

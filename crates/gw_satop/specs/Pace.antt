@@ -151,6 +151,12 @@ pub record KeepsTime (old new : PlayClock) : Type 0 where
 abbrev pub after_listening : PlayClock → ℕ → PlayClock
 after_listening p now = record p { silent = p.silent || falls_silent p now; listened = true }
 
+-- all that came until this time was read, so that no silence is to begin
+pub record HasListened (pace : PlayClock) (now : ℕ) : Type 0 where
+  pub time : pace.counted ≡ now
+  pub listened : pace.listened ≡ true
+  pub silence : falls_silent pace pace.counted ≡ false
+
 -- when something is due if no packet comes
 abbrev pub next_time : PlayClock → ℕ → ℕ → ℕ
 next_time p now reach = if by_clock p then min (p.reached + p.timing.packet) (2 ^ 64 - 1)

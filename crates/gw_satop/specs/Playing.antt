@@ -12,3 +12,13 @@ pub record OnlyPlays {I O P : Type 0} {i : _} {o : _} {p : _} (old new : SatopCi
   pub pace : KeepsTime old.pace new.pace
   pub peer : new.peer ≡ old.peer
   pub incoming : new.incoming ≡ old.incoming
+
+-- the trunk was given octets that were left for it, and nothing else was done
+pub record OnlyFlushes {I O P : Type 0} {i : _} {o : _} {p : _} (old new : SatopCircuit I O P i o p)
+    : Type 0 where
+  pub receiver : new.receiver ≡ old.receiver
+  pub sender : new.sender ≡ old.sender
+  pub pace : new.pace ≡ old.pace
+  pub counts : new.counts ≡ old.counts
+  pub peer : new.peer ≡ old.peer
+  pub incoming : new.incoming ≡ old.incoming

@@ -1,5 +1,5 @@
 -- What an emulated circuit carries (module `circuit`).
-use Rattle.std.specs.Prelude.{◌≡◌, ◌<◌, ℕ, Bool, List, length}
+use Rattle.std.specs.Prelude.{◌≡◌, ◌<◌, ℕ, Bool, List, [], length}
 use Rattle.satop_playout.specs.Laws.{arrivals_of}
 use Rattle.gw_satop.specs.declared.counts.Counts.{Counts}
 use Rattle.gw_satop.specs.declared.line.Receiver.{Receiver}
@@ -35,6 +35,13 @@ pub record SendsAll (sender : Sender) (sent : List (List ℕ)) (came : List ℕ)
   pub came_are : sender.came.octets ≡ came
   pub sent_are : sent ≡ packets_of sender.start sender.log.flags came
   pub rest : length sender.held.items < sender.start.size
+
+-- no octet came from the trunk or went to it, and no datagram came from the far end or was sent
+pub record HasNoTraffic (came went : List ℕ) (received sent : List (List ℕ)) : Type 0 where
+  pub came_are : came ≡ []
+  pub went_are : went ≡ []
+  pub received_are : received ≡ []
+  pub sent_are : sent ≡ []
 
 -- both halves and the pace are set up as they were
 pub record HasSettings (receiver receiver' : Receiver) (sender sender' : Sender) (pace pace' : PlayClock)

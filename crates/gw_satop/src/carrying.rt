@@ -1,7 +1,7 @@
 //! The loop of `satop` until its trunk ends, and when its counts are reported (`carry_satop`).
 
 ghost use Rattle.std.specs.Prelude.{◌≡◌, ◌⊎◌, ◌≤◌, ◌+◌, ◌^◌, ◌++◌, [], ℕ, IfOk, IfErr, ⊤};
-ghost use Rattle.gw_satop.specs.Counts.{CountsSends, ReportsChanges};
+ghost use Rattle.gw_satop.specs.Counts.{CountsSends, ReportsChanges, TellsLast};
 ghost use Rattle.gw_satop.specs.Doing.{HearsAll, RefusesOctets};
 ghost use Rattle.gw_satop.specs.Session.{HasSettings, PlaysAll, SendsAll};
 
@@ -99,12 +99,10 @@ pub fn carry_satop<I: TrunkInput, O: TrunkOutput, P: Peer, M: Clock>(
         circuit.old.sender circuit.new.sender circuit.old.pace circuit.new.pace }
     ensures counted { ∥ CountsSends circuit.new.counts circuit.new.sender.log.flags
         (P.taken circuit.new.peer) ∥₁ }
-    ensures whole { IfOk result (λ _. circuit.new.left.items ≡ []) }
-    ensures ended { IfOk result (λ _. I.has_ended circuit.new.incoming) }
+    ensures ended { IfOk result (λ _. I.has_ended circuit.new.incoming × (circuit.new.left.items ≡ [])) }
     ensures hears { IfOk result (λ _. (before : P) × HearsAll P.received P.has_none before circuit.new.peer) }
-    ensures time { IfOk result (λ _. circuit.new.pace.counted ≡ M.time moments.new) }
-    ensures tells { IfOk result (λ _. (before : M) × (then : M)
-        × M.tells before then circuit.new.pace.counted × M.has_told then moments.new circuit.new.counts) }
+    ensures tells { IfOk result (λ _. TellsLast M.tells M.has_told M.time moments.new
+        circuit.new.pace.counted circuit.new.counts) }
     ensures fault { IfErr result (λ _. (I.has_failed circuit.new.incoming
         ⊎ RefusesOctets O.has_failed O.has_taken O.waits circuit.new.outgoing)
         ⊎ (2 ^ 63 ≤ M.waits moments.new)) }

@@ -6,10 +6,10 @@ ghost use Rattle.gw_trunk.specs.Device.{ReadResult};
 ghost use Rattle.gw_satop.specs.declared.line.Receiver.{Receiver};
 ghost use Rattle.gw_satop.specs.declared.pace.PlayClock.{PlayClock};
 ghost use Rattle.gw_satop.specs.Doing.{HasReadTrunk, HearsAll, IsDueNow, PlaysDue, RefusesOctets};
-ghost use Rattle.gw_satop.specs.Session.{HasSettings, PlaysAll, SendsAll};
+ghost use Rattle.gw_satop.specs.Session.{HasNoTraffic, HasSettings, PlaysAll, SendsAll};
 ghost use Rattle.gw_satop.specs.Counts.{counts_by_play, no_counts, CountsSends};
 ghost use Rattle.gw_satop.specs.Line.{HasPlayed};
-ghost use Rattle.gw_satop.specs.Pace.{KeepsTime, after_play, falls_silent, is_due, new_pace, next_time};
+ghost use Rattle.gw_satop.specs.Pace.{HasListened, KeepsTime, after_play, is_due, new_pace, next_time};
 ghost use Rattle.satop_playout.specs.Calls.{PlayoutCall};
 ghost use Rattle.satop_playout.specs.Plays.{is_there, reach_after};
 
@@ -140,7 +140,7 @@ fn send_all<P: Peer>(
 }
 
 impl<I: TrunkInput, O: TrunkOutput, P: Peer> SatopCircuit<I, O, P> {
-    ghost use Rattle.gw_satop.specs.Playing.{OnlyPlays};
+    ghost use Rattle.gw_satop.specs.Playing.{OnlyFlushes, OnlyPlays};
 
     /// A circuit before any octet and datagram.
     pub fn new(
@@ -151,14 +151,10 @@ impl<I: TrunkInput, O: TrunkOutput, P: Peer> SatopCircuit<I, O, P> {
         sender: Sender,
         pace: PlayClock,
     ) -> SatopCircuit<I, O, P>
-        requires came { I.came incoming ≡ [] }
-        requires went { O.went outgoing ≡ [] }
-        requires received { P.received peer ≡ [] }
-        requires sent { P.sent peer ≡ [] }
+        requires ends { HasNoTraffic (I.came incoming) (O.went outgoing) (P.received peer) (P.sent peer) }
         requires receiver { HasPlayed receiver [] }
         requires pace { pace ≡ new_pace pace.timing pace.counted }
-        requires sender { (sender.came.octets ≡ []) × (sender.log.flags ≡ [])
-            × (length sender.held.items < sender.start.size) }
+        requires sender { sender.came.octets ≡ [] }
         ensures receiver { result.receiver ≡ receiver }
         ensures sender { result.sender ≡ sender }
         ensures pace { result.pace ≡ pace }
@@ -232,13 +228,7 @@ impl<I: TrunkInput, O: TrunkOutput, P: Peer> SatopCircuit<I, O, P> {
     pub fn flush(&mut self) -> Result<(), DeviceFault>
         ensures all { IfOk result (λ _. self.new.left.items ≡ []) }
         ensures fault { IfErr result (λ _. RefusesOctets O.has_failed O.has_taken O.waits self.new.outgoing) }
-        ensures same { HasSettings self.old.receiver self.new.receiver self.old.sender self.new.sender
-            self.old.pace self.new.pace }
-        ensures incoming { self.new.incoming ≡ self.old.incoming }
-        ensures receiver { self.new.receiver ≡ self.old.receiver }
-        ensures pace { self.new.pace ≡ self.old.pace }
-        ensures counts { self.new.counts ≡ self.old.counts }
-        ensures peer { self.new.peer ≡ self.old.peer }
+        ensures only { OnlyFlushes self.old self.new }
         ensures octets { O.went self.new.outgoing ++ self.new.left.items
             ≡ O.went self.old.outgoing ++ self.old.left.items }
     {
@@ -365,9 +355,7 @@ impl<I: TrunkInput, O: TrunkOutput, P: Peer> SatopCircuit<I, O, P> {
         requires { (before : P) × HearsAll P.received P.has_none before self.old.peer }
         ensures same { HasSettings self.old.receiver self.new.receiver self.old.sender self.new.sender
             self.old.pace self.new.pace }
-        ensures listened { self.new.pace.listened ≡ true }
-        ensures silence { falls_silent self.new.pace self.new.pace.counted ≡ false }
-        ensures time { self.new.pace.counted ≡ self.old.pace.counted }
+        ensures listened { HasListened self.new.pace self.old.pace.counted }
         ensures peer { self.new.peer ≡ self.old.peer }
         ensures incoming { self.new.incoming ≡ self.old.incoming }
         ensures outgoing { self.new.outgoing ≡ self.old.outgoing }
@@ -385,13 +373,11 @@ impl<I: TrunkInput, O: TrunkOutput, P: Peer> SatopCircuit<I, O, P> {
         ensures same { HasSettings self.old.receiver self.new.receiver self.old.sender self.new.sender
             self.old.pace self.new.pace }
         ensures ended { IfOk result (λ ended. ended ≡ true → I.has_ended self.new.incoming) }
-        ensures time { IfOk result (λ _. self.new.pace.counted ≡ now) }
         ensures hears { IfOk result (λ _. HearsAll P.received P.has_none self.old.peer self.new.peer) }
         ensures plays { IfOk result (λ _. PlaysDue self.new.receiver self.new.pace
             self.old.receiver.settings.size (O.went self.old.outgoing ++ self.old.left.items)
             (O.went self.new.outgoing ++ self.new.left.items)) }
-        ensures listened { IfOk result (λ _. self.new.pace.listened ≡ true) }
-        ensures silence { IfOk result (λ _. falls_silent self.new.pace self.new.pace.counted ≡ false) }
+        ensures listened { IfOk result (λ _. HasListened self.new.pace now) }
         ensures all { IfOk result (λ _. self.old.left.items ≡ [] → self.new.left.items ≡ []) }
         ensures reads { IfOk result (HasReadTrunk I.came I.has_none self.old.incoming self.new.incoming) }
         ensures fault { IfErr result (λ _. I.has_failed self.new.incoming

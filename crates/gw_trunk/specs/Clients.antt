@@ -15,6 +15,7 @@ use Rattle.gw_trunk.specs.declared.client.ClientPoll.{ClientPoll}
 use Rattle.gw_trunk.specs.declared.client.ClientPoll.TheVariants.{Command, Nothing, Gone}
 use Rattle.gw_trunk.specs.declared.client.Client.{Client}
 use Rattle.gw_trunk.specs.declared.clients.Clients.{Clients}
+use Rattle.gw_trunk.specs.declared.logged_reader.LoggedReader.{LoggedReader}
 use Rattle.gw_trunk.specs.Device.{AnswersByKind, GaveBehind, passed_count, is_broken_pipe}
 use Rattle.gw_trunk.specs.Pieces.{AsksRecord, client_kinds}
 use Rattle.gw_trunk.specs.declared.readiness.Poller.{Poller}
@@ -376,3 +377,13 @@ pub record AreOpened (descriptor : ℤ) (door : UnixListener) (answers : UnixStr
   pub unasked : clients.asker ≡ None
   pub next_is : clients.next ≡ 0
   pub came_is : clients.came ≡ 0
+
+-- A trunk with clients begins: its octets are those of this reader, neither it nor a client gave any yet, and
+-- it goes on.
+pub record BeginsTrunk {R : Type 0} {m : _} (reader : R) (logged : LoggedReader R m) (asked : List ℕ)
+    (ended : Bool) : Type 0 where
+  pub reader_is : logged.reader ≡ reader
+  pub start_is : logged.start.value ≡ reader
+  pub came : logged.log.octets ≡ []
+  pub unasked : asked ≡ []
+  pub goes_on : ended ≡ false

@@ -4,8 +4,7 @@ ghost use Rattle.std.specs.Prelude.{◌≡◌, ◌⊎◌, ◌||◌, ◌&&◌, �
 ghost use Rattle.std.specs.Prelude.{Some, Err, is_ok};
 ghost use Rattle.std.specs.Io.KnownBytes.{IsAtEnd};
 ghost use Rattle.std.specs.List.{list_all};
-ghost use Rattle.gw_trunk.specs.Clients.{is_quiet};
-ghost use Rattle.gw_trunk.specs.Clients.{AreOpened};
+ghost use Rattle.gw_trunk.specs.Clients.{AreOpened, BeginsTrunk, is_quiet};
 ghost use Rattle.gw_trunk.specs.Device.{HasFailed};
 ghost use Rattle.gw_trunk.specs.Door.{HasMadeSuch, TriesDoor};
 ghost use Rattle.gw_trunk.specs.System.{SystemListens, SystemPairs, SystemRefusesDoor, SystemRefusesStream};
@@ -60,10 +59,8 @@ impl<R: DeviceReader + Drop> WithClients<R> {
         door: UnixListener,
         answers: UnixStream,
     ) -> io::Result<WithClients<R>>
-        ensures reader { IfOk result (λ d. (d.reader.reader ≡ reader) × (d.reader.start.value ≡ reader)) }
-        ensures logs { IfOk result (λ d. (d.reader.log.octets ≡ []) × (d.asked.octets ≡ [])) }
+        ensures begins { IfOk result (λ d. BeginsTrunk reader d.reader d.asked.octets d.ended) }
         ensures clients { IfOk result (λ d. AreOpened descriptor door answers d.clients) }
-        ensures goes { IfOk result (λ d. d.ended ≡ false) }
         ensures err { IfErr result SystemRefusesStream }
     {
         let clients = Clients::open(rt, descriptor, door, answers)?;
@@ -111,12 +108,10 @@ pub fn open_clients<R: DeviceReader + Drop, D: Doors>(
     descriptor: i32,
     path: &str,
 ) -> io::Result<(WithClients<R>, ToDevice<UnixStream>)>
-    ensures incoming { IfOk result (λ both. (both.0.reader.log.octets ≡ []) × (both.0.asked.octets ≡ [])) }
+    ensures begins { IfOk result (λ both. BeginsTrunk reader both.0.reader both.0.asked.octets both.0.ended) }
     ensures answers { IfOk result (λ both. both.1.log.octets ≡ []) }
-    ensures reader { IfOk result (λ both. both.0.reader.start.value ≡ reader) }
     ensures door { IfOk result (λ both. SystemListens path.now both.0.clients.door.listener) }
     ensures joined { IfOk result (λ both. SystemPairs both.0.clients.answers.reader both.1.writer) }
-    ensures goes { IfOk result (λ both. both.0.ended ≡ false) }
     ensures waiting { IfOk result (λ both. both.1.waiting.descriptor ≡ unix_stream_fd both.1.writer) }
     ensures clients { IfOk result (λ both. AreOpened descriptor both.0.clients.door.listener
         both.0.clients.answers.reader both.0.clients) }

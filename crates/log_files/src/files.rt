@@ -1,9 +1,10 @@
 //! Two pairs of stores, of which one has the newest state and the records behind it (`LogFiles`).
 
-ghost use Rattle.std.specs.Prelude.{◌≡◌, ◌⊎◌, ◌+◌, ◌<◌, ◌^◌, ◌++◌, true, false, IfSome, OnOk, OnErr, length};
+ghost use Rattle.std.specs.Prelude.{◌≡◌, ◌⊎◌, ◌+◌, ◌<◌, ◌^◌, ◌++◌, [], true, false, length};
+ghost use Rattle.std.specs.Prelude.{IfSome, OnOk, OnErr};
 ghost use Rattle.log_files.specs.Adler.{sums_of};
 ghost use Rattle.log_files.specs.Pairs.{Appends, CanTake, FitsBehind, IsBefore, Kept, LeavesKept, MayLeave};
-ghost use Rattle.log_files.specs.Pairs.{SameRoom, StandsFor, begun, with_more};
+ghost use Rattle.log_files.specs.Pairs.{StandsFor, begun, with_more};
 ghost use Rattle.log_files.specs.Stores.{TellsFault, WhereKnown};
 
 use crate::adler::Adler;
@@ -114,11 +115,16 @@ impl<S: Store> LogFiles<S> {
             → StandsFor self.new (begun (kept.turn + 1) state.now)) }
         ensures err { OnErr result ((kept : Kept) → StandsFor self.old kept
             → LeavesKept self.new kept ⊎ LeavesKept self.new (begun (kept.turn + 1) state.now)) }
-        ensures other { OnOk result (self.new.other ≡ self.old.newest) }
-        ensures room { OnOk result (SameRoom self.old.other self.new.newest) }
-        ensures no_fault { OnOk result (self.new.newest.failed ≡ self.old.other.failed) }
-        ensures fault { OnErr result (self.new.other.failed ≡ true) }
-        ensures same { OnErr result (self.new ≡ record self.old { other = self.new.other }) }
+        ensures exchanged { OnOk result (self.new ≡ record {
+          newest = record self.old.other { contents = self.new.newest.contents };
+          other = self.old.newest;
+          turn = self.old.turn + 1;
+          len = 0;
+          sums = sums_of [];
+        }) }
+        ensures same { OnErr result (self.new ≡ record self.old {
+          other = record self.old.other { contents = self.new.other.contents; failed = true };
+        }) }
         ensures written { OnErr result (WhereKnown self.old.other.contents self.new.other.contents
             (MayLeave (begun (self.old.turn + 1) state.now))) }
     {

@@ -7,8 +7,9 @@ ghost use Rattle.run_satop.specs.Satop.{CarriesSatop, DoesSatop, HasFarEnd, Repo
 ghost use Rattle.mio.specs.declared.interest.TheConstants.Interest.{READABLE, WRITABLE};
 ghost use Rattle.gw_trunk.specs.Waiting.{WaitsFor};
 ghost use Rattle.gw_machine.specs.CommandLine.{CommandLine};
+ghost use Rattle.gw_satop.specs.Counts.{TellsLast};
 ghost use Rattle.gw_satop.specs.Doing.{RefusesOctets};
-ghost use Rattle.gw_satop.specs.Session.{HasSettings};
+ghost use Rattle.gw_satop.specs.Session.{HasNoTraffic, HasSettings};
 
 use crate::asked::{CircuitAsked, circuit_asked};
 use crate::ends::{open_clock, open_far_end, open_receiver, open_stdin, open_stdout, start_of};
@@ -43,8 +44,8 @@ fn perform_satop<
     ensures same { HasSettings circuit.old.receiver circuit.new.receiver
         circuit.old.sender circuit.new.sender circuit.old.pace circuit.new.pace }
     ensures ended { IfOk result (λ _. I.has_ended circuit.new.incoming) }
-    ensures told { IfOk result (λ _. (before : M) × (then : M)
-        × M.tells before then circuit.new.pace.counted × M.has_told then moments.new circuit.new.counts) }
+    ensures tells { IfOk result (λ _. TellsLast M.tells M.has_told M.time moments.new
+        circuit.new.pace.counted circuit.new.counts) }
     ensures fault { IfErr result (λ _. (I.has_failed circuit.new.incoming
         ⊎ RefusesOctets O.has_failed O.has_taken O.waits circuit.new.outgoing)
         ⊎ (2 ^ 63 ≤ M.waits moments.new)) }
@@ -82,10 +83,8 @@ fn emulate_between<
     requires input { WaitsFor (pos 0) READABLE (I.ready ends.incoming) }
     requires output { WaitsFor (pos 1) WRITABLE (O.waiting ends.outgoing) }
     requires reported { ReportsEnds (M.poller ends.clock) (P.socket ends.peer) }
-    requires came { I.came ends.incoming ≡ [] }
-    requires went { O.went ends.outgoing ≡ [] }
-    requires received { P.received ends.peer ≡ [] }
-    requires sent { P.sent ends.peer ≡ [] }
+    requires begins { HasNoTraffic (I.came ends.incoming) (O.went ends.outgoing) (P.received ends.peer)
+        (P.sent ends.peer) }
     ensures { (command : CommandLine)
         → IsAsked command asked.settings asked.timing asked.rtp asked.sequence
         → HasFarEnd command (P.opened ends.peer) (P.address ends.peer) → DoesSatop command result }

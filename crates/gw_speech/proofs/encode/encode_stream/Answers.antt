@@ -43,7 +43,7 @@ write_packets-requires-in-reading-clause-fit g c =
 pub returns-in_default-clause-fault : goal.returns-in_default-clause-fault
 returns-in_default-clause-fault g c =
     let w = c.reading.invariant in
-    reads_no_more c.words_are_counted.ensures w.stage c.in_default.ensures.none
+    reads_no_more c.words_are_counted.ensures w.stage c.in_default.ensures.none.gives
     (inl (read_failed _ _ _ w.stage.no_read c.requires.reads c.in_default.ensures.counts))
 
 pub returns-clause-fault : goal.returns-clause-fault

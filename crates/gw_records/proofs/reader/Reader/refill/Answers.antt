@@ -5,6 +5,6 @@ pub returns-clause-gives : goal.returns-clause-gives
 unfolding held
 returns-clause-gives g c = search (rules, length-take, drop-append-le)
 
-pub returns-in_err-n-clause-kept : goal.returns-in_err-n-clause-kept
+pub returns-in_err-n-clause-none : goal.returns-in_err-n-clause-none
 unfolding held
-returns-in_err-n-clause-kept g c = search rules
+returns-in_err-n-clause-none g c = search rules
