@@ -155,6 +155,12 @@ class ChildEndTests(unittest.IsolatedAsyncioTestCase):
             give_back(said, 0, place)
             self.assertEqual(given_back(said), place)
 
+    def test_nothing_else_is_given_back(self) -> None:
+        said = in_memory(pages := bytes(range(1, 129)) * 128)
+        self.addCleanup(os.close, said)
+        give_back(said, 4100, 8200)
+        self.assertEqual(os.pread(said, 16384, 0), pages[:4096] + bytes(4104) + pages[8200:])
+
     async def test_ran(self) -> None:
         async def of(script: str, given: bytes = b'', seconds: float = 900.0) -> tuple[int | None, str, bytes]:
             return await ran(lambda reads, writes: Child.start('/bin/sh', ['sh', '-c', script], reads, writes), given,
