@@ -225,6 +225,18 @@ class EventReaderTests(unittest.IsolatedAsyncioTestCase):
 
 
 class WebPartTests(unittest.IsolatedAsyncioTestCase):
+    async def test_all_that_was_told_is_in_a_page(self) -> None:
+        """One that is asked for again is the same until something is told; then all that was is taken first."""
+        takes, time, now = mock.Mock(), mock.Mock(), [10.0]
+        time.monotonic = lambda: now[0]
+        its = pages.TrunkPages(lambda: {'circuits': [], 'takes': takes.call_count}, takes, [], mock.Mock())
+        rest = mock.AsyncMock(side_effect=lambda seconds: now.append(now.pop() + seconds))
+        with mock.patch.multiple(pages, time=time, EVERY=0.25), mock.patch('e1gw.service.pages.asyncio.sleep', rest):
+            for is_told, count in (False, 1), (False, 1), (True, 4):
+                if is_told:
+                    its.changed()
+                self.assertEqual((await its.fresh()).status['takes'], count)
+
     def test_a_socket_that_nobody_reads(self) -> None:
         """Octets wait there, and what has no room is dropped."""
         with socket.socket(socket.AF_INET, socket.SOCK_DGRAM) as line:
