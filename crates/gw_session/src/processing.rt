@@ -22,7 +22,7 @@ use gw_switch::Gateway;
 /// watch each datagram and then each record when the gateway has acted on it. Before each record the tape is
 /// shown the gateway. It is inlined, so that a session tests for no other kinds than its own.
 #[inline(always)]
-pub fn process_records<O: PacketPorts, S: Source, K: Sink, T: Tape, W: Watch>(
+pub(crate) fn process_records<O: PacketPorts, S: Source, K: Sink, T: Tape, W: Watch>(
     kinds: &AcceptedKinds,
     reader: &mut Reader,
     session: &mut SessionBuffers,
