@@ -6,6 +6,7 @@ import argparse
 import contextlib
 import functools
 import io
+import itertools
 import os
 import shutil
 import signal
@@ -236,6 +237,17 @@ class LineProcessTests(support.LoopCase):
             self.assertEqual((its.child and its.child.pid, its.is_open(), its.zero, len(its._works)),
                              (pid or None, True, 7, 1))
             await its.finish()
+
+    async def test_what_it_goes_on_with(self) -> None:
+        """A socket pair of a line of SAToP. Nothing waits for room in it."""
+        its = SatopTrunk(LineOptions(satop=lambda: []))
+        for note, name in itertools.product((SatopNote((), 0, '', 0, 0), None), ('near', 'far')):
+            its.files = {name: 7}
+            self.assertEqual(its._is_joined(replace(its.note(), satop=note)), note is not None and name == 'near')
+        its._words = ['--size', '256']
+        its._join()
+        self.assertFalse(os.get_blocking(its.files['near']))
+        await its.finish()
 
     async def test_packets_that_are_missing(self) -> None:
         """They are told once."""

@@ -32,8 +32,9 @@ class RingBeginTests(support.FolderCase, unittest.IsolatedAsyncioTestCase):
         ring = self.write('ring', '')
         self.assertFalse(recordings.has_room(ring))
         os.unlink(ring)
-        with mock.patch.object(recordings, 'LEAST', 1 << 62):
-            self.assertFalse(recordings.has_room(ring))
+        for free in 2 ** 25 - 1, 2 ** 25:       # (32 MiB)
+            with mock.patch.object(os, 'statvfs', return_value=mock.Mock(f_bavail=1, f_frsize=free)):
+                self.assertEqual(recordings.has_room(ring), free == 2 ** 25)
         self.assertTrue(recordings.has_room(ring))
         self.assertEqual((os.listdir(ring), os.stat(ring).st_mode & 0o7), ([], 0))
 

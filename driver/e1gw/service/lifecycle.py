@@ -11,7 +11,7 @@ import tempfile
 import time
 from collections import Counter
 from contextlib import closing, suppress
-from dataclasses import dataclass, field
+from dataclasses import dataclass
 from math import inf
 from typing import TYPE_CHECKING, Callable
 
@@ -19,7 +19,6 @@ from ..calls import CallsNote
 from ..events import TrunkLost
 from ..explain import config_words, gateway_words
 from ..faults import words_of_fault
-from ..lines import SEIZURE_WAIT
 from ..writers import put_file
 from .decisions import Act, Deaths, NextStep, ProgramEnd, ProgramFault, Wish, after_end
 from .drains import KeptDrains
@@ -59,14 +58,14 @@ class TrunkWants:
     senders: str | None
     line: LineOptions
     folder: str
-    opens: tuple[str | None, ...] = ()
-    control: str | None = None
-    tell: str | None = None
-    state: str | None = None
-    words: list[str] = field(default_factory=list)
-    wait: int = SEIZURE_WAIT
-    totals: bool = False
-    drains: str = ''            # the file of the circuits that the operator has blocked
+    opens: tuple[str | None, ...]
+    control: str | None
+    tell: str | None
+    state: str | None
+    words: list[str]
+    wait: int
+    totals: bool
+    drains: str                 # the file of the circuits that the operator has blocked
 
 
 class TrunkCarrier:
