@@ -27,7 +27,7 @@ from e1gw.service.drains import Drains, KeptDrains
 from e1gw.service.feed import BACK, CARRIES, LENGTH, MARK, MOST_PIECE, PIECE, STATE, TAKES, FeedServer
 from e1gw.service.handover import CannotBegin
 from e1gw.service.lifecycle import GRACE
-from e1gw.service.log_folder import STATE_ROOM
+from e1gw.service.log_folder import STATE_ROOM, LogPair
 from e1gw.service.missed import passed
 from e1gw.service.pair import TrunkPair, open_pair
 from e1gw.service.program import TrunkProgram
@@ -372,6 +372,22 @@ class StandbyTests(support.LoopCase):
 
     def standby(self) -> TrunkStandby:
         return TrunkStandby((HOST, 1), '', (), mock.Mock(), self.folder, mock.Mock())
+
+    async def test_a_log_that_is_full(self) -> None:
+        """A state behind all records takes their place, if the program takes these."""
+        fed, status = FedLog(self.folder, 0, 0, 0), 0
+        self.addCleanup(fed.close)
+        fed.begin(b'before')
+
+        async def run(words: list[str], log: LogPair) -> tuple[int, str, bytes]:
+            self.assertEqual((words[:2], log.state), (['replay', '--save'], b'before' if not status else b'behind'))
+            os.replace(self.write('new', b'behind'), words[2])
+            return status, 'odd\n', b''
+        await fed._shorten(mock.Mock(run=run))
+        self.assertEqual((fed.last() or LogPair(0, 0, b'', b'')).state, b'behind')
+        status = 1
+        with self.assertRaisesRegex(OSError, 'the records of the other machine are not taken: odd$'):
+            await fed._shorten(mock.Mock(run=run))
 
     async def test_what_is_too_old(self) -> None:
         """It is not taken, nor is what there is not."""

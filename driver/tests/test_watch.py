@@ -149,6 +149,14 @@ class WatchEdgeTests(TrunkWatchCase):
             tell.assert_any_call(CallsCleared('it is dark', tuple(
                 n for n, kind in enumerate(kinds, 1) if kind in commands)))
 
+    async def test_one_control_socket(self) -> None:
+        """Nobody listens any more at the one before."""
+        found, servers = self.watched(), [mock.Mock(), mock.Mock()]
+        with mock.patch.object(watch, 'unix_listener'), mock.patch('asyncio.start_unix_server', side_effect=servers):
+            for _ in servers:
+                await found._listen('control')
+        self.assertEqual([each.close.call_count for each in servers], [1, 0])
+
     async def test_what_has_ended_is_told_once(self) -> None:
         found = self.watched()
         with mock.patch.object(found, 'tell') as tell:
