@@ -143,9 +143,10 @@ class TieOptionTests(unittest.TestCase):
                            ('--control a --listen 0.0.0.0:1', 'not a loopback address, .* give --tls, or --insecure')):
             with self.subTest(words), self.assertRaises(SystemExit) as end, \
                     mock.patch('sys.argv', ['e1gw-tie', *words.split()]), mock.patch(
-                        'sys.stderr', new_callable=io.StringIO) as said:
+                        'sys.stderr', new_callable=io.StringIO) as said, mock.patch(
+                            'e1gw.tie.main.hold_descriptors') as held:
                 main()
-            self.assertEqual(end.exception.code, 2)
+            self.assertEqual((end.exception.code, held.call_count), (2, 1))
             self.assertRegex(said.getvalue().splitlines()[-1], f'^e1gw-tie: .*{why}')
 
     def test_defaults_of_the_units(self) -> None:

@@ -176,6 +176,7 @@ class WatchEdgeTests(TrunkWatchCase):
                     its.look_at_flow(self.now)
         with mock.patch.object(its._trunk, 'place', lambda: 2):
             self.assertEqual(its.values()['clock'], {'stalled': False, 'stalls': 1})
+        self.assertTrue(its._connected['reports'])      # (a program that tells nothing since nothing comes is there)
         self.assertEqual([each for each in self.told if isinstance(each, FlowChanged)], [Stalled(1.0), Flows(2.4)])
 
 
