@@ -234,6 +234,19 @@ def no_look_waits(program: str, room: str) -> Wrongs:
         yield f'status {started.returncode}, {used.ru_nvcsw} waits'
 
 
+def given_socket(program: str, room: str) -> Wrongs:
+    """A socket that is given is parted from its old sender (e1gw(1))."""
+    with bound('127.0.0.1') as peer:
+        path, port = one_circuit(room, peer)
+        with bound('127.0.0.1', port) as given:
+            given.connect(peer.getsockname())
+            file = given.fileno()
+            subprocess.run([program, 'trunk', '--config', path, '--sockets', f'{file}-{file}'], pass_fds=(file,),
+                           stdin=subprocess.DEVNULL, stdout=subprocess.DEVNULL, timeout=SECONDS, check=False)
+            with contextlib.suppress(OSError):
+                yield f'joined to {given.getpeername()}'
+
+
 @contextlib.contextmanager
 def satop(program: str, far: socket.socket, out: int = subprocess.PIPE) -> Iterator[Any]:
     """A circuit over SAToP with this far end, stopped behind its first packet; and that packet."""
@@ -350,6 +363,7 @@ def rows() -> Iterator[tuple[Any, ...]]:
     yield 'serve with descriptor 0 closed, in a flood of records', nothing_from_a_stranger
     yield 'a configuration in pieces', config_in_pieces
     yield 'no look at sockets waits', no_look_waits
+    yield 'trunk: a socket that is given', given_socket
     yield 'satop: counts', counted
     yield 'satop: its beginning', beginnings
     yield 'satop: a full pipe', full_pipe
