@@ -8,19 +8,28 @@ own port, numbered from `sequence`.
 from __future__ import annotations
 
 import contextlib
+import fcntl
 import os
+import signal
 import socket
+import struct
 import subprocess
+import tempfile
 import threading
+import time
 from collections.abc import Callable, Iterator
 from functools import partial
 from typing import Any
 
 import paths    # noqa: F401 (makes e1gw known)
+from e1gw.lines import Line
+from e1gw.satop import counts_of
+from e1gw.service.trunk import waiting
 from e1gw.session import BadPacket, Packet, packet_of
 from e1gw.testing.datagrams import (CIRCUIT, CONFIG, IDLE, PACKET, PCMA, SECONDS, UdpCalls, Wrongs, bound, packets,
                                     speech, spoken)
 from e1gw.testing.ports import free_ports
+from e1gw.udp_tables import sockets_of
 
 CIRCUITS = (1, 2, 3, 17, 30)
 WIDE = 30                   # the circuit that is sent a datagram of the most speech that is taken
@@ -212,6 +221,103 @@ def config_in_pieces(program: str, room: str) -> Wrongs:
         yield f'status {started.returncode}, {lines[-1:]}'
 
 
+def no_look_waits(program: str, room: str) -> Wrongs:
+    """Records that are there are answered without a wait, though the sockets are looked at before each of them: the
+    process gives its processor away less often than there are records."""
+    with bound('127.0.0.1') as peer, tempfile.TemporaryFile() as records:
+        records.write(TWO_FRAMES * 400)
+        records.seek(0)
+        words = [program, 'serve', '--config', one_circuit(room, peer)[0]]
+        with subprocess.Popen(words, stdin=records, stdout=subprocess.DEVNULL) as started:
+            _, started.returncode, used = os.wait4(started.pid, 0)
+    if started.returncode or used.ru_nvcsw > 200:
+        yield f'status {started.returncode}, {used.ru_nvcsw} waits'
+
+
+def given_socket(program: str, room: str) -> Wrongs:
+    """A socket that is given is parted from its old sender (e1gw(1))."""
+    with bound('127.0.0.1') as peer:
+        path, port = one_circuit(room, peer)
+        with bound('127.0.0.1', port) as given:
+            given.connect(peer.getsockname())
+            file = given.fileno()
+            subprocess.run([program, 'trunk', '--config', path, '--sockets', f'{file}-{file}'], pass_fds=(file,),
+                           stdin=subprocess.DEVNULL, stdout=subprocess.DEVNULL, timeout=SECONDS, check=False)
+            with contextlib.suppress(OSError):
+                yield f'joined to {given.getpeername()}'
+
+
+@contextlib.contextmanager
+def satop(program: str, far: socket.socket, out: int = subprocess.PIPE) -> Iterator[Any]:
+    """A circuit over SAToP with this far end, stopped behind its first packet; and that packet."""
+    ends = [f'127.0.0.1:{port}' for port in (*free_ports(1), far.getsockname()[1])]
+    with subprocess.Popen([program, 'satop', *ends, '--size', '32', '--jitter', '0', '--rtp', '97'],
+                          stdin=subprocess.PIPE, stdout=out, stderr=subprocess.PIPE) as process:
+        guard = threading.Timer(SECONDS, process.kill)
+        guard.start()
+        try:
+            os.write(process.stdin.fileno() if process.stdin else -1, bytes(32))
+            packet, near = far.recvfrom(2048)
+            far.connect(near)
+            process.send_signal(signal.SIGSTOP)
+            os.waitid(os.P_PID, process.pid, os.WSTOPPED | os.WNOWAIT)
+            yield process, packet
+        finally:
+            process.kill()
+            guard.cancel()
+
+
+def counted(program: str, _room: str) -> Wrongs:
+    """Counts, by e1gw(1) and the control word of RFC 4553, 4.3: L is bit 4 of it, R bit 5, and LEN, the number of all
+    octets, the last six of the first sixteen. What follows the last packet is timed by this machine's clock."""
+    rtp, rest = struct.pack('>BBHII', 0x80, 97, 0, 0, 9), bytes(34)
+    malformed = {'short': rtp, 'no_rtp_header': b'\x90' + rtp[1:] + b'\0\x30' + rest, 'no_control_word':
+                 rtp + b'\x10\x30' + rest, 'other_length': rtp + b'\0\x31' + rest, 'other_size': rtp + bytes(68)}
+    wanted = {f'malformed_{name}': count for count, name in enumerate(malformed, 4)} | {
+        'received': 9, 'sent': 1, 'unsent': 0, 'with_l': 3, 'with_r': 2}
+    with bound('127.0.0.1') as far, satop(program, far) as (process, _):
+        for datagram in (each for count, each in enumerate(malformed.values(), 4) for _ in range(count)):
+            far.send(datagram)
+        for number, bits in enumerate((4, 4, 8, 8, 8, 0, 0, 0, 0)):
+            far.send(rtp + struct.pack('>BBH', bits, 48, number) + bytes([number]) * 32)
+        process.send_signal(signal.SIGCONT)
+        assert process.stdout
+        played = b''
+        while bytes([8]) * 32 not in played[:-64] and (more := process.stdout.read1(32)):
+            played += more
+        told = counts_of(process.communicate()[1].decode().splitlines()[-1]) or {}
+    if {name: told.get(name) for name in wanted} != wanted:
+        yield f'counts {told}'
+
+
+def beginnings(program: str, _room: str) -> Wrongs:
+    """Two circuits have other timestamps and SSRCs (RFC 3550, 5.1), and more octets wait in the socket of one than in
+    one that asks for no room."""
+    with bound('127.0.0.1') as far, bound('127.0.0.1') as other, bound('127.0.0.1') as usual:
+        with satop(program, far) as (_, one), satop(program, other) as (_, two):
+            for _ in range(1500):
+                far.send(b'')
+                usual.sendto(b'', usual.getsockname())
+            waits = sockets_of((Line(1, port=usual.getsockname()[1]), Line(2, port=far.getpeername()[1])))
+            if one[4:8] == two[4:8] or one[8:12] == two[8:12] or waits[1]['waiting'] >= waits[2]['waiting']:
+                yield f'{one.hex(" ")}, {two.hex(" ")}, {waits}'
+
+
+def full_pipe(program: str, _room: str) -> Wrongs:
+    """Octets wait while a pipe is full that takes none then, and go on once somebody reads."""
+    out, into = os.pipe()
+    size = fcntl.fcntl(out, fcntl.F_SETPIPE_SZ, 4096)
+    os.set_blocking(into, False)
+    with open(out, 'rb') as pipe, bound('127.0.0.1') as far, satop(program, far, into) as (process, _):
+        os.close(into)
+        process.send_signal(signal.SIGCONT)
+        for turn in range(8):
+            while waiting(out) < size and process.poll() is None:
+                time.sleep(0.005)
+            if (got := len(pipe.read1(size))) != size:
+                yield f'turn {turn}: {got} octets'
+
+
 def to_its_end(look: Callable[..., Wrongs], values: list[Any], program: str, room: str) -> Wrongs:
     """What is wrong with a look, also where the program ended before it."""
     try:
@@ -256,3 +362,8 @@ def rows() -> Iterator[tuple[Any, ...]]:
         yield f'serve with descriptor {shut} closed', nothing_to_the_peer, shut
     yield 'serve with descriptor 0 closed, in a flood of records', nothing_from_a_stranger
     yield 'a configuration in pieces', config_in_pieces
+    yield 'no look at sockets waits', no_look_waits
+    yield 'trunk: a socket that is given', given_socket
+    yield 'satop: counts', counted
+    yield 'satop: its beginning', beginnings
+    yield 'satop: a full pipe', full_pipe

@@ -109,13 +109,19 @@ def full_device(program: str, room: str) -> Wrongs:
     yield from ends_alone(program, room, '/dev/full')
 
 
-def limited(program: str, room: str) -> Wrongs:
-    """A file at a limit of size, where the signal of the limit is ignored."""
-    recording, wrapper = path_in(room), path_in(room, 'limited')
+def with_limit(program: str, room: str, octets: int) -> str:
+    """A program whose files may have so many octets, where the signal of the limit is ignored."""
+    wrapper = path_in(room, 'limited')
     with open(wrapper, 'w', encoding='ascii') as text:
-        text.write(f'#!/bin/sh\ntrap "" XFSZ\nulimit -f {LIMIT // 512}\nexec {program} "$@"\n')
+        text.write(f'#!/bin/sh\ntrap "" XFSZ\nulimit -f {octets // 512}\nexec {program} "$@"\n')
     os.chmod(wrapper, 0o755)
-    yield from ends_alone(wrapper, room, recording)
+    return wrapper
+
+
+def limited(program: str, room: str) -> Wrongs:
+    """A file at a limit of size."""
+    recording = path_in(room)
+    yield from ends_alone(with_limit(program, room, LIMIT), room, recording)
     if os.path.getsize(recording) != LIMIT:
         yield f'{os.path.getsize(recording)} octets recorded'
 
@@ -176,14 +182,16 @@ FRAME = bytes([0x54, 0, 0, 32]) + bytes(32)
 
 
 def old_file(program: str, room: str) -> Wrongs:
-    """An old file is refused and stays as it is, and is written over where that is asked for."""
+    """An old file, at a link, is refused and stays as it is, and is written over where that is asked for."""
     recording = path_in(room)
+    os.symlink(path_in(room, 'aside'), recording)
+    before = b'an old recording, which is longer than the new one'
     with open(recording, 'wb') as old:
-        old.write(b'an old recording')
+        old.write(before)
     refused = (2, 'the recording is there already: name a new file, or give --record-over\n')
     if asked(program, room, '--record', recording, given=FRAME) != refused:
         yield 'an old file is not refused'
-    if open(recording, 'rb').read() != b'an old recording':
+    if open(recording, 'rb').read() != before:
         yield 'a refused file is changed'
     if asked(program, room, '--record', recording, '--record-over', given=FRAME) != (0, ''):
         yield 'an old file is not written over'
@@ -218,7 +226,7 @@ def no_file(program: str, room: str) -> Wrongs:
 
 
 def open_file(program: str, room: str) -> Wrongs:
-    """An open file of the process, a pipe: the recording goes there."""
+    """An open file of the process, a pipe: the recording goes there; or a file, behind what it has."""
     read, write = os.pipe()
     try:
         status = asked(program, room, '--record', f'/dev/fd/{write}', given=FRAME, pass_fds=(write,))
@@ -228,6 +236,12 @@ def open_file(program: str, room: str) -> Wrongs:
         got = pipe.read()
     if (status, got) != ((0, ''), FRAME):
         yield f'{status}, {got[:40].hex(" ")}'
+    with open(path_in(room), 'w+b', buffering=0) as file:
+        file.write(FRAME)
+        asked(program, room, '--record', f'/dev/fd/{file.fileno()}', given=FRAME, pass_fds=(file.fileno(),))
+        file.seek(0)
+        if file.read() != FRAME * 2:
+            yield 'an open file, written over'
 
 
 def recording_looks() -> Iterator[tuple[str, Callable[[str, str], Wrongs]]]:
