@@ -252,6 +252,13 @@ class PairRoleTests(unittest.IsolatedAsyncioTestCase):
                              (True, False, bool(ending)))
         self.assertEqual([each.args for each in self.carrier.want.call_args_list], [(Wish.DEMOTE,), (Wish.NONE,)] * 2)
 
+    def test_facts(self) -> None:
+        """What it is fed is known of a standby alone."""
+        for is_active in True, False:
+            self.feed.age.return_value = None
+            facts = TrunkPair(self.carrier, mock.Mock(**{'age.return_value': None}), self.feed, is_active).facts()
+            self.assertEqual((facts['role'], 'differs' in facts), ('active' if is_active else 'standby', not is_active))
+
     def test_what_is_over(self) -> None:
         """A move once the other machine carries the trunk, a demotion before."""
         its, self.feed.is_carried = TrunkPair(self.carrier, mock.Mock(), self.feed, False), False

@@ -18,6 +18,7 @@ from .shown import ShownTables
 from .support import SECONDS
 from .test_trunk import FOUR, aligned, call
 from .world import World, config_of
+from e1gw.calls import CallLine
 from e1gw.ctl_all import TrunkHere, TrunkLine
 from e1gw.events import (AlarmChanged, CardAlarm, CardAlarmChanged, Connected, Crc4Change, Crc4Changed, Disconnected,
                          Event, Fed, Flows, LineChanged, NotFed, ReadEvents, RemoteAlarmChanged, Slip, SlotsChange,
@@ -26,7 +27,8 @@ from e1gw.lines import Alignment, Line, Role, State
 from e1gw.metrics import NOT_OPEN
 from e1gw.service import pages
 from e1gw.service.options import kept_of
-from e1gw.service.page import POLICY, circuit_row, message_of, page_of, trunk_row, trunks_page
+from e1gw.service.page import (POLICY, circuit_row, ended_row, length, message_of, page_of, trunk_row,
+                               trunks_page)
 from e1gw.service.pages import EventReaders, PageRequest
 from e1gw.testing.ports import free_port
 from e1gw.udp_tables import sockets_of
@@ -64,6 +66,12 @@ class PageTextTests(unittest.TestCase):
         self.assertEqual(shown.rows, {each: [[EVIL, EVIL], [EVIL]] for each in BODIES})
         self.assertEqual((shown.tags['script'], shown.tags['img'], shown.attributes['onerror']), (1, 0, 0))
         self.assertEqual(message_of({'c1': [['\n\r\n']]}).count(b'\n'), 2)
+
+    def test_how_long(self) -> None:
+        self.assertEqual([length(seconds) for seconds in (-1, 65.9, 3605)], ['0:00', '1:05', '1:00:05'])
+        times = {'seized': '', 'answered': '2026-11-29T10:00:00Z', 'ended': '2026-11-29T10:01:05Z'}
+        self.assertEqual(ended_row(','.join(times.get(name, name) for name in CallLine._fields), None)[:5],
+                         ['11-29 10:01:05', 'circuit', 'direction', '1:05', 'by'])
 
     def test_trunks(self) -> None:
         """A link leads to the host by which the reader has come, where the other trunk listens there too."""

@@ -237,6 +237,7 @@ class LineProcessTests(support.LoopCase):
             self.assertEqual((its.child and its.child.pid, its.is_open(), its.zero, len(its._works)),
                              (pid or None, True, 7, 1))
             await its.finish()
+            self.assertEqual(its._works, [])
 
     async def test_what_it_goes_on_with(self) -> None:
         """A socket pair of a line of SAToP. Nothing waits for room in it."""

@@ -110,6 +110,17 @@ class ReloadRequestTests(unittest.IsolatedAsyncioTestCase):
             goes_on.set()
             self.assertEqual([await first, await self.requests.reload()], ['reload: done'] * 2)
 
+    async def test_who_is_replaced(self) -> None:
+        """A service whose program carries the trunk, or a standby without one; not while something else is wanted."""
+        up, begins, stands_by = mock.Mock(is_up=True), mock.Mock(is_up=False), mock.Mock(is_active=False)
+        for program, pair, wish, goes in (
+                (up, None, Wish.NONE, True), (None, stands_by, Wish.NONE, True), (None, None, Wish.NONE, False),
+                (begins, None, Wish.NONE, False), (up, None, Wish.RELOAD, False)):
+            carrier, handover = mock.Mock(program=program, pair=pair, wish=wish, ending=''), mock.Mock()
+            with mock.patch.object(reload, 'logger') as logger:
+                await reload.ReloadRequests(carrier, handover, mock.Mock()).replace()
+            self.assertEqual((handover.become_next.call_count, logger.warning.call_count), (goes, not goes))
+
     async def test_no_program_follows(self) -> None:
         """That is said after a while; of a trunk that is not open at once that it is done."""
         self.carrier.versions = mock.Mock(settled=asyncio.Event(), refused='', silent=0.0)
@@ -445,6 +456,7 @@ class TrunkEndTests(support.LoopCase):
         [*before.slots.take('slots found 3')]
         its.take_up({}, before.note())
         self.assertEqual(replace(its.note(), since=0.0), replace(before.note(), since=0.0))
+        self.assertEqual(its.note().slots, before.slots.note())
         await its.finish()
         self.assertIsNone(its.crc4 and its.crc4.status()['aligned'])
 

@@ -114,6 +114,12 @@ class ChildEndTests(unittest.IsolatedAsyncioTestCase):
         await child.over.wait()
         return child
 
+    async def test_one_that_cannot_be_started(self) -> None:
+        before = os.listdir('/proc/self/fd')
+        with self.assertRaises(FileNotFoundError):
+            Child.start('/none', ['none'], 0, 1)
+        self.assertEqual(os.listdir('/proc/self/fd'), before)
+
     async def test_words(self) -> None:
         for script, status, words, last in (
                 ('exit 0', 0, 'ended with status 0', 'ended with status 0'),
