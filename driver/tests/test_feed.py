@@ -382,6 +382,7 @@ class StandbyTests(support.LoopCase):
 
     async def test_a_log_that_is_full(self) -> None:
         """A state behind all records takes their place, if the program takes these."""
+        self.assertIsNone(self.standby().last())
         fed, status = FedLog(self.folder, 0, 0, 0), 0
         self.addCleanup(fed.close)
         fed.begin(b'before')

@@ -28,7 +28,7 @@ from e1gw.service import connection, events, lifecycle, reload, trunk
 from e1gw.service.commands import unix_listener
 from e1gw.service.connection import NoAnswer, ProgramConnection
 from e1gw.service.decisions import TRIED, Wish
-from e1gw.service.journal import MINUTE, MOST, LineLimit
+from e1gw.service.journal import MOST, LineLimit
 from e1gw.service.handover import Handover, Left, Notifier, given_files, note_of, takes_up
 from e1gw.service.lifecycle import TrunkCarrier, point
 from e1gw.service.log_folder import LogPair
@@ -144,14 +144,14 @@ class LineLimitTests(unittest.TestCase):
         self.assertEqual([limit.filter(self.record(0.0, 'gap')) for _ in range(MOST + 5)], [True] * MOST + [False] * 5)
         self.assertTrue(limit.filter(self.record(0.0, 'alarm')))
         self.assertTrue(all(limit.filter(self.record(0.0, None)) for _ in range(MOST + 5)))
-        later = self.record(MINUTE, 'gap')
+        later = self.record(60.0, 'gap')
         self.assertTrue(limit.filter(later))
         self.assertEqual(later.getMessage(), 'gap: .. and 5 more in the last minute\nwords')
 
     def test_the_clock_is_set_back(self) -> None:
         """No line of a kind was told for as long as it was set back by."""
         limit = LineLimit()
-        times = *[7200.0] * (MOST + 1), 3600.0, 3600.0 + MINUTE
+        times = *[7200.0] * (MOST + 1), 3600.0, 3660.0
         passed = [limit.filter(self.record(created, 'alarm')) for created in times]
         self.assertEqual(passed, [True] * MOST + [False, True, True])
 
@@ -457,6 +457,9 @@ class TrunkEndTests(support.LoopCase):
         its.take_up({}, before.note())
         self.assertEqual(replace(its.note(), since=0.0), replace(before.note(), since=0.0))
         self.assertEqual(its.note().slots, before.slots.note())
+        before.crc4, before.slots = mock.Mock(), mock.Mock()
+        before.follows()
+        self.assertEqual((before.crc4.follows.call_count, before.slots.follows.call_count), (1, 1))
         await its.finish()
         self.assertIsNone(its.crc4 and its.crc4.status()['aligned'])
 
@@ -489,6 +492,12 @@ class TrunkEndTests(support.LoopCase):
             await trunk.again(work, 'the work')
         self.assertRegex(told.records[0].getMessage(),
                          r'^the work goes on: ValueError: odd \(test_service_parts.py:\d+ in work\)$')
+
+    async def test_beats(self) -> None:
+        """The same for all, and none within a quarter of them."""
+        for now, beat in (10.0, 10.08), (10.03, 10.32), (10.08, 10.32):
+            with mock.patch.object(asyncio.get_running_loop(), 'time', lambda: now):
+                self.assertAlmostEqual(trunk.beat(0.24), beat)
 
     async def test_either(self) -> None:
         """One event is enough, or the time; what has waited for them waits no more."""
