@@ -19,7 +19,7 @@ from e1gw.lines import Role, State
 from e1gw.session import CIRCUITS
 from e1gw.testing.ports import free_port
 from e1gw.tie.circuit import CircuitEnd, LinkState, TieCircuit
-from e1gw.tie.events import CallOver, Ended, SiteCame, Warned
+from e1gw.tie.events import CallOver, Ended, SiteCame, SiteGone, Warned
 from e1gw.tie.main import main, parser, sign_of_life, work
 from e1gw.tie.messages import BadMessage, Greeting, Message, SiteState, encode_message, message_of
 from e1gw.tie.pairs import pairs_of
@@ -86,7 +86,8 @@ class TieEndTests(unittest.TestCase):
             tie.site = mock.Mock()
             tie.came(Greeting('other', far))
             self.assertEqual(tie.there, joined or {n: n for n in CIRCUITS})
-            self.assertEqual(told, [SiteCame(len(tie.there), left)])
+            tie.gone('it is dark')
+            self.assertEqual((told, tie.far), ([SiteCame(len(joined or CIRCUITS), left), SiteGone('it is dark')], None))
 
     def test_who_has_named_a_call(self) -> None:
         """That the other end has named the call is told back, by whatever message it came."""
