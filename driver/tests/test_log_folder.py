@@ -4,6 +4,7 @@ from __future__ import annotations
 import os
 import subprocess
 import sys
+import unittest
 from typing import Callable
 from unittest import mock
 
@@ -18,6 +19,13 @@ STEPS = 300
 
 class Killed(Exception):
     """The process that writes has ended."""
+
+
+class LogRoomTests(unittest.TestCase):
+    def test_what_the_program_gives_them(self) -> None:
+        text = support.text_of(os.path.join(support.TOP, 'crates', 'gw_files', 'src', 'log_folder.rt'))
+        for name in 'STATE_ROOM', 'RECORDS_ROOM':
+            self.assertIn(f'{name}: u64 = {getattr(log_folder, name):_};', text)
 
 
 class LogFolderCase(support.FolderCase):
