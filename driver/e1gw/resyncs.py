@@ -42,7 +42,7 @@ class OpenCall:
     why: str | None = None              # why it is to be restarted for lost octets
 
     def take(self, place: int, refused: bool, count: int) -> None:
-        """What was answered to so many datagrams."""
+        """What was answered to `count` datagrams."""
         if place < self.since:
             return
         self.fresh, first, seen = True, place - _SPAN, self.seen

@@ -234,7 +234,7 @@ class EventReaderTests(unittest.IsolatedAsyncioTestCase):
 
 class WebPartTests(unittest.IsolatedAsyncioTestCase):
     async def test_all_that_was_told_is_in_a_page(self) -> None:
-        """One that is asked for again is the same until something is told; then all that was is taken first."""
+        """A page stays the same until something is told. Then all that was told is taken first."""
         takes, time, now = mock.Mock(), mock.Mock(), [10.0]
         time.monotonic = lambda: now[0]
         its = pages.TrunkPages(lambda: {'circuits': [], 'takes': takes.call_count}, takes, [], mock.Mock())

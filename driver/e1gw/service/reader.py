@@ -237,7 +237,7 @@ class LogReader:
             self.octets, self.has_missed = max(0, self.told() - behind) * bool(news.state.place), news.state.place > 0
 
     def _see_file(self, state: LogState, is_break: bool, behind: int = 0) -> None:
-        """Another file of a recording begins at a state, if it is to; so many octets of the trunk came behind that."""
+        """Another file of a recording begins at a state, if it is to. `behind` octets of the trunk came after it."""
         recording, begun, cuts = self._recording, self._begun, self._is_cut
         if not recording or recording.why:
             return
