@@ -1,9 +1,9 @@
 //! What comes of a trunk, as a filter returns it (`FilteredInput`).
 
-ghost use Rattle.std.specs.Prelude.{◌≡◌, ℕ, List, []};
+ghost use Rattle.std.specs.Prelude.{◌≡◌, []};
 
 use gw_filter::BufferFilter;
-use gw_records::Log;
+use gw_records::{Log, RecordHead};
 use gw_trunk::{DeviceFault, DeviceRead, TrunkInput};
 
 /// The octets of a trunk, each replaced by the one that a filter returns for it. Clients, waits and the end
@@ -56,7 +56,7 @@ impl<I: TrunkInput, F: BufferFilter> TrunkInput for FilteredInput<I, F> {
 
     ghost reads = { λ d d' room told. I.reads d.incoming d'.incoming room told };
 
-    ghost commands = { λ d d' told room. I.commands d.incoming d'.incoming told room };
+    ghost commands = { λ d d' told. I.commands d.incoming d'.incoming told };
 
     ghost sleeps = { λ d d'. I.sleeps d.incoming d'.incoming };
 
@@ -83,8 +83,8 @@ impl<I: TrunkInput, F: BufferFilter> TrunkInput for FilteredInput<I, F> {
         }
     }
 
-    fn command(&mut self, room: &mut [u8]) -> Option<usize> {
-        self.incoming.command(room)
+    fn command(&mut self) -> Option<RecordHead> {
+        self.incoming.command()
     }
 
     fn wait(&mut self) {

@@ -2,9 +2,7 @@
 use Rattle.gw_records.proofs.Common.{◌≡◌, ◌≤◌, ℕ, arith, nat_tests, command_of, octet_of_command, codec_of, rules}
 use Rattle.gw_records.proofs.Common.{octet_of_codec}
 use Rattle.q421_line.specs.declared.Cmd.{Cmd}
-use Rattle.q421_line.specs.declared.Cmd.TheVariants as commands
 use Rattle.g726_codec.specs.declared.CodecKind.{CodecKind}
-use Rattle.g726_codec.specs.declared.CodecKind.TheVariants as codecs
 
 -- the octet of a command is read as this command
 pub command_again : (command : Cmd) → command_of (octet_of_command command) ≡ command

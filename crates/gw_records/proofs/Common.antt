@@ -1,7 +1,7 @@
 -- The names that most modules of this crate cite, passed on from one place. Declares nothing.
 pub use Rattle.gw_records.specs.Laws.{AtMostOneReading, MoreKeepsRecords, EachIsRead}
 pub use Rattle.gw_records.specs.Octets.{command_of, octet_of_command, codec_of, octet_of_codec}
-pub use Rattle.gw_records.specs.Reader.{Brings, RunsOut, FailsToRead}
+pub use Rattle.gw_records.specs.Reader.{Brings, RunsOut, FailsToRead, Held, holds}
 unfoldable pub use Rattle.gw_records.specs.Reader.{held}
 pub use Rattle.gw_records.specs.Records.{is_open, spelled, IsGood, body_len, IsCircuit, IsFirst, named, Record}
 pub use Rattle.gw_records.specs.Records.{record_at, Reads}

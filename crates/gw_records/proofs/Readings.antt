@@ -1,5 +1,5 @@
 -- Octets are read in one way.
-use Rattle.gw_records.proofs.Common.{◌≡◌, ◌+◌, ℕ, List, [], ◌∷◌, ◌++◌, take, drop, refl, sym, ap, rules, common_steps}
+use Rattle.gw_records.proofs.Common.{◌≡◌, ℕ, List, [], ◌∷◌, ◌++◌, take, drop, refl, sym, ap, rules, common_steps}
 use Rattle.gw_records.proofs.Common.{◌∙◌, append_assoc, append-nil, arith, Some, None, flat_map, AllByRecursion}
 use Rattle.gw_records.proofs.Common.{AcceptedKinds, RecordsEnd, Record, spelled, IsGood, body_len, has_bad_kind}
 use Rattle.gw_records.proofs.Common.{has_bad_circuit, has_bad_length, is_cut, has_bad_command, end_of, named, head_of}

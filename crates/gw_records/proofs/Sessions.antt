@@ -1,9 +1,9 @@
 -- What sessions have in common that act on one record after another.
 use Rattle.gw_records.proofs.Common.{◌≡◌, ◌+◌, ◌^◌, ◌<◌, ◌≤◌, inl, inr, ℕ, true, List, [], ◌∷◌, ◌++◌, length, drop}
 use Rattle.gw_records.proofs.Common.{common_steps, refl, ◌∙◌, arith, Some, Result, Ok, Err, IfOk, IfErr, IsErrAnd}
-use Rattle.gw_records.proofs.Common.{flat_map, AllByRecursion, IsAtEnd, Reader, AcceptedKinds, FirstRecord, RecordsEnd}
+use Rattle.gw_records.proofs.Common.{flat_map, AllByRecursion, IsAtEnd, AcceptedKinds, FirstRecord, RecordsEnd}
 use Rattle.gw_records.proofs.Common.{Record, spelled, IsGood, IsFirst, record_at, end_of, is_open, SourceState}
-use Rattle.gw_records.proofs.Common.{SinkState, GivesOctets, GivesUp, held, Brings, RunsOut, FailsToRead}
+use Rattle.gw_records.proofs.Common.{SinkState, GivesOctets, GivesUp, Held, Brings, RunsOut, FailsToRead}
 use Rattle.gw_records.specs.declared.outcome.Totals.{Totals}
 use Rattle.gw_records.specs.declared.outcome.RunFault.{RunFault}
 use Rattle.gw_records.specs.declared.records.RecordsEnd.TheVariants as endings
@@ -25,20 +25,20 @@ goes_up P (Ok x) f up met p = tt
 goes_up P (Err y) f up met p = rw (up, met) p
 
 -- a session between two records: what it has read are good records and what its reader holds
-pub record Stage (kinds : AcceptedKinds) (source source' : SourceState) (sink sink' : SinkState) (reader : Reader)
+pub record Stage (kinds : AcceptedKinds) (source source' : SourceState) (sink sink' : SinkState) (h : Held)
     (octets : List ℕ) (records : List Record) : Type 0 where
   pub gives : GivesOctets source source' octets
-  pub whole : octets ≡ flat_map spelled records ++ held reader
+  pub whole : octets ≡ flat_map spelled records ++ h.octets
   pub good : AllByRecursion (IsGood kinds) records
   pub no_read : source'.failures ≡ source.failures
   pub no_write : sink'.failures ≡ sink.failures
-  pub turns : 2 ^ 62 ≤ reader.reads_left + length octets
-  pub calls : source'.reads + reader.reads_left ≡ source.reads + 2 ^ 62
+  pub turns : 2 ^ 62 ≤ h.reads_left + length octets
+  pub calls : source'.reads + h.reads_left ≡ source.reads + 2 ^ 62
 
 -- before the first record
-pub starts : {kinds : AcceptedKinds} (a : SourceState) (c : SinkState) (reader : Reader) → held reader ≡ []
-    → reader.reads_left ≡ 2 ^ 62 → Stage kinds a a c c reader [] []
-starts a c reader none left = grind (arith, GivesOctets-none a)
+pub starts : {kinds : AcceptedKinds} (a : SourceState) (c : SinkState) (h : Held) → h.octets ≡ []
+    → h.reads_left ≡ 2 ^ 62 → Stage kinds a a c c h [] []
+starts a c h none left = grind (arith, GivesOctets-none a)
 
 -- the first record is taken
 take_record : (kinds : AcceptedKinds) (octets held : List ℕ) (records : List Record) (f : FirstRecord)
@@ -58,64 +58,64 @@ pub first_held : {kinds : AcceptedKinds} {slice held : List ℕ} (f : FirstRecor
 first_held f e first = rw e at first
 
 -- a record was acted on and passed
-pub record_taken : {kinds : AcceptedKinds} {a b : SourceState} {c d d' : SinkState} {reader reader' : Reader} {octets :
+pub record_taken : {kinds : AcceptedKinds} {a b : SourceState} {c d d' : SinkState} {h h' : Held} {octets :
     List ℕ}
-    {records : List Record} (f : FirstRecord) → Stage kinds a b c d reader octets records
-    → IsFirst kinds f (held reader)
-    → held reader' ≡ drop f.len (held reader) → reader'.reads_left ≡ reader.reads_left → d'.failures ≡ d.failures
-    → Stage kinds a b c d' reader' octets (records ++ record_at f (held reader) ∷ [])
-record_taken {kinds} {reader = reader} {octets = octets} {records = records} f w first passed left kept =
+    {records : List Record} (f : FirstRecord) → Stage kinds a b c d h octets records
+    → IsFirst kinds f h.octets
+    → h'.octets ≡ drop f.len h.octets → h'.reads_left ≡ h.reads_left → d'.failures ≡ d.failures
+    → Stage kinds a b c d' h' octets (records ++ record_at f h.octets ∷ [])
+record_taken {kinds} {h = h} {octets = octets} {records = records} f w first passed left kept =
     grind (arith, common_steps)
 
 -- a write failed in a record
-pub stops_in : {kinds : AcceptedKinds} {a b : SourceState} {c d e : SinkState} {reader : Reader} {octets : List ℕ}
+pub stops_in : {kinds : AcceptedKinds} {a b : SourceState} {c d e : SinkState} {h : Held} {octets : List ℕ}
     {records : List Record} {Begun : List Record → Type 0} (f : FirstRecord)
-    → Stage kinds a b c d reader octets records
-    → IsFirst kinds f (held reader) → d.failures < e.failures
-    → Begun (records ++ record_at f (held reader) ∷ []) → FailsToWrite kinds a b c e Begun
-stops_in {kinds} {reader = reader} {octets = octets} {records = records} f w first failed begun =
+    → Stage kinds a b c d h octets records
+    → IsFirst kinds f h.octets → d.failures < e.failures
+    → Begun (records ++ record_at f h.octets ∷ []) → FailsToWrite kinds a b c e Begun
+stops_in {kinds} {h = h} {octets = octets} {records = records} f w first failed begun =
     grind (
       arith,
-      take_record kinds octets (held reader) records f w.whole first,
-      All-join (IsGood kinds) records (record_at f (held reader) ∷ []) w.good (first.good, tt),
+      take_record kinds octets h.octets records f w.whole first,
+      All-join (IsGood kinds) records (record_at f h.octets ∷ []) w.good (first.good, tt),
     )
 
 -- .. or behind the records
-pub stops_behind : {kinds : AcceptedKinds} {a b : SourceState} {c d e : SinkState} {reader : Reader} {octets : List ℕ}
-    {records : List Record} {Begun : List Record → Type 0} → Stage kinds a b c d reader octets records
+pub stops_behind : {kinds : AcceptedKinds} {a b : SourceState} {c d e : SinkState} {h : Held} {octets : List ℕ}
+    {records : List Record} {Begun : List Record → Type 0} → Stage kinds a b c d h octets records
     → d.failures < e.failures → Begun records → FailsToWrite kinds a b c e Begun
-stops_behind {reader = reader} {octets = octets} {records = records} w failed begun = grind (arith, common_steps)
+stops_behind {h = h} {octets = octets} {records = records} w failed begun = grind (arith, common_steps)
 
 -- the source gave more octets
-pub reads_more : {kinds : AcceptedKinds} {a b b' : SourceState} {c d d' : SinkState} {reader reader' : Reader}
-    {octets : List ℕ} {records : List Record} → Stage kinds a b c d reader octets records
-    → (r : Brings b b' reader reader') → a.reads < 2 ^ 63 → d'.failures ≡ d.failures
-    → Stage kinds a b' c d' reader' (octets ++ r.octets) records
-reads_more {reader = reader} {octets = octets} {records = records} w r few kept = grind (arith, common_steps)
+pub reads_more : {kinds : AcceptedKinds} {a b b' : SourceState} {c d d' : SinkState} {h h' : Held}
+    {octets : List ℕ} {records : List Record} → Stage kinds a b c d h octets records
+    → (r : Brings b b' h h') → a.reads < 2 ^ 63 → d'.failures ≡ d.failures
+    → Stage kinds a b' c d' h' (octets ++ r.octets) records
+reads_more {h = h} {octets = octets} {records = records} w r few kept = grind (arith, common_steps)
 
 -- what is held ends so, and nothing came behind it
-unfoldable session_to : {kinds : AcceptedKinds} {a b b' : SourceState} {c d d' : SinkState} {reader : Reader}
+unfoldable session_to : {kinds : AcceptedKinds} {a b b' : SourceState} {c d d' : SinkState} {h : Held}
     {octets slice : List ℕ} {records : List Record} {ending : RecordsEnd} {Done : Totals → List Record → Type 0}
-    (totals : Totals) → Stage kinds a b c d reader octets records → GivesOctets b b' [] → slice ≡ held reader
+    (totals : Totals) → Stage kinds a b c d h octets records → GivesOctets b b' [] → slice ≡ h.octets
     → end_of kinds slice ≡ Some ending → d'.failures ≡ d.failures → Done totals records
     → SessionTo kinds a b' c d' Done ending
-session_to {kinds} {reader = reader} {octets = octets} {records = records} totals w gives same ends kept done =
+session_to {kinds} {h = h} {octets = octets} {records = records} totals w gives same ends kept done =
     grind (arith, GivesOctets-end _ _ _ _ [] refl w.gives gives)
 
 -- the records end so
-pub ended : {kinds : AcceptedKinds} {a b b' : SourceState} {c d d' : SinkState} {reader reader' : Reader}
+pub ended : {kinds : AcceptedKinds} {a b b' : SourceState} {c d d' : SinkState} {h h' : Held}
     {octets slice : List ℕ} {records : List Record} {ending : RecordsEnd} {Done : Totals → List Record → Type 0}
-    (totals : Totals) → Stage kinds a b c d reader octets records → RunsOut b b' reader reader' ending
-    → slice ≡ held reader → end_of kinds slice ≡ Some ending → d'.failures ≡ d.failures → Done totals records
+    (totals : Totals) → Stage kinds a b c d h octets records → RunsOut b b' h h' ending
+    → slice ≡ h.octets → end_of kinds slice ≡ Some ending → d'.failures ≡ d.failures → Done totals records
     → (e : Ends kinds a b' c d' Done ending) × (totals ≡ e.0.totals)
 unfolding session_to
 ended totals w r same ends kept done = ((session_to totals w r.gives same ends kept done, r.same ∙ w.no_read), refl)
 
 -- a read failed, or there were too many
-pub gives_up : {kinds : AcceptedKinds} {a b b' : SourceState} {c d d' : SinkState} {reader reader' : Reader}
+pub gives_up : {kinds : AcceptedKinds} {a b b' : SourceState} {c d d' : SinkState} {h h' : Held}
     {octets slice : List ℕ} {records : List Record} {ending : RecordsEnd} {Done : Totals → List Record → Type 0}
-    (totals : Totals) → Stage kinds a b c d reader octets records → FailsToRead b b' reader reader' ending
-    → slice ≡ held reader → end_of kinds slice ≡ Some ending → d'.failures ≡ d.failures → Done totals records
+    (totals : Totals) → Stage kinds a b c d h octets records → FailsToRead b b' h h' ending
+    → slice ≡ h.octets → end_of kinds slice ≡ Some ending → d'.failures ≡ d.failures → Done totals records
     → (ending : RecordsEnd) × (s : SessionTo kinds a b' c d' Done ending) × GivesUp a b' s.octets
     × (is_open ending ≡ true)
 unfolding session_to

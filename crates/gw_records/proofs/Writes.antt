@@ -3,7 +3,9 @@ use Rattle.gw_records.proofs.Common.{◌+◌, ◌≡◌, ◌-◌, ◌<◌, ◌�
 use Rattle.gw_records.proofs.Common.{take, drop, Option, refl, sym, append_assoc, append-nil, nat_lt, arith}
 use Rattle.gw_records.proofs.Common.{Consumes-nil, common_steps, Appends, length-append, SourceState, SinkState}
 use Rattle.gw_records.proofs.Common.{GivesOctets, at_most, AppendsPrefix, AppendsBut, TakesAllButWaiting}
-use Rattle.gw_records.proofs.Common.{FailsAfterPrefix}
+use Rattle.gw_records.proofs.Common.{FailsAfterPrefix, Result, Ok, Err, ◌∙◌}
+use Rattle.gw_records.specs.Streams.{Puts}
+use Rattle.gw_records.specs.declared.outcome.RunFault.{RunFault}
 -- nothing appended and nothing lost, and two appends that are one
 pub use Rattle.std.proofs.KnownBytes.{Appends-nil as Appends-none, Appends-trans as Appends-join}
 
@@ -135,6 +137,22 @@ pub FailsAfterPrefix-waiting : (a b c : SinkState) (waiting octets : List ℕ)
     → FailsAfterPrefix a c octets
 FailsAfterPrefix-waiting a b c waiting octets p e q = rw (p.whole)
     (FailsAfterPrefix-after a b c p.written waiting p.appended e q)
+
+-- octets pass, and then more
+pub Puts-then : {T : Type 0} (a b c : SinkState) (waiting waiting' before more : List ℕ) (result : Result T RunFault)
+    → TakesAllButWaiting a.taken b.taken waiting before → b.failures ≡ a.failures
+    → Puts b c waiting' (waiting ++ more) result → Puts a c waiting' (before ++ more) result
+Puts-then a b c waiting waiting' before more (Ok x) p e q =
+    (TakesAllButWaiting-join _ _ _ waiting waiting' before more p q.0, q.1 ∙ e)
+Puts-then a b c waiting waiting' before more (Err fault) p e q =
+    (q.0, FailsAfterPrefix-join a b c waiting before more p e q.1)
+
+-- .. and then what waits
+pub Puts-on : {T : Type 0} (a b c : SinkState) (waiting waiting' before : List ℕ) (result : Result T RunFault)
+    → TakesAllButWaiting a.taken b.taken waiting before → b.failures ≡ a.failures → Puts b c waiting' waiting result
+    → Puts a c waiting' before result
+Puts-on a b c waiting waiting' before result p e q =
+    rw append-nil at (Puts-then a b c waiting waiting' before [] result p e (rw append-nil q))
 
 -- a source that gives in turn
 pub GivesOctets-none : (a : SourceState) → GivesOctets a a []

@@ -16,6 +16,25 @@ use Rattle.gw_records.specs.Octets.{command_of, octet_of_command, codec_of, octe
 abbrev pub record_of : ℕ → ℕ → List ℕ → List ℕ
 record_of kind circuit body = kind ∷ circuit ∷ (big_bytes 2 (length body) ++ body)
 
+-- what goes between a trunk's octets and a session, and what a session answers, as records
+abbrev pub trunk_record : List ℕ → List ℕ
+trunk_record body = record_of 0x54 0 body
+
+abbrev pub packet_record : ℕ → List ℕ → List ℕ
+packet_record circuit packet = record_of 0x44 circuit packet
+
+abbrev pub code_record : ℕ → ℕ → ℕ → List ℕ
+code_record circuit kind code = record_of 0x52 circuit (kind ∷ code ∷ [])
+
+-- the octets of the longest body
+abbrev pub longest_body : ℕ
+longest_body = 65535
+
+-- the record of this kind and body, up to the first octets of the body; these alone if it is the kind of none
+abbrev pub logged : ℕ → ℕ → List ℕ → ℕ → List ℕ
+logged kind circuit body len =
+    if nat_lt kind 0x40 then take len body else take (4 + len) (record_of kind circuit body)
+
 -- the records of a session
 pub data Record : Type 0 where
   Trunk : (octets : List ℕ) → Record

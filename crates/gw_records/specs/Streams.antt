@@ -1,6 +1,7 @@
 -- What sources and sinks report, and how reads and writes change it.
 use Rattle.std.specs.Prelude.{◌≡◌, ◌==◌, ◌⊎◌, ◌+◌, ◌-◌, ◌<◌, ◌≤◌, ◌^◌, ◌&&◌, if◌then◌else◌, ◌++◌, ℕ, min}
-use Rattle.std.specs.Prelude.{nat_lt, List, [], length, MatchResult, Option, Some, None, Result}
+use Rattle.std.specs.Prelude.{Bool, true, false, nat_lt, List, [], length, MatchResult, Option, Some, None}
+use Rattle.std.specs.Prelude.{Result}
 use Rattle.std.specs.Io.KnownBytes.{Appends, Consumes, IsAtEnd}
 use Rattle.gw_records.specs.declared.outcome.RunFault.{RunFault}
 use Rattle.gw_records.specs.declared.outcome.RunFault.TheVariants.{Write}
@@ -37,11 +38,11 @@ pub record CanBegin (source : SourceState) (sink : SinkState) : Type 0 where
   pub writes : CanCount sink.failures
 
 -- a read counts a failure exactly if it failed
-abbrev pub CountsRead : {E : Type 0} → ℕ → ℕ → Result ℕ E → Type 0
+abbrev pub CountsRead : {T E : Type 0} → ℕ → ℕ → Result T E → Type 0
 CountsRead old new r = MatchResult r (λ _. new ≡ old) (λ _. new ≡ at_most (old + 1))
 
 -- a read that did not fail counts
-abbrev pub CountsTurn : {E : Type 0} → ℕ → ℕ → Result ℕ E → Type 0
+abbrev pub CountsTurn : {T E : Type 0} → ℕ → ℕ → Result T E → Type 0
 CountsTurn old new r = MatchResult r (λ _. new ≡ at_most (old + 1)) (λ _. new ≡ old)
 
 -- a write counts a failure if it failed, and if it took nothing of a nonempty piece
@@ -54,6 +55,12 @@ CountsWrite old new r octets =
 pub record GivesOctets (old new : SourceState) (octets : List ℕ) : Type 0 where
   pub gave : Appends old.given new.given octets
   pub consumed : Consumes old.to_come new.to_come octets
+
+-- how many octets wait at most when a record was acted on: none if it is answered at once, else as many as
+-- the buffer holds
+abbrev pub most_waiting : Bool → ℕ
+most_waiting true = 0
+most_waiting false = 65536
 
 -- why reading ends: a read failed, or there were 2 ^ 62 others, each of which gave an octet
 abbrev pub GivesUp : SourceState → SourceState → List ℕ → Type 0

@@ -1,9 +1,12 @@
 //! Octets that passed and calls of ports, for proofs. Nothing of it exists at run time.
-ghost use Rattle.std.specs.Prelude.{◌≡◌, ℕ, List, [], ◌∷◌, ◌++◌, take};
+ghost use Rattle.std.specs.Prelude.{◌≡◌, ◌+◌, ℕ, List, [], ◌∷◌, ◌++◌, take};
 ghost use Rattle.std.specs.Borrow.{ftrue};
 ghost use Rattle.gw_records.specs.Ports.{PortCall, calls_of, receive_call, send_call};
+ghost use Rattle.gw_records.specs.Records.{named, logged, spelled, trunk_record};
 
+use crate::octets::{octet_of_codec, octet_of_command};
 use crate::ports::PortFault;
+use crate::records::{CODEC, COMMAND, DATAGRAM, RecordHead, TRUNK};
 use g704_cas::CircuitNo;
 use std::marker::{Model, PhantomData};
 
@@ -42,10 +45,11 @@ impl Log {
         Log {}
     }
 
-    // Appends the first `_len` of these octets, and the call of this kind for a circuit.
+    // Appends the first `_len` of these octets, and the call of this kind for a circuit; or the record of
+    // this kind whose body they are, up to these.
     fn add(&mut self, _kind: u8, _circuit: u8, _octets: &[u8], _len: usize)
         ensures { self.new ≡ record {
-          octets = self.old.octets ++ take _len _octets.now;
+          octets = self.old.octets ++ logged _kind _circuit _octets.now _len;
           calls = self.old.calls ++ calls_of _kind _circuit (take _len _octets.now);
         } }
     {}
@@ -56,6 +60,36 @@ impl Log {
         ensures { self.new.octets ≡ self.old.octets ++ take len octets.now }
     {
         self.add(NO_CALL, 0, octets, len);
+    }
+
+    /// Appends a record.
+    #[inline]
+    pub fn append_record(&mut self, head: &RecordHead, body: &[u8])
+        ensures { self.new.octets ≡ self.old.octets ++ spelled (named head.now body.now) }
+    {
+        match head {
+            RecordHead::Trunk => self.add(TRUNK, 0, body, body.len()),
+            RecordHead::Datagram(circuit) => self.add(DATAGRAM, circuit.get(), body, body.len()),
+            RecordHead::Command(circuit, command) => {
+                self.add(COMMAND, circuit.get(), &[octet_of_command(*command)], 1);
+            }
+            RecordHead::Codec(circuit, codec, payload_type) => {
+                self.add(
+                    CODEC,
+                    circuit.get(),
+                    &[octet_of_codec(*codec), *payload_type],
+                    2,
+                );
+            }
+        }
+    }
+
+    /// Appends a record of the trunk, up to the first `len` octets of its body.
+    #[inline]
+    pub fn append_trunk(&mut self, body: &[u8], len: usize)
+        ensures { self.new.octets ≡ self.old.octets ++ take (4 + len) (trunk_record body.now) }
+    {
+        self.add(TRUNK, 0, body, len);
     }
 
     /// Appends a receive for a circuit, by its result and the room afterwards.

@@ -67,7 +67,7 @@ impl Reader {
     ghost use Rattle.gw_records.specs.Streams.{CanCount, CountsRead, CountsTurn, FailsToRefill, Refills};
     ghost use Rattle.gw_records.specs.Streams.{HadRoom};
     ghost use Rattle.gw_records.specs.Records.{end_of, is_open};
-    ghost use Rattle.gw_records.specs.Reader.{held, ReadsOn, FailsToRead};
+    ghost use Rattle.gw_records.specs.Reader.{held, holds, ReadsOn, FailsToRead};
 
     /// An empty buffer, with its memory.
     #[tactic(auto, unfolding(crate::specs::Reader::held))]
@@ -167,9 +167,10 @@ impl Reader {
         requires ends { end_of kinds.now (held self.old) ≡ Some ending }
         requires reads { CanCount (S.tells source.old).failures }
         ensures ok { IfOk result (λ came. ReadsOn (S.tells source.old) (S.tells source.new)
-            self.old self.new ending came) }
+            (holds self.old) (holds self.new) ending came) }
         ensures fault { IfErr result (λ e. (e ≡ RunFault.Read)
-            × FailsToRead (S.tells source.old) (S.tells source.new) self.old self.new ending) }
+            × FailsToRead (S.tells source.old) (S.tells source.new) (holds self.old) (holds self.new)
+            ending) }
         ensures had_room { is_open ending ≡ true → 0 < self.old.reads_left
             → HadRoom (S.was_offered source.new) }
     {

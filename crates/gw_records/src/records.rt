@@ -1,7 +1,9 @@
 //! Whether octets begin with a whole and valid record: kind, circuit, length (`first_record`).
-ghost use Rattle.std.specs.Prelude.{◌≡◌, ◌≢◌, ◌+◌, ◌<◌, ◌≤◌, ◌^◌};
+ghost use Rattle.std.specs.Prelude.{◌≡◌, ◌≢◌, ◌+◌, ◌<◌, ◌≤◌, ◌^◌, ◌∷◌};
 ghost use Rattle.std.specs.Prelude.{false, length, slice_index, Some, SomeIff, IfOk, IfErr};
-ghost use Rattle.gw_records.specs.Records.{IsCircuit, IsFirst, head_of, end_of, body_len, record_of};
+ghost use Rattle.gw_records.specs.Records.{IsCircuit, IsFirst, head_of, end_of, body_len, code_record};
+ghost use Rattle.gw_records.specs.Records.{packet_record};
+ghost use Rattle.byteorder.specs.Endian.{big_bytes};
 ghost use Rattle.gw_records.specs.Records.{has_bad_kind, has_bad_circuit, has_bad_length, has_bad_command};
 
 use crate::octets::{codec_of, command_of};
@@ -22,6 +24,8 @@ pub const DATAGRAM: u8 = 0x44;
 pub const COMMAND: u8 = 0x43;
 /// A codec for a circuit.
 pub const CODEC: u8 = 0x4B;
+// The answer to a record that is not of the trunk.
+const ANSWER: u8 = 0x52;
 
 /// The kinds of record that are accepted.
 #[derive(Clone, Copy, Debug, PartialEq, Eq)]
@@ -158,15 +162,30 @@ pub fn first_record(kinds: &AcceptedKinds, held: &[u8]) -> Result<FirstRecord, R
     Ok(FirstRecord { head, len })
 }
 
+/// The front of a record of this kind, with a body of so many octets.
+pub fn front_of(kind: u8, circuit: u8, len: usize) -> [u8; 4]
+    requires { len < 2 ^ 16 }
+    ensures { result ≡ kind ∷ circuit ∷ big_bytes 2 len }
+{
+    let mut front = [kind, circuit, 0, 0];
+    BigEndian::write_u16(&mut front[2..4], len as u16);
+    front
+}
+
+/// The record of 0 or the number of a refusal, which answers a record of this kind.
+pub fn code_record(circuit: CircuitNo, kind: u8, code: u8) -> [u8; 6]
+    ensures { result ≡ code_record circuit kind code }
+{
+    [ANSWER, circuit.get(), 0, 2, kind, code]
+}
+
 /// The record of a datagram sent.
 pub fn datagram_record(circuit: u8, datagram: &[u8]) -> ArrayVec<u8, 256>
     requires { length datagram.now ≤ 252 }
-    ensures { result.items ≡ record_of 0x44 circuit datagram.now }
+    ensures { result.items ≡ packet_record circuit datagram.now }
 {
-    let mut front = [DATAGRAM, circuit, 0, 0];
-    BigEndian::write_u16(&mut front[2..4], datagram.len() as u16);
     let mut record: ArrayVec<u8, 256> = ArrayVec::new();
-    let _ = record.try_extend_from_slice(&front);
+    let _ = record.try_extend_from_slice(&front_of(DATAGRAM, circuit, datagram.len()));
     let _ = record.try_extend_from_slice(datagram);
     record
 }

@@ -6,7 +6,7 @@ ghost use Rattle.gw_trunk.specs.System.{SystemReportedNone};
 ghost use Rattle.gw_trunk.specs.Waiting.{FindsNone, MayBeReady, Waits, WaitsFor};
 ghost use Rattle.gw_satop.specs.Opening.{SystemRefusesTrunk};
 
-use gw_records::Log;
+use gw_records::{Log, RecordHead};
 use gw_trunk::{
     DeviceFault, DeviceRead, DeviceReader, DeviceWriter, FromDevice, ToDevice, TrunkInput, Waiting,
 };
@@ -164,7 +164,7 @@ impl<I: TrunkInput, W: Readiness> TrunkInput for WhenReady<I, W> {
         self.incoming.read(room)
     }
 
-    fn command(&mut self, _room: &mut [u8]) -> Option<usize> {
+    fn command(&mut self) -> Option<RecordHead> {
         None
     }
 

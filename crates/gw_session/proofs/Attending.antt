@@ -1,25 +1,19 @@
 -- Inputs one after another.
-use Rattle.gw_session.proofs.Common.{◌≡◌, ◌⊎◌, inl, inr, ◌+◌, ◌-◌, ◌<◌, ◌≤◌, ℕ, zero, suc, Option, List, [], ◌∷◌, ◌++◌}
-use Rattle.gw_session.proofs.Common.{rules, common_steps, length, take, drop, refl, ap, ◌∙◌, append_assoc, append-nil}
+use Rattle.gw_session.proofs.Common.{◌≡◌, ◌⊎◌, inl, inr, ◌<◌, ◌≤◌, ℕ, zero, suc, Option, List, [], ◌∷◌, ◌++◌}
+use Rattle.gw_session.proofs.Common.{rules, common_steps, length, refl, ap, ◌∙◌, append_assoc, append-nil}
 use Rattle.gw_session.proofs.Common.{length-append, arith, Appends, map_push, flat_map_more, GatewayConfig, Event}
-use Rattle.gw_session.proofs.Common.{octets, HasHistory, AcceptedKinds, Record, IsGood, record_at, SinkState}
+use Rattle.gw_session.proofs.Common.{octets, HasHistory, AcceptedKinds, Record, IsGood, SinkState}
 use Rattle.gw_session.proofs.Common.{TakesAllButWaiting, FailsAfterPrefix, AppendsBut, AppendsPrefix}
 use Rattle.gw_session.proofs.Common.{TakesAllButWaiting-appended, TakesAllButWaiting-empty, TakesAllButWaiting-join}
 use Rattle.gw_session.proofs.Common.{Appends-join, AppendsBut-behind, all_kinds, PacketOutput, SessionInput}
 use Rattle.gw_session.proofs.Common.{input_record, turns_of, turns, events_in, events_through, Follows, but_last}
 use Rattle.gw_session.proofs.Common.{WatchedTrace, OfFirstInputs, written_for, written_by, ActsOn, StopsAt, CutTrace}
-use Rattle.gw_session.proofs.Common.{TapeState, SessionState, Output, drop-take, named, TakesAllButWaiting-start}
+use Rattle.gw_session.proofs.Common.{TapeState, SessionState, Output, TakesAllButWaiting-start}
 use Rattle.gw_session.proofs.Common.{InputTrace, Bool, PortCall, AreCalls, AreCallsFor, are_held, Act, AreActs}
 use Rattle.gw_session.proofs.Common.{acts_for, Recorded, Gateway, StandsBehind, Learns, keeps_at, events_of_turns}
-use Rattle.gw_records.specs.declared.records.FirstRecord.{FirstRecord}
 use Rattle.gw_session.proofs.Turns.{TurnsTrace-none, TurnsTrace-join, Extends-none, Extends-join, counted-more}
 use Rattle.gw_session.proofs.Turns.{octets-append, turns_have_octets, through-append}
 use Rattle.gw_session.proofs.Taping.{recorded_none, recorded_join, told_recorded}
-
--- the record that stands first, by its body in what is held
-pub record_is : (f : FirstRecord) (held slice : List ℕ) → 4 ≤ f.len → slice ≡ held
-    → named f.head (take (f.len - 4) (drop 4 slice)) ≡ record_at f held
-record_is f held slice more e = grind (arith, drop-take 4 (f.len - 4) held)
 
 -- a record of some kinds is one of all
 pub good_in_all : (kinds : AcceptedKinds) (r : Record) → IsGood kinds r → IsGood all_kinds r

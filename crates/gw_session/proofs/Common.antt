@@ -28,7 +28,7 @@ pub use Rattle.gw_session.specs.Exchange.{TakesEvent, Exchanges, ActsOn, Inputs,
 pub use Rattle.gw_session.specs.Exchange.{InputTrace, WatchedTrace, ComesInTurn, GoToPorts, OctetTrace}
 pub use Rattle.gw_session.specs.Exchange.{PacketWriteError, TraceToWriteError, AreShown, IsSilent, packets_held}
 pub use Rattle.gw_session.specs.Exchange.{Receiving, RecordsBehind, IsGiven, FourCome}
-unfoldable pub use Rattle.gw_session.specs.Exchange.{spelled_for, written_for, most_waiting}
+unfoldable pub use Rattle.gw_session.specs.Exchange.{spelled_for, written_for}
 pub use Rattle.gw_session.specs.PacketPorts.{PacketOutput, in_record, no_ports, silent}
 pub use Rattle.gw_session.specs.RecordingLaws.{all_answers, answers_to, command_in, RecordingsAnswerAlike}
 pub use Rattle.gw_session.specs.RecordingLaws.{RecordingsAreReadBack, RecordedSessionsRunAlike}

@@ -1,6 +1,6 @@
 -- Records that are acted on.
 use Rattle.gw_session.proofs.Common.{◌≡◌, inl, ◌+◌, ◌-◌, ◌^◌, ◌<◌, ℕ, min, List, [], ◌∷◌, ◌++◌, length, Result, Ok, Err}
-use Rattle.gw_session.proofs.Common.{common_steps, refl, sym, ap, ◌∙◌, append_assoc, arith, length-map, big_bytes}
+use Rattle.gw_session.proofs.Common.{common_steps, refl, sym, ap, ◌∙◌, append_assoc, arith, length-map, record_of}
 use Rattle.gw_session.proofs.Common.{GatewayConfig, Gateway, Event, HasHistory, reply_to, Totals, RunFault, Record}
 use Rattle.gw_session.proofs.Common.{TakesAllButWaiting, at_most, Appends-none, TakesAllButWaiting-join}
 use Rattle.gw_session.proofs.Common.{AppendsPrefix-behind, PacketOutput, counted, Written, written_out, code_of}
@@ -53,22 +53,22 @@ answer_told a b c ps p q = grind (arith, Extends-join a.acts b.acts c.acts _ _ p
 -- octets were exchanged, and the record of them was put
 pub trunk_inputs : {spells : PacketOutput} (Shown : List Event → Type 0) (w w' : World) (tape : TapeState) (r n : ℕ)
     (o : Output)
-    {body front answer out : List ℕ}
+    {body cleared answer out : List ℕ}
     (result : Result (Unit {0}) RunFault)
     → (sent : List ℕ) × (x : Exchanges spells
     (record w.state { totals = record w.state.totals { records = r; octets = n } }) w'.state w.output o body sent)
-    × (answer ≡ front ++ sent) × Recorded w.tape tape (events_of_turns x.turns)
+    × (answer ≡ cleared ++ sent) × Recorded w.tape tape (events_of_turns x.turns)
     × HaveCalls w.state.ports w'.state.ports (AreCalls (are_held w.state.holds x.turns) x.turns)
     × Extends w.tape.acts tape.acts (map (sends_at tape) (held_in w.state.holds x.turns))
     × Shown (events_of_turns x.turns)
     → Learns tape w'.tape (answers_at tape ∷ [])
-    → w'.state.holds ≡ w.state.holds → front ≡ 84 ∷ 0 ∷ big_bytes 2 (length body) → out ≡ answer
+    → w'.state.holds ≡ w.state.holds → cleared ≡ [] → out ≡ answer
     → r ≡ min (w.state.totals.records + 1) (2 ^ 64 - 1)
     → n ≡ min (w.state.totals.octets + length body) (2 ^ 64 - 1) → w.state.totals.octets < 2 ^ 64
-    → Puts o.sink w'.output.sink w'.output.waiting (o.waiting ++ out) result
+    → Puts o.sink w'.output.sink w'.output.waiting (o.waiting ++ record_of 84 0 out) result
     → Inputs spells Shown w w' (Record.Trunk body) result
 unfolding written_for answer_to
-trunk_inputs Shown w w' tape r n o result x told holds fronts same counts trunk fits puts =
+trunk_inputs Shown w w' tape r n o result x told holds none same counts trunk fits puts =
     let p = x.1 in
     let len = sym (length-map p.turns octet_of) ∙ ap length p.heard in
     inputs_put _ Shown w w' o _ result (record {

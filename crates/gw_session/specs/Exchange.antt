@@ -1,7 +1,7 @@
 -- What the parts of a session do, for the private functions of modules `exchange`, `handling` and
 -- `processing`.
 use Rattle.std.specs.Prelude.{◌≡◌, ◌⊎◌, ◌<◌, ◌≤◌, ◌++◌, ℕ, List, [], ◌∷◌, length, map, drop, Option, Bool}
-use Rattle.std.specs.Prelude.{true, false, Some, Result, MatchResult, flat_map, if◌then◌else◌}
+use Rattle.std.specs.Prelude.{Some, Result, MatchResult, flat_map, if◌then◌else◌}
 use Rattle.gw_session.specs.Prelude.{GatewayConfig, Gateway, Event, octets, HasHistory, next_circuit, Totals}
 use Rattle.gw_session.specs.Prelude.{RunFault, Record, SinkState, AppendsPrefix, AppendsBut, Waiting}
 use Rattle.gw_session.specs.Prelude.{PortsState, IfKnown, Extends, counted}
@@ -15,7 +15,7 @@ use Rattle.gw_session.specs.Serve.{SessionInput, Turn, input_record, octet_of, t
 use Rattle.gw_session.specs.Serve.{events_of_turns, answer_to, TurnsTrace, SessionTrace, PortTrace, Stop}
 use Rattle.gw_session.specs.Serve.{StopsSo, as_call, receives_of, HaveCalls, AreCalls, AreSends, are_held}
 use Rattle.gw_session.specs.Serve.{held_in, acts_for, of_circuit, coming, first_four, behind_four, LeavesOut}
-use Rattle.gw_session.specs.Serve.{packets_for, octets_for, dropped_for, through, but_last, OfFirstInputs}
+use Rattle.gw_session.specs.Serve.{packets_for, octets_for, dropped_for, through, OfFirstInputs}
 use Rattle.gw_session.specs.Tape.{TapeState, Recorded, Taping, RecordedBut, sends_at}
 use Rattle.gw_session.specs.Watch.{Shows, Look, shown_in, IsCalled, looks_at}
 use Rattle.gw_session.specs.World.{SessionState, Output, World}
@@ -39,12 +39,6 @@ written_for spells config before input =
 -- .. for inputs, one after another
 abbrev pub written_by : PacketOutput → GatewayConfig → List Event → List SessionInput → List ℕ
 written_by spells = through (written_for spells)
-
--- how many octets wait at most when a record was acted on: none if it is answered at once, else as many as
--- the buffer holds
-unfoldable pub most_waiting : Bool → ℕ
-most_waiting true = 0
-most_waiting false = 65536
 
 -- records and their octets are counted as before
 abbrev pub KeepsRecords : Totals → Totals → Type 0

@@ -13,9 +13,10 @@ use crate::packet_ports::PacketPorts;
 use crate::receive_room::ReceiveRoom;
 use crate::tape::{Batch, Tape, batch_arrival, record_octets};
 use crate::watch::Watch;
+use arrayvec::ArrayVec;
 use g704_cas::CircuitNo;
 use gw_circuit::Datagram;
-use gw_records::{NO_TOTALS, OutputBuffer, RunFault, Sink, Totals, TrunkRecord};
+use gw_records::{Answers, NO_TOTALS, RunFault, Totals};
 use gw_switch::Gateway;
 
 // How many datagrams are received before one octet.
@@ -65,13 +66,12 @@ pub fn give_shown<W: Watch>(
     code
 }
 
-/// What a session has done, what it is to write, and where it receives and makes what it sends.
+/// What a session has done, and where it receives and makes what it sends.
 #[derive(Drop)]
 pub struct SessionBuffers {
     pub totals: Totals,
-    pub waiting: OutputBuffer,
-    pub answer: TrunkRecord,
-    pub at_once: bool,
+    /// The octets that answer a record of the trunk, so far.
+    pub answer: ArrayVec<u8, 65_535>,
     /// 0, or the number of the refusal that the last record was answered with.
     pub code: u8,
     datagram: Datagram,
@@ -89,24 +89,21 @@ impl SessionBuffers {
     ghost use Rattle.std.specs.Prelude.{◌≡◌, ◌+◌, ◌<◌, ◌≤◌, ◌^◌, ◌∷◌, ◌++◌, [], length, OnOk, OnErr, true};
     ghost use Rattle.std.specs.Prelude.{◌&&◌, nat_le, vec_capacity, if◌then◌else◌};
     ghost use Rattle.gw_records.specs.Outcome.{nothing_counted};
+    ghost use Rattle.gw_records.specs.Records.{longest_body};
     ghost use Rattle.gw_records.specs.Streams.{CanCount, Puts};
     ghost use Rattle.gw_session.specs.Exchange.{ComesInTurn, GoToPorts, Hearing, ExchangingAll, IsSilent};
     ghost use Rattle.gw_session.specs.Exchange.{packets_held};
     ghost use Rattle.gw_session.specs.Tape.{taping};
     ghost use Rattle.gw_session.specs.World.{state_with, output_of, world_in};
 
-    /// Before the first record; a session that answers `at_once` lets nothing wait behind a record.
-    pub fn new(room: ReceiveRoom, held: HeldPackets, at_once: bool) -> SessionBuffers
+    /// Before the first record.
+    pub fn new(room: ReceiveRoom, held: HeldPackets) -> SessionBuffers
         ensures totals { result.totals ≡ nothing_counted }
-        ensures waiting { result.waiting.items ≡ [] }
-        ensures at_once { result.at_once ≡ at_once }
         ensures held { result.held ≡ held }
     {
         SessionBuffers {
             totals: NO_TOTALS,
-            waiting: OutputBuffer::new(),
-            answer: TrunkRecord::new(),
-            at_once,
+            answer: ArrayVec::new(),
             code: 0,
             datagram: Datagram::new(),
             held,
@@ -118,7 +115,7 @@ impl SessionBuffers {
     }
 
     // Begins a record of this many octets of the trunk, before which the ports look for datagrams.
-    fn begin_record<O: PacketPorts>(&mut self, packet_ports: &mut O, len: usize)
+    fn begin_record<O: PacketPorts<A>, A: Answers>(&mut self, packet_ports: &mut O, len: usize)
         ensures looked { O.has_looked packet_ports.new }
         ensures tells { O.tells packet_ports.new ≡ O.tells packet_ports.old }
         ensures holding { self.new.holding ≡ (self.old.held.holds && nat_le len 2048) }
@@ -140,13 +137,14 @@ impl SessionBuffers {
 
     // Sends the packet that goes with an octet, or holds it.
     #[inline(never)]
-    fn pass_packet<O: PacketPorts, K: Sink>(
+    fn send_or_hold<O: PacketPorts<A>, A: Answers>(
         &mut self,
         circuit: CircuitNo,
         packet_ports: &mut O,
-        sink: &mut K,
+        answers: &mut A,
+        sink: &mut A::Sink,
     ) -> Result<(), RunFault>
-        requires writes { CanCount (K.tells sink.old).failures }
+        requires writes { CanCount (A.tells sink.old).failures }
         requires silent { self.old.holding ≡ true → IsSilent O.spells }
         requires room { self.old.holding ≡ true
             → length self.old.held.packets.items < vec_capacity self.old.held.packets }
@@ -156,15 +154,15 @@ impl SessionBuffers {
         ensures held { OnOk result (packets_held self.new.held.packets.items
             ≡ packets_held self.old.held.packets.items
             ++ (if self.old.holding then (circuit, self.old.datagram.items) ∷ [] else [])) }
-        ensures puts { Puts (K.tells sink.old) (K.tells sink.new) self.new.waiting.items
-            (self.old.waiting.items ++ O.spells (circuit, self.old.datagram.items)) result }
+        ensures puts { Puts (A.tells sink.old) (A.tells sink.new) (A.waiting answers.new)
+            (A.waiting answers.old ++ O.spells (circuit, self.old.datagram.items)) result }
         ensures kept { OnErr result (O.tells packet_ports.new ≡ O.tells packet_ports.old) }
         ensures some { OnErr result (0 < length (O.spells (circuit, self.old.datagram.items))) }
+        ensures late { A.late answers.new ≡ A.late answers.old }
         ensures memory { vec_capacity self.new.held.packets ≡ vec_capacity self.old.held.packets }
         ensures holds { self.new.held.holds ≡ self.old.held.holds }
         ensures others { self.new ≡ record self.old {
           totals = self.new.totals;
-          waiting = self.new.waiting;
           held = self.new.held;
         } }
     {
@@ -177,7 +175,7 @@ impl SessionBuffers {
             &self.datagram,
             packet_ports,
             &mut self.totals,
-            &mut self.waiting,
+            answers,
             sink,
         )
     }
@@ -185,14 +183,15 @@ impl SessionBuffers {
     // Gives an octet to the gateway, sends or holds the packet that goes with it, and returns the octet to
     // send.
     #[inline]
-    fn receive_octet<O: PacketPorts, K: Sink>(
+    fn receive_octet<O: PacketPorts<A>, A: Answers>(
         &mut self,
         gateway: &mut Gateway,
         packet_ports: &mut O,
         octet: u8,
-        sink: &mut K,
+        answers: &mut A,
+        sink: &mut A::Sink,
     ) -> Result<u8, RunFault>
-        requires writes { CanCount (K.tells sink.old).failures }
+        requires writes { CanCount (A.tells sink.old).failures }
         requires silent { self.old.holding ≡ true → IsSilent O.spells }
         requires room { self.old.holding ≡ true
             → length self.old.held.packets.items < vec_capacity self.old.held.packets }
@@ -201,20 +200,20 @@ impl SessionBuffers {
             (O.tells packet_ports.old) gateway.old self.old.totals)
             (state_with self.old.held.holds (packets_held self.new.held.packets.items)
             (O.tells packet_ports.new) gateway.new self.new.totals)
-            (output_of (K.tells sink.old) self.old.waiting.items)
-            (output_of (K.tells sink.new) self.new.waiting.items) octet result }
+            (output_of (A.tells sink.old) (A.waiting answers.old))
+            (output_of (A.tells sink.new) (A.waiting answers.new)) octet result }
+        ensures late { A.late answers.new ≡ A.late answers.old }
         ensures memory { vec_capacity self.new.held.packets ≡ vec_capacity self.old.held.packets }
         ensures holds { self.new.held.holds ≡ self.old.held.holds }
         ensures others { self.new ≡ record self.old {
           totals = self.new.totals;
-          waiting = self.new.waiting;
           datagram = self.new.datagram;
           held = self.new.held;
         } }
     {
         let out = gateway.octet_into(octet, &mut self.datagram);
         if let Some(circuit) = out.circuit {
-            self.pass_packet(circuit, packet_ports, sink)?;
+            self.send_or_hold(circuit, packet_ports, answers, sink)?;
         }
         Ok(out.octet)
     }
@@ -223,7 +222,7 @@ impl SessionBuffers {
     // them into the batch behind the octets that were heard, gives them to the gateway and shows them to the
     // watch. (It is inlined, since mostly nothing waits: then an octet saves no registers for it.)
     #[inline(always)]
-    fn receive_next<O: PacketPorts, T: Tape, W: Watch>(
+    fn receive_datagrams<O: PacketPorts<A>, A: Answers, T: Tape, W: Watch>(
         &mut self,
         gateway: &mut Gateway,
         packet_ports: &mut O,
@@ -274,33 +273,34 @@ impl SessionBuffers {
     /// it, and puts the octets to send behind those of the answer. The ports look for datagrams before the
     /// first octet. All are recorded when it returns, mostly in one write: the octets are cut where datagrams
     /// came. The packets of up to 2,048 octets are sent behind that, if this session holds packets.
-    pub fn exchange_all<O: PacketPorts, K: Sink, T: Tape, W: Watch>(
+    pub fn exchange_all<O: PacketPorts<A>, A: Answers, T: Tape, W: Watch>(
         &mut self,
         gateway: &mut Gateway,
         packet_ports: &mut O,
         octets: &[u8],
-        sink: &mut K,
+        answers: &mut A,
+        sink: &mut A::Sink,
         tape: &mut T,
         watch: &mut W,
     ) -> Result<(), RunFault>
-        requires fits { length self.old.answer.items + length octets.now ≤ 65539 }
+        requires fits { length self.old.answer.items + length octets.now ≤ longest_body }
         requires short { length octets.now < 2 ^ 16 }
-        requires writes { CanCount (K.tells sink.old).failures }
+        requires writes { CanCount (A.tells sink.old).failures }
         requires silent { self.old.held.holds ≡ true → IsSilent O.spells }
         ensures exchanges { ExchangingAll O.spells (AreShown W.shows gateway.old watch.old watch.new 0)
             (world_in self.old.held.holds (O.tells packet_ports.old) gateway.old self.old.totals
-            (T.tells tape.old) (K.tells sink.old) self.old.waiting.items)
+            (T.tells tape.old) (A.tells sink.old) (A.waiting answers.old))
             (world_in self.old.held.holds (O.tells packet_ports.new) gateway.new self.new.totals
-            (T.tells tape.new) (K.tells sink.new) self.new.waiting.items)
+            (T.tells tape.new) (A.tells sink.new) (A.waiting answers.new))
             octets.now self.old.answer.items self.new.answer.items result }
-        ensures at_once { self.new.at_once ≡ self.old.at_once }
+        ensures late { A.late answers.new ≡ A.late answers.old }
         ensures holds { self.new.held.holds ≡ self.old.held.holds }
     {
         self.begin_record(packet_ports, octets.len());
         for i in 0..octets.len() {
             let heard = &octets[..i];
-            self.receive_next(gateway, packet_ports, tape, heard, watch);
-            let sent = self.receive_octet(gateway, packet_ports, octets[i], sink)?;
+            self.receive_datagrams(gateway, packet_ports, tape, heard, watch);
+            let sent = self.receive_octet(gateway, packet_ports, octets[i], answers, sink)?;
             self.answer.push(sent);
         }
         record_octets(tape, &mut self.batch, &octets[self.recorded..]);
@@ -309,7 +309,7 @@ impl SessionBuffers {
             held.packets.as_slice(),
             packet_ports,
             &mut self.totals,
-            &mut self.waiting,
+            answers,
             sink,
             tape,
         );

@@ -1,30 +1,23 @@
 //! What a session does for one record of any kind, and how it is answered (`handle_record`).
 ghost use Rattle.std.specs.Prelude.{◌≡◌, ◌^◌, ◌<◌, ◌≤◌, ◌∷◌, ◌++◌, [], length, OnOk};
-ghost use Rattle.byteorder.specs.Endian.{big_bytes};
 ghost use Rattle.gw_circuit.specs.Items.{Command, Codec, Obeys, Changes};
 ghost use Rattle.gw_switch.specs.Events.{Event};
 ghost use Rattle.gw_switch.specs.Whole.{Reply};
 ghost use Rattle.gw_records.specs.Streams.{CanCount, Puts};
 ghost use Rattle.gw_session.specs.Answers.{code_of};
-ghost use Rattle.gw_session.specs.Exchange.{TakesEvent, most_waiting};
+ghost use Rattle.gw_session.specs.Exchange.{TakesEvent};
 ghost use Rattle.gw_session.specs.Tape.{Learns, answers_at};
 
 use crate::exchange::{SessionBuffers, give_shown};
 use crate::packet_ports::PacketPorts;
 use crate::tape::Tape;
 use crate::watch::Watch;
-use byteorder::{BigEndian, ByteOrder};
 use g704_cas::CircuitNo;
 use g726_codec::CodecKind;
 use gw_circuit::CodecFault;
-use gw_records::{
-    CODEC, COMMAND, DATAGRAM, OutputBuffer, RecordHead, RunFault, Sink, TRUNK, flush, put,
-};
+use gw_records::{Answers, CODEC, COMMAND, DATAGRAM, RecordHead, RunFault};
 use gw_switch::Gateway;
 use q421_line::{Cmd, LineFault};
-
-// An answer to a record.
-const ANSWER: u8 = 0x52;
 
 // 0, or the number of a fault of the line.
 fn line_code(answer: Result<(), LineFault>) -> u8
@@ -60,40 +53,6 @@ fn give_codec(gateway: &mut Gateway, circuit: CircuitNo, codec: CodecKind, paylo
     codec_code(gateway.codec(circuit, codec, payload_type))
 }
 
-// The front of a record of the trunk.
-fn trunk_front(len: usize) -> [u8; 4]
-    requires { len < 2 ^ 16 }
-    ensures { result ≡ 0x54 ∷ 0 ∷ big_bytes 2 len }
-{
-    let mut front = [TRUNK, 0, 0, 0];
-    BigEndian::write_u16(&mut front[2..4], len as u16);
-    front
-}
-
-// Puts an answer behind the octets that wait, and writes all of them where none is to wait. The tape is told.
-fn put_out<K: Sink, T: Tape>(
-    octets: &[u8],
-    waiting: &mut OutputBuffer,
-    at_once: bool,
-    sink: &mut K,
-    tape: &mut T,
-) -> Result<(), RunFault>
-    requires { CanCount (K.tells sink.old).failures }
-    ensures puts { Puts (K.tells sink.old) (K.tells sink.new) waiting.new.items
-        (waiting.old.items ++ octets.now) result }
-    ensures few { OnOk result (length waiting.new.items ≤ most_waiting at_once) }
-    ensures acts { Learns (T.tells tape.old) (T.tells tape.new) (answers_at (T.tells tape.old) ∷ []) }
-{
-    tape.before_answer();
-    put(sink, waiting, octets)?;
-    if at_once {
-        flush(sink, waiting)?;
-    } else {
-        prove!(waiting.len() <= waiting.capacity());
-    }
-    Ok(())
-}
-
 impl SessionBuffers {
     ghost use Rattle.std.specs.Prelude.{◌≡◌, ◌+◌, ◌^◌, ◌<◌, ◌≤◌, ◌++◌, ◌∷◌, [], length, OnOk, true};
     ghost use Rattle.gw_records.specs.Records.{Record, IsGood, named};
@@ -101,120 +60,118 @@ impl SessionBuffers {
     ghost use Rattle.gw_session.specs.Answers.{written_out};
     ghost use Rattle.gw_session.specs.Answers.Written.{Answered};
     ghost use Rattle.gw_session.specs.Running.{all_kinds};
-    ghost use Rattle.gw_session.specs.Exchange.{AreShown, Inputs, IsSilent, most_waiting};
+    ghost use Rattle.gw_session.specs.Exchange.{AreShown, Inputs, IsSilent};
     ghost use Rattle.gw_session.specs.Watch.{IsCodeAfter};
     ghost use Rattle.gw_session.specs.Tape.{Learns, answers_at};
     ghost use Rattle.gw_session.specs.World.{world_in};
 
-    // Gives the octets of a trunk record to the gateway, and puts the record that answers it.
-    fn handle_trunk_record<O: PacketPorts, K: Sink, T: Tape, W: Watch>(
+    // Gives the octets of a trunk record to the gateway, and puts those that answer it.
+    fn handle_trunk_record<O: PacketPorts<A>, A: Answers, T: Tape, W: Watch>(
         &mut self,
         gateway: &mut Gateway,
         packet_ports: &mut O,
         body: &[u8],
-        sink: &mut K,
+        answers: &mut A,
+        sink: &mut A::Sink,
         tape: &mut T,
         watch: &mut W,
     ) -> Result<(), RunFault>
         requires short { length body.now < 2 ^ 16 }
-        requires writes { CanCount (K.tells sink.old).failures }
+        requires writes { CanCount (A.tells sink.old).failures }
         requires silent { self.old.held.holds ≡ true → IsSilent O.spells }
         ensures inputs { Inputs O.spells (AreShown W.shows gateway.old watch.old watch.new 0)
             (world_in self.old.held.holds (O.tells packet_ports.old) gateway.old self.old.totals
-            (T.tells tape.old) (K.tells sink.old) self.old.waiting.items)
+            (T.tells tape.old) (A.tells sink.old) (A.waiting answers.old))
             (world_in self.old.held.holds (O.tells packet_ports.new) gateway.new self.new.totals
-            (T.tells tape.new) (K.tells sink.new) self.new.waiting.items)
+            (T.tells tape.new) (A.tells sink.new) (A.waiting answers.new))
             (Record.Trunk body.now) result }
         ensures code { OnOk result (self.new.code ≡ 0) }
-        ensures few { OnOk result (length self.new.waiting.items ≤ most_waiting self.old.at_once) }
-        ensures at_once { self.new.at_once ≡ self.old.at_once }
+        ensures few { OnOk result (length (A.waiting answers.new) ≤ A.late answers.old) }
+        ensures late { A.late answers.new ≡ A.late answers.old }
         ensures holds { self.new.held.holds ≡ self.old.held.holds }
     {
         self.totals.records = self.totals.records.saturating_add(1);
         self.totals.octets = self.totals.octets.saturating_add(body.len() as u64);
         self.answer.clear();
-        let _ = self.answer.try_extend_from_slice(&trunk_front(body.len()));
-        self.exchange_all(gateway, packet_ports, body, sink, tape, watch)?;
+        self.exchange_all(gateway, packet_ports, body, answers, sink, tape, watch)?;
         self.code = 0;
-        put_out(
-            self.answer.as_slice(),
-            &mut self.waiting,
-            self.at_once,
-            sink,
-            tape,
-        )
+        tape.before_answer();
+        answers.put_octets(self.answer.as_slice(), sink)
     }
 
     // Counts a record, and puts the answer of its circuit.
-    fn put_answer<K: Sink, T: Tape>(
+    fn put_answer<A: Answers, T: Tape>(
         &mut self,
         circuit: CircuitNo,
         kind: u8,
         code: u8,
-        sink: &mut K,
+        answers: &mut A,
+        sink: &mut A::Sink,
         tape: &mut T,
     ) -> Result<(), RunFault>
-        requires writes { CanCount (K.tells sink.old).failures }
-        ensures puts { Puts (K.tells sink.old) (K.tells sink.new) self.new.waiting.items
-            (self.old.waiting.items ++ written_out (Answered circuit kind code)) result }
+        requires writes { CanCount (A.tells sink.old).failures }
+        ensures puts { Puts (A.tells sink.old) (A.tells sink.new) (A.waiting answers.new)
+            (A.waiting answers.old ++ written_out (Answered circuit kind code)) result }
         ensures acts { Learns (T.tells tape.old) (T.tells tape.new) (answers_at (T.tells tape.old) ∷ []) }
         ensures code { self.new.code ≡ code }
         ensures counts { self.new.totals
             ≡ record self.old.totals { records = at_most (self.old.totals.records + 1) } }
-        ensures few { OnOk result (length self.new.waiting.items ≤ most_waiting self.old.at_once) }
-        ensures at_once { self.new.at_once ≡ self.old.at_once }
+        ensures few { OnOk result (length (A.waiting answers.new) ≤ A.late answers.old) }
+        ensures late { A.late answers.new ≡ A.late answers.old }
         ensures holds { self.new.held.holds ≡ self.old.held.holds }
     {
         self.totals.records = self.totals.records.saturating_add(1);
         self.code = code;
-        let octets = [ANSWER, circuit.get(), 0, 2, kind, code];
-        put_out(&octets, &mut self.waiting, self.at_once, sink, tape)
+        tape.before_answer();
+        answers.put_code(circuit, kind, code, sink)
     }
 
-    /// Gives a gateway a record, which is recorded before, and puts what answers it behind the octets that
-    /// wait. The datagrams that the gateway is given are shown to a watch.
-    pub fn handle_record<O: PacketPorts, K: Sink, T: Tape, W: Watch>(
+    /// Gives a gateway a record, and puts what answers it behind the octets that wait. It is on the tape
+    /// before its answer is put; all but octets of the trunk also before the gateway is given it. The
+    /// datagrams that the gateway is given are shown to a watch.
+    pub fn handle_record<O: PacketPorts<A>, A: Answers, T: Tape, W: Watch>(
         &mut self,
         gateway: &mut Gateway,
         packet_ports: &mut O,
         head: RecordHead,
         body: &[u8],
-        sink: &mut K,
+        answers: &mut A,
+        sink: &mut A::Sink,
         tape: &mut T,
         watch: &mut W,
     ) -> Result<(), RunFault>
         requires good { IsGood all_kinds (named head body.now) }
-        requires writes { CanCount (K.tells sink.old).failures }
+        requires writes { CanCount (A.tells sink.old).failures }
         requires silent { self.old.held.holds ≡ true → IsSilent O.spells }
         ensures inputs { Inputs O.spells (AreShown W.shows gateway.old watch.old watch.new 0)
             (world_in self.old.held.holds (O.tells packet_ports.old) gateway.old self.old.totals
-            (T.tells tape.old) (K.tells sink.old) self.old.waiting.items)
+            (T.tells tape.old) (A.tells sink.old) (A.waiting answers.old))
             (world_in self.old.held.holds (O.tells packet_ports.new) gateway.new self.new.totals
-            (T.tells tape.new) (K.tells sink.new) self.new.waiting.items)
+            (T.tells tape.new) (A.tells sink.new) (A.waiting answers.new))
             (named head body.now) result }
         ensures code { OnOk result (IsCodeAfter gateway.old (named head body.now) self.new.code) }
-        ensures few { OnOk result (length self.new.waiting.items ≤ most_waiting self.old.at_once) }
-        ensures at_once { self.new.at_once ≡ self.old.at_once }
+        ensures few { OnOk result (length (A.waiting answers.new) ≤ A.late answers.old) }
+        ensures late { A.late answers.new ≡ A.late answers.old }
         ensures holds { self.new.held.holds ≡ self.old.held.holds }
     {
         match head {
             RecordHead::Trunk => {
-                self.handle_trunk_record(gateway, packet_ports, body, sink, tape, watch)
+                self.handle_trunk_record(gateway, packet_ports, body, answers, sink, tape, watch)
             }
             RecordHead::Datagram(circuit) => {
                 tape.put(head, body);
                 let code = give_shown(gateway, 0, circuit, body, &mut self.totals, watch);
-                self.put_answer(circuit, DATAGRAM, code, sink, tape)
+                self.put_answer(circuit, DATAGRAM, code, answers, sink, tape)
             }
             RecordHead::Command(circuit, command) => {
                 tape.put(head, body);
                 let code = give_command(gateway, circuit, command);
-                self.put_answer(circuit, COMMAND, code, sink, tape)
+                self.put_answer(circuit, COMMAND, code, answers, sink, tape)
             }
             RecordHead::Codec(circuit, codec, payload_type) => {
                 tape.put(head, body);
                 let code = give_codec(gateway, circuit, codec, payload_type);
-                self.put_answer(circuit, CODEC, code, sink, tape)
+                self.put_answer(circuit, CODEC, code, answers, sink, tape)
             }
         }
     }

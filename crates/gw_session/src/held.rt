@@ -10,7 +10,7 @@ use crate::packet_ports::PacketPorts;
 use crate::tape::Tape;
 use g704_cas::CircuitNo;
 use gw_circuit::Datagram;
-use gw_records::{OutputBuffer, RunFault, Sink, Totals};
+use gw_records::{Answers, RunFault, Totals};
 use std::alloc::{AllocError, Global};
 
 // The octets of the longest record whose packets are held: as many as a trunk's have at most. Each octet
@@ -28,7 +28,7 @@ pub struct HeldPacket {
 #[derive(Drop)]
 pub struct HeldPackets {
     pub(crate) packets: Vec<HeldPacket>,
-    /// Whether any are held.
+    /// Whether the session holds packets at all.
     pub(crate) holds: bool,
     ghost memory: { holds ≡ true → vec_capacity packets ≡ 2048 },
 }
@@ -80,23 +80,24 @@ impl HeldPackets {
 }
 
 /// Sends a packet of a circuit, and counts it, or that it did not go out.
-pub fn send_packet<O: PacketPorts, K: Sink>(
+pub fn send_packet<O: PacketPorts<A>, A: Answers>(
     circuit: CircuitNo,
     packet: &Datagram,
     packet_ports: &mut O,
     totals: &mut Totals,
-    waiting: &mut OutputBuffer,
-    sink: &mut K,
+    answers: &mut A,
+    sink: &mut A::Sink,
 ) -> Result<(), RunFault>
-    requires writes { CanCount (K.tells sink.old).failures }
+    requires writes { CanCount (A.tells sink.old).failures }
     ensures sends { OnOk result (GoToPorts (O.tells packet_ports.old) (O.tells packet_ports.new) totals.old
         totals.new ((circuit, packet.now.items) ∷ [])) }
-    ensures puts { Puts (K.tells sink.old) (K.tells sink.new) waiting.new.items
-        (waiting.old.items ++ O.spells (circuit, packet.now.items)) result }
+    ensures puts { Puts (A.tells sink.old) (A.tells sink.new) (A.waiting answers.new)
+        (A.waiting answers.old ++ O.spells (circuit, packet.now.items)) result }
+    ensures late { A.late answers.new ≡ A.late answers.old }
     ensures kept { OnErr result (O.tells packet_ports.new ≡ O.tells packet_ports.old) }
     ensures some { OnErr result (0 < length (O.spells (circuit, packet.now.items))) }
 {
-    if packet_ports.send_datagram(circuit, packet.as_slice(), waiting, sink)? {
+    if packet_ports.send_datagram(circuit, packet.as_slice(), answers, sink)? {
         totals.datagrams = totals.datagrams.saturating_add(1);
     } else {
         totals.port_faults = totals.port_faults.saturating_add(1);
@@ -105,21 +106,22 @@ pub fn send_packet<O: PacketPorts, K: Sink>(
 }
 
 /// Sends the packets that are held, and tells the tape of each.
-pub fn send_held<O: PacketPorts, K: Sink, T: Tape>(
+pub fn send_held<O: PacketPorts<A>, A: Answers, T: Tape>(
     held: &[HeldPacket],
     packet_ports: &mut O,
     totals: &mut Totals,
-    waiting: &mut OutputBuffer,
-    sink: &mut K,
+    answers: &mut A,
+    sink: &mut A::Sink,
     tape: &mut T,
 )
-    requires writes { CanCount (K.tells sink.old).failures }
+    requires writes { CanCount (A.tells sink.old).failures }
     requires silent { 0 < length held.now → IsSilent O.spells }
     ensures sends { GoToPorts (O.tells packet_ports.old) (O.tells packet_ports.new) totals.old totals.new
         (packets_held held.now) }
-    ensures passes { TakesAllButWaiting (K.tells sink.old).taken (K.tells sink.new).taken waiting.new.items
-        waiting.old.items }
-    ensures no_failure { (K.tells sink.new).failures ≡ (K.tells sink.old).failures }
+    ensures passes { TakesAllButWaiting (A.tells sink.old).taken (A.tells sink.new).taken
+        (A.waiting answers.new) (A.waiting answers.old) }
+    ensures no_failure { (A.tells sink.new).failures ≡ (A.tells sink.old).failures }
+    ensures late { A.late answers.new ≡ A.late answers.old }
     ensures acts { Learns (T.tells tape.old) (T.tells tape.new)
         (map (sends_at (T.tells tape.old)) (packets_held held.now)) }
 {
@@ -132,7 +134,7 @@ pub fn send_held<O: PacketPorts, K: Sink, T: Tape>(
             &packet.octets,
             packet_ports,
             totals,
-            waiting,
+            answers,
             sink,
         );
     }

@@ -1,14 +1,14 @@
 //! Where the packets of a session go, and where datagrams come from beside its records.
-ghost use Rattle.std.specs.Prelude.{◌≡◌, ◌≤◌, ◌<◌, ◌++◌, ⊤, ℕ, length, IfOk, IfSome, OnOk, OnErr};
+ghost use Rattle.std.specs.Prelude.{◌≡◌, ◌≤◌, ◌<◌, ◌++◌, ⊤, length, IfOk, IfSome, OnErr};
 ghost use Rattle.gw_records.specs.Streams.{CanCount, Puts};
 ghost use Rattle.gw_records.specs.Ports.{PortsState, Receives, CountsFault, KeepsSends, KeepsReceives};
 ghost use Rattle.gw_session.specs.PacketPorts.{PacketOutput, silent, in_record, no_ports, Went};
 
 use g704_cas::CircuitNo;
-use gw_records::{OutputBuffer, PortFault, Ports, RunFault, Sink, datagram_record, put};
+use gw_records::{Answers, OctetAnswers, PortFault, Ports, RunFault, Sink};
 
 /// Where the packets of a session go, and where datagrams come from beside its records.
-pub trait PacketPorts {
+pub trait PacketPorts<A: Answers> {
     /// What its ports tell.
     ghost tells: { Self → PortsState };
     /// What a packet puts in front of the answer.
@@ -36,17 +36,18 @@ pub trait PacketPorts {
 
     /// Sends a packet of a circuit, and returns whether it went out. What it puts comes behind the octets
     /// that wait.
-    fn send_datagram<K: Sink>(
+    fn send_datagram(
         &mut self,
         circuit: CircuitNo,
         packet: &[u8],
-        waiting: &mut OutputBuffer,
-        sink: &mut K,
+        answers: &mut A,
+        sink: &mut A::Sink,
     ) -> Result<bool, RunFault>
         requires len { length packet.now ≤ 252 }
-        requires writes { CanCount (K.tells sink.old).failures }
-        ensures puts { Puts (K.tells sink.old) (K.tells sink.new) waiting.new.items
-            (waiting.old.items ++ spells (circuit, packet.now)) result }
+        requires writes { CanCount (A.tells sink.old).failures }
+        ensures puts { Puts (A.tells sink.old) (A.tells sink.new) (A.waiting answers.new)
+            (A.waiting answers.old ++ spells (circuit, packet.now)) result }
+        ensures late { A.late answers.new ≡ A.late answers.old }
         ensures went { IfOk result (λ went. Went (tells self.old) (tells self.new) circuit went packet.now) }
         ensures receives_stay { KeepsReceives (tells self.old) (tells self.new) }
         ensures kept { OnErr result (tells self.new ≡ tells self.old) }
@@ -57,7 +58,7 @@ pub trait PacketPorts {
 #[derive(Drop)]
 pub struct InRecords;
 
-impl PacketPorts for InRecords {
+impl<K: Sink> PacketPorts<OctetAnswers<K>> for InRecords {
     ghost tells = { λ s. no_ports };
 
     ghost spells = { in_record };
@@ -76,20 +77,19 @@ impl PacketPorts for InRecords {
 
     // (It is apart from the octets that no packet goes with, since the record is a large local.)
     #[inline(never)]
-    fn send_datagram<K: Sink>(
+    fn send_datagram(
         &mut self,
         circuit: CircuitNo,
         packet: &[u8],
-        waiting: &mut OutputBuffer,
+        answers: &mut OctetAnswers<K>,
         sink: &mut K,
     ) -> Result<bool, RunFault> {
-        let record = datagram_record(circuit.get(), packet);
-        put(sink, waiting, record.as_slice())?;
+        answers.put_packet(circuit, packet, sink)?;
         Ok(true)
     }
 }
 
-impl<P: Ports> PacketPorts for P {
+impl<P: Ports, A: Answers> PacketPorts<A> for P {
     ghost tells = { P.tells };
 
     ghost spells = { silent };
@@ -108,12 +108,12 @@ impl<P: Ports> PacketPorts for P {
         self.receive(circuit, room)
     }
 
-    fn send_datagram<K: Sink>(
+    fn send_datagram(
         &mut self,
         circuit: CircuitNo,
         packet: &[u8],
-        _waiting: &mut OutputBuffer,
-        _sink: &mut K,
+        _answers: &mut A,
+        _sink: &mut A::Sink,
     ) -> Result<bool, RunFault> {
         Ok(self.send(circuit, packet).is_ok())
     }

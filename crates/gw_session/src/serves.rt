@@ -1,5 +1,5 @@
 //! A session whose datagrams come and go through ports, also recorded (`serve`).
-ghost use Rattle.std.specs.Prelude.{◌≡◌, IfOk, IfErr};
+ghost use Rattle.std.specs.Prelude.{◌≡◌, ◌^◌, [], IfOk, IfErr};
 ghost use Rattle.gw_records.specs.Streams.{CanBegin};
 ghost use Rattle.gw_session.specs.Tape.{no_tape};
 ghost use Rattle.gw_session.specs.Serve.{ServesAll, ServesUntil, around, around_in, around_log};
@@ -11,7 +11,10 @@ use crate::processing::process_records;
 use crate::receive_room::ReceiveRoom;
 use crate::tape::{NoTape, Tape};
 use crate::watch::{NoWatch, Watch};
-use gw_records::{AcceptedKinds, Ports, Reader, RunFault, Sink, Source, Totals};
+use gw_records::{
+    AcceptedKinds, Answers, OctetAnswers, OctetRecords, Ports, Records, RunFault, Sink, Source,
+    Totals,
+};
 use gw_switch::Gateway;
 use std::alloc::Global;
 
@@ -70,41 +73,45 @@ pub fn serve<S: Source, P: Ports, K: Sink>(
 // Serves, records on a tape what the gateway takes, shows each record to a watch, and holds packets if `held`
 // does.
 #[inline(always)]
-fn serve_holding<S: Source, P: Ports, K: Sink, T: Tape, W: Watch>(
+fn serve_holding<R: Records, A: Answers, P: Ports, T: Tape, W: Watch>(
     alloc: Global,
     held: HeldPackets,
     gateway: &mut Gateway,
     ports: &mut P,
-    source: &mut S,
-    sink: &mut K,
+    records: &mut R,
+    answers: &mut A,
+    source: &mut R::Source,
+    sink: &mut A::Sink,
     tape: &mut T,
     watch: &mut W,
 ) -> Result<Totals, RunFault>
-    requires { CanBegin (S.tells source.old) (K.tells sink.old) }
+    requires begins { CanBegin (R.tells source.old) (A.tells sink.old) }
+    requires holds { (R.holds records.old).octets ≡ [] }
+    requires turns { (R.holds records.old).reads_left ≡ 2 ^ 62 }
+    requires waiting { A.waiting answers.old ≡ [] }
+    requires at_once { A.late answers.old ≡ 0 }
     ensures ok { IfOk result (ServesAll
-        (around_in held.holds (S.tells source.old) (K.tells sink.old) (P.tells ports.old) (T.tells tape.old))
-        (around_in held.holds (S.tells source.new) (K.tells sink.new) (P.tells ports.new) (T.tells tape.new))
+        (around_in held.holds (R.tells source.old) (A.tells sink.old) (P.tells ports.old) (T.tells tape.old))
+        (around_in held.holds (R.tells source.new) (A.tells sink.new) (P.tells ports.new) (T.tells tape.new))
         gateway.old gateway.new) }
     ensures fault { IfErr result (ServesUntil
-        (around_in held.holds (S.tells source.old) (K.tells sink.old) (P.tells ports.old) (T.tells tape.old))
-        (around_in held.holds (S.tells source.new) (K.tells sink.new) (P.tells ports.new) (T.tells tape.new))
+        (around_in held.holds (R.tells source.old) (A.tells sink.old) (P.tells ports.old) (T.tells tape.old))
+        (around_in held.holds (R.tells source.new) (A.tells sink.new) (P.tells ports.new) (T.tells tape.new))
         gateway.old gateway.new) }
     ensures watched { ServesWatched
-        (around_in held.holds (S.tells source.old) (K.tells sink.old) (P.tells ports.old) (T.tells tape.old))
-        (around_in held.holds (S.tells source.new) (K.tells sink.new) (P.tells ports.new) (T.tells tape.new))
+        (around_in held.holds (R.tells source.old) (A.tells sink.old) (P.tells ports.old) (T.tells tape.old))
+        (around_in held.holds (R.tells source.new) (A.tells sink.new) (P.tells ports.new) (T.tells tape.new))
         gateway.old gateway.new (InputsShown W.shows gateway.old watch.old watch.new)
         (watch.new ≡ watch.old) result }
 {
-    let Ok(mut reader) = Reader::new(alloc) else {
-        return Err(RunFault::OutOfMemory);
-    };
     let Ok(room) = ReceiveRoom::new(alloc) else {
         return Err(RunFault::OutOfMemory);
     };
-    let mut session = SessionBuffers::new(room, held, true);
+    let mut session = SessionBuffers::new(room, held);
     process_records(
         &SERVED,
-        &mut reader,
+        records,
+        answers,
         &mut session,
         gateway,
         ports,
@@ -140,12 +147,18 @@ pub fn serve_recorded<S: Source, P: Ports, K: Sink, T: Tape>(
         (around (S.tells source.new) (K.tells sink.new) (P.tells ports.new) (T.tells tape.new))
         gateway.old gateway.new) }
 {
+    let Ok(mut records) = OctetRecords::<S>::new(alloc) else {
+        return Err(RunFault::OutOfMemory);
+    };
+    let mut answers = OctetAnswers::<K>::new(true);
     let held = HeldPackets::none(alloc);
     serve_holding(
         alloc,
         held,
         gateway,
         ports,
+        &mut records,
+        &mut answers,
         source,
         sink,
         tape,
@@ -153,7 +166,8 @@ pub fn serve_recorded<S: Source, P: Ports, K: Sink, T: Tape>(
     )
 }
 
-/// Serves as [`serve_recorded`] does, but sends the packets of a record of the trunk when all of it is on the
+/// Serves the records that come, and puts answers to whatever takes them. Else it does as [`serve_recorded`],
+/// but sends the packets of a record of the trunk when all of it is on the
 /// tape, in their order, behind the receives of its octets. (A record of more than 2,048 octets has its
 /// packets sent as they are made.) A watch is shown each datagram when the gateway was given it, and each
 /// record when the gateway has acted on it. A record in which a write fails may not be shown.
@@ -161,32 +175,40 @@ pub fn serve_recorded<S: Source, P: Ports, K: Sink, T: Tape>(
 /// # Errors
 ///
 /// Those of [`serve`].
-pub fn serve_logged<S: Source, P: Ports, K: Sink, T: Tape, W: Watch>(
+pub fn serve_logged<R: Records, A: Answers, P: Ports, T: Tape, W: Watch>(
     alloc: Global,
     gateway: &mut Gateway,
     ports: &mut P,
-    source: &mut S,
-    sink: &mut K,
+    records: &mut R,
+    answers: &mut A,
+    source: &mut R::Source,
+    sink: &mut A::Sink,
     tape: &mut T,
     watch: &mut W,
 ) -> Result<Totals, RunFault>
-    requires { CanBegin (S.tells source.old) (K.tells sink.old) }
+    requires begins { CanBegin (R.tells source.old) (A.tells sink.old) }
+    requires holds { (R.holds records.old).octets ≡ [] }
+    requires turns { (R.holds records.old).reads_left ≡ 2 ^ 62 }
+    requires waiting { A.waiting answers.old ≡ [] }
+    requires at_once { A.late answers.old ≡ 0 }
     ensures ok { IfOk result (ServesAll
-        (around_log (S.tells source.old) (K.tells sink.old) (P.tells ports.old) (T.tells tape.old))
-        (around_log (S.tells source.new) (K.tells sink.new) (P.tells ports.new) (T.tells tape.new))
+        (around_log (R.tells source.old) (A.tells sink.old) (P.tells ports.old) (T.tells tape.old))
+        (around_log (R.tells source.new) (A.tells sink.new) (P.tells ports.new) (T.tells tape.new))
         gateway.old gateway.new) }
     ensures fault { IfErr result (ServesUntil
-        (around_log (S.tells source.old) (K.tells sink.old) (P.tells ports.old) (T.tells tape.old))
-        (around_log (S.tells source.new) (K.tells sink.new) (P.tells ports.new) (T.tells tape.new))
+        (around_log (R.tells source.old) (A.tells sink.old) (P.tells ports.old) (T.tells tape.old))
+        (around_log (R.tells source.new) (A.tells sink.new) (P.tells ports.new) (T.tells tape.new))
         gateway.old gateway.new) }
     ensures watched { ServesWatched
-        (around_log (S.tells source.old) (K.tells sink.old) (P.tells ports.old) (T.tells tape.old))
-        (around_log (S.tells source.new) (K.tells sink.new) (P.tells ports.new) (T.tells tape.new))
+        (around_log (R.tells source.old) (A.tells sink.old) (P.tells ports.old) (T.tells tape.old))
+        (around_log (R.tells source.new) (A.tells sink.new) (P.tells ports.new) (T.tells tape.new))
         gateway.old gateway.new (InputsShown W.shows gateway.old watch.old watch.new)
         (watch.new ≡ watch.old) result }
 {
     let Ok(held) = HeldPackets::new(alloc) else {
         return Err(RunFault::OutOfMemory);
     };
-    serve_holding(alloc, held, gateway, ports, source, sink, tape, watch)
+    serve_holding(
+        alloc, held, gateway, ports, records, answers, source, sink, tape, watch,
+    )
 }

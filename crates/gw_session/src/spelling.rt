@@ -3,7 +3,7 @@ ghost use Rattle.std.specs.Prelude.{◌≡◌, ◌+◌, ◌^◌, ◌<◌, ◌≤
 ghost use Rattle.gw_records.specs.Records.{record_of};
 
 use arrayvec::ArrayVec;
-use byteorder::{BigEndian, ByteOrder};
+use gw_records::front_of;
 
 /// Appends a record of this kind, for which there is room.
 pub fn append<const N: usize>(room: &mut ArrayVec<u8, N>, kind: u8, circuit: u8, body: &[u8])
@@ -11,8 +11,6 @@ pub fn append<const N: usize>(room: &mut ArrayVec<u8, N>, kind: u8, circuit: u8,
     requires fits { length room.old.items + (4 + length body.now) ≤ N }
     ensures { room.new.items ≡ room.old.items ++ record_of kind circuit body.now }
 {
-    let mut front = [kind, circuit, 0, 0];
-    BigEndian::write_u16(&mut front[2..4], body.len() as u16);
-    let _ = room.try_extend_from_slice(&front);
+    let _ = room.try_extend_from_slice(&front_of(kind, circuit, body.len()));
     let _ = room.try_extend_from_slice(body);
 }

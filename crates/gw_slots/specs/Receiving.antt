@@ -21,9 +21,17 @@ pub record HasMadeWhole (receiver : SlotReceiver) (law : Law) (place : ℕ) (tak
   pub place_is : receiver.place ≡ (place + length made) % 64
   pub made_are : made ≡ whole_trunk law place taken
 
+-- the octets of the longest read of a device, 64 frames of 31, and of what is made of one, with those of a
+-- frame before and behind
+abbrev pub longest_read : ℕ
+longest_read = 1984
+
+abbrev pub longest_made : ℕ
+longest_made = 2112
+
 -- how many octets of a device are read for this room: those of the whole frames that fit, 64 at most
 abbrev pub most_read : ℕ → ℕ
-most_read room = min 1984 (max 1 (room / 32 * 31))
+most_read room = min longest_read (max 1 (room / 32 * 31))
 
 -- What is returned if a read of the device returned this: at least as many octets, or the same.
 abbrev pub TellsOf : ReadResult → ReadResult → Type 0

@@ -4,12 +4,12 @@ ghost use Rattle.std.specs.Prelude.{◌≡◌, ◌⊎◌, ◌+◌, ◌*◌, ◌<
 ghost use Rattle.std.specs.Prelude.{length, min, take, is_some, not, true, false, MatchOption, IfOk};
 ghost use Rattle.e1_g711.specs.declared.Law.{Law};
 ghost use Rattle.gw_trunk.specs.Device.{IsTaken, octets_taken};
-ghost use Rattle.gw_slots.specs.Receiving.{HasMadeWhole, GivesAll, ReadsSlots, most_read};
+ghost use Rattle.gw_slots.specs.Receiving.{HasMadeWhole, GivesAll, ReadsSlots, longest_read, most_read};
 ghost use Rattle.gw_slots.specs.Frames.{late_from};
 
 use crate::receiving::{DeviceSlots, SlotReceiver};
 use arrayvec::ArrayVec;
-use gw_records::Log;
+use gw_records::{Log, RecordHead};
 use gw_trunk::{DeviceFault, DeviceRead, TrunkInput, drop_first};
 use std::marker::PhantomData;
 
@@ -91,8 +91,8 @@ fn make(
     room: &[u8],
     held: &mut ArrayVec<u8, 2112>,
 )
-    requires few { IfOk read.now (λ t. IsTaken t 1984) }
-    requires room { length room.now ≡ 1984 }
+    requires few { IfOk read.now (λ t. IsTaken t longest_read) }
+    requires room { length room.now ≡ longest_read }
     requires none { held.old.items ≡ [] }
     ensures made { (law : Law) (place : ℕ) (taken made : List ℕ) → HasMadeWhole slots.old law place taken made
         → HasMadeWhole slots.new law place (taken ++ octets_taken read.now room.now)
@@ -157,7 +157,7 @@ impl<I: TrunkInput, T: SlotTeller, S: DeviceSlots> TrunkInput for SlotInput<I, T
         (λ _. GivesAll d'.held.items room told × (((d'.only_held ≡ true) × (0 < length d.held.items))
         ⊎ ReadsSlots (I.reads d.incoming d'.incoming) (T.has_told d'.teller) d.told d'.told room told)) };
 
-    ghost commands = { λ d d' told room. d.only_held ≡ true ⊎ I.commands d.incoming d'.incoming told room };
+    ghost commands = { λ d d' told. d.only_held ≡ true ⊎ I.commands d.incoming d'.incoming told };
 
     ghost sleeps = { λ d d'. I.sleeps d.incoming d'.incoming };
 
@@ -195,11 +195,11 @@ impl<I: TrunkInput, T: SlotTeller, S: DeviceSlots> TrunkInput for SlotInput<I, T
         }
     }
 
-    fn command(&mut self, room: &mut [u8]) -> Option<usize> {
+    fn command(&mut self) -> Option<RecordHead> {
         if self.only_held {
             return None;
         }
-        self.incoming.command(room)
+        self.incoming.command()
     }
 
     fn wait(&mut self) {

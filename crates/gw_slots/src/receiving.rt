@@ -3,7 +3,7 @@
 ghost use Rattle.std.specs.Prelude.{◌≡◌, ◌≢◌, ◌+◌, ◌*◌, ◌%◌, ◌<◌, ◌≤◌, ◌++◌, ◌∷◌, ℕ, List, [], length};
 ghost use Rattle.e1_g711.specs.declared.Law.{Law};
 ghost use Rattle.gw_slots.specs.Frames.{late_from, slot_0};
-ghost use Rattle.gw_slots.specs.Receiving.{HasMadeWhole, begun_by};
+ghost use Rattle.gw_slots.specs.Receiving.{HasMadeWhole, begun_by, longest_made, longest_read};
 
 use arrayvec::ArrayVec;
 use e1_g711::{Law, idle};
@@ -70,7 +70,7 @@ impl SlotReceiver {
 
     /// Takes octets of the device, and puts those of the trunk behind others.
     pub fn octets(&mut self, octets: &[u8], trunk: &mut ArrayVec<u8, 2112>)
-        requires few { length octets.now ≤ 1984 }
+        requires few { length octets.now ≤ longest_read }
         requires none { trunk.old.items ≡ [] }
         ensures made { (law : Law) (place : ℕ) (taken made : List ℕ)
             → HasMadeWhole self.old law place taken made
@@ -101,7 +101,7 @@ impl SlotReceiver {
 
     // Puts slot 0, if a frame begins.
     fn begin_frame(&mut self, trunk: &mut ArrayVec<u8, 2112>)
-        requires { length trunk.old.items < 2112 }
+        requires { length trunk.old.items < longest_made }
         ensures mover { self.new.mover ≡ self.old.mover }
         ensures begun { trunk.new.items ≡ trunk.old.items ++ begun_by self.old.place }
         ensures place { self.new.place % 64 ≡ (self.old.place + length (begun_by self.old.place)) % 64 }

@@ -10,7 +10,7 @@ pub use Rattle.gw_records.proofs.Writes.{TakesAllButWaiting-join, TakesAllButWai
 pub use Rattle.gw_records.proofs.Writes.{FailsAfterPrefix-waiting, TakesAllButWaiting-none, FailsAfterPrefix-join}
 pub use Rattle.gw_records.proofs.Writes.{FailsAfterPrefix-more, Appends-none, Appends-join, GivesOctets-none}
 pub use Rattle.gw_records.proofs.Writes.{GivesOctets-join, FailsAfterPrefix-after, read_failed}
-pub use Rattle.gw_records.specs.Reader.{held, work_left}
+pub use Rattle.gw_records.specs.Reader.{held, holds, work_left}
 pub use Rattle.gw_records.specs.Records.{Record, IsGood, IsFirst, is_open, end_of, named, record_at}
 unfoldable pub use Rattle.gw_records.specs.Records.{has_bad_kind, has_bad_length, has_bad_command}
 pub use Rattle.gw_records.specs.Streams.{SourceState, SinkState, GivesOctets, GivesUp, Refills, TakesAllButWaiting}

@@ -1,7 +1,6 @@
 -- What a reader has given grows by what each read gives.
-use Rattle.std.proofs.Common.{◌≡◌, ◌++◌, ℕ, List, Option, Some, None, Result, Ok, Err, Bool, refl, length, take, drop}
-use Rattle.std.proofs.Common.{append_assoc, append-nil, take-append-drop, sym, ap, ◌∙◌}
-use lib.Seq.{take-append_seam}
+use Rattle.std.proofs.Common.{◌≡◌, ◌++◌, ℕ, List, Option, Some, None, Result, Ok, Err, Bool, refl, take, drop}
+use Rattle.std.proofs.Common.{append_assoc, append-nil, take-append-drop}
 use Rattle.std.specs.declared.io.ErrorKind.{ErrorKind}
 use Rattle.std.specs.Io.KnownBytes.{Consumes, Keeps, WriteAppends}
 use Rattle.std.proofs.KnownBytes.{Consumes-trans, Consumes-kept}
@@ -61,16 +60,10 @@ pub known-held : (a b c : Option (List ℕ)) (gave held held' : List ℕ) (count
     → StaysKnown a b → ReadsMore b c held held' count → StaysKnown a c
 known-held a b c gave held held' count g k r = known-more a b c (gave ++ held) r.more g k r.consumes
 
--- The front of a room to which the front of octets was copied.
-pub front-is : (copy rest octets held : List ℕ) (n : ℕ) → length copy ≡ n → copy ≡ take n octets → octets ≡ held
-    → take n (copy ++ rest) ≡ take n held
-front-is copy rest octets held n long e same =
-    ap (λ (k : ℕ). take k (copy ++ rest)) (sym long) ∙ take-append_seam copy rest ∙ e ∙ ap (take n) same
-
 -- The first of the octets held were given.
-pub gave-passed : (a b : Option (List ℕ)) (gave held room : List ℕ) (n : ℕ) → Gave a b (gave ++ held)
-    → take n room ≡ take n held → Gave a b ((gave ++ take n room) ++ drop n held)
-gave-passed a b gave held room n g e =
+pub gave-passed : (a b : Option (List ℕ)) (gave held first : List ℕ) (n : ℕ) → Gave a b (gave ++ held)
+    → first ≡ take n held → Gave a b ((gave ++ first) ++ drop n held)
+gave-passed a b gave held first n g e =
     rw (e, append_assoc gave (take n held) (drop n held), take-append-drop n held) g
 
 -- What a writer holds grows by what a write took.

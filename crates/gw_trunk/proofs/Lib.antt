@@ -1,7 +1,8 @@
 pub mod Passing
 pub mod Cutting
 pub mod Placing
-pub mod Thinning
+pub mod Standing
+mod Thinning
 mod Rows
 pub mod KnownOctets
 pub mod Noting

@@ -1,12 +1,11 @@
 -- Octets of records, as they are passed one after another.
-use Rattle.std.proofs.Common.{◌≡◌, ◌<◌, ◌≤◌, ◌++◌, ◌∙◌, ℕ, zero, suc, Bool, true, false, cond, List, [], ◌∷◌}
-use Rattle.std.proofs.Common.{length, take, refl, sym, ap, arith, append-nil, append_assoc, get_or, slice_index}
-use Rattle.std.proofs.lemmas.Bool.Decides.{nat_tests}
-use Rattle.std.proofs.lemmas.List.{length-take-le, take-take}
-use Rattle.gw_trunk.specs.declared.sink.RecordPosition.{RecordPosition}
-use Rattle.gw_trunk.specs.declared.sink.RecordPosition.TheVariants.{Kind, Circuit, High, Low, Body}
-use Rattle.gw_trunk.specs.Bodies.{HasPassed, StepsOver, place_next, place_behind, passed, part_passed, body_after}
-use Rattle.gw_trunk.specs.Bodies.{to_clients, is_answer, GivesBody}
+use Rattle.std.proofs.Common.{◌≡◌, ◌+◌, ◌*◌, ◌/◌, ◌%◌, ◌^◌, ◌<◌, ◌≤◌, ◌++◌, ◌∙◌, ℕ, zero, suc, Bool, true, false, cond}
+use Rattle.std.proofs.Common.{List, [], ◌∷◌, length, take, drop, refl, sym, ap, arith, append_assoc}
+use Rattle.std.proofs.Common.{length-take, take_all}
+use Rattle.std.proofs.Math.Seq.{take-add}
+use Rattle.gw_records.specs.Records.{record_of}
+use Rattle.gw_trunk.specs.Bodies.{HasPassed, RecordPosition, body_place, is_answer, is_between, part_passed, passed}
+use Rattle.gw_trunk.specs.Bodies.{place_behind, place_next, to_clients}
 
 -- The place after octets and more is that after the others, from the place after the first.
 pub place_append : (p : RecordPosition) (xs ys : List ℕ)
@@ -34,27 +33,9 @@ answered-append p (x ∷ xs) ys =
     ap (λ (zs : List ℕ). first ++ zs) (answered-append (place_next p x) xs ys)
     ∙ sym (append_assoc first (to_clients (place_next p x) xs) (to_clients (place_behind (place_next p x) xs) ys))
 
--- A body goes on where it was after none of its octets.
-body-begins : (to_trunk : Bool) (more : ℕ) → Body to_trunk more ≡ body_after to_trunk more 0
-body-begins to_trunk more = grind (arith, nat_tests)
-
--- .. and after one more of one that has one more, where it goes on without these.
-body-goes : (to_trunk : Bool) (more n : ℕ) → body_after to_trunk (suc more) (suc n) ≡ body_after to_trunk more n
-body-goes to_trunk more n = grind (arith, nat_tests)
-
--- Octets of a body, as many as it has or fewer: the place after them.
-pub place-body : (to_trunk : Bool) (more : ℕ) (xs : List ℕ) → length xs ≤ suc more
-    → place_behind (Body to_trunk more) xs ≡ body_after to_trunk more (length xs)
-unfolding place_behind
-place-body to_trunk more [] h = body-begins to_trunk more
-place-body to_trunk zero (x ∷ []) h = refl
-place-body to_trunk zero (x ∷ y ∷ xs) h = absurd (omega (arith, h))
-place-body to_trunk (suc more) (x ∷ xs) h =
-    place-body to_trunk more xs (omega (arith, h)) ∙ sym (body-goes to_trunk more (length xs))
-
--- .. and what of them goes to the trunk.
+-- Octets of a body, as many as it has or fewer: what of them goes to the trunk.
 pub passed-body : (to_trunk : Bool) (more : ℕ) (xs : List ℕ) → length xs ≤ suc more
-    → passed (Body to_trunk more) xs ≡ cond to_trunk xs []
+    → passed (RecordPosition.Body to_trunk more) xs ≡ cond to_trunk xs []
 unfolding passed
 passed-body true more [] h = refl
 passed-body false more [] h = refl
@@ -66,7 +47,7 @@ passed-body false (suc more) (x ∷ xs) h = passed-body false more xs (omega (ar
 
 -- .. and what of them goes to clients.
 pub answered-body : (to_trunk : Bool) (more : ℕ) (xs : List ℕ) → length xs ≤ suc more
-    → to_clients (Body to_trunk more) xs ≡ cond to_trunk [] xs
+    → to_clients (RecordPosition.Body to_trunk more) xs ≡ cond to_trunk [] xs
 unfolding to_clients
 answered-body true more [] h = refl
 answered-body false more [] h = refl
@@ -77,77 +58,104 @@ answered-body true (suc more) (x ∷ xs) h = answered-body true more xs (omega (
 answered-body false (suc more) (x ∷ xs) h =
     ap (λ (ys : List ℕ). x ∷ ys) (answered-body false more xs (omega (arith, h)))
 
--- Records that were taken, and octets that are taken behind them.
-pub passes-on : (p q : RecordPosition) (taken went went' told told' xs : List ℕ) → HasPassed p taken went told
-    → StepsOver p q went went' told told' xs → HasPassed q (taken ++ xs) went' told'
-passes-on p q taken went went' told told' xs has more = record {
-  place_is = more.place_is ∙ ap (λ (r : RecordPosition). place_behind r xs) has.place_is
-      ∙ sym (place_append Kind taken xs);
-  went_are = more.went_are ∙ rw (has.went_are, has.place_is, passed-append) refl;
-  told_are = more.told_are ∙ rw (has.told_are, has.place_is, answered-append) refl;
-}
+-- .. and where all of them are there the next record begins behind them.
+pub place-body : (to_trunk : Bool) (more : ℕ) (xs : List ℕ) → length xs ≡ suc more
+    → place_behind (RecordPosition.Body to_trunk more) xs ≡ RecordPosition.Kind
+unfolding place_behind
+place-body to_trunk more [] h = absurd (omega (arith, h))
+place-body to_trunk zero (x ∷ []) h = refl
+place-body to_trunk zero (x ∷ y ∷ xs) h = absurd (omega (arith, h))
+place-body to_trunk (suc more) (x ∷ xs) h = place-body to_trunk more xs (omega (arith, h))
+
+-- The two octets of a length say it.
+length-said : (n : ℕ) → n < 2 ^ 16 → (n / 256) % 256 * 256 + n % 256 ≡ n
+length-said n h = omega arith
+
+-- The first octets of the body of a T record: they go to the trunk, none goes to clients, and if they are all the next
+-- record begins behind them.
+part-of-body : (body : List ℕ) (n : ℕ) → n ≤ length body
+    → (passed (body_place true (length body)) (take n body) ≡ take n body)
+    × (to_clients (body_place true (length body)) (take n body) ≡ [])
+    × (n ≡ length body → place_behind (body_place true (length body)) (take n body) ≡ RecordPosition.Kind)
+unfolding place_behind passed to_clients
+part-of-body [] zero h = (refl, refl, λ all. refl)
+part-of-body [] (suc n) h = absurd (omega (arith, h))
+part-of-body (x ∷ xs) n h =
+    let counted = length-take n (x ∷ xs) in
+    let few : length (take n (x ∷ xs)) ≤ suc (length xs) = omega (arith, counted, h) in (
+      passed-body true (length xs) (take n (x ∷ xs)) few,
+      answered-body true (length xs) (take n (x ∷ xs)) few,
+      λ all. place-body true (length xs) (take n (x ∷ xs)) (omega (arith, counted, all)),
+    )
+
+-- The octets of a T record, up to the first ones of its body.
+pub part-of-record : (body : List ℕ) (n : ℕ) → n ≤ length body → length body < 2 ^ 16
+    → (passed RecordPosition.Kind (take (4 + n) (record_of 0x54 0 body)) ≡ take n body)
+    × (to_clients RecordPosition.Kind (take (4 + n) (record_of 0x54 0 body)) ≡ [])
+    × (n ≡ length body → place_behind RecordPosition.Kind (take (4 + n) (record_of 0x54 0 body)) ≡ RecordPosition.Kind)
+unfolding place_behind passed to_clients
+part-of-record body n h short =
+    let said = length-said (length body) short in
+    let four : 4 + n ≡ suc (suc (suc (suc n))) = omega arith in
+    let part = part-of-body body n h in
+    rw four (rw said part.0, rw said part.1, λ all. rw said (part.2 all))
+
+-- The octets of a T record, all of them.
+pub record-passes : (body : List ℕ) → length body < 2 ^ 16
+    → (place_behind RecordPosition.Kind (record_of 0x54 0 body) ≡ RecordPosition.Kind)
+    × (passed RecordPosition.Kind (record_of 0x54 0 body) ≡ body)
+    × (to_clients RecordPosition.Kind (record_of 0x54 0 body) ≡ [])
+record-passes body short =
+    let part = part-of-record body (length body) (omega arith) short in
+    let all : take (4 + length body) (record_of 0x54 0 body) ≡ record_of 0x54 0 body = take_all _ _ (omega arith) in
+    let whole : take (length body) body ≡ body = take_all _ _ (omega arith) in
+    (rw all at (part.2 refl), rw (all, whole) at part.0, rw all at part.1)
+
+-- The first octets of an R record.
+pub part-of-answer : (circuit kind code n : ℕ) → n ≤ 6
+    → (passed RecordPosition.Kind (take n (record_of 0x52 circuit (kind ∷ code ∷ []))) ≡ [])
+    × (to_clients RecordPosition.Kind (take n (record_of 0x52 circuit (kind ∷ code ∷ [])))
+    ≡ take n (record_of 0x52 circuit (kind ∷ code ∷ [])))
+    × (n ≡ 6 → place_behind RecordPosition.Kind (take n (record_of 0x52 circuit (kind ∷ code ∷ [])))
+    ≡ RecordPosition.Kind)
+unfolding place_behind passed to_clients
+part-of-answer circuit kind code zero h = (refl, refl, λ all. absurd (omega (arith, all)))
+part-of-answer circuit kind code (suc zero) h = (refl, refl, λ all. absurd (omega (arith, all)))
+part-of-answer circuit kind code (suc (suc zero)) h = (refl, refl, λ all. absurd (omega (arith, all)))
+part-of-answer circuit kind code (suc (suc (suc zero))) h = (refl, refl, λ all. absurd (omega (arith, all)))
+part-of-answer circuit kind code (suc (suc (suc (suc zero)))) h = (refl, refl, λ all. absurd (omega (arith, all)))
+part-of-answer circuit kind code (suc (suc (suc (suc (suc zero))))) h = (refl, refl, λ all. absurd (omega (arith, all)))
+part-of-answer circuit kind code (suc (suc (suc (suc (suc (suc zero)))))) h = (refl, refl, λ all. refl)
+part-of-answer circuit kind code (suc (suc (suc (suc (suc (suc (suc n))))))) h = absurd (omega (arith, h))
+
+-- A place between records.
+between-is : (p : RecordPosition) → is_between p ≡ true → p ≡ RecordPosition.Kind
+between-is RecordPosition.Kind e = refl
+between-is (RecordPosition.Circuit t) e = cc
+between-is (RecordPosition.High t) e = cc
+between-is (RecordPosition.Low t high) e = cc
+between-is (RecordPosition.Body t more) e = cc
+
+-- Whole answers that were taken, and octets that are taken behind them.
+pub passes-on : (cut cut' : Bool) (taken xs went went' told told' : List ℕ) → HasPassed cut taken went told
+    → cut ≡ false → (cut' ≡ false → place_behind RecordPosition.Kind xs ≡ RecordPosition.Kind)
+    → went' ≡ went ++ passed RecordPosition.Kind xs → told' ≡ told ++ to_clients RecordPosition.Kind xs
+    → HasPassed cut' (taken ++ xs) went' told'
+passes-on cut cut' taken xs went went' told told' has whole then more answers =
+    let at : place_behind RecordPosition.Kind taken ≡ RecordPosition.Kind = between-is _ (has.whole whole) in
+    record {
+      whole = λ e. rw (place_append, at, then e) refl;
+      went_are = more ∙ rw (has.went_are, passed-append, at) refl;
+      told_are = answers ∙ rw (has.told_are, answered-append, at) refl;
+    }
 
 -- Before any record.
-pub none-passed : (taken went told : List ℕ) → taken ≡ [] → went ≡ [] → told ≡ [] → HasPassed Kind taken went told
+pub none-passed : (taken went told : List ℕ) → taken ≡ [] → went ≡ [] → told ≡ [] → HasPassed false taken went told
 unfolding place_behind passed to_clients
-none-passed taken went told t w a = rw (t, w, a) (record { place_is = refl; went_are = refl; told_are = refl })
+none-passed taken went told t w a =
+    rw (t, w, a) (record { whole = λ e. refl; went_are = refl; told_are = refl })
 
--- An octet that is in no body: none of it goes to the trunk.
-front-stays : (p : RecordPosition) (x : ℕ) → ((to_trunk : Bool) (more : ℕ) → p ≡ Body to_trunk more → ⊥)
-    → part_passed p x ≡ []
-front-stays (Body to_trunk more) x out = absurd (out to_trunk more refl)
-front-stays Kind x out = refl
-front-stays (Circuit t) x out = refl
-front-stays (High t) x out = refl
-front-stays (Low t high) x out = refl
-
--- The first of octets passes, which is in no body.
-pub first-passes : (p : RecordPosition) (octet n : ℕ) (octets went told told' : List ℕ) → 0 < length octets
-    → ((d : ℕ) → octet ≡ get_or octets 0 d) → ((to_trunk : Bool) (more : ℕ) → p ≡ Body to_trunk more → ⊥)
-    → n ≤ 1 → 0 < n → told' ≡ told ++ cond (is_answer p (slice_index octets 0)) (take n octets) []
-    → StepsOver p (place_next p octet) went went told told' (take n octets)
-unfolding place_behind passed to_clients
-first-passes p octet n [] went told told' some is out few one e = absurd (omega (arith, some))
-first-passes p octet zero (x ∷ xs) went told told' some is out few one e = absurd (omega (arith, one))
-first-passes p octet (suc (suc n)) (x ∷ xs) went told told' some is out few one e = absurd (omega (arith, few))
-first-passes p octet (suc zero) (x ∷ xs) went told told' some is out few one e = record {
-  place_is = ap (place_next p) (is 0);
-  went_are = rw (front-stays p x out) (sym (append-nil went));
-  told_are = e ∙ ap (λ (ys : List ℕ). told ++ ys) (sym (append-nil (cond (is_answer p x) (x ∷ []) [])));
-}
-
--- The front of a record is in no body.
-pub front-gives : (p : RecordPosition) (octets : List ℕ) (given : List ℕ → Type 0)
-    → ((to_trunk : Bool) (more : ℕ) → p ≡ Body to_trunk more → ⊥) → GivesBody p octets given
-front-gives Kind octets given out = tt
-front-gives (Circuit t) octets given out = tt
-front-gives (High t) octets given out = tt
-front-gives (Low t high) octets given out = tt
-front-gives (Body t more) octets given out = absurd (out t more refl)
-
--- No octet passes.
-pub none-passes : (p : RecordPosition) (n : ℕ) (went told told' octets : List ℕ) (c : Bool) → n ≤ 0
-    → told' ≡ told ++ cond c (take n octets) [] → StepsOver p p went went told told' (take n octets)
-unfolding place_behind passed to_clients
-none-passes p (suc n) went told told' octets c none is = absurd (omega (arith, none))
-none-passes p zero went told told' octets true none is =
-    record { place_is = refl; went_are = sym (append-nil went); told_are = is }
-none-passes p zero went told told' octets false none is =
-    record { place_is = refl; went_are = sym (append-nil went); told_are = is }
-
--- Octets of a body pass, this many of the first ones, of which there are no more than it has.
-pub body-passes : (to_trunk : Bool) (more most n : ℕ) (octets went went' told told' : List ℕ) → most ≤ length octets
-    → most ≤ suc more → n ≤ length (take most octets)
-    → went' ≡ went ++ cond to_trunk (take n (take most octets)) []
-    → told' ≡ told ++ cond to_trunk [] (take n (take most octets))
-    → StepsOver (Body to_trunk more) (body_after to_trunk more n) went went' told told' (take n octets)
-body-passes to_trunk more most n octets went went' told told' fits few bound e f =
-    let long : length (take most octets) ≡ most = length-take-le most octets fits in
-    let counted : length (take n octets) ≡ n = length-take-le n octets (omega (arith, bound, long)) in
-    let within : length (take n octets) ≤ suc more = omega (arith, bound, long) in
-    let front : take n (take most octets) ≡ take n octets = take-take n most octets (omega (arith, bound, long)) in
-    record {
-      place_is = ap (body_after to_trunk more) (sym counted) ∙ sym (place-body to_trunk more (take n octets) within);
-      went_are = e ∙ rw (front, ← passed-body to_trunk more (take n octets) within) refl;
-      told_are = f ∙ rw (front, ← answered-body to_trunk more (take n octets) within) refl;
-    }
+-- Octets that went, and more of those behind them.
+pub went-more : (went before now octets : List ℕ) (done n : ℕ) → before ≡ went ++ take done octets
+    → now ≡ before ++ take n (drop done octets) → now ≡ went ++ take (done + n) octets
+went-more went before now octets done n a b = b ∙ rw (a, take-add done n octets, append_assoc) refl

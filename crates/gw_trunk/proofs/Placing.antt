@@ -1,7 +1,8 @@
 -- The clients of a trunk at their places.
 use Rattle.std.proofs.Common.{◌≡◌, ◌+◌, ◌-◌, ◌%◌, ◌<◌, ◌∷◌, ◌∙◌, ◌||◌, ℕ, suc, Bool, true, false}
-use Rattle.std.proofs.Common.{List, [], ◌⊎◌, Option, Some, None, length, take, refl, arith, inl, inr}
+use Rattle.std.proofs.Common.{List, [], ◌⊎◌, Option, Some, None, length, refl, arith, inl, inr}
 use Rattle.std.specs.List.{list_all}
+use Rattle.gw_records.specs.declared.records.RecordHead.{RecordHead}
 use Rattle.gw_trunk.specs.declared.client.Client.{Client}
 use Rattle.gw_trunk.specs.declared.client.ClientPoll.{ClientPoll}
 use Rattle.gw_trunk.specs.declared.client.ClientPoll.TheVariants.{Command, Nothing, Gone}
@@ -33,16 +34,11 @@ stays-then p q r a read b = record {
 }
 
 -- A client that stays, and then gives a record, gave it in all.
-gave-then : {S : Type 0} {m : _} (p q r : Client S m) (octets : List ℕ) → Stays p q → r.ended ≡ q.ended
-    → GaveOne q r octets → GaveOne p r octets
-gave-then p q r octets a read b = record {
+gave-then : {S : Type 0} {m : _} (p q r : Client S m) (head : RecordHead) → Stays p q → r.ended ≡ q.ended
+    → GaveOne q r head → GaveOne p r head
+gave-then p q r head a read b = record {
   start_is = b.start_is ∙ a.start_is;
-  gave_is = record {
-    one = b.gave_is.one;
-    good = b.gave_is.good;
-    spells = b.gave_is.spells;
-    asked_is = rw (← a.gave_is) b.gave_is.asked_is;
-  };
+  gave_is = record { good = b.gave_is.good; asked_is = rw (← a.gave_is) b.gave_is.asked_is };
   got_is = b.got_is ∙ a.got_is;
   known_is = b.known_is;
   number_is = b.number_is ∙ a.number_is;
@@ -50,11 +46,11 @@ gave-then p q r octets a read b = record {
 }
 
 -- What a client did after it was read it did in all.
-pub replies-then : {S : Type 0} {m : _} (reply : ClientPoll) (p q r : Client S m) (room : List ℕ) → Stays p q
-    → r.ended ≡ q.ended → Replies reply q r room → Replies reply p r room
-replies-then (Command n) p q r room a read b = (b.0, gave-then p q r (take n room) a read b.1)
-replies-then Nothing p q r room a read b = (stays-then p q r a (inl read) b.0, b.1)
-replies-then Gone p q r room a read b = (stays-then p q r a (inl read) b.0, b.1)
+pub replies-then : {S : Type 0} {m : _} (reply : ClientPoll) (p q r : Client S m) → Stays p q → r.ended ≡ q.ended
+    → Replies reply q r → Replies reply p r
+replies-then (Command head) p q r a read b = gave-then p q r head a read b
+replies-then Nothing p q r a read b = (stays-then p q r a (inl read) b.0, b.1)
+replies-then Gone p q r a read b = (stays-then p q r a (inl read) b.0, b.1)
 
 -- Eight turns reach each place.
 reached : (m k : ℕ) → m < 8 → k < 8 → (m + (k + 8 - m) % 8) % 8 ≡ k
@@ -70,14 +66,14 @@ quiet-all (p ∷ places) h =
     rw first (quiet-all places (λ k b. h (suc k) (omega arith)))
 
 -- A place where nothing was given has nothing whole.
-quiet-none : {S : Type 0} {m : _} (room : ℕ) (p p' : Option (Client S m)) → GaveNone room p p' → is_quiet p' ≡ true
-quiet-none room p None a = refl
-quiet-none room None (Some client) a = absurd a
-quiet-none room (Some client) (Some client') a = rw (a.1.none) refl
+quiet-none : {S : Type 0} {m : _} (p p' : Option (Client S m)) → GaveNone p p' → is_quiet p' ≡ true
+quiet-none p None a = refl
+quiet-none None (Some client) a = absurd a
+quiet-none (Some client) (Some client') a = rw (a.1.none) refl
 
 -- After eight turns none has anything.
-pub quiet-round : {S : Type 0} {m : _} (first turns room : ℕ) (places places' : List (Option (Client S m)))
-    → turns ≡ 8 → length places' ≡ 8 → GaveNothing first turns room places places' → list_all is_quiet places' ≡ true
-quiet-round first turns room places places' all eight none = quiet-all places' (λ k b.
+pub quiet-round : {S : Type 0} {m : _} (first turns : ℕ) (places places' : List (Option (Client S m)))
+    → turns ≡ 8 → length places' ≡ 8 → GaveNothing first turns places places' → list_all is_quiet places' ≡ true
+quiet-round first turns places places' all eight none = quiet-all places' (λ k b.
     let e = reached (first % 8) k (omega arith) (omega arith) in
-    rw e at (quiet-none room _ _ (none.asked ((k + 8 - first % 8) % 8) (omega arith))))
+    rw e at (quiet-none _ _ (none.asked ((k + 8 - first % 8) % 8) (omega arith))))

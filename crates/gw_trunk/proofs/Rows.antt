@@ -1,6 +1,6 @@
 -- Worked rows.
 use Rattle.std.proofs.Common.{◌≡◌, ◌∷◌, [], refl, true, List, flat_map}
-use Rattle.gw_trunk.specs.declared.sink.RecordPosition.TheVariants.{Kind, Body}
+use Rattle.gw_trunk.specs.Bodies.RecordPosition.{Kind, Body}
 use Rattle.gw_records.specs.Records.{Record, spelled}
 use Rattle.gw_trunk.specs.Bodies.{bodies, others, passed, to_clients, place_behind}
 use Rattle.gw_trunk.specs.Pieces.{trunk_part, client_part}

@@ -1,5 +1,5 @@
 -- What is told of a read of the trunk, and of clients that were asked.
-use Rattle.std.proofs.Common.{◌≡◌, ◌<◌, ◌≤◌, ℕ, zero, suc, true, false, List, ◌⊎◌, inl, inr}
+use Rattle.std.proofs.Common.{◌≡◌, ◌<◌, ◌≤◌, ℕ, zero, suc, true, false, ◌⊎◌, inl, inr}
 use Rattle.std.proofs.Common.{Ok, Err, refl, arith}
 use Rattle.std.proofs.lemmas.Bool.Decides.{nat_tests}
 use Rattle.std.specs.declared.io.ErrorKind.{ErrorKind}
@@ -44,8 +44,8 @@ pub most-stay : (n room : ℕ) → room ≤ n → has_drained room (Ok n) ≡ fa
 most-stay n room most = grind (arith, nat_tests)
 
 -- Clients of whom one had nothing, or was disconnected last, have nothing.
-pub nothing-asked : (poll : ClientPoll) (clients clients' : Clients) (room : List ℕ) → Asks poll clients clients' room
-    → (poll ≡ Nothing) ⊎ (poll ≡ Gone) → Asks Nothing clients clients' room
-nothing-asked Nothing clients clients' room a none = a
-nothing-asked Gone clients clients' room a none = absurd a
-nothing-asked (Command n) clients clients' room a none = elim none [ inl e ↦ cc | inr e ↦ cc ]
+pub nothing-asked : (poll : ClientPoll) (clients clients' : Clients) → Asks poll clients clients'
+    → (poll ≡ Nothing) ⊎ (poll ≡ Gone) → Asks Nothing clients clients'
+nothing-asked Nothing clients clients' a none = a
+nothing-asked Gone clients clients' a none = absurd a
+nothing-asked (Command head) clients clients' a none = elim none [ inl e ↦ cc | inr e ↦ cc ]

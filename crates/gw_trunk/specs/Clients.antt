@@ -21,6 +21,7 @@ use Rattle.gw_trunk.specs.Pieces.{AsksRecord, client_kinds}
 use Rattle.gw_trunk.specs.declared.readiness.Poller.{Poller}
 use Rattle.gw_trunk.specs.System.{SystemAccepted, SystemHasNobody, SystemGave, SystemOpened, SystemRenews}
 use Rattle.gw_trunk.specs.System.{SystemReports, SystemWatches, SystemWrote}
+use Rattle.gw_records.specs.declared.records.RecordHead.{RecordHead}
 use Rattle.gw_records.specs.declared.records.RecordsEnd.{RecordsEnd}
 use Rattle.gw_records.specs.Records.{end_of, is_open}
 use Rattle.gw_records.specs.Streams.{at_most}
@@ -45,9 +46,9 @@ pub record Stays {S : Type 0} {m : _} (client client' : Client S m) : Type 0 whe
   pub left_is : client'.left ≡ (client.left || client'.ended)
 
 -- a client gave one more record, and got nothing more
-pub record GaveOne {S : Type 0} {m : _} (client client' : Client S m) (octets : List ℕ) : Type 0 where
+pub record GaveOne {S : Type 0} {m : _} (client client' : Client S m) (head : RecordHead) : Type 0 where
   pub start_is : client'.start.value ≡ client.start.value
-  pub gave_is : AsksRecord client.gave.octets client'.gave.octets octets
+  pub gave_is : AsksRecord client.gave.octets client'.gave.octets head
   pub got_is : client'.got.octets ≡ client.got.octets
   pub known_is : client'.known ≡ true
   pub number_is : client'.number ≡ client.number
@@ -61,17 +62,17 @@ pub record HasNothing {S : Type 0} {m : _} (client : Client S m) : Type 0 where
   pub room : length client.held.items < 64
 
 -- A client is to be disconnected: what is held of it is no whole record, and its end was read or 64 octets
--- are held; or it begins with none. (Or there is no room for a record.)
-abbrev pub MayGo : {S : Type 0} {m : _} → ℕ → Client S m → Type 0
-MayGo room client = (IsOpen client.held.items × ((client.ended ≡ true) ⊎ (length client.held.items ≡ 64)))
-    ⊎ (BeginsNone client.held.items ⊎ (room < 64))
+-- are held; or it begins with none.
+abbrev pub MayGo : {S : Type 0} {m : _} → Client S m → Type 0
+MayGo client = (IsOpen client.held.items × ((client.ended ≡ true) ⊎ (length client.held.items ≡ 64)))
+    ⊎ BeginsNone client.held.items
 
--- What a client did that was asked: it gave a record, which stands at the front of a room; or it gave none
--- and has nothing that is whole; or it is to be disconnected.
-abbrev pub Replies : {S : Type 0} {m : _} → ClientPoll → Client S m → Client S m → List ℕ → Type 0
-Replies (Command n) client client' room = (n ≤ length room) × GaveOne client client' (take n room)
-Replies Nothing client client' room = Stays client client' × HasNothing client'
-Replies Gone client client' room = Stays client client' × MayGo (length room) client'
+-- What a client did that was asked: it gave the record of a head; or it gave none and has nothing that is
+-- whole; or it is to be disconnected.
+abbrev pub Replies : {S : Type 0} {m : _} → ClientPoll → Client S m → Client S m → Type 0
+Replies (Command head) client client' = GaveOne client client' head
+Replies Nothing client client' = Stays client client' × HasNothing client'
+Replies Gone client client' = Stays client client' × MayGo client'
 
 -- something may have come from a client if it is woken, and it has left if so it is said; all else is as it
 -- was
@@ -90,16 +91,16 @@ pub record IsWoken {S : Type 0} {m : _} (is_woken has_left : Bool) (client clien
 
 -- the client at a place was asked and gave nothing: it stays and has nothing whole, or is disconnected as it
 -- may be; or there is none
-abbrev pub GaveNone : {S : Type 0} {m : _} → ℕ → Option (Client S m) → Option (Client S m) → Type 0
-GaveNone room None None = ⊤
-GaveNone room None (Some client') = ⊥
-GaveNone {S} {m} room (Some client) None = (last : Client S m) × Stays client last × MayGo room last
-GaveNone room (Some client) (Some client') = Stays client client' × HasNothing client'
+abbrev pub GaveNone : {S : Type 0} {m : _} → Option (Client S m) → Option (Client S m) → Type 0
+GaveNone None None = ⊤
+GaveNone None (Some client') = ⊥
+GaveNone {S} {m} (Some client) None = (last : Client S m) × Stays client last × MayGo last
+GaveNone (Some client) (Some client') = Stays client client' × HasNothing client'
 
 -- the client at a place gave one more record
-abbrev pub GaveAt : {S : Type 0} {m : _} → Option (Client S m) → Option (Client S m) → List ℕ → Type 0
-GaveAt (Some client) (Some client') octets = GaveOne client client' octets
-GaveAt _ _ octets = ⊥
+abbrev pub GaveAt : {S : Type 0} {m : _} → Option (Client S m) → Option (Client S m) → RecordHead → Type 0
+GaveAt (Some client) (Some client') head = GaveOne client client' head
+GaveAt _ _ head = ⊥
 
 -- A client got as much of an answer as a write to it took, and gave nothing more. It has hung up if the write
 -- says so.
@@ -134,10 +135,9 @@ is_quiet None = true
 is_quiet (Some client) = not client.ready
 
 -- what the client at a place did that was asked
-abbrev pub Answers : {S : Type 0} {m : _} → ClientPoll → Option (Client S m) → Option (Client S m) → List ℕ
-    → Type 0
-Answers (Command n) place place' room = (n ≤ length room) × GaveAt place place' (take n room)
-Answers _ place place' room = GaveNone (length room) place place'
+abbrev pub Answers : {S : Type 0} {m : _} → ClientPoll → Option (Client S m) → Option (Client S m) → Type 0
+Answers (Command head) place place' = GaveAt place place' head
+Answers _ place place' = GaveNone place place'
 
 -- the client at a place
 abbrev pub at : {S : Type 0} {m : _} → List (Option (Client S m)) → ℕ → Option (Client S m)
@@ -172,35 +172,35 @@ abbrev pub place_at : ℕ → ℕ → ℕ
 place_at first turn = (first % 8 + turn) % 8
 
 -- The clients at this many places, in turn, were asked and gave nothing. Those at others are as they were.
-pub record GaveNothing {S : Type 0} {m : _} (first turns room : ℕ)
+pub record GaveNothing {S : Type 0} {m : _} (first turns : ℕ)
     (places places' : List (Option (Client S m))) : Type 0 where
   pub asked : (turn : ℕ) → turn < turns
-      → GaveNone room (at places (place_at first turn)) (at places' (place_at first turn))
+      → GaveNone (at places (place_at first turn)) (at places' (place_at first turn))
   pub others : (k : ℕ) → ((turn : ℕ) → turn < turns → k ≢ place_at first turn) → at places' k ≡ at places k
 
 -- Clients were asked in turn, those before one at a place gave nothing, and this one did this. Those behind
 -- it were not asked.
-pub record HasTurned {S : Type 0} {m : _} (first room : ℕ) (places places' : List (Option (Client S m)))
+pub record HasTurned {S : Type 0} {m : _} (first : ℕ) (places places' : List (Option (Client S m)))
     (place : ℕ) (does : Option (Client S m) → Option (Client S m) → Type 0) : Type 0 where
   pub turn : ℕ
   pub in_turn : turn < 8
   pub place_is : place ≡ place_at first turn
   pub between : List (Option (Client S m))
-  pub before : GaveNothing first turn room places between
+  pub before : GaveNothing first turn places between
   pub done : does (at between place) (at places' place)
   pub others : OnlyAt place between places'
 
 -- What clients did that were asked in turn, from the place on that is next: one gave a record, to which the
 -- answer is for it, and those behind it are asked first the next time; or none has anything. One that is to
 -- be disconnected is, and that ends nothing.
-abbrev pub Asks : ClientPoll → Clients → Clients → List ℕ → Type 0
-Asks (Command n) clients clients' room = (n ≤ length room) × ((place : ℕ)
+abbrev pub Asks : ClientPoll → Clients → Clients → Type 0
+Asks (Command head) clients clients' = (place : ℕ)
     × (clients' ≡ record clients { places = clients'.places; asker = Some place; next = place + 1 })
-    × HasTurned clients.next (length room) clients.places clients'.places place
-    (λ client client'. GaveAt client client' (take n room)))
-Asks Nothing clients clients' room = (clients' ≡ record clients { places = clients'.places })
-    × GaveNothing clients.next 8 (length room) clients.places clients'.places
-Asks Gone clients clients' room = ⊥
+    × HasTurned clients.next clients.places clients'.places place
+    (λ client client'. GaveAt client client' head)
+Asks Nothing clients clients' = (clients' ≡ record clients { places = clients'.places })
+    × GaveNothing clients.next 8 clients.places clients'.places
+Asks Gone clients clients' = ⊥
 
 -- events have one of this token, or one of it that says that the other end has left
 abbrev pub comes : ℕ → List Event → Bool

@@ -9,12 +9,6 @@ use Rattle.gw_trunk.specs.declared.device.DeviceFault.{DeviceFault}
 use Rattle.gw_trunk.specs.declared.device.DeviceRead.{DeviceRead}
 use Rattle.gw_trunk.specs.declared.device.DeviceRead.TheVariants.{Octets, NoneNow, Ended}
 
--- A device of blocks gives one in each read, and discards what the read has no room for. A read that returned
--- this had room for a block of so many octets.
-abbrev pub HadRoomFor : (ℕ → Result DeviceRead DeviceFault → Type 0) → ℕ → Result DeviceRead DeviceFault
-    → Type 0
-HadRoomFor reads block result = (room : ℕ) × (block ≤ room) × reads room result
-
 -- octets that were taken are one at least, and have room
 abbrev pub IsTaken : DeviceRead → ℕ → Type 0
 IsTaken (Octets n) room = (0 < n) × (n ≤ room)

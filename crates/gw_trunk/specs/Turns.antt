@@ -1,7 +1,9 @@
 -- What a trunk with clients does in a read, for a command and in a wait (module `with_clients`).
-use Rattle.std.specs.Prelude.{◌≡◌, ◌⊎◌, ◌||◌, ◌&&◌, ◌++◌, ℕ, Bool, true, false, List, take, nat_lt}
+use Rattle.std.specs.Prelude.{◌≡◌, ◌⊎◌, ◌||◌, ◌&&◌, ◌++◌, [], ℕ, Bool, true, false, nat_lt}
 use Rattle.std.specs.Prelude.{if◌then◌else◌, zero, suc, Option, Some, None, Result, Ok, Err}
 use Rattle.std.specs.declared.io.ErrorKind.{ErrorKind}
+use Rattle.gw_records.specs.declared.records.RecordHead.{RecordHead}
+use Rattle.gw_records.specs.Records.{named, spelled}
 use Rattle.gw_trunk.specs.declared.client.ClientPoll.{ClientPoll}
 use Rattle.gw_trunk.specs.declared.client.ClientPoll.TheVariants as polls
 use Rattle.gw_trunk.specs.declared.clients.Clients.{Clients}
@@ -53,31 +55,31 @@ pub record ReadsInTurn {R : Type 0} {m : _} (has_read : R → ℕ → Result ℕ
   pub asked_end : d'.end_asked ≡ d.end_asked
 
 -- what is told of clients that were asked: a record, or none
-abbrev pub Tells : {R : Type 0} {m : _} → ClientPoll → WithClients R m → WithClients R m → Option ℕ → List ℕ
+abbrev pub Tells : {R : Type 0} {m : _} → ClientPoll → WithClients R m → WithClients R m → Option RecordHead
     → Type 0
-Tells (polls.Command n) d d' told room = (told ≡ Some n) × (d'.ended ≡ false)
-    × (d'.asked.octets ≡ d.asked.octets ++ take n room)
-Tells polls.Nothing d d' told room = (told ≡ None) × (d'.ended ≡ false)
-Tells polls.Gone d d' told room = ⊥
+Tells (polls.Command head) d d' told = (told ≡ Some head) × (d'.ended ≡ false)
+    × (d'.asked.octets ≡ d.asked.octets ++ spelled (named head []))
+Tells polls.Nothing d d' told = (told ≡ None) × (d'.ended ≡ false)
+Tells polls.Gone d d' told = ⊥
 
 -- Nothing comes any more. Or the door was answered; nothing comes any more if the end is asked for, else the
 -- clients were asked in turn.
 abbrev pub AsksClients : {R : Type 0} {m : _} → WithClients R m → WithClients R m → Clients
-    → Option ℕ → List ℕ → Type 0
-AsksClients d d' answered told room =
+    → Option RecordHead → Type 0
+AsksClients d d' answered told =
     ((d.ended ≡ true) × (d'.ended ≡ true) × (told ≡ None) × (d'.clients ≡ answered))
     ⊎ ((d.ended ≡ false) × ((opened : Clients) × ServesDoor answered opened
     × (((opened.ends ≡ true) × (told ≡ None) × (d'.ended ≡ true) × (d'.end_asked ≡ true)
     × (d'.clients ≡ opened))
-    ⊎ ((opened.ends ≡ false) × ((asked : ClientPoll) × Asks asked opened d'.clients room
-    × Tells asked d d' told room)))))
+    ⊎ ((opened.ends ≡ false) × ((asked : ClientPoll) × Asks asked opened d'.clients
+    × Tells asked d d' told)))))
 
 -- For a command the answer to the last record of a client is given before the clients are asked.
-pub record CommandsInTurn {R : Type 0} {m : _} (d d' : WithClients R m) (told : Option ℕ)
-    (room : List ℕ) : Type 0 where
+pub record CommandsInTurn {R : Type 0} {m : _} (d d' : WithClients R m) (told : Option RecordHead)
+    : Type 0 where
   pub answered : Clients
   pub gives : GivesAnswer d.clients answered
-  pub asks : AsksClients d d' answered told room
+  pub asks : AsksClients d d' answered told
 
 -- It is waited for the clients, unless nothing comes any more.
 abbrev pub Sleeps : {R : Type 0} {m : _} → WithClients R m → WithClients R m → Type 0

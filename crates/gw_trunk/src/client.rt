@@ -8,7 +8,7 @@ ghost use Rattle.gw_trunk.specs.Device.{has_octets, is_over, passed_count, is_br
 use crate::client_stream::ClientStream;
 use crate::held::drop_first;
 use arrayvec::ArrayVec;
-use gw_records::{AcceptedKinds, AtStart, Log, RecordsEnd, first_record};
+use gw_records::{AcceptedKinds, AtStart, Log, RecordHead, RecordsEnd, first_record};
 use std::io::ErrorKind;
 
 // How many octets of a client are held.
@@ -29,8 +29,8 @@ pub struct Away;
 /// What a client did that was asked.
 #[derive(Clone, Copy)]
 pub enum ClientPoll {
-    /// It gave a record of this many octets.
-    Command(usize),
+    /// It gave the record of this head.
+    Command(RecordHead),
     /// It has nothing that is whole.
     Nothing,
     /// It is to be disconnected.
@@ -192,10 +192,10 @@ impl<S: ClientStream> Client<S> {
 
     // The poll of a client without a whole record: none yet, unless its end was read, or it has sent too
     // much.
-    fn nothing(&self, room: &[u8]) -> ClientPoll
+    fn nothing(&self) -> ClientPoll
         requires part { IsOpen self.now.held.items }
         requires all { self.now.ready ≡ true → self.now.ended ≡ false → 64 ≤ length self.now.held.items }
-        ensures { Replies result self.now self.now room.now }
+        ensures { Replies result self.now self.now }
     {
         if self.ended || self.held.is_full() {
             ClientPoll::Gone
@@ -205,35 +205,30 @@ impl<S: ClientStream> Client<S> {
     }
 
     // The client's next record, in the octets that are held.
-    fn next_record(&mut self, room: &mut [u8]) -> ClientPoll
+    fn next_record(&mut self) -> ClientPoll
         requires { self.old.ready ≡ true → self.old.ended ≡ false → 64 ≤ length self.old.held.items }
-        ensures replies { Replies result self.old self.new room.new }
+        ensures replies { Replies result self.old self.new }
         ensures ended { self.new.ended ≡ self.old.ended }
     {
-        let held = self.held.as_slice();
-        match first_record(&KINDS, held) {
+        match first_record(&KINDS, self.held.as_slice()) {
             Ok(first) => {
-                if first.len > room.len() {
-                    return ClientPoll::Gone;
-                }
-                room[..first.len].copy_from_slice(&held[..first.len]);
                 drop_first(&mut self.held, first.len);
-                self.gave.append(room, first.len);
+                self.gave.append_record(&first.head, &[]);
                 self.known = true;
-                ClientPoll::Command(first.len)
+                ClientPoll::Command(first.head)
             }
-            Err(RecordsEnd::End | RecordsEnd::Truncated) => self.nothing(room),
+            Err(RecordsEnd::End | RecordsEnd::Truncated) => self.nothing(),
             Err(_) => ClientPoll::Gone,
         }
     }
 
-    /// Takes the client's next record to `room`, if it is whole. A client that has hung up is disconnected
-    /// only behind its last whole record.
-    pub fn ask(&mut self, room: &mut [u8]) -> ClientPoll
-        ensures { Replies result self.old self.new room.new }
+    /// Takes the client's next record, if it is whole. A client that has hung up is disconnected only behind
+    /// its last whole record.
+    pub fn ask(&mut self) -> ClientPoll
+        ensures { Replies result self.old self.new }
     {
         self.refill();
-        self.next_record(room)
+        self.next_record()
     }
 
     /// Gives the client an answer. A client that does not take it whole at once is to be disconnected, unless

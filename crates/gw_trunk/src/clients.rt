@@ -75,13 +75,13 @@ pub struct Clients {
 }
 
 // Asks the client at a place, and lets it go if it is to be.
-fn ask_one<S: ClientStream>(place: &mut Option<Client<S>>, room: &mut [u8]) -> ClientPoll
-    ensures { Answers result place.old place.new room.new }
+fn ask_one<S: ClientStream>(place: &mut Option<Client<S>>) -> ClientPoll
+    ensures { Answers result place.old place.new }
 {
     let Some(client) = place else {
         return ClientPoll::Nothing;
     };
-    let asked = client.ask(room);
+    let asked = client.ask();
     if let ClientPoll::Gone = asked {
         *place = None;
     }
@@ -89,17 +89,13 @@ fn ask_one<S: ClientStream>(place: &mut Option<Client<S>>, room: &mut [u8]) -> C
 }
 
 // Asks the client at the place of this number, and none else.
-fn ask_at<S: ClientStream>(
-    places: &mut [Option<Client<S>>; 8],
-    place: usize,
-    room: &mut [u8],
-) -> ClientPoll
+fn ask_at<S: ClientStream>(places: &mut [Option<Client<S>>; 8], place: usize) -> ClientPoll
     requires { place < 8 }
-    ensures answers { Answers result (at places.old place) (at places.new place) room.new }
+    ensures answers { Answers result (at places.old place) (at places.new place) }
     ensures others { OnlyAt place places.old places.new }
     ensures count { length places.new ≡ length places.old }
 {
-    ask_one(&mut places[place], room)
+    ask_one(&mut places[place])
 }
 
 // Gives the client at a place an answer, and lets it go if it does not take it.
@@ -420,17 +416,17 @@ impl Clients {
     }
 
     /// The next record of a client. They are asked in turn, from behind the one whose record was the last.
-    pub fn ask(&mut self, room: &mut [u8]) -> ClientPoll
-        ensures asks { Asks result self.old self.new room.new }
+    pub fn ask(&mut self) -> ClientPoll
+        ensures asks { Asks result self.old self.new }
         ensures quiet { result ≡ ClientPoll.Nothing → list_all is_quiet self.new.places ≡ true }
     {
         for turn in 0..MOST_CLIENTS {
             let place = (self.next % MOST_CLIENTS + turn) % MOST_CLIENTS;
-            match ask_at(&mut self.places, place, room) {
-                ClientPoll::Command(n) => {
+            match ask_at(&mut self.places, place) {
+                ClientPoll::Command(head) => {
                     self.asker = Some(place);
                     self.next = place + 1;
-                    return ClientPoll::Command(n);
+                    return ClientPoll::Command(head);
                 }
                 ClientPoll::Nothing | ClientPoll::Gone => {}
             }

@@ -6,6 +6,7 @@ ghost use Rattle.std.specs.Prelude.{Bool, true, false, if◌then◌else◌, Opti
 ghost use Rattle.std.specs.Io.KnownBytes.{IsAtEnd};
 ghost use Rattle.gw_trunk.specs.Device.{IsTaken, WasRead, ReadResult, octets_taken, written_of, IsForLater};
 ghost use Rattle.gw_trunk.specs.Device.{HasFailed, IfTaken};
+ghost use Rattle.gw_records.specs.declared.records.RecordHead.{RecordHead};
 ghost use Rattle.gw_trunk.specs.Pieces.{AsksRecord};
 ghost use Rattle.gw_trunk.specs.System.{SystemRefusesStream};
 ghost use Rattle.gw_trunk.specs.Waiting.{FindsNone, MayBeReady, Rests, Waits, WaitsFor};
@@ -13,7 +14,7 @@ ghost use Rattle.gw_trunk.specs.Waiting.{FindsNone, MayBeReady, Rests, Waits, Wa
 use crate::device_calls::{DeviceReader, DeviceWriter, is_for_later};
 use crate::logged_reader::LoggedReader;
 use crate::waiting::Waiting;
-use gw_records::{AtStart, Log};
+use gw_records::{AtStart, Log, RecordHead};
 use mio::Interest;
 use std::io;
 use std::net::Net;
@@ -62,8 +63,8 @@ pub trait TrunkInput {
     /// Relates a device before and after a read to the length of the room and to what the read returned.
     ghost reads: { Self → Self → ℕ → ReadResult → Type 0 } = { λ _ _ _ _. ⊤ };
 
-    /// Relates a device before and after a command was taken to what was returned and to the room.
-    ghost commands: { Self → Self → Option ℕ → List ℕ → Type 0 } = { λ _ _ _ _. ⊤ };
+    /// Relates a device before and after a command was taken to what was returned.
+    ghost commands: { Self → Self → Option RecordHead → Type 0 } = { λ _ _ _. ⊤ };
 
     /// Relates a device before and after a wait.
     ghost sleeps: { Self → Self → Type 0 } = { λ _ _. ⊤ };
@@ -97,18 +98,17 @@ pub trait TrunkInput {
         ensures reads { reads self.old self.new (length room.new) result }
         ensures waits { waits self.new ≡ waits self.old };
 
-    /// Takes the next record of a client to the front of `room`, and returns its length; None if no client
-    /// has a whole one. Each record of a client comes behind a read of the trunk. It never waits.
-    fn command(&mut self, room: &mut [u8]) -> Option<usize>
+    /// Takes the next record of a client; None if no client has a whole one. Each record of a client comes
+    /// behind a read of the trunk. It never waits.
+    fn command(&mut self) -> Option<RecordHead>
         requires turn { is_turn self.old ≡ true }
         ensures came { came self.new ≡ came self.old }
-        ensures bound { IfSome result (λ n. n ≤ length room.new) }
-        ensures asked { IfSome result (λ n. AsksRecord (asked self.old) (asked self.new) (take n room.new)) }
+        ensures asked { IfSome result (AsksRecord (asked self.old) (asked self.new)) }
         ensures none { IfNone result (asked self.new ≡ asked self.old) }
         ensures quiet { IfNone result (clients_are_quiet self.new ≡ true) }
         ensures found { has_none self.old → has_none self.new }
         ensures idle { IfNone result (is_empty self.old ≡ true → is_idle self.new ≡ true) }
-        ensures commands { commands self.old self.new result room.new }
+        ensures commands { commands self.old self.new result }
         ensures waits { waits self.new ≡ waits self.old };
 
     /// Waits until octets or a client may have come, when there is nothing.
@@ -315,7 +315,7 @@ impl<R: DeviceReader> TrunkInput for FromDevice<R> {
         }
     }
 
-    fn command(&mut self, _room: &mut [u8]) -> Option<usize> {
+    fn command(&mut self) -> Option<RecordHead> {
         None
     }
 

@@ -1,89 +1,29 @@
-//! Which octets of a session's answers go to the trunk, and which to clients (`TrunkRecordSink`).
+//! Which answers of a session go to the trunk, and which to clients (`TrunkRecordSink`).
 
-ghost use Rattle.std.specs.Prelude.{◌≡◌, ◌≤◌, ◌<◌, ◌++◌, [], length, take, IfOk, OnErr, Some, if◌then◌else◌};
-ghost use Rattle.std.specs.Prelude.{◌⊎◌, slice_index, true};
-ghost use Rattle.std.specs.Io.KnownBytes.{WriteAppends};
-ghost use Rattle.gw_records.specs.Streams.{CountsWrite};
+ghost use Rattle.std.specs.Prelude.{◌≡◌, ◌≤◌, ◌<◌, ◌^◌, ◌++◌, ◌⊎◌, [], length, take, drop};
+ghost use Rattle.std.specs.Prelude.{ℕ, IfOk, Err, OnErr, true, false};
+ghost use Rattle.gw_records.specs.Records.{code_record, trunk_record};
+ghost use Rattle.gw_records.specs.Streams.{CanCount, Writes};
 ghost use Rattle.gw_trunk.specs.Device.{FailsOrStands};
-ghost use Rattle.gw_trunk.specs.Bodies.{HasPassed, StepsOver, is_answer, place_next, body_place, body_after};
-ghost use Rattle.gw_trunk.specs.Bodies.{GivesBody};
+ghost use Rattle.gw_trunk.specs.Bodies.{HasPassed, told_by};
 
 use crate::device::TrunkOutput;
-use gw_records::{Log, Sink, SinkFault, TRUNK};
+use g704_cas::CircuitNo;
+use gw_records::{Answers, Log, RunFault, SinkFault, code_record};
+use std::marker::PhantomData;
 
-/// Where in a record the next octet stands. A place behind the kind says whether the body goes to the trunk.
-#[derive(Clone, Copy, Debug, PartialEq, Eq)]
-enum RecordPosition {
-    /// The kind.
-    Kind,
-    /// The circuit.
-    Circuit(bool),
-    /// The high octet of the length.
-    High(bool),
-    /// The low octet of the length, with the high one.
-    Low(bool, u8),
-    /// The body, with the number of the octets that come after this one.
-    Body(bool, usize),
-}
-
-/// Takes the records that answer. The bodies of T records go to the trunk, and nothing else does; records of
-/// other kinds go whole to clients. If the trunk takes none now, it waits until it does.
+/// Takes the answers of a session. The octets that answer T records go to the trunk, and nothing else does;
+/// codes go to clients, as R records. If one takes none now, it waits until it does. Behind an answer that
+/// was cut nothing goes.
 #[derive(Drop)]
 pub struct TrunkRecordSink<O: TrunkOutput, A: TrunkOutput> {
     outgoing: O,
     answers: A,
     failed: u64,
-    place: RecordPosition,
+    // Whether an answer was cut.
+    cut: bool,
     log: Log,
-    ghost passed: { HasPassed place log.octets (O.went outgoing) (A.went answers) },
-}
-
-// Where a body of this many octets begins.
-fn body_place(to_trunk: bool, len: usize) -> RecordPosition
-    ensures { result ≡ body_place to_trunk len }
-{
-    if len == 0 {
-        return RecordPosition::Kind;
-    }
-    RecordPosition::Body(to_trunk, len - 1)
-}
-
-// The place after an octet.
-fn place_next(place: RecordPosition, octet: u8) -> RecordPosition
-    ensures { result ≡ place_next place octet }
-{
-    match place {
-        RecordPosition::Kind => RecordPosition::Circuit(octet == TRUNK),
-        RecordPosition::Circuit(to_trunk) => RecordPosition::High(to_trunk),
-        RecordPosition::High(to_trunk) => RecordPosition::Low(to_trunk, octet),
-        RecordPosition::Low(to_trunk, high) => {
-            body_place(to_trunk, usize::from(high) * 256 + usize::from(octet))
-        }
-        RecordPosition::Body(to_trunk, more) => body_place(to_trunk, more),
-    }
-}
-
-// Where a body goes on after this many octets of it.
-fn body_after(to_trunk: bool, more: usize, n: usize) -> RecordPosition
-    ensures { result ≡ body_after to_trunk more n }
-{
-    if more < n {
-        return RecordPosition::Kind;
-    }
-    RecordPosition::Body(to_trunk, more - n)
-}
-
-// Whether an octet is of a record that is no T record.
-fn is_answer(place: RecordPosition, octet: u8) -> bool
-    ensures { result ≡ is_answer place octet }
-{
-    match place {
-        RecordPosition::Kind => octet != TRUNK,
-        RecordPosition::Circuit(to_trunk) => !to_trunk,
-        RecordPosition::High(to_trunk) => !to_trunk,
-        RecordPosition::Low(to_trunk, _) => !to_trunk,
-        RecordPosition::Body(to_trunk, _) => !to_trunk,
-    }
+    ghost passed: { HasPassed cut log.octets (O.went outgoing) (A.went answers) },
 }
 
 // Puts octets out, and returns how many went: the first ones. It waits if none can go now.
@@ -104,100 +44,95 @@ fn put_out<O: TrunkOutput>(outgoing: &mut O, octets: &[u8]) -> Result<usize, Sin
     Err(SinkFault)
 }
 
-// Takes the first octet of these, which is of the front of a record: that of an answer goes to clients.
-fn put_front<A: TrunkOutput>(
-    answers: &mut A,
-    place: RecordPosition,
-    octets: &[u8],
-) -> Result<usize, SinkFault>
-    requires { 0 < length octets.now }
-    ensures bound { IfOk result (λ n. n ≤ 1) }
-    ensures told { IfOk result (λ n. A.went answers.new ≡ A.went answers.old
-        ++ (if is_answer place (slice_index octets.now 0) then take n octets.now else [])) }
-    ensures err { OnErr result (A.went answers.new ≡ A.went answers.old) }
-    ensures fails { OnErr result (FailsOrStands A.has_failed A.waits answers.new) }
+// Puts all octets out, and returns how many went: all, unless the device fails or takes none of the others.
+fn put_all<O: TrunkOutput>(outgoing: &mut O, octets: &[u8]) -> usize
+    ensures bound { result ≤ length octets.now }
+    ensures went { O.went outgoing.new ≡ O.went outgoing.old ++ take result octets.now }
+    ensures stops { result < length octets.now → FailsOrStands O.has_failed O.waits outgoing.new
+        ⊎ O.was_given outgoing.new (drop result octets.now) }
 {
-    if !is_answer(place, octets[0]) {
-        return Ok(1);
-    }
-    put_out(answers, &octets[..1])
-}
-
-// Takes octets of a body, and returns how many: those of a T record go to the trunk, others to clients.
-fn put_body<O: TrunkOutput, A: TrunkOutput>(
-    outgoing: &mut O,
-    answers: &mut A,
-    to_trunk: bool,
-    octets: &[u8],
-) -> Result<usize, SinkFault>
-    ensures bound { IfOk result (λ n. n ≤ length octets.now) }
-    ensures went { IfOk result (λ n. O.went outgoing.new
-        ≡ O.went outgoing.old ++ (if to_trunk then take n octets.now else [])) }
-    ensures told { IfOk result (λ n. A.went answers.new
-        ≡ A.went answers.old ++ (if to_trunk then [] else take n octets.now)) }
-    ensures err { OnErr result (O.went outgoing.new ≡ O.went outgoing.old) }
-    ensures untold { OnErr result (A.went answers.new ≡ A.went answers.old) }
-    ensures fails { OnErr result (FailsOrStands O.has_failed O.waits outgoing.new
-        ⊎ FailsOrStands A.has_failed A.waits answers.new) }
-    ensures given { IfOk result (λ _. to_trunk ≡ true → O.was_given outgoing.new octets.now) }
-{
-    if to_trunk {
-        return put_out(outgoing, octets);
-    }
-    put_out(answers, octets)
-}
-
-// Takes octets of answering records from this place on, returns how many.
-fn pass<O: TrunkOutput, A: TrunkOutput>(
-    outgoing: &mut O,
-    answers: &mut A,
-    place: &mut RecordPosition,
-    octets: &[u8],
-) -> Result<usize, SinkFault>
-    ensures bound { IfOk result (λ n. n ≤ length octets.now) }
-    ensures passes { IfOk result (λ n. StepsOver place.old place.new
-        (O.went outgoing.old) (O.went outgoing.new)
-        (A.went answers.old) (A.went answers.new) (take n octets.now)) }
-    ensures err { OnErr result (O.went outgoing.new ≡ O.went outgoing.old) }
-    ensures untold { OnErr result (A.went answers.new ≡ A.went answers.old) }
-    ensures stays { OnErr result (place.new ≡ place.old) }
-    ensures fails { OnErr result (FailsOrStands O.has_failed O.waits outgoing.new
-        ⊎ FailsOrStands A.has_failed A.waits answers.new) }
-    ensures given { IfOk result (λ _. GivesBody place.old octets.now (O.was_given outgoing.new)) }
-{
-    let Some(octet) = octets.first() else {
-        return Ok(0);
-    };
-    let RecordPosition::Body(to_trunk, more) = *place else {
-        let n = put_front(answers, *place, octets)?;
-        if n > 0 {
-            *place = place_next(*place, *octet);
+    let mut done = 0;
+    'putting: while done < octets.len() {
+        match put_out(outgoing, &octets[done..]) {
+            Ok(n) if n > 0 => done += n,
+            _ => return done,
         }
-        return Ok(n);
-    };
-    let most = octets.len().min(more.saturating_add(1));
-    let n = put_body(outgoing, answers, to_trunk, &octets[..most])?;
-    *place = body_after(to_trunk, more, n);
-    Ok(n)
+    }
+    done
+}
+
+// Notes an answer that was cut, and counts it.
+fn note_cut(cut: &mut bool, failed: &mut u64) -> Result<(), RunFault>
+    requires { CanCount failed.old }
+    ensures fault { result ≡ Err RunFault.Write }
+    ensures cut { cut.new ≡ true }
+    ensures counts { failed.old < failed.new }
+{
+    *cut = true;
+    *failed = failed.saturating_add(1);
+    Err(RunFault::Write)
 }
 
 impl<O: TrunkOutput, A: TrunkOutput> TrunkRecordSink<O, A> {
-    /// What takes the records from now on, with no failure yet.
+    /// What takes the answers from now on, with no failure yet.
     pub fn new(outgoing: O, answers: A) -> TrunkRecordSink<O, A>
         requires went { O.went outgoing ≡ [] }
         requires told { A.went answers ≡ [] }
         ensures outgoing { result.outgoing ≡ outgoing }
         ensures answers { result.answers ≡ answers }
         ensures failed { result.failed ≡ 0 }
+        ensures cut { result.cut ≡ false }
         ensures log { result.log.octets ≡ [] }
     {
         TrunkRecordSink {
             outgoing,
             answers,
             failed: 0,
-            place: RecordPosition::Kind,
+            cut: false,
             log: Log::new(),
         }
+    }
+
+    /// Has the trunk take the octets that answer a T record.
+    pub fn put_octets(&mut self, octets: &[u8]) -> Result<(), RunFault>
+        requires short { length octets.now < 2 ^ 16 }
+        requires writes { CanCount self.old.failed }
+        ensures writes { Writes (told_by self.old.failed self.old.log.octets)
+            (told_by self.new.failed self.new.log.octets) (trunk_record octets.now) result }
+        ensures fails { OnErr result ((self.old.cut ≡ true)
+            ⊎ FailsOrStands O.has_failed O.waits self.new.outgoing ⊎ ((n : ℕ) × (n < length octets.now)
+            × O.was_given self.new.outgoing (drop n octets.now))) }
+    {
+        if self.cut {
+            return note_cut(&mut self.cut, &mut self.failed);
+        }
+        let n = put_all(&mut self.outgoing, octets);
+        self.log.append_trunk(octets, n);
+        if n < octets.len() {
+            return note_cut(&mut self.cut, &mut self.failed);
+        }
+        Ok(())
+    }
+
+    /// Has clients take 0 or the number of a refusal, which answers a record of this kind.
+    pub fn put_code(&mut self, circuit: CircuitNo, kind: u8, code: u8) -> Result<(), RunFault>
+        requires writes { CanCount self.old.failed }
+        ensures writes { Writes (told_by self.old.failed self.old.log.octets)
+            (told_by self.new.failed self.new.log.octets) (code_record circuit kind code) result }
+        ensures fails { OnErr result ((self.old.cut ≡ true)
+            ⊎ FailsOrStands A.has_failed A.waits self.new.answers ⊎ ((n : ℕ) × (n < 6)
+            × A.was_given self.new.answers (drop n (code_record circuit kind code)))) }
+    {
+        if self.cut {
+            return note_cut(&mut self.cut, &mut self.failed);
+        }
+        let octets = code_record(circuit, kind, code);
+        let n = put_all(&mut self.answers, &octets);
+        self.log.append(&octets, n);
+        if n < octets.len() {
+            return note_cut(&mut self.cut, &mut self.failed);
+        }
+        Ok(())
     }
 }
 
@@ -211,35 +146,51 @@ impl<O: TrunkOutput, A: TrunkOutput + Drop> TrunkRecordSink<O, A> {
     }
 }
 
-impl<O: TrunkOutput, A: TrunkOutput> Sink for TrunkRecordSink<O, A> {
-    ghost tells = { λ s. record { failures = s.failed; taken = Some s.log.octets } };
+/// The answers to a trunk and its clients: each goes at once, and those to the trunk are not spelled.
+#[derive(Drop)]
+pub struct TrunkAnswers<O: TrunkOutput, A: TrunkOutput> {
+    outgoing: PhantomData<O>,
+    answers: PhantomData<A>,
+}
 
-    fn write(&mut self, octets: &[u8]) -> Result<usize, SinkFault>
-        ensures bound { IfOk result (λ n. n ≤ length octets.now) }
-        ensures takes { WriteAppends (Some self.old.log.octets) (Some self.new.log.octets) result octets.now }
-        ensures counts { CountsWrite self.old.failed self.new.failed result octets.now }
-        ensures fails { OnErr result (FailsOrStands O.has_failed O.waits self.new.outgoing
-            ⊎ FailsOrStands A.has_failed A.waits self.new.answers) }
-        ensures given { IfOk result (λ _. GivesBody self.old.place octets.now
-            (O.was_given self.new.outgoing)) }
-    {
-        match pass(
-            &mut self.outgoing,
-            &mut self.answers,
-            &mut self.place,
-            octets,
-        ) {
-            Ok(n) => {
-                self.log.append(octets, n);
-                if n == 0 && !octets.is_empty() {
-                    self.failed = self.failed.saturating_add(1);
-                }
-                Ok(n)
-            }
-            Err(fault) => {
-                self.failed = self.failed.saturating_add(1);
-                Err(fault)
-            }
+impl<O: TrunkOutput, A: TrunkOutput> TrunkAnswers<O, A> {
+    /// Before the first answer.
+    pub fn new() -> TrunkAnswers<O, A> {
+        TrunkAnswers {
+            outgoing: PhantomData,
+            answers: PhantomData,
         }
+    }
+}
+
+impl<O: TrunkOutput, A: TrunkOutput> Answers for TrunkAnswers<O, A> {
+    type Sink = TrunkRecordSink<O, A>;
+
+    ghost tells = { λ s. told_by s.failed s.log.octets };
+
+    ghost waiting = { λ _. [] };
+
+    ghost late = { λ _. 0 };
+
+    fn put_octets(
+        &mut self,
+        octets: &[u8],
+        sink: &mut TrunkRecordSink<O, A>,
+    ) -> Result<(), RunFault> {
+        sink.put_octets(octets)
+    }
+
+    fn put_code(
+        &mut self,
+        circuit: CircuitNo,
+        kind: u8,
+        code: u8,
+        sink: &mut TrunkRecordSink<O, A>,
+    ) -> Result<(), RunFault> {
+        sink.put_code(circuit, kind, code)
+    }
+
+    fn write_out(&mut self, _sink: &mut TrunkRecordSink<O, A>) -> Result<(), RunFault> {
+        Ok(())
     }
 }

@@ -1,23 +1,27 @@
-//! Whether octets of the trunk or a client's command are the next record (`TrunkRecordSource`).
+//! Whether octets of the trunk or a client's command are the next record of a session (`TrunkRecords`).
 
-ghost use Rattle.std.specs.Prelude.{◌≡◌, ◌<◌, ◌≤◌, ◌^◌, ◌++◌, ◌∷◌, [], length, take, IfOk, IfSome, IfNone};
-ghost use Rattle.std.specs.Prelude.{Some, None, true, false, Ok, OnErr, ◌≢◌, ◌+◌, ◌-◌, ℕ, min};
-ghost use Rattle.std.specs.Io.KnownBytes.{ReadConsumes, WriteAppends};
-ghost use Rattle.gw_records.specs.Streams.{CountsRead, CountsTurn};
-ghost use Rattle.byteorder.specs.Endian.{big_bytes};
-ghost use Rattle.gw_trunk.specs.Device.{HadRoomFor};
-ghost use Rattle.gw_trunk.specs.Pieces.{GivesWoven, ReadsRecord, AsksRecord, LacksRecord};
+ghost use Rattle.std.specs.Prelude.{◌≡◌, ◌≢◌, ◌<◌, ◌≤◌, ◌^◌, ◌-◌, ◌+◌, ◌++◌, [], length, IfOk, IfErr};
+ghost use Rattle.std.specs.Prelude.{IfSome, IfNone};
+ghost use Rattle.std.specs.Prelude.{OnErr, Ok, Some, None, true, false, ◌⊎◌};
+ghost use Rattle.gw_records.specs.Records.{IsGood, end_of, named, spelled};
+ghost use Rattle.gw_records.specs.Streams.{CanCount, CountsRead, CountsTurn};
+ghost use Rattle.gw_records.specs.declared.records.FirstRecord.{FirstRecord};
+ghost use Rattle.gw_trunk.specs.Pieces.{AsksFirst, GivesWoven, LacksRecord, LogsFirst, ReadsRecord};
+ghost use Rattle.gw_trunk.specs.Pieces.{client_kinds};
+ghost use Rattle.gw_records.specs.Reader.{FailsToRead, ReadsOn};
+ghost use Rattle.gw_trunk.specs.Pieces.{held_in, holding, is_accepted, most_octets, stands_in_room};
+ghost use Rattle.gw_trunk.specs.Pieces.{source_told};
 
 use crate::device::{DeviceRead, TrunkInput};
-use byteorder::{BigEndian, ByteOrder};
-use gw_records::{FRONT_LEN, Log, Source, SourceFault, TRUNK};
-
-// The octets of the trunk that one record has at most.
-const MOST_OCTETS: usize = 2_048;
+use gw_records::{
+    AcceptedKinds, FRONT_LEN, FirstRecord, Log, MAX_READS, RecordHead, Records, RecordsEnd,
+    RunFault, SourceFault,
+};
+use std::marker::PhantomData;
 
 /// The octets of a trunk as T records, and C and K records of clients between them. Each read gives one whole
-/// record: the octets that have come, 2,048 of them at most, or a record of a client. Between two records of
-/// clients the trunk was read. If neither has anything it waits.
+/// record: the octets that have come, or a record of a client. Between two records of clients the trunk was
+/// read. If neither has anything it waits.
 #[derive(Drop)]
 pub struct TrunkRecordSource<I: TrunkInput> {
     incoming: I,
@@ -30,27 +34,40 @@ pub struct TrunkRecordSource<I: TrunkInput> {
     ghost in_turn: { turn ≡ true → I.is_turn incoming ≡ true },
 }
 
-// The front of a record of this many octets of the trunk.
-fn front_of(len: usize) -> [u8; 4]
-    requires { len < 2 ^ 16 }
-    ensures { result ≡ 0x54 ∷ 0 ∷ big_bytes 2 len }
+// The octets of a trunk that a record has at most. A device that gives blocks needs room for a whole one.
+const ROOM_LEN: usize = 2_048;
+
+// The record of a client, with its length.
+fn client_record(head: RecordHead) -> FirstRecord
+    requires { IsGood client_kinds (named head []) }
+    ensures head { result.head ≡ head }
+    ensures len { result.len ≡ length (spelled (named head [])) }
 {
-    let mut front = [TRUNK, 0, 0, 0];
-    BigEndian::write_u16(&mut front[2..4], len as u16);
-    front
+    let body_len = match head {
+        RecordHead::Codec(..) => 2,
+        _ => 1,
+    };
+    FirstRecord {
+        head,
+        len: FRONT_LEN + body_len,
+    }
+}
+
+// Logs the record that a read gave, if there is one.
+fn log_first(log: &mut Log, got: &Option<FirstRecord>, room: &[u8; ROOM_LEN])
+    requires { IfSome got.now (λ first. (4 ≤ first.len) × (first.len ≤ 4 + most_octets)) }
+    ensures { log.new.octets ≡ log.old.octets ++ held_in got.now room.now }
+{
+    if let Some(first) = got {
+        log.append_record(&first.head, &room[..first.len - FRONT_LEN]);
+    }
 }
 
 // The next record of a client, where it is their turn.
-fn command_in_turn<I: TrunkInput>(
-    incoming: &mut I,
-    turn: &mut bool,
-    room: &mut [u8],
-) -> Option<usize>
+fn command_in_turn<I: TrunkInput>(incoming: &mut I, turn: &mut bool) -> Option<FirstRecord>
     requires { turn.old ≡ true → I.is_turn incoming.old ≡ true }
-    ensures bound { IfSome result (λ n. n ≤ length room.new) }
     ensures came { I.came incoming.new ≡ I.came incoming.old }
-    ensures asked { IfSome result (λ n.
-        AsksRecord (I.asked incoming.old) (I.asked incoming.new) (take n room.new)) }
+    ensures asked { IfSome result (AsksFirst (I.asked incoming.old) (I.asked incoming.new)) }
     ensures none { IfNone result (I.asked incoming.new ≡ I.asked incoming.old) }
     ensures turn { turn.new ≡ false }
 {
@@ -58,46 +75,49 @@ fn command_in_turn<I: TrunkInput>(
         return None;
     }
     *turn = false;
-    incoming.command(room)
+    match incoming.command() {
+        Some(head) => Some(client_record(head)),
+        None => None,
+    }
 }
 
-// The next record, whole, or 0 at the end of the trunk. It is a client's only if `turn` holds or the trunk
-// has none, and the source waits only if a client has none either.
+// The next record, with the octets of the trunk at the front of `room`; None at the end of the trunk. It is a
+// client's only if `turn` holds or the trunk has none, and the source waits only if a client has none either.
 fn next_record<I: TrunkInput>(
     incoming: &mut I,
     turn: &mut bool,
     room: &mut [u8],
-) -> Result<usize, SourceFault>
-    requires { turn.old ≡ true → I.is_turn incoming.old ≡ true }
-    ensures bound { IfOk result (λ n. n ≤ length room.new) }
+) -> Result<Option<FirstRecord>, SourceFault>
+    requires turn { turn.old ≡ true → I.is_turn incoming.old ≡ true }
+    requires some { 0 < length room.old }
+    requires few { length room.old ≤ most_octets }
     ensures reads { ReadsRecord (I.came incoming.old) (I.came incoming.new)
         (I.asked incoming.old) (I.asked incoming.new) result room.new }
     ensures turn { turn.new ≡ true → I.is_turn incoming.new ≡ true }
-    ensures ended { IfOk result (λ n. n ≡ 0 → I.has_ended incoming.new) }
-    ensures offers { IfOk result (λ n. I.came incoming.new ≢ I.came incoming.old → (before : I)
-        × I.reads before incoming.new (min (length room.new) 2052 - 4) (Ok (DeviceRead.Octets (n - 4)))) }
+    ensures ended { IfOk result (λ got. IfNone got (I.has_ended incoming.new)) }
+    ensures offers { IfOk result (λ got. IfSome got (λ first.
+        I.came incoming.new ≢ I.came incoming.old → (before : I)
+        × I.reads before incoming.new (length room.new) (Ok (DeviceRead.Octets (first.len - 4))))) }
     ensures fails { OnErr result (LacksRecord (I.has_failed incoming.new)
-        (I.has_none incoming.new × (2 ^ 63 ≤ I.waits incoming.new)) room.new) }
+        (I.has_none incoming.new × (2 ^ 63 ≤ I.waits incoming.new))) }
 {
-    let most = room.len().min(FRONT_LEN + MOST_OCTETS);
-    if most <= FRONT_LEN {
-        return Err(SourceFault);
-    }
-    if let Some(n) = command_in_turn(incoming, turn, room) {
-        return Ok(n);
+    if let Some(first) = command_in_turn(incoming, turn) {
+        return Ok(Some(first));
     }
     for _turn in 0..u64::MAX {
-        match incoming.read(&mut room[FRONT_LEN..most]) {
+        match incoming.read(room) {
             Ok(DeviceRead::Octets(n)) => {
-                room[..FRONT_LEN].copy_from_slice(&front_of(n));
                 *turn = true;
-                return Ok(FRONT_LEN + n);
+                return Ok(Some(FirstRecord {
+                    head: RecordHead::Trunk,
+                    len: FRONT_LEN + n,
+                }));
             }
-            Ok(DeviceRead::NoneNow) => match incoming.command(room) {
-                Some(n) => return Ok(n),
+            Ok(DeviceRead::NoneNow) => match incoming.command() {
+                Some(head) => return Ok(Some(client_record(head))),
                 None => incoming.wait(),
             },
-            Ok(DeviceRead::Ended) => return Ok(0),
+            Ok(DeviceRead::Ended) => return Ok(None),
             Err(_) => return Err(SourceFault),
         }
     }
@@ -122,9 +142,34 @@ impl<I: TrunkInput> TrunkRecordSource<I> {
             log: Log::new(),
         }
     }
-}
 
-impl<I: TrunkInput> TrunkRecordSource<I> {
+    /// The next record, with the octets of the trunk at the front of `room`; None at the end of the trunk.
+    pub fn next(&mut self, room: &mut [u8; ROOM_LEN]) -> Result<Option<FirstRecord>, SourceFault>
+        ensures gives { LogsFirst self.old.log.octets self.new.log.octets result room.new }
+        ensures len { length room.new ≡ most_octets }
+        ensures counts { CountsRead self.old.failed self.new.failed result }
+        ensures turns { CountsTurn self.old.reads self.new.reads result }
+        ensures ended { IfOk result (λ got. IfNone got (I.has_ended self.new.incoming)) }
+        ensures fails { OnErr result (LacksRecord (I.has_failed self.new.incoming)
+            (I.has_none self.new.incoming × (2 ^ 63 ≤ I.waits self.new.incoming))) }
+        ensures offers { IfOk result (λ got. IfSome got (λ first.
+            I.came self.new.incoming ≢ I.came self.old.incoming → (before : I)
+            × I.reads before self.new.incoming most_octets
+            (Ok (DeviceRead.Octets (first.len - 4))))) }
+    {
+        match next_record(&mut self.incoming, &mut self.turn, room) {
+            Ok(got) => {
+                log_first(&mut self.log, &got, room);
+                self.reads = self.reads.saturating_add(1);
+                Ok(got)
+            }
+            Err(fault) => {
+                self.failed = self.failed.saturating_add(1);
+                Err(fault)
+            }
+        }
+    }
+
     /// What the trunk's octets and the clients' commands come from.
     pub fn into_incoming(self) -> I
         ensures { result ≡ self.incoming }
@@ -134,39 +179,110 @@ impl<I: TrunkInput> TrunkRecordSource<I> {
     }
 }
 
-impl<I: TrunkInput> Source for TrunkRecordSource<I> {
-    ghost tells = { λ s. record {
-      failures = s.failed;
-      reads = s.reads;
-      given = Some s.log.octets;
-      to_come = None;
-    } };
+/// The records of a trunk and its clients: one at a time, never spelled.
+#[derive(Drop)]
+pub struct TrunkRecords<I: TrunkInput> {
+    // The octets of the record, if they are the trunk's.
+    room: [u8; ROOM_LEN],
+    first: Option<FirstRecord>,
+    reads_left: u64,
+    of: PhantomData<I>,
+    ghost long: { length room ≡ most_octets },
+    ghost stands: { (f : FirstRecord) → first ≡ Some f → stands_in_room f ≡ true },
+}
 
-    fn read(&mut self, buf: &mut [u8]) -> Result<usize, SourceFault>
-        ensures bound { IfOk result (λ n. n ≤ length buf.new) }
-        ensures gives { WriteAppends (Some self.old.log.octets) (Some self.new.log.octets) result buf.new }
-        ensures consumes { ReadConsumes None None result buf.new }
-        ensures counts { CountsRead self.old.failed self.new.failed result }
-        ensures turns { CountsTurn self.old.reads self.new.reads result }
-        ensures fails { OnErr result (LacksRecord (I.has_failed self.new.incoming)
-            (I.has_none self.new.incoming × (2 ^ 63 ≤ I.waits self.new.incoming)) buf.new) }
-        ensures offers { IfOk result (λ n. I.came self.new.incoming ≢ I.came self.old.incoming → (before : I)
-            × I.reads before self.new.incoming (min (length buf.new) 2052 - 4)
-            (Ok (DeviceRead.Octets (n - 4)))) }
-        ensures blocks { IfOk result (λ n. I.came self.new.incoming ≢ I.came self.old.incoming → (block : ℕ)
-            → block ≤ 2048 → block + 4 ≤ length buf.new → (before : I)
-            × HadRoomFor (I.reads before self.new.incoming) block (Ok (DeviceRead.Octets (n - 4)))) }
+impl<I: TrunkInput> TrunkRecords<I> {
+    /// Before the first read.
+    pub fn new() -> TrunkRecords<I>
+        ensures none { result.first ≡ None }
+        ensures turns { result.reads_left ≡ 2 ^ 62 }
     {
-        match next_record(&mut self.incoming, &mut self.turn, buf) {
-            Ok(n) => {
-                self.log.append(buf, n);
-                self.reads = self.reads.saturating_add(1);
-                Ok(n)
+        TrunkRecords {
+            room: [0; ROOM_LEN],
+            first: None,
+            reads_left: MAX_READS,
+            of: PhantomData,
+        }
+    }
+}
+
+// Whether records of this head are accepted.
+fn is_accepted(kinds: &AcceptedKinds, head: RecordHead) -> bool
+    ensures { result ≡ is_accepted kinds.now head }
+{
+    match head {
+        RecordHead::Trunk => kinds.trunk,
+        RecordHead::Datagram(_) => kinds.datagrams,
+        RecordHead::Command(..) => kinds.commands,
+        RecordHead::Codec(..) => kinds.codecs,
+    }
+}
+
+impl<I: TrunkInput> Records for TrunkRecords<I> {
+    type Source = TrunkRecordSource<I>;
+
+    ghost tells = { λ s. source_told s.failed s.reads s.log.octets };
+
+    ghost holds = { λ r. holding r.first r.room r.reads_left };
+
+    #[inline(always)]
+    fn first(&self, kinds: &AcceptedKinds) -> Result<FirstRecord, RecordsEnd> {
+        match self.first {
+            Some(first) if is_accepted(kinds, first.head) => Ok(first),
+            Some(_) => Err(RecordsEnd::BadKind),
+            None => Err(RecordsEnd::End),
+        }
+    }
+
+    // (The head of a client's record says all of it.)
+    fn body(&self, first: &FirstRecord) -> &[u8] {
+        match first.head {
+            RecordHead::Command(..) | RecordHead::Codec(..) => &[],
+            _ => &self.room[..first.len - FRONT_LEN],
+        }
+    }
+
+    fn pass(&mut self, _first: &FirstRecord) {
+        self.first = None;
+    }
+
+    fn read_on(
+        &mut self,
+        _kinds: &AcceptedKinds,
+        _ending: RecordsEnd,
+        source: &mut TrunkRecordSource<I>,
+    ) -> Result<bool, RunFault>
+        requires ends { end_of _kinds.now (held_in self.old.first self.old.room) ≡ Some _ending }
+        requires reads { CanCount source.old.failed }
+        ensures ok { IfOk result (λ came. ReadsOn
+            (source_told source.old.failed source.old.reads source.old.log.octets)
+            (source_told source.new.failed source.new.reads source.new.log.octets)
+            (holding self.old.first self.old.room self.old.reads_left)
+            (holding self.new.first self.new.room self.new.reads_left) _ending came) }
+        ensures fault { IfErr result (λ e. (e ≡ RunFault.Read) × FailsToRead
+            (source_told source.old.failed source.old.reads source.old.log.octets)
+            (source_told source.new.failed source.new.reads source.new.log.octets)
+            (holding self.old.first self.old.room self.old.reads_left)
+            (holding self.new.first self.new.room self.new.reads_left) _ending) }
+        ensures ended { IfOk result (λ came. came ≡ false → self.old.first ≡ None
+            → I.has_ended source.new.incoming) }
+        ensures fails { OnErr result ((self.old.reads_left ≡ 0)
+            ⊎ LacksRecord (I.has_failed source.new.incoming)
+            (I.has_none source.new.incoming × (2 ^ 63 ≤ I.waits source.new.incoming))) }
+    {
+        if self.first.is_some() {
+            return Ok(false);
+        }
+        if self.reads_left == 0 {
+            return Err(RunFault::Read);
+        }
+        self.reads_left -= 1;
+        match source.next(&mut self.room) {
+            Ok(got) => {
+                self.first = got;
+                Ok(got.is_some())
             }
-            Err(fault) => {
-                self.failed = self.failed.saturating_add(1);
-                Err(fault)
-            }
+            Err(_) => Err(RunFault::Read),
         }
     }
 }

@@ -17,7 +17,7 @@ use crate::device::{DeviceFault, DeviceRead, ToDevice, TrunkInput};
 use crate::device_calls::{DeviceReader, is_for_later};
 use crate::door::{Doors, open_door};
 use crate::logged_reader::LoggedReader;
-use gw_records::Log;
+use gw_records::{Log, RecordHead};
 use mio::net::{UnixListener, UnixStream};
 use std::io;
 use std::net::Net;
@@ -33,7 +33,8 @@ use std::os::fd::AsRawFd;
 pub struct WithClients<R: DeviceReader> {
     reader: LoggedReader<R>,
     clients: Clients,
-    // Whether the trunk was read since the last record of a client.
+    // (The next two are read by contracts alone.) Whether the trunk was read since the last record of a
+    // client.
     turn: bool,
     // Whether the last read of the trunk found none, or the one before took all.
     empty: bool,
@@ -185,7 +186,7 @@ impl<R: DeviceReader> TrunkInput for WithClients<R> {
         }
     }
 
-    fn command(&mut self, room: &mut [u8]) -> Option<usize> {
+    fn command(&mut self) -> Option<RecordHead> {
         self.clients.give_answer();
         if self.ended {
             return None;
@@ -196,11 +197,11 @@ impl<R: DeviceReader> TrunkInput for WithClients<R> {
             self.end_asked = true;
             return None;
         }
-        match self.clients.ask(room) {
-            ClientPoll::Command(n) => {
+        match self.clients.ask() {
+            ClientPoll::Command(head) => {
                 self.turn = false;
-                self.asked.append(room, n);
-                Some(n)
+                self.asked.append_record(&head, &[]);
+                Some(head)
             }
             ClientPoll::Nothing | ClientPoll::Gone => None,
         }

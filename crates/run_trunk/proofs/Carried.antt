@@ -26,7 +26,7 @@ use Rattle.gw_session.specs.Serve.{served_kinds}
 use Rattle.gw_session.specs.Tape.{TapeState}
 use Rattle.gw_session.specs.World.{SessionState}
 use Rattle.gw_session.proofs.ServeLaws.{events_are_told}
-use Rattle.gw_trunk.specs.declared.sink.RecordPosition.TheVariants.{Kind}
+use Rattle.gw_trunk.specs.Bodies.RecordPosition.{Kind}
 use Rattle.gw_trunk.specs.Bodies.{bodies, others, passed, to_clients, place_behind}
 use Rattle.gw_trunk.specs.Pieces.{Woven, GivesWoven, IsServiceRecord, trunk_part, client_part, from_clients}
 use Rattle.run_trunk.specs.Serving.{Carries, CarriesUntilWrite, CarriesUntil, Carried, commands_in, traffic}

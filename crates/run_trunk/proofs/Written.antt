@@ -1,48 +1,21 @@
 -- What of the records that answer goes to the trunk, and what to clients.
-use Rattle.std.proofs.Common.{◌≡◌, ◌+◌, ◌*◌, ◌/◌, ◌%◌, ◌^◌, ◌<◌, ◌++◌, ◌∷◌, ◌∙◌, ℕ, suc, true, List, []}
+use Rattle.std.proofs.Common.{◌≡◌, ◌++◌, ◌∷◌, ◌∙◌, ℕ, suc, List, []}
 use Rattle.std.proofs.Common.{length, map, flat_map, refl, sym, ap, arith, append_assoc, append-nil}
 use Rattle.std.specs.List.{AllByRecursion}
-use Rattle.std.proofs.lemmas.Bool.Decides.{nat_tests}
 use Rattle.std.proofs.lemmas.List.{length-map}
 use Rattle.gw_switch.specs.declared.GatewayConfig.{GatewayConfig}
 use Rattle.gw_switch.specs.Events.{CircuitEvent, Event, octets}
 use Rattle.gw_switch.specs.Whole.{whole_from, reply_to}
-use Rattle.gw_records.specs.Records.{IsGood, record_of}
+use Rattle.gw_records.specs.Records.{IsGood}
 use Rattle.gw_session.specs.Answers.{octets_in}
 use Rattle.gw_session.specs.Serve as session
 use Rattle.gw_session.specs.Serve.{SessionInput, Turn, octet_of, events_in, events_through, events_of_turns, octets_for}
 use Rattle.gw_session.specs.Serve.{given_by, written, served_kinds, coming, arrivals}
 use Rattle.gw_session.proofs.Turns.{given_by-append, turns_have_octets}
-use Rattle.gw_trunk.specs.declared.sink.RecordPosition.TheVariants.{Kind}
-use Rattle.gw_trunk.specs.Bodies.{passed, to_clients, place_behind, body_place}
+use Rattle.gw_trunk.specs.Bodies.RecordPosition.{Kind}
+use Rattle.gw_trunk.specs.Bodies.{passed, to_clients, place_behind}
 use Rattle.run_trunk.specs.Serving.{answers_for, answer_in}
-use Rattle.gw_trunk.proofs.Passing.{place_append, passed-append, answered-append}
-use Rattle.gw_trunk.proofs.Passing.{place-body, passed-body, answered-body}
-
--- A whole body of a T record: the next record begins behind it, all of it goes to the trunk, and none to clients.
-whole-body : (body : List ℕ) → (place_behind (body_place true (length body)) body ≡ Kind)
-    × (passed (body_place true (length body)) body ≡ body) × (to_clients (body_place true (length body)) body ≡ [])
-unfolding place_behind passed to_clients
-whole-body [] = (refl, refl, refl)
-whole-body (x ∷ xs) = (
-  place-body true (length xs) (x ∷ xs) (omega arith) ∙ grind (arith, nat_tests),
-  passed-body true (length xs) (x ∷ xs) (omega arith),
-  answered-body true (length xs) (x ∷ xs) (omega arith),
-)
-
--- The two octets of a length say it.
-length-said : (n : ℕ) → n < 2 ^ 16 → (n / 256) % 256 * 256 + n % 256 ≡ n
-length-said n h = omega arith
-
--- The octets of a T record pass its body, none goes to clients, and the next record begins behind them.
-record-passes : (body : List ℕ) → length body < 2 ^ 16
-    → (place_behind Kind (record_of 0x54 0 body) ≡ Kind) × (passed Kind (record_of 0x54 0 body) ≡ body)
-    × (to_clients Kind (record_of 0x54 0 body) ≡ [])
-unfolding place_behind passed to_clients
-record-passes body short =
-    let said = length-said (length body) short in
-    let whole = whole-body body in
-    (rw said whole.0, rw said whole.1, rw said whole.2)
+use Rattle.gw_trunk.proofs.Passing.{place_append, passed-append, answered-append, record-passes}
 
 -- The answers to events and more are those to the first, and then those to the others.
 answers-append : (config : GatewayConfig) (before xs ys : List Event)

@@ -17,7 +17,7 @@ use crate::filters::{
     Incoming, PrintedSlots, TrunkFilters, checker_from, filtered_input, filtered_output,
     filters_as_asked, finish_input, finish_output, parted, receiver_from,
 };
-use crate::performing::{TrunkRecords, perform_trunk};
+use crate::performing::{SessionEnds, perform_trunk};
 use crate::sealed::{AnswersDevice, TrunkDevice, TrunkSource};
 use clap::ArgMatches;
 use gw_command::{control_of, end_of, wants_totals};
@@ -231,12 +231,12 @@ fn carry_from<
         checker_from(rt, live, outward),
     );
     let outgoing = filtered_output::<R, O, S, L, P>(rt, outgoing, slots, reports, place);
-    let mut trunk = TrunkRecords {
+    let mut trunk = SessionEnds {
         source: TrunkRecordSource::new(incoming),
         sink: TrunkRecordSink::new(outgoing, answers),
     };
     let ended = perform_trunk(system, files, config, gateway, &mut trunk);
-    let TrunkRecords { source, sink } = trunk;
+    let SessionEnds { source, sink } = trunk;
     let (discarded, output) = finish_output(sink.into_outgoing());
     let told = told_behind(ended, &output);
     tell_end(

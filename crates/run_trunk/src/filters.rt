@@ -44,7 +44,7 @@ pub(crate) type Sender<P> = PhasedFilter<ReportingSender<FromRead<UnixStream>>, 
 /// Prints on standard error when slot 16 is found and lost.
 #[derive(Drop)]
 pub(crate) struct PrintedSlots<'r, R> {
-    /// Standard error.
+    /// The machine on whose standard error it prints.
     pub(crate) rt: &'r R,
 }
 

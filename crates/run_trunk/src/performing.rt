@@ -14,13 +14,16 @@ use crate::sealed::{AnswersDevice, FilteredSource, MultiframeDevice};
 use crate::serving::serve_trunk;
 use gw_config::Config;
 use gw_machine::{ProgramFault, System, end_session};
-use gw_session::{Sink, Source, Totals};
+use gw_records::{Answers, Records};
+use gw_session::Totals;
 use gw_switch::Gateway;
-use gw_trunk::{TrunkInput, TrunkOutput, TrunkRecordSink, TrunkRecordSource};
+use gw_trunk::{
+    TrunkAnswers, TrunkInput, TrunkOutput, TrunkRecordSink, TrunkRecordSource, TrunkRecords,
+};
 
 /// A trunk and its clients as the source and the sink of a session.
 #[derive(Drop)]
-pub(crate) struct TrunkRecords<I: TrunkInput, O: TrunkOutput, A: TrunkOutput> {
+pub(crate) struct SessionEnds<I: TrunkInput, O: TrunkOutput, A: TrunkOutput> {
     pub(crate) source: TrunkRecordSource<I>,
     pub(crate) sink: TrunkRecordSink<O, A>,
 }
@@ -37,18 +40,18 @@ pub(crate) fn perform_trunk<
     files: &mut Y::Files,
     config: &Config,
     gateway: &mut Gateway,
-    trunk: &mut TrunkRecords<I, O, A>,
+    trunk: &mut SessionEnds<I, O, A>,
 ) -> Result<Totals, ProgramFault>
-    requires source { IsUnread (⟦<TrunkRecordSource<I> as Source>⟧.tells trunk.old.source) }
-    requires sink { IsUntaken (⟦<TrunkRecordSink<O, A> as Sink>⟧.tells trunk.old.sink) }
+    requires source { IsUnread (⟦<TrunkRecords<I> as Records>⟧.tells trunk.old.source) }
+    requires sink { IsUntaken (⟦<TrunkAnswers<O, A> as Answers>⟧.tells trunk.old.sink) }
     ensures served { NotBegun trunk.old trunk.new (LacksServing (Y.lacks_tape system.now)
         (Y.lacks_ports system.now config.now) (Y.lacks_watch system.now)) result
         ⊎ HasServed (Y.opens system.now config.now) (Y.begins system.now config.now gateway.old)
         (λ p p' t t'. EndedSaved
-        (CarriesTrunk (around_log (⟦<TrunkRecordSource<I> as Source>⟧.tells trunk.old.source)
-        (⟦<TrunkRecordSink<O, A> as Sink>⟧.tells trunk.old.sink) (Y.Ports.tells p) (Y.Tape.tells t))
-        (around_log (⟦<TrunkRecordSource<I> as Source>⟧.tells trunk.new.source)
-        (⟦<TrunkRecordSink<O, A> as Sink>⟧.tells trunk.new.sink) (Y.Ports.tells p') (Y.Tape.tells t'))
+        (CarriesTrunk (around_log (⟦<TrunkRecords<I> as Records>⟧.tells trunk.old.source)
+        (⟦<TrunkAnswers<O, A> as Answers>⟧.tells trunk.old.sink) (Y.Ports.tells p) (Y.Tape.tells t))
+        (around_log (⟦<TrunkRecords<I> as Records>⟧.tells trunk.new.source)
+        (⟦<TrunkAnswers<O, A> as Answers>⟧.tells trunk.new.sink) (Y.Ports.tells p') (Y.Tape.tells t'))
         (traffic (I.came trunk.new.source.incoming) (I.asked trunk.new.source.incoming)
         (O.went trunk.new.sink.outgoing) (A.went trunk.new.sink.answers)) gateway.old gateway.new)
         ((Y.files system.now).saves config.now gateway.new) result) }
@@ -56,10 +59,10 @@ pub(crate) fn perform_trunk<
         (Y.lacks_ports system.now config.now) (Y.lacks_watch system.now)) result
         ⊎ HasWatched (Y.watches system.now config.now gateway.old) (λ first last. WithSome
         (λ ports tape ports' tape'. (end : Result Totals RunFault) × ServesWatched
-        (around_log (⟦<TrunkRecordSource<I> as Source>⟧.tells trunk.old.source)
-        (⟦<TrunkRecordSink<O, A> as Sink>⟧.tells trunk.old.sink) ports tape)
-        (around_log (⟦<TrunkRecordSource<I> as Source>⟧.tells trunk.new.source)
-        (⟦<TrunkRecordSink<O, A> as Sink>⟧.tells trunk.new.sink) ports' tape') gateway.old gateway.new
+        (around_log (⟦<TrunkRecords<I> as Records>⟧.tells trunk.old.source)
+        (⟦<TrunkAnswers<O, A> as Answers>⟧.tells trunk.old.sink) ports tape)
+        (around_log (⟦<TrunkRecords<I> as Records>⟧.tells trunk.new.source)
+        (⟦<TrunkAnswers<O, A> as Answers>⟧.tells trunk.new.sink) ports' tape') gateway.old gateway.new
         (InputsShown Y.Watch.shows gateway.old first last) (last ≡ first) end)) Y.ends_watch }
     ensures asked { MakesSuch (Y.has_asked system.now) files.old files.new
         (ServingAsks config.now gateway.old gateway.new) }

@@ -6,9 +6,12 @@ ghost use Rattle.gw_session.specs.Watch.{InputsShown, ServesWatched};
 ghost use Rattle.run_trunk.specs.Serving.{IsUnread, IsUntaken, traffic};
 ghost use Rattle.run_trunk.specs.Trunks.{CarriesTrunk};
 
-use gw_session::{Ports, RunFault, Sink, Source, Tape, Totals, Watch, serve_logged};
+use gw_records::{Answers, Records};
+use gw_session::{Ports, RunFault, Tape, Totals, Watch, serve_logged};
 use gw_switch::Gateway;
-use gw_trunk::{TrunkInput, TrunkOutput, TrunkRecordSink, TrunkRecordSource};
+use gw_trunk::{
+    TrunkAnswers, TrunkInput, TrunkOutput, TrunkRecordSink, TrunkRecordSource, TrunkRecords,
+};
 use std::alloc::Global;
 
 // Serves a trunk and its clients by a gateway until no octet comes any more: for each octet that comes the
@@ -38,22 +41,34 @@ pub(crate) fn serve_trunk<
     tape: &mut T,
     watch: &mut W,
 ) -> Result<Totals, RunFault>
-    requires source { IsUnread (⟦<TrunkRecordSource<I> as Source>⟧.tells source.old) }
-    requires sink { IsUntaken (⟦<TrunkRecordSink<O, A> as Sink>⟧.tells sink.old) }
+    requires source { IsUnread (⟦<TrunkRecords<I> as Records>⟧.tells source.old) }
+    requires sink { IsUntaken (⟦<TrunkAnswers<O, A> as Answers>⟧.tells sink.old) }
     ensures carries { CarriesTrunk
-        (around_log (⟦<TrunkRecordSource<I> as Source>⟧.tells source.old)
-        (⟦<TrunkRecordSink<O, A> as Sink>⟧.tells sink.old) (P.tells ports.old) (T.tells tape.old))
-        (around_log (⟦<TrunkRecordSource<I> as Source>⟧.tells source.new)
-        (⟦<TrunkRecordSink<O, A> as Sink>⟧.tells sink.new) (P.tells ports.new) (T.tells tape.new))
+        (around_log (⟦<TrunkRecords<I> as Records>⟧.tells source.old)
+        (⟦<TrunkAnswers<O, A> as Answers>⟧.tells sink.old) (P.tells ports.old) (T.tells tape.old))
+        (around_log (⟦<TrunkRecords<I> as Records>⟧.tells source.new)
+        (⟦<TrunkAnswers<O, A> as Answers>⟧.tells sink.new) (P.tells ports.new) (T.tells tape.new))
         (traffic (I.came source.new.incoming) (I.asked source.new.incoming)
         (O.went sink.new.outgoing) (A.went sink.new.answers)) gateway.old gateway.new result }
     ensures watched { ServesWatched
-        (around_log (⟦<TrunkRecordSource<I> as Source>⟧.tells source.old)
-        (⟦<TrunkRecordSink<O, A> as Sink>⟧.tells sink.old) (P.tells ports.old) (T.tells tape.old))
-        (around_log (⟦<TrunkRecordSource<I> as Source>⟧.tells source.new)
-        (⟦<TrunkRecordSink<O, A> as Sink>⟧.tells sink.new) (P.tells ports.new) (T.tells tape.new))
+        (around_log (⟦<TrunkRecords<I> as Records>⟧.tells source.old)
+        (⟦<TrunkAnswers<O, A> as Answers>⟧.tells sink.old) (P.tells ports.old) (T.tells tape.old))
+        (around_log (⟦<TrunkRecords<I> as Records>⟧.tells source.new)
+        (⟦<TrunkAnswers<O, A> as Answers>⟧.tells sink.new) (P.tells ports.new) (T.tells tape.new))
         gateway.old gateway.new (InputsShown W.shows gateway.old watch.old watch.new)
         (watch.new ≡ watch.old) result }
 {
-    serve_logged(alloc, gateway, ports, source, sink, tape, watch)
+    let mut records = TrunkRecords::<I>::new();
+    let mut answers = TrunkAnswers::<O, A>::new();
+    serve_logged(
+        alloc,
+        gateway,
+        ports,
+        &mut records,
+        &mut answers,
+        source,
+        sink,
+        tape,
+        watch,
+    )
 }

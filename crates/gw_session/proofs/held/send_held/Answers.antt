@@ -20,4 +20,5 @@ loop-i-preserved g c =
           (rw c.as_slice.ensures.value at c.before_send.ensures));
       passes = takes_on _ _ _ _ _ _ w.passes sent.1;
       no_failure = sent.2 ∙ w.no_failure;
+      late = c.send_packet.ensures.late ∙ w.late;
     }

@@ -5,9 +5,10 @@ abbrev pub invariant-loop-i : goal.invariant-loop-i
 invariant-loop-i g l = record {
   sends : GoToPorts (g.O.PacketPorts.tells l.initial.packet_ports) (g.O.PacketPorts.tells l.packet_ports)
       l.initial.totals l.totals (packets_held (take l.i l.held));
-  passes : TakesAllButWaiting (g.K.Sink.tells l.initial.sink).taken (g.K.Sink.tells l.sink).taken l.waiting.items
-      l.initial.waiting.items;
+  passes : TakesAllButWaiting (g.A.Answers.tells l.initial.sink).taken (g.A.Answers.tells l.sink).taken
+      (g.A.Answers.waiting l.answers) (g.A.Answers.waiting l.initial.answers);
   told : Learns (g.T.Tape.tells l.initial.tape) (g.T.Tape.tells l.tape)
       (map (sends_at (g.T.Tape.tells l.initial.tape)) (packets_held (take l.i l.held)));
-  no_failure : (g.K.Sink.tells l.sink).failures ≡ (g.K.Sink.tells l.initial.sink).failures;
+  no_failure : (g.A.Answers.tells l.sink).failures ≡ (g.A.Answers.tells l.initial.sink).failures;
+  late : g.A.Answers.late l.answers ≡ g.A.Answers.late l.initial.answers;
 }

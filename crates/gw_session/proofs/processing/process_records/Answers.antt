@@ -1,8 +1,8 @@
 use Rattle.gw_session.proofs.Common.{sym, inl, ◌++◌, [], ◌∷◌, length, ap, ◌∙◌, refl, length-append, arith, record_at}
-use Rattle.gw_session.proofs.Common.{held, InputsShown, SessionInput, List, goes_up, starts, first_held, record_taken}
+use Rattle.gw_session.proofs.Common.{InputsShown, SessionInput, List, goes_up, starts, record_taken}
 use Rattle.gw_session.proofs.Common.{stops_in, stops_behind, reads_more, ended, gives_up, ends_so}
 use Rattle.gw_records.specs.declared.outcome.RunFault.TheVariants as faults
-use Rattle.gw_session.proofs.Attending.{record_is, good_in_all, through_none, through_done, through_all, through_on}
+use Rattle.gw_session.proofs.Attending.{good_in_all, through_none, through_done, through_all, through_on}
 use Rattle.gw_session.proofs.Attending.{waiting_failed, some_records, input_failed}
 use Rattle.gw_session.proofs.Watching.{none_shown, shown_last, shown_more}
 use Rattle.gw_session.proofs.processing.process_records.Goals as goal
@@ -16,7 +16,7 @@ handling-init g c = (
     through = rw c.requires.totals (through_none _ _ none_shown c.requires.waiting);
     none_waits = λ none. ap length c.requires.waiting;
     few = omega (arith, ap length c.requires.waiting);
-    at_once = refl;
+    late = refl;
     holds = refl;
   },
 )
@@ -24,8 +24,8 @@ handling-init g c = (
 pub handle_record-requires-clause-good : goal.handle_record-requires-clause-good
 handle_record-requires-clause-good g c =
     let f = c.in-Ok.first in
-    let found = first_held f c.held.ensures c.in-Ok.ensures.good in
-    rw (record_is f (held c.handling.reader) _ found.more c.held-in-Ok.ensures)
+    let found = c.in-Ok.ensures.good in
+    rw (c.body-body.ensures)
     (good_in_all c.args.kinds.now _ found.good)
 
 pub handle_record-requires-clause-silent : goal.handle_record-requires-clause-silent
@@ -35,8 +35,8 @@ pub returns-in_err-handle_record-in-Ok-clause-fault : goal.returns-in_err-handle
 returns-in_err-handle_record-in-Ok-clause-fault g c =
     let w = c.handling.invariant in
     let f = c.in-Ok.first in
-    let found = first_held f c.held.ensures c.in-Ok.ensures.good in
-    let q = rw (record_is f (held c.handling.reader) _ found.more c.held-in-Ok.ensures, w.2.holds) at
+    let found = c.in-Ok.ensures.good in
+    let q = rw (c.body-body.ensures, w.2.holds) at
     c.in_err-handle_record-in-Ok.ensures.inputs in
     let seen = InputsShown g.W.Watch.shows c.args.gateway.now c.args.watch.now c.handling.watch in
     let known = InputsShown g.W.Watch.shows c.args.gateway.now c.args.watch.now c.handle_record.new.watch in
@@ -48,46 +48,46 @@ pub handling-preserved-in-Ok : goal.handling-preserved-in-Ok
 handling-preserved-in-Ok g c =
     let w = c.handling.invariant in
     let f = c.in-Ok.first in
-    let found = first_held f c.held.ensures c.in-Ok.ensures.good in
-    let q = rw (record_is f (held c.handling.reader) _ found.more c.held-in-Ok.ensures, w.2.holds) at
+    let found = c.in-Ok.ensures.good in
+    let q = rw (c.body-body.ensures, w.2.holds) at
     c.in_ok-handle_record-in-Ok.ensures.inputs in
-    let code = rw (record_is f (held c.handling.reader) _ found.more c.held-in-Ok.ensures) at
+    let code = rw (c.body-body.ensures) at
     c.in_ok-handle_record-in-Ok.ensures.code in
-    let shown = rw (record_is f (held c.handling.reader) _ found.more c.held-in-Ok.ensures) at c.after.ensures in
+    let shown = rw (c.body-body.ensures) at c.after.ensures in
     let seen = InputsShown g.W.Watch.shows c.args.gateway.now c.args.watch.now c.handling.watch in
     let known : List SessionInput → Type 0 = λ inputs.
     InputsShown g.W.Watch.shows c.args.gateway.now c.args.watch.now c.after.new.self inputs [] in
-    let more = length-append w.1 (record_at f (held c.handling.reader) ∷ []) in (
+    let more = length-append w.1 (record_at f (g.R.Records.holds c.handling.records).octets ∷ []) in (
       w.0,
-      w.1 ++ record_at f (held c.handling.reader) ∷ [],
+      w.1 ++ record_at f (g.R.Records.holds c.handling.records).octets ∷ [],
       record {
-        stage = record_taken f w.2.stage found c.pass.ensures.holds c.pass.ensures.turns q.1;
+        stage = record_taken f w.2.stage found c.pass.ensures.octets c.pass.ensures.turns q.1;
         through = through_done _ seen c.keep.ensures known w.2.through q.0
             (λ inputs. shown_more q.0.inputs code q.0.shown shown);
         none_waits = λ none. absurd (omega (arith, none, more));
-        few = rw w.2.at_once at c.in_ok-handle_record-in-Ok.ensures.few;
-        at_once = c.handle_record.ensures.at_once ∙ w.2.at_once;
+        few = rw w.2.late at c.in_ok-handle_record-in-Ok.ensures.few;
+        late = c.handle_record.ensures.late ∙ w.2.late;
         holds = c.handle_record.ensures.holds ∙ w.2.holds;
       },
     )
 
-pub returns-in_err-flush-in-Err-clause-fault : goal.returns-in_err-flush-in-Err-clause-fault
-returns-in_err-flush-in-Err-clause-fault g c =
+pub returns-in_err-write_out-in-Err-clause-fault : goal.returns-in_err-write_out-in-Err-clause-fault
+returns-in_err-write_out-in-Err-clause-fault g c =
     let w = c.handling.invariant in
-    let fault = c.in_err-flush-in-Err.ensures.writes in
+    let fault = c.in_err-write_out-in-Err.ensures.writes in
     let seen = InputsShown g.W.Watch.shows c.args.gateway.now c.args.watch.now c.handling.watch in
-    goes_up _ _ faults.Write c.from_residual-in_err-flush-in-Err.ensures.1 fault.0 (stops_behind w.2.stage
+    goes_up _ _ faults.Write c.from_residual-in_err-write_out-in-Err.ensures.1 fault.0 (stops_behind w.2.stage
     fault.1.counted (
       _,
       inl (waiting_failed _ seen _ w.2.few w.2.through
-          (some_records _ _ w.2.none_waits c.in_err-flush-in-Err.ensures.some) fault.1),
+          (some_records _ _ w.2.none_waits c.in_err-write_out-in-Err.ensures.some) fault.1),
     ))
 
 pub handling-preserved : goal.handling-preserved
 handling-preserved g c =
     let w = c.handling.invariant in
     let r = rw c.if-not-branch.false at c.in_ok-read_on-in-Err.ensures.ok in
-    let flushed = c.in_ok-flush-in-Err.ensures in
+    let flushed = c.in_ok-write_out-in-Err.ensures in
     let seen = InputsShown g.W.Watch.shows c.args.gateway.now c.args.watch.now c.handling.watch in (
       w.0 ++ r.octets,
       w.1,
@@ -96,7 +96,7 @@ handling-preserved g c =
         through = through_on _ seen w.2.through flushed.writes.0 flushed.empty;
         none_waits = λ none. ap length flushed.empty;
         few = omega (arith, ap length flushed.empty);
-        at_once = w.2.at_once;
+        late = c.write_out.ensures.late ∙ w.2.late;
         holds = w.2.holds;
       },
     )
@@ -106,8 +106,9 @@ returns-then-not-branch g c =
     let w = c.handling.invariant in
     let seen = InputsShown g.W.Watch.shows c.args.gateway.now c.args.watch.now c.handling.watch in
     let r = rw c.if-not-branch.true at c.in_ok-read_on-in-Err.ensures.ok in
-    let e = ended c.handling.session.totals w.2.stage r c.held.ensures c.in-Err.ensures.end
-    c.in_ok-flush-in-Err.ensures.writes.1 (through_all _ seen _ w.2.through c.in_ok-flush-in-Err.ensures.writes.0) in
+    let e = ended c.handling.session.totals w.2.stage r refl c.in-Err.ensures.end
+    c.in_ok-write_out-in-Err.ensures.writes.1
+    (through_all _ seen _ w.2.through c.in_ok-write_out-in-Err.ensures.writes.0) in
     record {
       ok = (ends_so (λ records. Unit {0}) _ _ _ e.0 r.ended e.1 c.answer.ensures).0;
       fault = (ends_so _ _ _ _ e.0 r.ended e.1 c.answer.ensures).1;
@@ -119,5 +120,6 @@ returns-in_err-read_on-in-Err-clause-fault g c =
     let fault = c.in_err-read_on-in-Err.ensures.fault in
     let seen = InputsShown g.W.Watch.shows c.args.gateway.now c.args.watch.now c.handling.watch in
     goes_up _ _ faults.Read c.from_residual-in_err-read_on-in-Err.ensures.1 fault.0
-    (gives_up c.handling.session.totals w.2.stage fault.1 c.held.ensures c.in-Err.ensures.end
-    c.in_ok-flush-in-Err.ensures.writes.1 (through_all _ seen _ w.2.through c.in_ok-flush-in-Err.ensures.writes.0))
+    (gives_up c.handling.session.totals w.2.stage fault.1 refl c.in-Err.ensures.end
+    c.in_ok-write_out-in-Err.ensures.writes.1
+    (through_all _ seen _ w.2.through c.in_ok-write_out-in-Err.ensures.writes.0))

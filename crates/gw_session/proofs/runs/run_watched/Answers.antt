@@ -1,15 +1,14 @@
-use Rattle.gw_session.proofs.Common.{most_waiting, ap, sym, ◌∙◌}
+use Rattle.gw_session.proofs.Common.{ap, sym, ◌∙◌}
 use Rattle.gw_session.specs.declared.held.HeldPackets.{HeldPackets}
 use Rattle.gw_session.proofs.Ends.{all_as, until_as, either_way}
 use Rattle.gw_session.proofs.Plain.{runs, runs_until, seen_plain}
 use Rattle.gw_session.proofs.runs.run_watched.Goals as goal
 
 pub returns : goal.returns
-unfolding most_waiting
 returns g c =
     let holds = ap (λ (h : HeldPackets). h.holds) c.new-session.ensures.held ∙ c.none.ensures in
     let ok = rw holds at c.process_records.ensures.ok in
-    let fault = rw (c.new-session.ensures.at_once, holds) at c.process_records.ensures.fault in
+    let fault = rw (c.new-answers.ensures.at_once, holds) at c.process_records.ensures.fault in
     record {
       ok = all_as _ _ _ _ _ (λ t records p. runs t records p.0) c.process_records.result ok;
       fault = until_as _ _ _ _ _ (λ t records p. runs t records p.0) _ c.process_records.result

@@ -1,16 +1,15 @@
-use Rattle.gw_session.proofs.Common.{most_waiting, ap, refl, [], InputsShown}
+use Rattle.gw_session.proofs.Common.{ap, refl, [], InputsShown}
 use Rattle.gw_session.specs.declared.held.HeldPackets.{HeldPackets}
 use Rattle.gw_session.proofs.Ends.{all_as, until_as, either_way}
 use Rattle.gw_session.proofs.Silent.{serves, serves_until, serves_watched, serves_watched_until}
 use Rattle.gw_session.proofs.serves.serve_holding.Goals as goal
 
 pub returns : goal.returns
-unfolding most_waiting
 returns g c =
     let holds = ap (λ (h : HeldPackets). h.holds) c.new-session.ensures.held in
     let shown = InputsShown g.W.Watch.shows c.args.gateway.now c.args.watch.now c.process_records.new.watch in
     let ok = rw holds at c.process_records.ensures.ok in
-    let fault = rw (c.new-session.ensures.at_once, holds) at c.process_records.ensures.fault in
+    let fault = rw (c.requires.at_once, holds) at c.process_records.ensures.fault in
     record {
       ok = all_as _ _ _ _ _ (λ t records p. serves records p.0) c.process_records.result ok;
       fault = until_as _ _ _ _ _ (λ t records p. serves records p.0) _ c.process_records.result

@@ -6,9 +6,8 @@ abbrev pub invariant-loop-turn : goal.invariant-loop-turn
 invariant-loop-turn g l = record {
   came : g.I.TrunkInput.came l.incoming ≡ g.I.TrunkInput.came l.initial.incoming;
   asked : g.I.TrunkInput.asked l.incoming ≡ g.I.TrunkInput.asked l.initial.incoming;
-  most : l.most ≤ length l.room;
-  some : 4 < l.most;
-  few : l.most ≤ 2052;
+  some : 0 < length l.room;
+  few : length l.room ≤ 2048;
   asked_first : l.turn ≡ false;
   none : 0 < l._turn → g.I.TrunkInput.has_none l.incoming;
   waited : l._turn ≤ g.I.TrunkInput.waits l.incoming;

@@ -22,6 +22,7 @@ use Rattle.gw_records.proofs.log.Log.add.Code as code
 use denote.Plain.{uint_vals, uint_Tells}
 use denote.Slice.{ShrSlice, slice_val, shr_slice_vals, shr_slice_Tells}
 use Rattle.gw_records.specs.Ports.{calls_of}
+use Rattle.gw_records.specs.Records.{logged}
 
 abbrev Arg : Type 0
 Arg = MutBor Log × (ℕ × (ℕ × (Bor (List ℕ) × (ℕ × Unit {0}))))
@@ -45,7 +46,7 @@ module _ {M : Type 1} {𝓤 : Ura M} (𝓛 : Logic 𝓤) (at_mem : Memory → SP
   x = (record { ref_ptr = (b, o); ghost_name = γ; now = h }, (n, (c, (k, (s, tt)))))
 
   abbrev h' : Log
-  h' = record { octets = h.octets ++ take s k.now; calls = h.calls ++ calls_of n c (take s k.now) }
+  h' = record { octets = h.octets ++ logged n c k.now s; calls = h.calls ++ calls_of n c (take s k.now) }
 
   abbrev at : List Val × (List Val × (List Val × (List Val × (List Val × Unit {0}))))
   at = (vptr b o ∷ [], (vint w8 n ∷ [], (vint w8 c ∷ [], (slice_val k.ref_ptr (length k.now) ∷ [], (vint w64 s ∷ [], tt)))))

@@ -21,7 +21,7 @@ pub loop-i-init : goal.loop-i-init
 loop-i-init g c = record {
   heard = rw (c.begin_record.ensures.empty, ap (λ (s : SessionBuffers). s.recorded) c.begin_record.ensures.others)
       (heard_none _ _ _ _ _ _ _ _ c.begin_record.ensures.batch);
-  at_once = refl;
+  late = refl;
   holds = refl;
   holding = c.begin_record.ensures.holding ∙ ap (λ (h : Bool). h && nat_le (length c.args.octets.now) 2048)
       (sym c.begin_record.ensures.holds);
@@ -30,14 +30,14 @@ loop-i-init g c = record {
 -- a session that holds the packets of a record is one that holds packets, and the record is short
 pub receive_octet-requires-clause-silent : goal.receive_octet-requires-clause-silent
 receive_octet-requires-clause-silent g c = λ on.
-    let same = ap (λ (s : SessionBuffers). s.holding) c.receive_next.ensures.others in
+    let same = ap (λ (s : SessionBuffers). s.holding) c.receive_datagrams.ensures.others in
     let both = and_parts _ _ (sym c.loop-i.invariant.holding ∙ sym same ∙ on) in
     c.requires.silent (sym c.begin_record.ensures.holds ∙ both.0)
 
 pub receive_octet-requires-clause-room : goal.receive_octet-requires-clause-room
 receive_octet-requires-clause-room g c = λ on.
-    let same = ap (λ (s : SessionBuffers). s.holding) c.receive_next.ensures.others in
-    let held = ap (λ (s : SessionBuffers). s.held) c.receive_next.ensures.others in
+    let same = ap (λ (s : SessionBuffers). s.holding) c.receive_datagrams.ensures.others in
+    let held = ap (λ (s : SessionBuffers). s.held) c.receive_datagrams.ensures.others in
     let both = and_parts _ _ (sym c.loop-i.invariant.holding ∙ sym same ∙ on) in
     let few = held_few c.args.octets.now c.loop-i.i c.loop-i.self.recorded c.loop-i.invariant.heard refl in
     let packet : HeldPacket → ℕ × List ℕ = λ p. (p.circuit, p.octets.items) in
@@ -51,11 +51,11 @@ push-requires g c =
     let done = length-take c.loop-i.i c.args.octets.now in
     let kept : c.receive_octet.new.self.answer
     ≡ c.loop-i.self.answer = ap (λ (s : SessionBuffers). s.answer) c.receive_octet.ensures.others
-    ∙ ap (λ (s : SessionBuffers). s.answer) c.receive_next.ensures.others in
+    ∙ ap (λ (s : SessionBuffers). s.answer) c.receive_datagrams.ensures.others in
     let len : length c.receive_octet.new.self.answer.items ≡ length c.args.self.now.answer.items + length w.sent =
     rw kept (ap length w.behind ∙ length-append c.begin_record.new.self.answer.items w.sent)
     ∙ ap (λ (s : SessionBuffers). length s.answer.items + length w.sent) c.begin_record.ensures.others in
-    let room : length c.receive_octet.new.self.answer.items < 65539 =
+    let room : length c.receive_octet.new.self.answer.items < 65535 =
     omega (arith, w.so.0.lengths, c.requires.fits, c.loop-i-test.true) in
     (omega arith, room)
 
@@ -64,51 +64,41 @@ returns-in_err-sent-clause-exchanges g c =
     let octets = c.args.octets.now in
     let i = c.loop-i.i in
     let p = err_from_is_err_and c.from_residual.result c.from_residual.ensures.1 in
-    let waits = ap (λ (s : SessionBuffers). s.waiting.items) c.receive_next.ensures.others in
-    let held = ap (λ (s : SessionBuffers). s.held) c.receive_next.ensures.others in
+    let held = ap (λ (s : SessionBuffers). s.held) c.receive_datagrams.ensures.others in
     let holds = c.loop-i.invariant.holds ∙ c.begin_record.ensures.holds in
-    let hears = rw (waits, held, holds) at c.in_err-sent.ensures.hears in
+    let hears = rw (held, holds) at c.in_err-sent.ensures.hears in
     let o = c.begin_record.ensures.others in
     let heard = rw (
       c.begin_record.ensures.tells,
       c.begin_record.ensures.holds,
       ap (λ (s : SessionBuffers). s.totals) o,
-      ap (λ (s : SessionBuffers). s.waiting) o,
       ap (λ (s : SessionBuffers). s.answer) o,
     ) at c.loop-i.invariant.heard in
-    let stops = stops_once (shown_heard _) (rw holds at c.receive_next.ensures.comes) hears.1 in
+    let stops = stops_once (shown_heard _) (rw holds at c.receive_datagrams.ensures.comes) hears.1 in
     let behind = stops_after (drop (i + 1) octets) (split_at octets i c.loop-i-test.true) heard.so.0 heard.so.3 stops in
     rw (p.1, p.2) (hears.0, behind.0, behind.1)
 
 pub loop-i-preserved : goal.loop-i-preserved
 loop-i-preserved g c =
-    let waits = ap (λ (s : SessionBuffers). s.waiting.items) c.receive_next.ensures.others in
     let kept : c.receive_octet.new.self.answer
     ≡ c.loop-i.self.answer = ap (λ (s : SessionBuffers). s.answer) c.receive_octet.ensures.others
-    ∙ ap (λ (s : SessionBuffers). s.answer) c.receive_next.ensures.others in
+    ∙ ap (λ (s : SessionBuffers). s.answer) c.receive_datagrams.ensures.others in
     let same = ap (λ (s : SessionBuffers). s.recorded) c.receive_octet.ensures.others in
     let batch = ap (λ (s : SessionBuffers). s.batch.items) c.receive_octet.ensures.others in
-    let held = ap (λ (s : SessionBuffers). s.held) c.receive_next.ensures.others in
-    let same_mode = ap (λ (s : SessionBuffers). s.holding) c.receive_next.ensures.others in
+    let held = ap (λ (s : SessionBuffers). s.held) c.receive_datagrams.ensures.others in
+    let same_mode = ap (λ (s : SessionBuffers). s.holding) c.receive_datagrams.ensures.others in
     let holding = ap (λ (s : SessionBuffers). s.holding) c.receive_octet.ensures.others ∙ same_mode in
     let holds = c.loop-i.invariant.holds in
     let q = exchange_is (none_before c.args.octets.now c.loop-i.i c.loop-i.self.recorded c.loop-i.invariant.heard refl)
-    (shown_heard _) (rw holds at c.receive_next.ensures.comes)
-    (rw (waits, same_mode, held, holds) at c.in_ok-sent.ensures.hears) in
+    (shown_heard _) (rw holds at c.receive_datagrams.ensures.comes)
+    (rw (same_mode, held, holds) at c.in_ok-sent.ensures.hears) in
     record {
       heard = rw (same, batch, holding) (heard_more c.args.octets.now c.loop-i.i c.loop-i.self.recorded _
           c.in_ok-sent.sent c.loop-i.invariant.heard c.loop-i-test.true q (rw kept at c.push.ensures.items));
-      at_once = ap (λ (s : SessionBuffers). s.at_once) c.receive_octet.ensures.others
-          ∙ ap (λ (s : SessionBuffers). s.at_once) c.receive_next.ensures.others ∙ c.loop-i.invariant.at_once;
+      late = c.in_ok-sent.ensures.late ∙ c.loop-i.invariant.late;
       holds = c.in_ok-sent.ensures.holds ∙ ap (λ (h : HeldPackets). h.holds) held ∙ c.loop-i.invariant.holds;
       holding = holding ∙ c.loop-i.invariant.holding;
     }
-
-pub returns-in_err-sent-clause-at_once : goal.returns-in_err-sent-clause-at_once
-returns-in_err-sent-clause-at_once g c =
-    ap (λ (s : SessionBuffers). s.at_once) c.receive_octet.ensures.others
-    ∙ ap (λ (s : SessionBuffers). s.at_once) c.receive_next.ensures.others ∙ c.loop-i.invariant.at_once
-    ∙ ap (λ (s : SessionBuffers). s.at_once) c.begin_record.ensures.others
 
 pub send_held-requires-clause-silent : goal.send_held-requires-clause-silent
 send_held-requires-clause-silent g c = λ some.
@@ -120,10 +110,6 @@ send_held-requires-clause-silent g c = λ some.
     let both = and_parts _ _ (sym c.loop-i.invariant.holding ∙ on) in
     c.requires.silent (sym c.begin_record.ensures.holds ∙ both.0)
 
-pub returns-clause-at_once : goal.returns-clause-at_once
-returns-clause-at_once g c =
-    c.loop-i.invariant.at_once ∙ ap (λ (s : SessionBuffers). s.at_once) c.begin_record.ensures.others
-
 pub returns-clause-exchanges : goal.returns-clause-exchanges
 returns-clause-exchanges g c =
     let end : c.loop-i.i ≡ length c.args.octets.now = omega (arith, c.loop-i-test.false, c.loop-i.auto.i-end) in
@@ -132,7 +118,6 @@ returns-clause-exchanges g c =
       c.begin_record.ensures.tells,
       c.begin_record.ensures.holds,
       ap (λ (s : SessionBuffers). s.totals) o,
-      ap (λ (s : SessionBuffers). s.waiting) o,
       ap (λ (s : SessionBuffers). s.answer) o,
     ) at c.loop-i.invariant.heard in
     let sends = rw c.as_slice.ensures.value at c.send_held.ensures.sends in

@@ -7,12 +7,12 @@ invariant-loop-i g l = record {
   heard : HeardSo g.W.Watch.shows l.initial.watch l.watch l.self.holding g.O.PacketPorts.spells
       (world_in l.initial.self.held.holds (g.O.PacketPorts.tells l.initial.packet_ports) l.initial.gateway
       l.initial.self.totals
-      (g.T.Tape.tells l.initial.tape) (g.K.Sink.tells l.initial.sink) l.initial.self.waiting.items)
+      (g.T.Tape.tells l.initial.tape) (g.A.Answers.tells l.initial.sink) (g.A.Answers.waiting l.initial.answers))
       (world_with l.initial.self.held.holds (packets_held l.self.held.packets.items)
       (g.O.PacketPorts.tells l.packet_ports) l.gateway l.self.totals
-      (g.T.Tape.tells l.tape) (g.K.Sink.tells l.sink) l.self.waiting.items)
+      (g.T.Tape.tells l.tape) (g.A.Answers.tells l.sink) (g.A.Answers.waiting l.answers))
       l.self.batch.items l.octets l.i l.self.recorded l.initial.self.answer.items l.self.answer.items;
-  at_once : l.self.at_once ≡ l.initial.self.at_once;
+  late : g.A.Answers.late l.answers ≡ g.A.Answers.late l.initial.answers;
   holds : l.self.held.holds ≡ l.initial.self.held.holds;
   holding : l.self.holding ≡ (l.initial.self.held.holds && nat_le (length l.octets) 2048);
 }

@@ -31,7 +31,7 @@ returns-in-Command-clause-commands g c = record {
       c.let_in.ensures,
       inr (
         c.if-self-2.false,
-        (polls.Command c.in-Command.n, c.in-Command.ensures.asks, (refl, c.if-self.false, c.append.ensures)),
+        (polls.Command c.in-Command.head, c.in-Command.ensures.asks, (refl, c.if-self.false, c.append_record.ensures)),
       ),
     ),
   );
@@ -48,7 +48,7 @@ returns-in-Nothing-clause-commands g c = record {
       c.let_in.ensures,
       inr (
         c.if-self-2.false,
-        (polls.Nothing, nothing-asked c.ask.result _ _ _ c.ask.ensures.asks c.in-Nothing.is, (refl, c.if-self.false)),
+        (polls.Nothing, nothing-asked c.ask.result _ _ c.ask.ensures.asks c.in-Nothing.is, (refl, c.if-self.false)),
       ),
     ),
   );
