@@ -141,6 +141,17 @@ class FeedTests(support.LoopCase):
         await self.feed.finish(support.SECONDS)
         self.assertEqual(self.handed, [True])
 
+    async def test_the_service_ends(self) -> None:
+        """Nothing is told of it as of a fault."""
+        faults = mock.Mock()
+        asyncio.get_running_loop().set_exception_handler(faults)
+        await self.fed(self.stands_by())
+        feeds = {each for each in asyncio.all_tasks() if 'FeedServer.came' in repr(each)}
+        self.assertTrue([each.cancel() for each in feeds])
+        await asyncio.wait(feeds)
+        await asyncio.sleep(0)
+        faults.assert_not_called()
+
     async def test_who_is_not_fed(self) -> None:
         """A stranger, and one with another law. One with other circuits is told which."""
         its = self.stands_by(law='mu')

@@ -136,6 +136,8 @@ class FeedServer:
             self._writer, self._said, self._fresh = writer, time.monotonic(), 0.0
             logger.info('a standby at %s is fed', address)
             await self._feed(program, reader, writer)
+        except asyncio.CancelledError:
+            writer.transport.abort()    # (the service ends)
         except Exception as fault:      # pylint: disable=broad-exception-caught
             logger.warning('feed of %s: %s', address, words_of_fault(fault), extra={'kind': 'feed'})
             writer.transport.abort()
