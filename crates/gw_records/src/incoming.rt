@@ -23,6 +23,11 @@ pub trait Records {
     /// What has come and is not passed, and how many reads may follow.
     ghost holds: { Self → Held };
 
+    /// Before the first read, with the memory for the longest record.
+    fn begin(alloc: Global) -> Result<Self, AllocError>
+        ensures none { IfOk result (λ r. (holds r).octets ≡ []) }
+        ensures turns { IfOk result (λ r. (holds r).reads_left ≡ 2 ^ 62) };
+
     /// The record that is first, or how the records end.
     fn first(&self, kinds: &AcceptedKinds) -> Result<FirstRecord, RecordsEnd>
         ensures good { IfOk result (λ f. IsFirst kinds.now f (holds self.now).octets) }
@@ -62,25 +67,19 @@ pub struct OctetRecords<S> {
     of: PhantomData<S>,
 }
 
-impl<S: Source> OctetRecords<S> {
-    /// Before the first read, with the memory for the longest record.
-    pub fn new(alloc: Global) -> Result<OctetRecords<S>, AllocError>
-        ensures holds { IfOk result (λ r. (holds r.reader).octets ≡ []) }
-        ensures turns { IfOk result (λ r. (holds r.reader).reads_left ≡ 2 ^ 62) }
-    {
-        Ok(OctetRecords {
-            reader: Reader::new(alloc)?,
-            of: PhantomData,
-        })
-    }
-}
-
 impl<S: Source> Records for OctetRecords<S> {
     type Source = S;
 
     ghost tells = { S.tells };
 
     ghost holds = { λ r. holds r.reader };
+
+    fn begin(alloc: Global) -> Result<OctetRecords<S>, AllocError> {
+        Ok(OctetRecords {
+            reader: Reader::new(alloc)?,
+            of: PhantomData,
+        })
+    }
 
     #[inline(always)]
     fn first(&self, kinds: &AcceptedKinds) -> Result<FirstRecord, RecordsEnd> {

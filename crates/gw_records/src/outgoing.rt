@@ -24,6 +24,11 @@ pub trait Answers {
     /// How many octets wait at most once an answer is put.
     ghost late: { Self → ℕ };
 
+    /// Before the first answer. Each is written when it is put.
+    fn at_once() -> Self
+        ensures none { waiting result ≡ [] }
+        ensures late { late result ≡ 0 };
+
     /// Puts the octets that answer a record of the trunk.
     fn put_octets(&mut self, octets: &[u8], sink: &mut Self::Sink) -> Result<(), RunFault>
         requires short { length octets.now < 2 ^ 16 }
@@ -131,6 +136,10 @@ impl<K: Sink> Answers for OctetAnswers<K> {
     ghost waiting = { λ a. a.waiting.items };
 
     ghost late = { λ a. most_waiting a.at_once };
+
+    fn at_once() -> OctetAnswers<K> {
+        OctetAnswers::new(true)
+    }
 
     fn put_octets(&mut self, octets: &[u8], sink: &mut K) -> Result<(), RunFault> {
         put(sink, &mut self.waiting, &front_of(TRUNK, 0, octets.len()))?;

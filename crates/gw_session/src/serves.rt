@@ -73,23 +73,17 @@ pub fn serve<S: Source, P: Ports, K: Sink>(
 // Serves, records on a tape what the gateway takes, shows each record to a watch, and holds packets if `held`
 // does.
 #[inline(always)]
-fn serve_holding<R: Records, A: Answers, P: Ports, T: Tape, W: Watch>(
+fn serve_holding<R: Records + Drop, A: Answers + Drop, P: Ports, T: Tape, W: Watch>(
     alloc: Global,
     held: HeldPackets,
     gateway: &mut Gateway,
     ports: &mut P,
-    records: &mut R,
-    answers: &mut A,
     source: &mut R::Source,
     sink: &mut A::Sink,
     tape: &mut T,
     watch: &mut W,
 ) -> Result<Totals, RunFault>
-    requires begins { CanBegin (R.tells source.old) (A.tells sink.old) }
-    requires holds { (R.holds records.old).octets ≡ [] }
-    requires turns { (R.holds records.old).reads_left ≡ 2 ^ 62 }
-    requires waiting { A.waiting answers.old ≡ [] }
-    requires at_once { A.late answers.old ≡ 0 }
+    requires { CanBegin (R.tells source.old) (A.tells sink.old) }
     ensures ok { IfOk result (ServesAll
         (around_in held.holds (R.tells source.old) (A.tells sink.old) (P.tells ports.old) (T.tells tape.old))
         (around_in held.holds (R.tells source.new) (A.tells sink.new) (P.tells ports.new) (T.tells tape.new))
@@ -104,14 +98,18 @@ fn serve_holding<R: Records, A: Answers, P: Ports, T: Tape, W: Watch>(
         gateway.old gateway.new (InputsShown W.shows gateway.old watch.old watch.new)
         (watch.new ≡ watch.old) result }
 {
+    let Ok(mut records) = R::begin(alloc) else {
+        return Err(RunFault::OutOfMemory);
+    };
     let Ok(room) = ReceiveRoom::new(alloc) else {
         return Err(RunFault::OutOfMemory);
     };
     let mut session = SessionBuffers::new(room, held);
+    let mut answers = A::at_once();
     process_records(
         &SERVED,
-        records,
-        answers,
+        &mut records,
+        &mut answers,
         &mut session,
         gateway,
         ports,
@@ -147,18 +145,12 @@ pub fn serve_recorded<S: Source, P: Ports, K: Sink, T: Tape>(
         (around (S.tells source.new) (K.tells sink.new) (P.tells ports.new) (T.tells tape.new))
         gateway.old gateway.new) }
 {
-    let Ok(mut records) = OctetRecords::<S>::new(alloc) else {
-        return Err(RunFault::OutOfMemory);
-    };
-    let mut answers = OctetAnswers::<K>::new(true);
     let held = HeldPackets::none(alloc);
-    serve_holding(
+    serve_holding::<OctetRecords<S>, OctetAnswers<K>, P, T, NoWatch>(
         alloc,
         held,
         gateway,
         ports,
-        &mut records,
-        &mut answers,
         source,
         sink,
         tape,
@@ -167,30 +159,24 @@ pub fn serve_recorded<S: Source, P: Ports, K: Sink, T: Tape>(
 }
 
 /// Serves the records that come, and puts answers to whatever takes them. Else it does as [`serve_recorded`],
-/// but sends the packets of a record of the trunk when all of it is on the
-/// tape, in their order, behind the receives of its octets. (A record of more than 2,048 octets has its
-/// packets sent as they are made.) A watch is shown each datagram when the gateway was given it, and each
-/// record when the gateway has acted on it. A record in which a write fails may not be shown.
+/// but sends the packets of a record of the trunk when all of it is on the tape, in their order, behind the
+/// receives of its octets. (A record of more than 2,048 octets has its packets sent as they are made.) A
+/// watch is shown each datagram when the gateway was given it, and each record when the gateway has acted on
+/// it. A record in which a write fails may not be shown.
 ///
 /// # Errors
 ///
 /// Those of [`serve`].
-pub fn serve_logged<R: Records, A: Answers, P: Ports, T: Tape, W: Watch>(
+pub fn serve_logged<R: Records + Drop, A: Answers + Drop, P: Ports, T: Tape, W: Watch>(
     alloc: Global,
     gateway: &mut Gateway,
     ports: &mut P,
-    records: &mut R,
-    answers: &mut A,
     source: &mut R::Source,
     sink: &mut A::Sink,
     tape: &mut T,
     watch: &mut W,
 ) -> Result<Totals, RunFault>
-    requires begins { CanBegin (R.tells source.old) (A.tells sink.old) }
-    requires holds { (R.holds records.old).octets ≡ [] }
-    requires turns { (R.holds records.old).reads_left ≡ 2 ^ 62 }
-    requires waiting { A.waiting answers.old ≡ [] }
-    requires at_once { A.late answers.old ≡ 0 }
+    requires { CanBegin (R.tells source.old) (A.tells sink.old) }
     ensures ok { IfOk result (ServesAll
         (around_log (R.tells source.old) (A.tells sink.old) (P.tells ports.old) (T.tells tape.old))
         (around_log (R.tells source.new) (A.tells sink.new) (P.tells ports.new) (T.tells tape.new))
@@ -208,7 +194,5 @@ pub fn serve_logged<R: Records, A: Answers, P: Ports, T: Tape, W: Watch>(
     let Ok(held) = HeldPackets::new(alloc) else {
         return Err(RunFault::OutOfMemory);
     };
-    serve_holding(
-        alloc, held, gateway, ports, records, answers, source, sink, tape, watch,
-    )
+    serve_holding::<R, A, P, T, W>(alloc, held, gateway, ports, source, sink, tape, watch)
 }

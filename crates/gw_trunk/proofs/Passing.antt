@@ -4,6 +4,7 @@ use Rattle.std.proofs.Common.{List, [], ◌∷◌, length, take, drop, refl, sym
 use Rattle.std.proofs.Common.{length-take, take_all}
 use Rattle.std.proofs.Math.Seq.{take-add}
 use Rattle.gw_records.specs.Records.{record_of}
+use Rattle.gw_trunk.specs.Device.{WasGivenAll}
 use Rattle.gw_trunk.specs.Bodies.{HasPassed, RecordPosition, body_place, is_answer, is_between, part_passed, passed}
 use Rattle.gw_trunk.specs.Bodies.{place_behind, place_next, to_clients}
 
@@ -159,3 +160,9 @@ none-passed taken went told t w a =
 pub went-more : (went before now octets : List ℕ) (done n : ℕ) → before ≡ went ++ take done octets
     → now ≡ before ++ take n (drop done octets) → now ≡ went ++ take (done + n) octets
 went-more went before now octets done n a b = b ∙ rw (a, take-add done n octets, append_assoc) refl
+
+-- A write was given what is left of octets: one was given all of them, the first if some had gone.
+pub given-more : {O : Type 0} (was_given : O → List ℕ → Type 0) (octets : List ℕ) (done : ℕ) (now : O)
+    → (0 < done → WasGivenAll was_given octets) → was_given now (drop done octets) → WasGivenAll was_given octets
+given-more was_given octets zero now before given = (now, given)
+given-more was_given octets (suc done) now before given = before (omega arith)

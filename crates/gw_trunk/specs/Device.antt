@@ -88,6 +88,10 @@ HasFailed fails = (kind : ErrorKind) × fails kind × (is_for_later kind ≡ fal
 abbrev pub FailsOrStands : {O : Type 0} → (O → Type 0) → (O → ℕ) → O → Type 0
 FailsOrStands has_failed waits device = has_failed device ⊎ (2 ^ 63 ≤ waits device)
 
+-- a write was given all of these octets
+abbrev pub WasGivenAll : {O : Type 0} → (O → List ℕ → Type 0) → List ℕ → Type 0
+WasGivenAll {O} was_given octets = (written : O) × was_given written octets
+
 -- a read returned this, and what it gave, the first octets of a room, is behind what others gave
 abbrev pub GaveBehind : (Result ℕ ErrorKind → Type 0) → List ℕ → List ℕ → Result ℕ ErrorKind → List ℕ → Type 0
 GaveBehind has_read before after read room = has_read read × (after ≡ before ++ octets_read read room)

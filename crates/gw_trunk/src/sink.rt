@@ -1,10 +1,10 @@
 //! Which answers of a session go to the trunk, and which to clients (`TrunkRecordSink`).
 
 ghost use Rattle.std.specs.Prelude.{◌≡◌, ◌≤◌, ◌<◌, ◌^◌, ◌++◌, ◌⊎◌, [], length, take, drop};
-ghost use Rattle.std.specs.Prelude.{ℕ, IfOk, Err, OnErr, true, false};
+ghost use Rattle.std.specs.Prelude.{ℕ, IfOk, Err, OnErr, OnOk, true, false};
 ghost use Rattle.gw_records.specs.Records.{code_record, trunk_record};
 ghost use Rattle.gw_records.specs.Streams.{CanCount, Writes};
-ghost use Rattle.gw_trunk.specs.Device.{FailsOrStands};
+ghost use Rattle.gw_trunk.specs.Device.{FailsOrStands, WasGivenAll};
 ghost use Rattle.gw_trunk.specs.Bodies.{HasPassed, told_by};
 
 use crate::device::TrunkOutput;
@@ -50,6 +50,7 @@ fn put_all<O: TrunkOutput>(outgoing: &mut O, octets: &[u8]) -> usize
     ensures went { O.went outgoing.new ≡ O.went outgoing.old ++ take result octets.now }
     ensures stops { result < length octets.now → FailsOrStands O.has_failed O.waits outgoing.new
         ⊎ O.was_given outgoing.new (drop result octets.now) }
+    ensures given { 0 < result → WasGivenAll O.was_given octets.now }
 {
     let mut done = 0;
     'putting: while done < octets.len() {
@@ -102,6 +103,7 @@ impl<O: TrunkOutput, A: TrunkOutput> TrunkRecordSink<O, A> {
         ensures fails { OnErr result ((self.old.cut ≡ true)
             ⊎ FailsOrStands O.has_failed O.waits self.new.outgoing ⊎ ((n : ℕ) × (n < length octets.now)
             × O.was_given self.new.outgoing (drop n octets.now))) }
+        ensures given { OnOk result (0 < length octets.now → WasGivenAll O.was_given octets.now) }
     {
         if self.cut {
             return note_cut(&mut self.cut, &mut self.failed);
@@ -153,16 +155,6 @@ pub struct TrunkAnswers<O: TrunkOutput, A: TrunkOutput> {
     answers: PhantomData<A>,
 }
 
-impl<O: TrunkOutput, A: TrunkOutput> TrunkAnswers<O, A> {
-    /// Before the first answer.
-    pub fn new() -> TrunkAnswers<O, A> {
-        TrunkAnswers {
-            outgoing: PhantomData,
-            answers: PhantomData,
-        }
-    }
-}
-
 impl<O: TrunkOutput, A: TrunkOutput> Answers for TrunkAnswers<O, A> {
     type Sink = TrunkRecordSink<O, A>;
 
@@ -171,6 +163,13 @@ impl<O: TrunkOutput, A: TrunkOutput> Answers for TrunkAnswers<O, A> {
     ghost waiting = { λ _. [] };
 
     ghost late = { λ _. 0 };
+
+    fn at_once() -> TrunkAnswers<O, A> {
+        TrunkAnswers {
+            outgoing: PhantomData,
+            answers: PhantomData,
+        }
+    }
 
     fn put_octets(
         &mut self,

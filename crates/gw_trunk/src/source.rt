@@ -17,6 +17,7 @@ use gw_records::{
     AcceptedKinds, FRONT_LEN, FirstRecord, Log, MAX_READS, RecordHead, Records, RecordsEnd,
     RunFault, SourceFault,
 };
+use std::alloc::{AllocError, Global};
 use std::marker::PhantomData;
 
 /// The octets of a trunk as T records, and C and K records of clients between them. Each read gives one whole
@@ -191,21 +192,6 @@ pub struct TrunkRecords<I: TrunkInput> {
     ghost stands: { (f : FirstRecord) → first ≡ Some f → stands_in_room f ≡ true },
 }
 
-impl<I: TrunkInput> TrunkRecords<I> {
-    /// Before the first read.
-    pub fn new() -> TrunkRecords<I>
-        ensures none { result.first ≡ None }
-        ensures turns { result.reads_left ≡ 2 ^ 62 }
-    {
-        TrunkRecords {
-            room: [0; ROOM_LEN],
-            first: None,
-            reads_left: MAX_READS,
-            of: PhantomData,
-        }
-    }
-}
-
 // Whether records of this head are accepted.
 fn is_accepted(kinds: &AcceptedKinds, head: RecordHead) -> bool
     ensures { result ≡ is_accepted kinds.now head }
@@ -224,6 +210,15 @@ impl<I: TrunkInput> Records for TrunkRecords<I> {
     ghost tells = { λ s. source_told s.failed s.reads s.log.octets };
 
     ghost holds = { λ r. holding r.first r.room r.reads_left };
+
+    fn begin(_alloc: Global) -> Result<TrunkRecords<I>, AllocError> {
+        Ok(TrunkRecords {
+            room: [0; ROOM_LEN],
+            first: None,
+            reads_left: MAX_READS,
+            of: PhantomData,
+        })
+    }
 
     #[inline(always)]
     fn first(&self, kinds: &AcceptedKinds) -> Result<FirstRecord, RecordsEnd> {

@@ -58,17 +58,7 @@ pub(crate) fn serve_trunk<
         gateway.old gateway.new (InputsShown W.shows gateway.old watch.old watch.new)
         (watch.new ≡ watch.old) result }
 {
-    let mut records = TrunkRecords::<I>::new();
-    let mut answers = TrunkAnswers::<O, A>::new();
-    serve_logged(
-        alloc,
-        gateway,
-        ports,
-        &mut records,
-        &mut answers,
-        source,
-        sink,
-        tape,
-        watch,
+    serve_logged::<TrunkRecords<I>, TrunkAnswers<O, A>, P, T, W>(
+        alloc, gateway, ports, source, sink, tape, watch,
     )
 }

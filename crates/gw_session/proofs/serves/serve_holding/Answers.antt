@@ -9,7 +9,7 @@ returns g c =
     let holds = ap (λ (h : HeldPackets). h.holds) c.new-session.ensures.held in
     let shown = InputsShown g.W.Watch.shows c.args.gateway.now c.args.watch.now c.process_records.new.watch in
     let ok = rw holds at c.process_records.ensures.ok in
-    let fault = rw (c.requires.at_once, holds) at c.process_records.ensures.fault in
+    let fault = rw (c.at_once-answers.ensures.late, holds) at c.process_records.ensures.fault in
     record {
       ok = all_as _ _ _ _ _ (λ t records p. serves records p.0) c.process_records.result ok;
       fault = until_as _ _ _ _ _ (λ t records p. serves records p.0) _ c.process_records.result
