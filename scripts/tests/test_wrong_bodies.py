@@ -76,13 +76,22 @@ class WrongBodiesTests(FolderCase):
                   for name, (text, _) in EDITS.items()}
         for path, text in texts.items():
             self.write(path, text)
-        ran = subprocess.run([f'{self.top}/scripts/wrong-bodies'], stdout=subprocess.PIPE, text=True)
-        *lines, last = ran.stdout.splitlines()
-        told = dict(line.removeprefix('small/').split(': ', 1) for line in lines)
+        status, told, last = self.tried()
         self.assertEqual(sorted(told), sorted(EDITS))
         for name, (_, said) in EDITS.items():
             self.assertTrue(told[name].startswith(said), f'{name}: {told[name]}')
-        self.assertEqual((ran.returncode, last), (1, '4 passed, 6 failed'))
+        self.assertEqual((status, last), (1, '4 passed, 6 failed'))
+        halves = [self.tried('--part', part)[1] for part in ('0/2', '1/2')]
+        self.assertEqual(halves[0] | halves[1], told)
+        unread = {name for name, text in told.items() if text.startswith('BAD EDIT')}
+        self.assertEqual(halves[0].keys() & halves[1].keys(), unread)
+        self.assertTrue(all(half.keys() - unread for half in halves))
+
+    def tried(self, *words: str) -> tuple[int, dict[str, str], str]:
+        """The status, what is said of each edit, and the last line."""
+        ran = subprocess.run([f'{self.top}/scripts/wrong-bodies', *words], stdout=subprocess.PIPE, text=True)
+        *lines, last = ran.stdout.splitlines()
+        return ran.returncode, dict(line.removeprefix('small/').split(': ', 1) for line in lines), last
 
 
 class FunctionTests(unittest.TestCase):
