@@ -142,7 +142,7 @@ class FeedTests(support.LoopCase):
         self.assertEqual(self.handed, [True])
 
     async def test_the_service_ends(self) -> None:
-        """Nothing is told of it as of a fault."""
+        """A feed that ends with it is no fault."""
         faults = mock.Mock()
         asyncio.get_running_loop().set_exception_handler(faults)
         await self.fed(self.stands_by())
