@@ -80,9 +80,9 @@ pub record LetsIn (gateway : Gateway) (t t' : Teller) : Type 0 where
   pub all : LetAllIn gateway streams t last
   pub ends : ((length streams ≡ 8) × (t' ≡ last)) ⊎ ((length streams < 8) × FindsNobody last t')
 
--- clients are looked at behind a record of the trunk: behind each if there is none, else once in 2,048 octets
+-- clients are looked at behind a record of the trunk: behind each if there is none, else once in 8,192 octets
 abbrev pub IsLook : Record → ℕ → Teller → Type 0
-IsLook (Record.Trunk octets) before t = AllFree t.places ⊎ (before / 2048 ≢ t.place / 2048)
+IsLook (Record.Trunk octets) before t = AllFree t.places ⊎ (before / 8192 ≢ t.place / 8192)
 IsLook _ before t = ⊥
 
 -- Those who have left are disconnected, and then new clients are let in.

@@ -31,7 +31,7 @@ use std::io;
 const MOST_CLIENTS: usize = 8;
 
 // The octets of the trunk from one look at clients to the next.
-const LOOK: u64 = 2048;
+const LOOK: u64 = 8192;
 
 /// Sends the clients of a Unix socket the state of a trunk and its changes, as lines of text (e1gw-tell(5)).
 /// What a client does not take at once waits for it: 64 KiB at most, in memory taken at the start. A client
@@ -208,7 +208,8 @@ impl Teller {
     }
 
     // Whether clients are looked at behind a record that began at this place: if it is of the trunk, each
-    // time if there is none, else each 8 ms, since a look costs two system calls.
+    // time if there is none, else each 32 ms. (For each call of accept the system makes a socket, also if
+    // nobody waits: each 8 ms this took 5 % of the program's time.)
     fn is_look(&self, head: &RecordHead, before: u64) -> bool
         ensures is { (body : List ℕ) → result ≡ true → IsLook (named head.now body) before self.now }
         ensures not { (body : List ℕ) → result ≡ false
