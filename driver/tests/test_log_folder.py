@@ -159,7 +159,7 @@ class FolderReaderTests(LogFolderCase):
         self.assertEqual(place, len(self.written))
 
     def test_on_from_a_place(self) -> None:
-        """Another reader goes on where the one before it was; of another log it begins anew."""
+        """Another reader goes on where the one before it was, or at the older state; of another log it begins anew."""
         for _ in range(20):
             self.append()
         before = len(self.written)
@@ -177,9 +177,10 @@ class FolderReaderTests(LogFolderCase):
         assert isinstance(first, LogBegun)
         self.assertTrue(first.is_anew)
         self.turns()
-        first, *_ = FolderReader(self.files(), 0).look()
-        assert isinstance(first, LogBegun)
-        self.assertEqual((first.missed, first.is_anew), (first.state.place, False))
+        found = FolderReader(self.files(), 0).look()
+        self.assertEqual([type(news) for news in found], [LogBegun, LogPiece, LogTurn])
+        assert isinstance(found[0], LogBegun)
+        self.assertEqual((found[0].missed, found[0].is_anew, found[0].state.place), (before, False, before))
 
     def test_room(self) -> None:
         """To the last octet of a file."""

@@ -186,7 +186,8 @@ class LogReaderTests(support.LoopCase):
         self.written(at + 1e6)
         with self.assertLogs('e1gw.service.reader', 'WARNING'):
             await self.reader.copied()
-        self.assertEqual(self.reader.octets, before + octets + (self.log.place - place - octets) - 4)
+        records = 501           # that the log still has, whose octets are counted
+        self.assertEqual(self.reader.octets, before + octets + (self.log.place - place - octets) - 4 * records)
 
     async def test_it_ends(self) -> None:
         """And with it what tries a ring again."""

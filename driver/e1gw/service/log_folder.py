@@ -222,10 +222,17 @@ class FolderReader:
         return LogBegun(state, max(0, state.place - self.place) if self.place >= 0 else 0, state.place < self.place)
 
     def _rest(self, number: int, state: LogState) -> list[LogNews]:
-        """What the pair before a state has behind what was read."""
+        """What the pair before a state has behind what was read; of one that was not read at all its state, too."""
         before = self.files.state(number) if 0 <= self.place < state.place else None
         head = self.files.heads(number) if before else None
-        return self._more(number, head, before.place) if before and head and head.turn == before.turn else []
+        if not before or not head or not head.turn == before.turn < state.turn:     # (else it is written over)
+            return []
+        was, begun = self.place, [self._at(before)] if self.place < before.place else []
+        self.place = max(was, before.place)
+        if more := self._more(number, head, before.place):
+            return begun + more
+        self.place = was        # (it was written over meanwhile)
+        return []
 
     def _more(self, number: int, head: Head, base: int) -> list[LogNews]:
         """The records of a pair, whose state is at `base`, behind what was read."""
