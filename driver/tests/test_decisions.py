@@ -13,15 +13,15 @@ from e1gw.service.decisions import (DEATHS, FIRST_PAUSE, MOST_DEATHS, MOST_ENDED
                                     Deaths, Flow, FlowChange, Found, NextStep, ProgramEnd, ProgramFault,
                                     ReloadEffects, Takeover, Trial, Wish, after_end, takeover_of, who_goes)
 
-OFTEN = Deaths((1.0, 1.1, 1.2, 1.3), 0.0)       # one more at 1.4 waits
+OFTEN = Deaths((1.0, 1.1, 1.2, 1.3), 0.0, DEATHS - 1)       # one more at 1.4 waits; a crash is one too many
 
 
 def ends() -> Iterator[ProgramEnd]:
     """Each kind of end."""
     flags = itertools.product((False, True), repeat=6)
-    for wish, fault, trial, (was_up, is_well, is_killed, is_over, is_first, reopens) in itertools.product(
+    for wish, fault, trial, (was_up, is_well, is_crash, is_over, is_first, reopens) in itertools.product(
             Wish, ProgramFault, (None, Trial(), Trial(99.0, MOST_DEATHS - 1)), flags):
-        yield ProgramEnd(wish, fault, was_up, is_well, is_killed, is_over, is_first, reopens, trial, OFTEN, 1.4)
+        yield ProgramEnd(wish, fault, was_up, is_well, is_crash, is_over, is_first, reopens, trial, OFTEN, 1.4)
 
 
 class AfterEndTests(unittest.TestCase):
@@ -50,7 +50,7 @@ class AfterEndTests(unittest.TestCase):
             (not end.was_up and end.is_first, Act.FINISH),
             (end.was_up and is_asked, Act.START),
             (end.was_up and end.is_trunk_over, Act.REOPEN if end.reopens else Act.FINISH),
-            (last_chance, Act.GO_BACK), (not end.was_up and end.is_killed, Act.NEW_LOG), (True, Act.START))
+            (last_chance, Act.GO_BACK), (not end.was_up and end.is_crash, Act.NEW_LOG), (True, Act.START))
         return next(act for holds, act in rules if holds)
 
     def test_status(self) -> None:
@@ -63,12 +63,30 @@ class AfterEndTests(unittest.TestCase):
 
     def test_a_trial_goes_on(self) -> None:
         """A death counts; an end that was asked for, and a trunk that is opened again, do not."""
-        end = ProgramEnd(Wish.NONE, ProgramFault.NONE, was_up=True, is_well=False, is_killed=True, is_trunk_over=False,
+        end = ProgramEnd(Wish.NONE, ProgramFault.NONE, was_up=True, is_well=False, is_crash=True, is_trunk_over=False,
                          is_first=False, reopens=True, trial=Trial(50.0), deaths=Deaths(), now=1.0)
         self.assertEqual(after_end(end), NextStep(Act.START, Deaths((1.0,)), Trial(50.0, 1)))
         self.assertEqual(after_end(replace(end, wish=Wish.RENEW, is_well=True)).trial, Trial(50.0))
         self.assertEqual(after_end(replace(end, is_trunk_over=True)).trial, Trial(50.0))
         self.assertEqual(Trial().is_up(100.0).is_up(150.0), Trial(100.0 + TRIED))
+
+    def test_when_a_log_is_put_aside(self) -> None:
+        """Only if five programs in a row crash on it before they are up. No number of kills does it: calls go on."""
+        end = ProgramEnd(Wish.NONE, ProgramFault.NONE, was_up=False, is_well=False, is_crash=True, is_trunk_over=False,
+                         is_first=False, reopens=True, trial=None, deaths=Deaths(), now=1.0)
+        kill, up = replace(end, is_crash=False), replace(end, was_up=True)
+        for ends in ([kill] * 20, [*[up] * 4, kill] * 4, [up] * 20, [*[end] * 4, kill] * 3, [*[end] * 4, up] * 3):
+            self.assertEqual({step.act for step in self.steps(ends)}, {Act.START})
+        steps = self.steps([*[up] * 9, *[end] * 10])
+        self.assertEqual([n for n, step in enumerate(steps, 1) if step.act is Act.NEW_LOG], [14, 19])
+
+    def steps(self, ends: list[ProgramEnd]) -> list[NextStep]:
+        """What follows each of these, which come one behind the other."""
+        steps, deaths = list[NextStep](), Deaths()
+        for n, end in enumerate(ends):
+            steps.append(after_end(replace(end, deaths=deaths, now=n / 10)))
+            deaths = steps[-1].deaths
+        return steps
 
 
 class DecisionTests(unittest.TestCase):
@@ -76,15 +94,15 @@ class DecisionTests(unittest.TestCase):
         """Five deaths in two seconds are too many; then there are pauses, up to ten seconds, until one has lived."""
         deaths, now, pauses = Deaths(), 100.0, list[float]()
         for place in range(DEATHS + 9):
-            deaths = deaths.with_one(now)
+            deaths = deaths.with_one(now, False)
             pauses.append(deaths.pause)
             now += deaths.pause + (0.1 if place < DEATHS else 0.01)
         self.assertEqual(pauses, [*[0.0] * (DEATHS - 1), 0.5, 1.0, 2.0, 4.0, 8.0, *[MOST_PAUSE] * 5])
-        self.assertEqual(deaths.with_one(now + 100).pause, 0.0)
+        self.assertEqual(deaths.with_one(now + 100, False).pause, 0.0)
 
     def test_within_two_seconds(self) -> None:
-        self.assertEqual(Deaths((0.0, 0.5, 1.0, 1.5)).with_one(2.0).pause, 0.5)
-        self.assertEqual(Deaths((0.0, 0.5, 1.0, 1.5)).with_one(2.01).pause, 0.0)
+        self.assertEqual(Deaths((0.0, 0.5, 1.0, 1.5)).with_one(2.0, False).pause, 0.5)
+        self.assertEqual(Deaths((0.0, 0.5, 1.0, 1.5)).with_one(2.01, False).pause, 0.0)
 
     def test_figures_of_the_manual(self) -> None:
         """Of e1gw-trunk(1) and OPERATING.md."""

@@ -31,6 +31,7 @@ HAND = ', what it had in hand is lost: 2048 octets (8 ms) at most'
 UP, WAITS = {'up': 1, 'ends': -9}, dict[str, Any]()
 BEGINS, QUIT = 'notice: begins: program A carries the trunk', 'ends: quit, behind octet 0'
 KILLED = 'the program ended by signal 9 (SIGKILL)'
+CRASHED = 'the program ended by signal 11 (SIGSEGV)'
 LOST = 'the trunk has ended: the program says: fault 5 Read at 7'
 
 
@@ -67,9 +68,13 @@ ENDS: dict[str, tuple[str, list[dict[str, Any]], list[str], int]] = {
     'one never comes up later': ('', [UP, says('log y wants 8 octets'), WAITS], [
         BEGINS, 'program: log y wants 8 octets',
         'notice: the program says: log y wants 8 octets: program B goes on after T ms', QUIT], 0),
-    'a log with which each one dies': ('', [UP, *[{'ends': -9}] * 4, WAITS], [
-        BEGINS, f'error: {KILLED}: the log is put aside, and a new one begins',
-        f'warning: {KILLED}: program B goes on after T ms; all calls begin anew', QUIT], 0),
+    'a log at which each one crashes': ('', [UP, *[{'ends': -11}] * 5, WAITS], [
+        BEGINS, f'error: {CRASHED}: the next one begins in 0.5 s',
+        f'error: {CRASHED}: the log is put aside, and a new one begins',
+        f'warning: {CRASHED}: program B goes on after T ms; all calls begin anew', QUIT], 0),
+    'each one is killed before it is up': ('', [UP, *[{'ends': -9}] * 5, WAITS], [
+        BEGINS, *(f'error: {KILLED}: the next one begins in {pause} s' for pause in ('0.5', '1')),
+        f'notice: {KILLED}: program B goes on after T ms', QUIT], 0),
     'five deaths': ('--totals', [*[UP] * 5, WAITS], [
         BEGINS, *(f'warning: {KILLED}: program {each} goes on after T ms{HAND}' for each in 'BCDE'),
         f'error: {KILLED}: the next one begins in 0.5 s',

@@ -134,6 +134,12 @@ class ChildEndTests(unittest.IsolatedAsyncioTestCase):
                 self.assertEqual((child.status, child.words(), child.last_words()), (status, words, last))
         self.assertEqual((signal_words(15), signal_words(35)), ('15 (SIGTERM)', '35'))
 
+    async def test_crashes(self) -> None:
+        """By the signals that a fault raises: SIGILL, SIGTRAP, SIGABRT, SIGBUS, SIGFPE, SIGSEGV, SIGSYS."""
+        kills = [f'ulimit -c 0; kill -{number} $$' for number in range(1, 32) if number not in range(19, 23)]
+        ends = [await self.ended(script) for script in ('exit 0', 'exit 11', *kills)]       # (four stop it)
+        self.assertEqual({its.status for its in ends if its.has_crashed()}, {-4, -5, -6, -7, -8, -11, -31})
+
     async def test_what_it_says(self) -> None:
         """Counts of its end are no lines; what comes again and again is told once, and not kept. Of a line without an
         end it is waited for the rest."""

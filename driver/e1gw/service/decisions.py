@@ -48,15 +48,18 @@ class Act(Enum):
 
 @dataclass(frozen=True)
 class Deaths:
-    """Programs that died shortly one after another, and how long the next one waits."""
+    """Programs that died shortly one after another, and how long the next one waits; and how many of the last ones
+    crashed before they carried the trunk."""
 
     times: tuple[float, ...] = ()
     pause: float = 0.0
+    crashes: int = 0
 
-    def with_one(self, now: float) -> Deaths:
+    def with_one(self, now: float, is_crash: bool) -> Deaths:
         times = (*self.times, now)[-DEATHS:]
         is_often = len(times) == DEATHS and now - times[0] <= max(WITHIN, DEATHS * self.pause)
-        return Deaths(times, min(MOST_PAUSE, max(FIRST_PAUSE, 2 * self.pause)) if is_often else 0.0)
+        pause = min(MOST_PAUSE, max(FIRST_PAUSE, 2 * self.pause)) if is_often else 0.0
+        return Deaths(times, pause, self.crashes + 1 if is_crash else 0)
 
 
 @dataclass(frozen=True)
@@ -81,7 +84,7 @@ class ProgramEnd:
     fault: ProgramFault
     was_up: bool                # it has carried the trunk
     is_well: bool               # it has ended in order
-    is_killed: bool             # a signal has ended it that this service did not send
+    is_crash: bool              # a signal has ended it that a fault of its own raises, and nobody who kills
     is_trunk_over: bool         # the other end has closed the trunk
     is_first: bool              # no program was up since the service has begun with a trunk of its own
     reopens: bool
@@ -129,13 +132,17 @@ def _never_up(end: ProgramEnd) -> NextStep:
         return NextStep(Act.STAND_BY, end.deaths)
     if end.is_first:
         return NextStep(Act.FINISH, end.deaths, status=1)
-    step = _died(end)               # (of a log with which each one dies none is to be had)
-    return replace(step, act=Act.NEW_LOG, pause=0.0) if end.is_killed and step.pause else step
+    step = _died(end)
+    if step.deaths.crashes < DEATHS:
+        return step
+    # of a log with which each one crashes none is to be had
+    return replace(step, act=Act.NEW_LOG, deaths=replace(step.deaths, crashes=0), pause=0.0)
 
 
 def _died(end: ProgramEnd) -> NextStep:
     """One that died, of itself or by a signal."""
-    trial, deaths = end.trial and end.trial.with_death(), end.deaths.with_one(end.now)
+    trial = end.trial and end.trial.with_death()
+    deaths = end.deaths.with_one(end.now, end.is_crash and not end.was_up)
     if trial and trial.deaths >= MOST_DEATHS:
         return NextStep(Act.GO_BACK, deaths)
     return NextStep(Act.START, deaths, trial, deaths.pause)

@@ -225,9 +225,8 @@ class TrunkCarrier:
         is_over = wish is Wish.NONE and was_up and (
             fault is ProgramFault.TRUNK or is_well and self.trunk.has_ended(program.process.totals()['octets']))
         trial = self.versions.trial if program.version is self.versions.now else None
-        is_killed = not hangs and wish is Wish.NONE and (program.process.status or 0) < 0
-        return ProgramEnd(wish, fault, was_up, is_well, is_killed, is_over, not self.was_up, self.wants.line.reopens,
-                          trial, self._deaths, time.monotonic())
+        return ProgramEnd(wish, fault, was_up, is_well, program.process.has_crashed(), is_over, not self.was_up,
+                          self.wants.line.reopens, trial, self._deaths, time.monotonic())
 
     async def _do(self, step: NextStep, end: ProgramEnd, failure: str, words: str) -> None:
         """Does what was decided."""

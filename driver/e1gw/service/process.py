@@ -22,6 +22,7 @@ UNKNOWN = 255               # the status of a process that another one has start
 TOTALS = 'records', 'octets', 'datagrams', 'dropped', 'port_faults', 'discarded_multiframes'
 AT_END = {*TOTALS, *COUNTS, 'unreported'}       # what it counts at its end
 OFTEN = 'live ', 'satop ', 'slots '     # how lines begin that come again and again
+CRASHES = signal.SIGSEGV, signal.SIGBUS, signal.SIGABRT, signal.SIGILL, signal.SIGFPE, signal.SIGTRAP, signal.SIGSYS
 PYTHON = 'import sys; sys.path[:0] = [sys.argv.pop(1)]; from e1gw.{} import main; sys.exit(main())'
 TOP = os.path.dirname(os.path.dirname(os.path.dirname(os.path.abspath(__file__))))
 
@@ -166,6 +167,10 @@ class Child:
         """Ends it. One that even that does not end at once (it waits for a device) is left."""
         self.signal(signal.SIGKILL)
         await self.ends_within(patience)
+
+    def has_crashed(self) -> bool:
+        """Whether a signal has ended it that a fault of its own raises. (Who kills it says nothing of it.)"""
+        return -(self.status or 0) in CRASHES
 
     def words(self) -> str:
         """How it ended."""
