@@ -12,7 +12,7 @@ from typing import Any
 
 from .session import OCTETS_A_SECOND
 
-TICK = 0.06                 # seconds between two looks
+TICK = 0.08                 # seconds between two looks
 WINDOW = 2                  # looks over which the flow has to be steady
 STEADY = 0.02               # seconds by which octets of a steady flow are early or late
 DRIFT = 200e-6              # a clock that is off by no more than this is followed

@@ -27,12 +27,36 @@ _SPAN = round(REFUSED_FOR * OCTETS_A_SECOND)
 _OF_TIME = {0: False, int(DatagramRefusal.LATE): True, int(DatagramRefusal.FULL): True}
 
 
+class CountedDatagrams:
+    """How many datagrams there were at which places of the trunk, the first place first."""
+
+    def __init__(self) -> None:
+        self._told, self.count = deque[tuple[int, int]](), 0
+
+    def add(self, place: int, count: int) -> None:
+        self._told.append((place, count))
+        self.count += count
+
+    def forget(self, last: int) -> None:
+        """Those up to this place count no more."""
+        while self._told and self._told[0][0] <= last:
+            self.count -= self._told.popleft()[1]
+
+    def places(self) -> tuple[int, int]:
+        """The first and the last place."""
+        return self._told[0][0], self._told[-1][0]
+
+    def clear(self) -> None:
+        self._told.clear()
+        self.count = 0
+
+
 @dataclass(slots=True)
 class OpenCall:
     """An open call."""
 
-    seen: deque[int] = field(default_factory=deque)         # the places of datagrams
-    refused: deque[int] = field(default_factory=deque)      # those of them that were refused
+    seen: CountedDatagrams = field(default_factory=CountedDatagrams)
+    refused: CountedDatagrams = field(default_factory=CountedDatagrams)     # those of them that were refused
     fresh: bool = False                 # a datagram has come since the last look
     since: int = 0                      # datagrams before this place are of a playout that has ended
     lost_at: float = -inf               # when it was restarted for lost octets
@@ -45,24 +69,24 @@ class OpenCall:
         """What was answered to `count` datagrams."""
         if place < self.since:
             return
-        self.fresh, first, seen = True, place - _SPAN, self.seen
+        self.fresh = True
         if refused and self.well and self.well[1] - self.well[0] >= WELL:
             self.refused_at, self.wait = -inf, FIRST
         self.well = None if refused else (self.well[0] if self.well else place, place)
-        seen.extend([place] * count)
-        while seen[0] <= first:
-            seen.popleft()
+        self.seen.add(place, count)
+        self.seen.forget(place - _SPAN)
         if refused:
-            self.refused.extend([place] * count)
+            self.refused.add(place, count)
 
     def is_refused(self) -> bool:
         """Whether half of the datagrams are refused, for more than a moment."""
-        refused = self.refused
-        while refused and refused[0] <= self.seen[-1] - _SPAN:
-            refused.popleft()
-        if not self.fresh or len(refused) < FEWEST or 2 * len(refused) < len(self.seen):
+        if not self.fresh:
             return False
-        return refused[-1] - refused[0] >= _SPAN // 2
+        self.refused.forget(self.seen.places()[1] - _SPAN)
+        if self.refused.count < FEWEST or 2 * self.refused.count < self.seen.count:
+            return False
+        first, last = self.refused.places()
+        return last - first >= _SPAN // 2
 
     def due(self, now: float, counts: bool) -> str | None:
         """Why it is restarted now, if it is."""

@@ -11,6 +11,7 @@ OCTETS_A_SECOND = 256_000       # of the trunk
 SAMPLES_A_SECOND = 8_000        # of a circuit
 FRAME, MULTIFRAME = 32, 512     # octets
 HEAD = struct.Struct('>BBH')
+KIND_AND_LENGTH = struct.Struct('>BxH')           # .. without the circuit
 
 
 def circuit_of(word: str) -> int:
@@ -312,11 +313,13 @@ def records_in(octets: bytes) -> Iterator[Record]:
 
 def whole_records(octets: bytes) -> tuple[int, int]:
     """The whole records: how many octets they are, and how many octets of the trunk are in them."""
-    at, trunk, unpack, last, kind_of_trunk = 0, 0, HEAD.unpack_from, len(octets) - HEAD.size, int(Kind.TRUNK)
+    at, trunk, unpack, kind_of_trunk = 0, 0, KIND_AND_LENGTH.unpack_from, int(Kind.TRUNK)
+    size, most = HEAD.size, len(octets)
+    last = most - size
     while at <= last:       # (of plain numbers: each record is looked at)
-        kind, _, length = unpack(octets, at)
-        end: int = at + HEAD.size + length
-        if end > len(octets):
+        kind, length = unpack(octets, at)
+        end: int = at + size + length
+        if end > most:
             break
         if kind == kind_of_trunk:
             trunk += length

@@ -30,8 +30,8 @@ from .reload import ReloadRequests
 from .trunk import beat
 
 AGAIN = 0.1                 # seconds between two tries to connect
-REST, SHORT_REST = 0.06, 0.01       # between two reads of reports; the latter if somebody follows events
-ANSWERS, PATIENCE = 5, 0.2  # of a program where it is; seconds for them while it has told other things
+REST, SHORT_REST = 0.08, 0.01       # between two reads of reports; the latter if somebody follows events
+ANSWERS, PATIENCE = 5, 0.4  # of a program where it is; seconds for them while it has told other things
 MOST_GREETING = 256         # octets, which come at once, in which a program tells where it is
 FIRST = 2.0                 # seconds before it is reported that the program was never there
 BOTH = 'reports', 'control'         # the sockets of the program at which this service is a client
@@ -333,13 +333,15 @@ class TrunkStatus:
 
     async def _more(self, line: socket.socket) -> None:
         """Waits until there is more to read, and a moment first, so that many small writes are one read."""
-        loop, rest = asyncio.get_running_loop(), SHORT_REST if self.is_followed() else REST
-        timer = loop.call_at(beat(rest), loop.add_reader, line, self._read.set)
+        # (asyncio spells what it does not find: a socket with both of its addresses, a number by itself)
+        loop, file = asyncio.get_running_loop(), line.fileno()
+        rest = SHORT_REST if self.is_followed() else REST
+        timer = loop.call_at(beat(rest), loop.add_reader, file, self._read.set)
         try:
             await self._read.wait()
         finally:
             timer.cancel()
-            loop.remove_reader(line)
+            loop.remove_reader(file)
             self._read.clear()
 
     async def came(self, line: socket.socket, session: str, place: int) -> None:

@@ -31,7 +31,7 @@ from .pages import TrunkPages, WebServer
 from .status import OperatedTrunk, TrunkStatus
 from .trunk import Tasks, again, every
 
-TICK = 0.12                 # seconds between two looks
+TICK = 0.24                 # seconds between two looks
 BESIDE = 'json', 'calls'    # what may end without the calls
 
 
