@@ -22,7 +22,7 @@ class Manager:
         self.path, self.files = path, dict[str, int]()
         self.line = socket.socket(socket.AF_UNIX, socket.SOCK_DGRAM)
         self.line.bind(path)
-        self.told: list[str] = []
+        self._told = list[str]()
         self._marks = 0
         self._taker = threading.Thread(target=self._take, daemon=True)
         self._taker.start()
@@ -39,7 +39,7 @@ class Manager:
                 self._marks += 1
                 continue
             words = dict(line.split('=', 1) for line in text.decode().split('\n'))
-            self.told += text.decode().split('\n')
+            self._told += text.decode().split('\n')
             if 'FDSTORE' in words:
                 (file,) = array.array('i', rights[0][2])
                 os.set_inheritable(file, False)
@@ -57,6 +57,11 @@ class Manager:
             os.close(file)
         else:
             self.files[name] = file
+
+    def told(self) -> list[str]:
+        """The lines of all that was told up to now."""
+        self.take_all()
+        return self._told
 
     def take_all(self) -> None:
         """Returns once all is taken that was told before, as systemd does before it starts a service again."""

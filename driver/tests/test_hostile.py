@@ -139,7 +139,7 @@ class BadStartTests(RestartedKeeperCase):
         self.goes_on()
         self.assertIn('the state that was loaded is not removed: ', self.told())
         self.settles()
-        self.assertIn('READY=1', self.manager.told)
+        self.assertIn('READY=1', self.manager.told())
         self.step(20)
         self.as_uncut()
         self.keeper.terminate()

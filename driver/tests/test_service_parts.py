@@ -189,9 +189,9 @@ class HandoverTests(support.FolderCase):
         handover.put(self.note(), {'line-in': self.files[0]})
         handover.put(self.note(), {'line-in': self.files[1]})
         handover.forget()
-        manager.take_all()
+        told = manager.told()
         self.assertEqual(manager.files, {})
-        told = [f'{what} {name}' for what, name in zip(manager.told, manager.told[1:]) if name.startswith('FDNAME=')]
+        told = [f'{what} {name}' for what, name in zip(told, told[1:]) if name.startswith('FDNAME=')]
         self.assertEqual(told, ['FDSTOREREMOVE=1 FDNAME=other', 'FDSTORE=1 FDNAME=line-in',
                                 'FDSTOREREMOVE=1 FDNAME=line-in', 'FDSTORE=1 FDNAME=line-in',
                                 'FDSTOREREMOVE=1 FDNAME=line-in'])

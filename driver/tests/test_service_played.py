@@ -297,7 +297,7 @@ class PlayedRefusalTests(ServiceCase):
         none = self.path('none')
         why = f'the trunk cannot be opened: {none}: No such file or directory'
         self.begins('--in', none, '--out', none, '--reopen')
-        await self.until(lambda: 'STATUS=the trunk is not open yet' in self.manager.told)
+        await self.until(lambda: 'STATUS=the trunk is not open yet' in self.manager.told())
         await self.until(lambda: any(each.getMessage() == f'{why}; it is tried again' for each in self.records))
         first, second, *_ = (await self.ask('status')).splitlines()
         self.assertEqual((first, await self.ask('seize 1')), ('trunk trunk, e1gw 7.7, not open', f'seize 1: {why}'))
@@ -444,7 +444,7 @@ class PlayedPairTests(ServiceCase):
         """It stands by until it is promoted, and does so again."""
         other = f'127.0.0.1:{free_port()}'
         self.begins('--feed', f'127.0.0.1:{free_port()}', '--standby', other, '--name', 'west')
-        await self.until(lambda: 'STATUS=standby' in self.manager.told)
+        await self.until(lambda: 'STATUS=standby' in self.manager.told())
         self.assertEqual((await self.ask('role'), self.starts()), ('standby, not fed', []))
         status = json.loads(await self.ask('status json'))
         self.assertEqual({key: status[key] for key in ('role', 'fed', 'differs', 'fault')},
@@ -458,7 +458,7 @@ class PlayedPairTests(ServiceCase):
             self.assertEqual(await self.ask('role'), 'standby, not fed')
         self.assertEqual(plain(self.said())[0], 'warning: promoted: program A goes on after T ms, nothing is known; '
                          'all calls begin anew')
-        told = [each for each in self.manager.told if each[:6] == 'STATUS']
+        told = [each for each in self.manager.told() if each[:6] == 'STATUS']
         self.assertEqual([each[7:14] for each in told], ['standby', *['the tru', 'program', 'standby'] * 2])
         await self.ends()
         self.assertEqual((len(self.starts()), os.listdir(self.path('run'))), (2, []))
@@ -467,7 +467,7 @@ class PlayedPairTests(ServiceCase):
         """Who is promoted waits for it, and for nothing more once it is asked back."""
         none = self.path('none')
         self.begins('--feed', f'127.0.0.1:{free_port()}', '--standby', '127.0.0.1:9', '--in', none, '--out', none)
-        await self.until(lambda: 'STATUS=standby' in self.manager.told)
+        await self.until(lambda: 'STATUS=standby' in self.manager.told())
         promotes = asyncio.create_task(self.ask('promote'))
         while await self.ask('role') != 'active, not fed, no program':
             pass
@@ -526,9 +526,8 @@ class PlayedTakeoverTests(ServiceCase):
         await self.says('reload: program')
         os.kill(os.getpid(), signal.SIGTERM)
         self.assertEqual(await self.task, 0)
-        self.manager.take_all()
+        told = [line.partition('=')[0] for line in self.manager.told() if not line.startswith('FD')]
         self.assertEqual(self.manager.files, {})
-        told = [line.partition('=')[0] for line in self.manager.told if not line.startswith('FD')]
         self.assertIn('WATCHDOG', told)
         self.assertEqual([word for word in told if word != 'WATCHDOG'],
                          ['READY', 'STATUS', 'RELOADING', 'MONOTONIC_USEC', 'READY', 'STATUS', 'STOPPING'])
