@@ -10,7 +10,7 @@ from typing import Iterator
 
 from . import support
 from e1gw.service.decisions import (DEATHS, FIRST_PAUSE, MOST_DEATHS, MOST_ENDED, MOST_PAUSE, QUIET, TRIED, WITHIN, Act,
-                                    Deaths, Flow, FlowChange, Found, NextStep, ProgramEnd, ProgramFault,
+                                    Deaths, Failures, Flow, FlowChange, Found, NextStep, ProgramEnd, ProgramFault,
                                     ReloadEffects, Takeover, Trial, Wish, after_end, takeover_of, who_goes)
 
 OFTEN = Deaths((1.0, 1.1, 1.2, 1.3), 0.0, DEATHS - 1)       # one more at 1.4 waits; a crash is one too many
@@ -90,6 +90,17 @@ class AfterEndTests(unittest.TestCase):
 
 
 class DecisionTests(unittest.TestCase):
+    def test_failures(self) -> None:
+        """Ten seconds of them in a row are too many; once the end is asked for it has to come within the grace."""
+        for seconds, apart, is_given_up in (9.5, 0.5, False), (10.0, 0.5, True), (10.0, 1.0, True), (99.0, 1.1, False):
+            failures, now = Failures(), 50.0
+            while now <= 50.0 + seconds:
+                failures = failures.with_one(now)
+                now += apart
+            self.assertIs(failures.is_given_up(None, 5.0), is_given_up)
+        self.assertIs(Failures(50.0, 50.0).is_given_up(45.0, 5.0), True)
+        self.assertIs(Failures(50.0, 70.0).is_given_up(65.1, 5.0), False)
+
     def test_pauses(self) -> None:
         """Five deaths in two seconds are too many; then there are pauses, up to ten seconds, until one has lived."""
         deaths, now, pauses = Deaths(), 100.0, list[float]()

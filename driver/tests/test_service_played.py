@@ -15,6 +15,7 @@ from unittest import mock
 from . import support
 from .in_process import ServiceCase, plain
 from .support import SECONDS
+from .world import words_of
 from e1gw import writers
 from e1gw.service import decisions, lifecycle, service, version
 from e1gw.service.decisions import Takeover
@@ -239,8 +240,8 @@ class PlayedReloadTests(ServiceCase):
         await self.ends()
 
 
-class PlayedRefusalTests(ServiceCase):
-    """What is refused names the file or the address that it is of, and is left as it is."""
+class PlayedRefusalCase(ServiceCase):
+    """A service that runs to its end by itself."""
 
     def refused(self, *words: str) -> tuple[int, str]:
         """The status of a command line, and what it says."""
@@ -251,6 +252,10 @@ class PlayedRefusalTests(ServiceCase):
         finally:
             loop.run_until_complete(self.dies())
             loop.close()
+
+
+class PlayedRefusalTests(PlayedRefusalCase):
+    """What is refused names the file or the address that it is of, and is left as it is."""
 
     def test_rows(self) -> None:
         none, precious, taken = self.path('none'), self.write('precious', 'precious'), self.path('card')
@@ -303,6 +308,33 @@ class PlayedRefusalTests(ServiceCase):
         self.assertEqual((first, await self.ask('seize 1')), ('trunk trunk, e1gw 7.7, not open', f'seize 1: {why}'))
         self.assertRegex(second, f' UTC, {why}; the other end: not heard$')
         await self.ends()
+
+
+class PlayedFailureTests(PlayedRefusalCase):
+    """A service that fails whatever it does, as behind an update with a fault."""
+
+    def setUp(self) -> None:
+        super().setUp()
+        self.plan(WAITS)
+        self.enterContext(mock.patch.object(lifecycle, 'every', side_effect=RuntimeError('a fault')))
+
+    def test_another_one_is_to_follow(self) -> None:
+        """It gives up, and its program goes on."""
+        with mock.patch.object(decisions, 'LASTING', 0.0):
+            status, said = self.refused()
+        self.assertEqual((status, said.splitlines()[-1]), (
+            1, 'gives up: a program that is there goes on, and the next e1gw-trunk takes it up'))
+        (_, pid, *_), = self.starts()
+        self.assertIn(self.path('e1gw'), words_of(pid))
+
+    async def test_the_end_is_asked_for(self) -> None:
+        """Its program ends with it."""
+        self.begins()
+        await self.says('carries')
+        with mock.patch.object(lifecycle, 'GRACE', 0.0):
+            self.assertEqual((await self.ask('quit'), await self.task), ('quit: done', 1))
+        (_, pid, *_), = self.starts()
+        self.assertEqual((self.said()[-1], words_of(pid)), ('error: ends: quit, behind octet 0', []))
 
 
 class PlayedVersionTests(ServiceCase):

@@ -11,6 +11,7 @@ FIRST_PAUSE, MOST_PAUSE = 0.5, 10.0     # seconds that it waits, at first and at
 TRIED, MOST_DEATHS = 60.0, 2            # seconds in which a new version is tried, and deaths that it may not have then
 MOST_ENDED = 3                          # calls that a reload may end without force
 QUIET = 1.0                             # seconds after which octets of the trunk are missed
+ROW, LASTING = 1.0, 10.0                # seconds between two failures in a row; that a row lasts before it is given up
 
 
 class Wish(Enum):
@@ -146,6 +147,23 @@ def _died(end: ProgramEnd) -> NextStep:
     if trial and trial.deaths >= MOST_DEATHS:
         return NextStep(Act.GO_BACK, deaths)
     return NextStep(Act.START, deaths, trial, deaths.pause)
+
+
+# ---- a service that fails ----
+
+@dataclass(frozen=True)
+class Failures:
+    """Failures in a row: when the first one was, and the last one."""
+
+    first: float = inf
+    last: float = -inf
+
+    def with_one(self, now: float) -> Failures:
+        return Failures(self.first if now <= self.last + ROW else now, now)
+
+    def is_given_up(self, asked: float | None, grace: float) -> bool:
+        """Whether nothing else is to be tried; for an end that was `asked` for so long."""
+        return self.last >= (self.first + LASTING if asked is None else asked + grace)
 
 
 # ---- how a service begins ----

@@ -68,6 +68,10 @@ class TrunkWants:
     drains: str                 # the file of the circuits that the operator has blocked
 
 
+class ServiceFailed(Exception):
+    """This service gets nowhere; another one may."""
+
+
 class TrunkCarrier:
     """One trunk, whose programs follow one another."""
 
@@ -79,6 +83,7 @@ class TrunkCarrier:
         self.pair: TrunkPair | None = None      # of a trunk that two machines have
         self.calls: Callable[[], CallsNote | None] = lambda: None       # those that are to be noted
         self.wish, self.ending = Wish.NONE, ''  # why the program of now is to end; in words, why no other one follows
+        self._asked: float | None = None        # .. and since when
         self.is_loaded = False                  # the log has begun with a state that was stored
         self.read = ReadingNote()               # what was noted of the reading of the log before
         self.why, self.lost = 'begins', ''      # in words, of the next program
@@ -95,8 +100,9 @@ class TrunkCarrier:
     # ---- from the beginning to the end ----
 
     async def serve(self) -> int:
-        """Carries the trunk until its end; returns the status."""
-        await again(self._serve, 'the service')
+        """Carries the trunk until its end; returns the status. ServiceFailed if nothing succeeds for seconds."""
+        if not await again(self._serve, 'the service', lambda failures: failures.is_given_up(self._asked, GRACE)):
+            await give_up(self)
         await self.trunk.finish()
         return self.status or 0
 
@@ -297,7 +303,7 @@ class TrunkCarrier:
 
     def end(self, why: str) -> None:
         """The end is asked for."""
-        self.ending = self.ending or why
+        self.ending, self._asked = self.ending or why, self._asked or time.monotonic()
         self.ends.set()
         self.wake.set()
 
@@ -315,6 +321,15 @@ class TrunkCarrier:
             self.wants.opens, os.getpid(), start_of(os.getpid()), version.senders, version.name,
             self.pair is None or self.pair.is_active, self.was_up, begun, reader.noted(), (*self.sockets.lacking,),
             self._noted[1], reader.recording_note(), self.calls()), {**self.trunk.files, **self.sockets.files})
+
+
+async def give_up(carrier: TrunkCarrier) -> None:
+    """The program goes on, and the next service takes it up; at an end that is asked for it ends, too."""
+    if not carrier.ending:
+        raise ServiceFailed
+    if carrier.program:
+        await carrier.program.end_within(GRACE)
+    carrier.finish(carrier.ending, 1)
 
 
 async def open_sockets(carrier: TrunkCarrier, handover: Handover) -> None:

@@ -42,7 +42,7 @@ class SatopTrunk(TrunkFiles):
         self.name, self._words, self._counts = 'satop', list[str](), dict[str, int]()
         self._conditions = [(name, SatopCondition(count), words) for name, count, words in CONDITIONS]
         self.child: Child | None = None
-        self._restarts, self._works = Pause(), list[asyncio.Task[None]]()
+        self._restarts, self._works = Pause(), list[asyncio.Task[bool]]()
         self._why = ''                  # why the line has ended
         self._lacked = False            # whether this machine did not have its address
 

@@ -24,7 +24,7 @@ from ..faults import Parser, options_words, words_of_fault
 from ..writers import hold_descriptors
 from .commands import CannotListen
 from .journal import TOP, ServiceJournal
-from .lifecycle import GRACE, TrunkCarrier, TrunkWants, store
+from .lifecycle import GRACE, ServiceFailed, TrunkCarrier, TrunkWants, store
 from .note import ServiceNote
 from .options import add_options, recording_of, wants_of, watched_of
 from .pair import feeding_of, open_pair
@@ -158,6 +158,9 @@ def status_of(words: list[str], loop: asyncio.AbstractEventLoop) -> int:
     except CannotBegin as fault:
         logger.error('%s', fault)
         return fault.status
+    except ServiceFailed:
+        logger.error('gives up: a program that is there goes on, and the next %s takes it up', NAME)
+        return 1
     except OSError as fault:
         logger.error('%s', words_of_fault(fault))
     return 2

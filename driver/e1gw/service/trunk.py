@@ -22,6 +22,7 @@ from ..faults import words_of_fault
 from ..slots import Slots, SlotsNote
 from ..trunks import Stream
 from .card import CardWatch, watch_of
+from .decisions import Failures
 from .events import tell_journal
 
 QUICK = 1.0                 # seconds: what ends within them is begun again later
@@ -312,14 +313,20 @@ class Tasks(set[asyncio.Task[Any]]):
         task.add_done_callback(self.discard)
 
 
-async def again(work: Callable[[], Awaitable[None]], what: str) -> None:
-    """Does a work, and begins it again each time that it fails, reported with the place, to --debug with all of it."""
-    while True:
+async def again(work: Callable[[], Awaitable[None]], what: str,
+                is_given_up: Callable[[Failures], bool] = lambda failures: False) -> bool:
+    """Does a work, and begins it again each time that it fails, reported with the place, to --debug with all of it,
+    until it is given up. Returns whether it was done."""
+    failures = Failures()
+    while not is_given_up(failures):
         try:
-            return await work()
+            await work()
+            return True
         except Exception as fault:      # pylint: disable=broad-exception-caught
             has_failed(what, fault)
+            failures = failures.with_one(time.monotonic())
             await asyncio.sleep(AGAIN)
+    return False
 
 
 def has_failed(what: str, fault: Exception) -> None:
