@@ -263,7 +263,8 @@ class TrunkCarrier:
         elif step.pause:
             logger.error('%s: the next one begins in %g s', self.why, step.pause)
             await either(step.pause, self.ends)
-        self.note()
+        if step.act is not Act.START:       # (which notes it next: calls wait)
+            self.note()
 
     def _pass_on(self, program: TrunkProgram) -> None:
         """Tells what the program says."""

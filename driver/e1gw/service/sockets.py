@@ -13,7 +13,7 @@ from math import inf
 from typing import Any, Collection, Iterator, Mapping
 
 from ..explain import bound
-from ..lines import config_text, read_config, tables_of
+from ..lines import config_text, tables_of
 from .memory import in_memory
 from .version import ProgramVersion, is_address
 
@@ -30,9 +30,9 @@ logger = logging.getLogger(__name__)
 
 def addresses_of(version: ProgramVersion) -> dict[int, Address]:
     """Where the circuits of a version have their sockets."""
-    config = read_config(version.config_path())
-    host = str(config.get('host', '127.0.0.1'))
-    return {n: (host, table['local_port']) for n, (_, table) in tables_of(config).items() if 'local_port' in table}
+    host = str(version.tables.get('host', '127.0.0.1'))
+    return {n: (host, table['local_port']) for n, (_, table) in tables_of(version.tables).items()
+            if 'local_port' in table}
 
 
 def name_of(address: Address) -> str:
@@ -151,18 +151,18 @@ class CircuitSockets:
     def _config(self, version: ProgramVersion) -> dict[str, Any]:
         """Its configuration, without the ports of circuits that lack a socket. The host is an address: where it is a
         name, no program waits for a name server."""
-        config = read_config(version.config_path())
+        config = version.tables
         files = [self._held[address] for address in addresses_of(version).values() if address in self._held]
         if files and not is_address(config.get('host', '127.0.0.1')):
             with socket.socket(fileno=os.dup(files[0])) as line:
-                config['host'] = line.getsockname()[0]
+                config = {**config, 'host': line.getsockname()[0]}
         return without_ports(config, self._lacking if version is self._version else ())
 
     @contextmanager
     def given(self, version: ProgramVersion) -> Iterator[ProgramVersion]:
         """This version as these sockets want it, to start a program of it."""
-        before, wanted = read_config(version.config_path()), self._config(version)
-        if before == wanted:
+        wanted = self._config(version)
+        if wanted == version.tables:
             yield version
             return
         config = in_memory(config_text(wanted).encode())

@@ -11,6 +11,7 @@ import stat
 import tomllib
 from contextlib import suppress
 from dataclasses import dataclass, replace
+from functools import cached_property
 from typing import Any, Iterable, Sequence
 
 from ..lines import IN_CALL, SEIZURE_WAIT, config_text, no_peers, read_config, tables_of, wait_words
@@ -58,10 +59,14 @@ class ProgramVersion:
     def config_octets(self) -> bytes:
         return octets_in(self.config)
 
+    @cached_property
+    def tables(self) -> dict[str, Any]:
+        """Those of its configuration. (They are kept: calls would wait for it while a program follows another.)"""
+        return read_config(self.config_path())
+
     def ports(self) -> frozenset[int]:
         """The circuits that have one."""
-        tables = tables_of(read_config(self.config_path()))
-        return frozenset(n for n, (_, table) in tables.items() if 'local_port' in table)
+        return frozenset(n for n, (_, table) in tables_of(self.tables).items() if 'local_port' in table)
 
     def start(self, words: Sequence[str], reads: int, writes: int, passed: Iterable[int] = (), said: int = -1) -> Child:
         """Starts a process of it: a subcommand, which reads its configuration, with further words."""
