@@ -79,3 +79,32 @@ class DriversTests(FolderCase):
                    '        threading.Thread(target=time.sleep, args=(900,)).start()\n')
         with mock.patch.object(drivers, 'ENDS', 0.5):
             self.assertEqual(self.ran(1, [])[0], ['ok tests.test_one.LeavesTests.test_leaves'])
+
+    def test_what_one_has_left(self) -> None:
+        """It says nothing within another one."""
+        self.write('driver/tests/__init__.py', '')
+        self.write('driver/tests/test_one.py', '''import contextlib
+import gc
+import io
+import sys
+import unittest
+
+
+class Left:
+    def __init__(self) -> None:
+        self.own = self
+
+    def __del__(self) -> None:
+        print('left', file=sys.stderr)
+
+
+class LeftTests(unittest.TestCase):
+    def test_1(self) -> None:
+        Left()
+
+    def test_2(self) -> None:
+        with contextlib.redirect_stderr(io.StringIO()) as said:
+            gc.collect()
+        self.assertEqual(said.getvalue(), '')
+''')
+        self.assertEqual(self.ran(1, [])[0], [f'ok tests.test_one.LeftTests.test_{n}' for n in (1, 2)])
