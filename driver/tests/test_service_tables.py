@@ -13,7 +13,7 @@ from . import support
 from .support import SECONDS
 from e1gw.service import program
 from e1gw.service.decisions import ProgramFault
-from e1gw.service.memory import give_back, given_back, in_memory, reserve
+from e1gw.service.memory import give_back, given_back, in_memory, reserve, words_file
 from e1gw.service.options import folder_of, opens_of, recording_of, wants_of, watched_of
 from e1gw.service.process import UNKNOWN, Child, ran, signal_words, start_of
 from e1gw.service.program import MOST_PATH, WORDS, ProgramPlaces, TrunkProgram
@@ -147,9 +147,22 @@ class ChildEndTests(unittest.IsolatedAsyncioTestCase):
         self.assertEqual(child.news(), ['a', 'satop x', 'rest'])
         self.assertEqual((child.news(), child.lines, child.totals()), ([], ['a', 'rest'], {'octets': 7, 'records': 2}))
 
+    async def test_looks_while_it_speaks(self) -> None:
+        """They share its file, and change no place at which it writes."""
+        reads, writes = os.pipe()
+        self.addCleanup(os.close, reads)
+        its = Child.start('/bin/sh', ['sh', '-c', 'echo one >&2; read line; echo two >&2'], reads, 1)
+        self.addCleanup(its.close)
+        support.until(lambda: its.news() == ['one'])
+        os.lseek(its.said, 0, os.SEEK_DATA)
+        os.close(writes)
+        await its.over.wait()
+        self.assertEqual(its.news(), ['two'])
+
     async def test_what_was_heard_is_given_back(self) -> None:
         """Each line is told once, also to the next service. What comes each second is not held for long."""
-        said = in_memory(b'circuit 3 begins as new\nlive submulti')
+        said = words_file()
+        os.write(said, b'circuit 3 begins as new\nlive submulti')
         its = Child(os.getpid(), said=said)
         self.addCleanup(its.close)
         self.assertEqual(its.news(), ['circuit 3 begins as new'])

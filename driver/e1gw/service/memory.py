@@ -3,6 +3,7 @@ from __future__ import annotations
 
 import ctypes
 import errno
+import fcntl
 import os
 
 from ..writers import write_all
@@ -22,6 +23,13 @@ def in_memory(octets: bytes) -> int:
     except OSError:
         os.close(file)
         raise
+
+
+def words_file() -> int:
+    """A file in memory for what a process says, which is written at its end, whoever looks at it meanwhile."""
+    file = os.memfd_create('e1gw-words')
+    fcntl.fcntl(file, fcntl.F_SETFL, os.O_APPEND)
+    return file
 
 
 def octets_in(file: int) -> bytes:
@@ -44,12 +52,11 @@ def reserve(file: int, octets: int) -> None:
 
 
 def given_back(file: int) -> int:
-    """Up to where the octets of a file were given back. (Where it is written next stays.)"""
-    size, next_one = os.fstat(file).st_size, os.lseek(file, 0, os.SEEK_CUR)
+    """Up to where the octets of a file were given back."""
+    size = os.fstat(file).st_size
     try:
         place = os.lseek(file, 0, os.SEEK_DATA)
     except OSError:                         # (there is none that has octets)
         return size
-    os.lseek(file, next_one, os.SEEK_SET)
     octets = os.pread(file, size - place, place)
     return place + len(octets) - len(octets.lstrip(b'\0'))

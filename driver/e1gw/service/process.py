@@ -13,7 +13,7 @@ from contextlib import suppress
 from typing import Callable, Iterable, Sequence
 
 from ..crc4 import COUNTS
-from .memory import PAGE, give_back, given_back, in_memory, octets_in
+from .memory import PAGE, give_back, given_back, in_memory, octets_in, words_file
 from .trunk import beat
 
 MOST_SAID = 1 << 20         # octets that are heard at once
@@ -71,7 +71,7 @@ class Child:
               said: int = -1) -> Child:
         """Starts a process of a session of its own; `words` begin with its name. It has the `passed` descriptors by
         their numbers. What it says is in memory, or in the file `said`."""
-        said = os.memfd_create('e1gw-words') if said < 0 else said
+        said = words_file() if said < 0 else said
         try:
             process = subprocess.Popen(words, executable=executable, stdin=reads, stdout=writes, stderr=said,
                                        pass_fds=tuple(passed), start_new_session=True)

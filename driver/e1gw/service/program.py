@@ -14,7 +14,7 @@ from typing import Sequence
 
 from .decisions import ProgramFault
 from .log_folder import LOCK, holder_of
-from .memory import octets_in, reserve
+from .memory import octets_in, reserve, words_file
 from .process import Child
 from .sockets import CircuitSockets
 from .version import ProgramVersion
@@ -75,14 +75,14 @@ class ProgramPlaces:
                     os.unlink(path)
             file = os.open(path, os.O_RDWR | os.O_APPEND | os.O_CREAT | os.O_CLOEXEC, 0o600)
         except OSError:
-            return os.memfd_create('e1gw-words')
+            return words_file()
         try:
             if is_new:
                 reserve(file, WORDS)
             return file
         except OSError:
             os.close(file)
-            return os.memfd_create('e1gw-words')
+            return words_file()
 
     def opened_end(self) -> int:
         """An end of the FIFO, which sees no end while the program has its own."""
