@@ -143,7 +143,7 @@ class LoopCase(FolderCase, unittest.IsolatedAsyncioTestCase):
     """Such tests in a loop."""
 
     async def asyncSetUp(self) -> None:
-        asyncio.get_running_loop().set_debug(False)     # (a slow turn is no fault)
+        asyncio.get_running_loop().set_debug(False)     # (which takes a third of the time)
 
     async def until(self, holds: Callable[[], Any]) -> Any:
         """Waits until something holds, and returns what it is."""
