@@ -4,6 +4,7 @@ The names are {names}."""
 import argparse
 import importlib
 import os
+import signal
 import sys
 from types import ModuleType
 from typing import Any, NoReturn
@@ -13,7 +14,10 @@ COMMANDS = {
     'call': 'tools.call', 'config': 'config', 'ctl': 'ctl', 'exchange': 'tools.exchange', 'explain': 'explain',
     'pcap': 'tools.pcap', 'picture': 'picture.main', 'records': 'tools.records', 'tie': 'tie.main',
     'trunk': 'service.service'}
-SERVICE = 'trunk'           # which a signal ends with status 0, also before its modules are loaded
+# Which catches these signals. They wait until it knows what a service before it has left: they would end it, in
+# systemd's view in order, and a program that goes on would have nobody. (Some of them end one that has nothing.)
+SERVICE, CAUGHT = 'trunk', (signal.SIGHUP, signal.SIGUSR1, signal.SIGUSR2, signal.SIGTERM, signal.SIGINT)
+ENDS = CAUGHT[-2:]
 
 
 def refuse(what: str) -> NoReturn:
@@ -25,9 +29,9 @@ def refuse(what: str) -> NoReturn:
 def load(name: str) -> ModuleType:
     """The module of a command."""
     if name == SERVICE:
-        import signal
-        for number in (signal.SIGINT, signal.SIGTERM):
+        for number in ENDS:
             signal.signal(number, lambda *_: os._exit(0))
+        signal.pthread_sigmask(signal.SIG_BLOCK, CAUGHT)
     return importlib.import_module(f'e1gw.{COMMANDS[name]}')
 
 

@@ -17,6 +17,7 @@ from pathlib import Path
 from . import support
 from .support import SECONDS, octets_in
 from .keepers import CIRCUITS, KeeperCase, RestartedKeeperCase
+from .test_trunk import catches
 from .world import LAUNCHER
 from e1gw.service import trunk
 from e1gw.service.commands import MOST_CLIENTS
@@ -144,6 +145,30 @@ class BadStartTests(RestartedKeeperCase):
         self.as_uncut()
         self.keeper.terminate()
         self.keeper.wait(SECONDS)
+
+    def again_with(self, number: int) -> None:
+        """The service was killed, and the next one gets a signal as it begins."""
+        self.settles()
+        self.kill_keeper()
+        self.again()
+        support.until(lambda: any(catches(self.keeper.pid, number, field) for field in ('SigBlk', 'SigCgt')))
+        self.keeper.send_signal(number)
+
+    def test_signals_that_come_as_it_begins(self) -> None:
+        """They ended it, in systemd's view in order, and its program went on alone, also if both were to end."""
+        self.begins()
+        for number, words in (signal.SIGHUP, 'reload: (?=program)'), (signal.SIGUSR2, 'service was replaced; (?=prog)'):
+            self.again_with(number)
+            self.awaits('the service was killed[;:] (?=program)')
+            self.goes_on()
+            self.awaits(words)
+            self.goes_on()
+        self.step(20)
+        self.as_uncut()
+        self.again_with(signal.SIGTERM)
+        self.assertEqual(self.keeper.wait(), 0)
+        self.assertIn(support.state_of(self.program), ('', 'Z'))
+        self.assertIn('ends: signal 15', self.told())
 
     def test_an_update_that_fails(self) -> None:
         """A service that could not take up ended the trunk. The program goes on, and the next service takes it up."""

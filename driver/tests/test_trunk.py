@@ -34,10 +34,10 @@ def aligned(world: W) -> W:
     return world
 
 
-def catches(pid: int, number: int) -> bool:
-    """Whether a process catches a signal (proc(5))."""
-    caught = support.text_of(f'/proc/{pid}/status').partition('SigCgt:')[2].split()[0]
-    return bool(int(caught, 16) >> number - 1 & 1)
+def catches(pid: int, number: int, field: str = 'SigCgt') -> bool:
+    """Whether a process catches a signal; of the field SigBlk whether that waits (proc(5))."""
+    signals = support.text_of(f'/proc/{pid}/status').partition(f'{field}:')[2].split()[0]
+    return bool(int(signals, 16) >> number - 1 & 1)
 
 
 def is_seized(world: World, circuit: int) -> bool:

@@ -20,6 +20,7 @@ from dataclasses import dataclass
 from math import inf
 from typing import Collection, Mapping, NoReturn
 
+from ..__main__ import CAUGHT
 from ..programs import SENDERS
 from .decisions import Found, Takeover, takeover_of
 from .lifecycle import GRACE, TrunkCarrier, TrunkWants, load_stored
@@ -32,8 +33,6 @@ from .version import ProgramVersion, VersionRefused, version_left, version_of_no
 
 HEARD, SOON = 1.0, 0.001    # seconds for systemd to take what it is told; between two tries
 FIRST, APART = 3, 100       # the first descriptor that is given, and where they are put out of the way
-# Signals that a service catches. They wait while it becomes another one, which they would end.
-CAUGHT = signal.SIGHUP, signal.SIGUSR1, signal.SIGUSR2, signal.SIGTERM, signal.SIGINT
 REPLACED, NUMBERS = 'E1GW_REPLACED', 'E1GW_NUMBERS'      # of a service that becomes another one
 
 logger = logging.getLogger(__name__)

@@ -19,6 +19,7 @@ import stat
 import sys
 from typing import NoReturn
 
+from ..__main__ import CAUGHT, ENDS
 from ..explain import config_words
 from ..faults import Parser, options_words, words_of_fault
 from ..writers import hold_descriptors
@@ -30,7 +31,7 @@ from .options import add_options, recording_of, wants_of, watched_of
 from .pair import feeding_of, open_pair
 from .program import ProgramPlaces
 from .reader import LogReader
-from .handover import CAUGHT, CannotBegin, Handover, Notifier, carrier_of, given_files, left_by
+from .handover import CannotBegin, Handover, Notifier, carrier_of, given_files, left_by
 from .reload import ReloadRequests
 from .status import OperatedTrunk
 from .trunk import Tasks, every
@@ -109,6 +110,8 @@ async def serve(asked: argparse.Namespace, wants: TrunkWants) -> int:
     places = ProgramPlaces(wants.folder)
     handover = Handover(wants.folder, notifier, files)
     left = left_by(places, wants.opens, files)
+    if not left.is_anything:            # (else they come once it has all)
+        signal.pthread_sigmask(signal.SIG_UNBLOCK, ENDS)
     carrier = await carrier_of(wants, places, left, handover, notifier, bool(feeding_of(asked)))
     carrier.reader = reader_of(asked, carrier)
     carrier.reader.is_loaded = carrier.is_loaded
