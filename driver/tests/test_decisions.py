@@ -91,15 +91,16 @@ class AfterEndTests(unittest.TestCase):
 
 class DecisionTests(unittest.TestCase):
     def test_failures(self) -> None:
-        """Ten seconds of them in a row are too many; once the end is asked for it has to come within the grace."""
-        for seconds, apart, is_given_up in (9.5, 0.5, False), (10.0, 0.5, True), (10.0, 1.0, True), (99.0, 1.1, False):
+        """Of those in a row it counts how long; once the end is asked for, since then."""
+        for apart, lasts in (0.5, True), (1.0, True), (1.1, False):
             failures, now = Failures(), 50.0
-            while now <= 50.0 + seconds:
+            while now <= 60.0:
+                self.assertFalse(failures.last_for(10.0, None))
                 failures = failures.with_one(now)
                 now += apart
-            self.assertIs(failures.is_given_up(None, 5.0), is_given_up)
-        self.assertIs(Failures(50.0, 50.0).is_given_up(45.0, 5.0), True)
-        self.assertIs(Failures(50.0, 70.0).is_given_up(65.1, 5.0), False)
+            self.assertIs(failures.last_for(10.0, None), lasts)
+        self.assertTrue(Failures(50.0, 50.0).last_for(5.0, 45.0))
+        self.assertFalse(Failures(50.0, 70.0).last_for(5.0, 65.1))
 
     def test_pauses(self) -> None:
         """Five deaths in two seconds are too many; then there are pauses, up to ten seconds, until one has lived."""

@@ -320,7 +320,7 @@ class PlayedFailureTests(PlayedRefusalCase):
 
     def test_another_one_is_to_follow(self) -> None:
         """It gives up, and its program goes on."""
-        with mock.patch.object(decisions, 'LASTING', 0.0):
+        with mock.patch.object(lifecycle, 'LASTING', 0.0):
             status, said = self.refused()
         self.assertEqual((status, said.splitlines()[-1]), (
             1, 'gives up: a program that is there goes on, and the next e1gw-trunk takes it up'))
@@ -328,10 +328,10 @@ class PlayedFailureTests(PlayedRefusalCase):
         self.assertIn(self.path('e1gw'), words_of(pid))
 
     async def test_the_end_is_asked_for(self) -> None:
-        """Its program ends with it."""
-        self.begins()
-        await self.says('carries')
-        with mock.patch.object(lifecycle, 'GRACE', 0.0):
+        """Its program ends with it. (Where there is no manager nobody follows, so it has tried on.)"""
+        with mock.patch.dict(os.environ, {'NOTIFY_SOCKET': ''}), mock.patch.multiple(lifecycle, LASTING=0.0, GRACE=0.0):
+            self.begins()
+            await self.until(lambda: sum('goes on: RuntimeError' in each.getMessage() for each in self.records) > 2)
             self.assertEqual((await self.ask('quit'), await self.task), ('quit: done', 1))
         (_, pid, *_), = self.starts()
         self.assertEqual((self.said()[-1], words_of(pid)), ('error: ends: quit, behind octet 0', []))

@@ -11,7 +11,7 @@ FIRST_PAUSE, MOST_PAUSE = 0.5, 10.0     # seconds that it waits, at first and at
 TRIED, MOST_DEATHS = 60.0, 2            # seconds in which a new version is tried, and deaths that it may not have then
 MOST_ENDED = 3                          # calls that a reload may end without force
 QUIET = 1.0                             # seconds after which octets of the trunk are missed
-ROW, LASTING = 1.0, 10.0                # seconds between two failures in a row; that a row lasts before it is given up
+ROW = 1.0                               # seconds between two failures in a row
 
 
 class Wish(Enum):
@@ -161,9 +161,9 @@ class Failures:
     def with_one(self, now: float) -> Failures:
         return Failures(self.first if now <= self.last + ROW else now, now)
 
-    def is_given_up(self, asked: float | None, grace: float) -> bool:
-        """Whether nothing else is to be tried; for an end that was `asked` for so long."""
-        return self.last >= (self.first + LASTING if asked is None else asked + grace)
+    def last_for(self, seconds: float, asked: float | None) -> bool:
+        """Whether nothing else came for so long, or since an end was `asked` for."""
+        return self.last >= (self.first if asked is None else asked) + seconds
 
 
 # ---- how a service begins ----

@@ -46,6 +46,10 @@ class Notifier:
         self._line = socket.socket(socket.AF_UNIX, socket.SOCK_DGRAM)
         self._line.setblocking(False)
 
+    @property
+    def has_manager(self) -> bool:
+        return bool(self._path)
+
     def tell(self, *lines: str, file: int = -1) -> bool:
         """Whether it was taken."""
         if not self._path:

@@ -20,7 +20,7 @@ from ..events import TrunkLost
 from ..explain import config_words, gateway_words
 from ..faults import words_of_fault
 from ..writers import put_file
-from .decisions import Act, Deaths, NextStep, ProgramEnd, ProgramFault, Wish, after_end
+from .decisions import Act, Deaths, Failures, NextStep, ProgramEnd, ProgramFault, Wish, after_end
 from .drains import KeptDrains
 from .journal import NOTICE
 from .log_folder import LogPair, LogWriter
@@ -38,6 +38,7 @@ if TYPE_CHECKING:
 
 START, RELOADED = 10.0, 1.0     # seconds for a program to carry the trunk; for a new version, that has one before it
 GRACE = 5.0                 # seconds for a program to end in order
+LASTING = 10.0              # seconds of failures alone before another service is to try
 OLD = 1.0                   # seconds for which speech may wait in sockets that no program reads
 TICK = 0.24                 # seconds between two looks while nothing happens
 NOTED = 1.0                 # seconds between two notes for the next service, while no call changes
@@ -83,7 +84,7 @@ class TrunkCarrier:
         self.pair: TrunkPair | None = None      # of a trunk that two machines have
         self.calls: Callable[[], CallsNote | None] = lambda: None       # those that are to be noted
         self.wish, self.ending = Wish.NONE, ''  # why the program of now is to end; in words, why no other one follows
-        self._asked: float | None = None        # .. and since when
+        self.asked: float | None = None         # .. and since when
         self.is_loaded = False                  # the log has begun with a state that was stored
         self.read = ReadingNote()               # what was noted of the reading of the log before
         self.why, self.lost = 'begins', ''      # in words, of the next program
@@ -101,7 +102,7 @@ class TrunkCarrier:
 
     async def serve(self) -> int:
         """Carries the trunk until its end; returns the status. ServiceFailed if nothing succeeds for seconds."""
-        if not await again(self._serve, 'the service', lambda failures: failures.is_given_up(self._asked, GRACE)):
+        if not await again(self._serve, 'the service', lambda failures: is_given_up(self, failures)):
             await give_up(self)
         await self.trunk.finish()
         return self.status or 0
@@ -304,7 +305,7 @@ class TrunkCarrier:
 
     def end(self, why: str) -> None:
         """The end is asked for."""
-        self.ending, self._asked = self.ending or why, self._asked or time.monotonic()
+        self.ending, self.asked = self.ending or why, self.asked or time.monotonic()
         self.ends.set()
         self.wake.set()
 
@@ -322,6 +323,12 @@ class TrunkCarrier:
             self.wants.opens, os.getpid(), start_of(os.getpid()), version.senders, version.name,
             self.pair is None or self.pair.is_active, self.was_up, begun, reader.noted(), (*self.sockets.lacking,),
             self._noted[1], reader.recording_note(), self.calls()), {**self.trunk.files, **self.sockets.files})
+
+
+def is_given_up(carrier: TrunkCarrier, failures: Failures) -> bool:
+    """Where nobody begins another service this one tries on, until its end is asked for."""
+    seconds = GRACE if carrier.ending else LASTING if carrier.notifier.has_manager else inf
+    return failures.last_for(seconds, carrier.asked)
 
 
 async def give_up(carrier: TrunkCarrier) -> None:
