@@ -8,6 +8,8 @@ import unittest
 from . import TOP
 
 RUNS = '/run/systemd/system'        # is there where systemd runs
+COMPILES = 'py3compile', 'py3clean'
+CLEANS = ['py3clean', '-p', 'e1gw']
 
 
 def run(script: str, words: tuple[str, ...], units: str) -> tuple[list[str], str]:
@@ -15,7 +17,7 @@ def run(script: str, words: tuple[str, ...], units: str) -> tuple[list[str], str
     which these units run; and what the script prints."""
     with tempfile.TemporaryDirectory() as folder:
         said = os.path.join(folder, 'said')
-        for name in ('deb-systemd-invoke', 'systemctl', 'systemd-sysusers', 'rmdir', 'udevadm'):
+        for name in ('deb-systemd-invoke', 'systemctl', 'systemd-sysusers', 'rmdir', 'udevadm', *COMPILES):
             with open(os.path.join(folder, name), 'w', encoding='ascii') as file:
                 file.write(f'#!/bin/sh\necho {name} "$@" >> {said}\n'
                            f'case "$*" in *list-units*) printf %s "{units}" ;; esac\n')
@@ -56,12 +58,16 @@ class Units(unittest.TestCase):
     def test_removal_stops_all(self) -> None:
         """Each kind of unit is stopped, ties before the trunks that they command."""
         self.assertEqual(self.units(), ['e1gw-tie@*.service', 'e1gw-trunk@*.service'])
-        self.assertEqual(asked('prerm', 'remove'), ['deb-systemd-invoke', 'stop', *self.units()])
+        self.assertEqual(asked('prerm', 'remove'), ['deb-systemd-invoke', 'stop', *self.units(), *CLEANS])
 
     def test_upgrade_stops_none(self) -> None:
-        self.assertEqual(asked('prerm', 'upgrade', '0.2.0'), [])
+        self.assertEqual(asked('prerm', 'upgrade', '0.2.0'), CLEANS)
         self.assertEqual(asked('postrm', 'upgrade', '0.2.0'), [])
         self.assertNotIn('stop', asked('postinst', 'configure', '0.1.0'))
+
+    def test_modules_are_compiled(self) -> None:
+        """Once, and not at each start."""
+        self.assertEqual(asked('postinst', 'configure')[:4], ['py3compile', '-p', 'e1gw', '/usr/lib/e1gw'])
 
     def test_a_reload_is_asked_for(self) -> None:
         """The unit that is reloaded asks for it, and fails where it is refused; a signal would say nothing."""
