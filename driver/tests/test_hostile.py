@@ -159,8 +159,6 @@ class BadStartTests(RestartedKeeperCase):
         self.begins()
         for number, words in (signal.SIGHUP, 'reload: (?=program)'), (signal.SIGUSR2, 'service was replaced; (?=prog)'):
             self.again_with(number)
-            self.awaits('the service was killed[;:] (?=program)')
-            self.goes_on()
             self.awaits(words)
             self.goes_on()
         self.step(20)
