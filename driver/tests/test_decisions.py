@@ -119,7 +119,7 @@ class DecisionTests(unittest.TestCase):
     def test_figures_of_the_manual(self) -> None:
         """Of e1gw-trunk(1) and OPERATING.md."""
         self.assertEqual((DEATHS, WITHIN, FIRST_PAUSE, MOST_PAUSE), (5, 2.0, 0.5, 10.0))
-        self.assertEqual((MOST_ENDED, MOST_DEATHS), (3, 2))
+        self.assertEqual((MOST_ENDED, MOST_DEATHS, TRIED), (3, 2, 60.0))
 
     def test_takeovers(self) -> None:
         """A program that carries the trunk goes on if all descriptors are there; a standby starts none."""
