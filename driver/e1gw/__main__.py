@@ -14,8 +14,9 @@ COMMANDS = {
     'call': 'tools.call', 'config': 'config', 'ctl': 'ctl', 'exchange': 'tools.exchange', 'explain': 'explain',
     'pcap': 'tools.pcap', 'picture': 'picture.main', 'records': 'tools.records', 'tie': 'tie.main',
     'trunk': 'service.service'}
-# Which catches these signals. They wait until it knows what a service before it has left: they would end it, in
-# systemd's view in order, and a program that goes on would have nobody. (Some of them end one that has nothing.)
+# The service catches these signals. As it begins they wait until it knows what the service before it has left: they
+# would end it, in systemd's view in order, and nobody would look after a program that goes on. Where nothing is left
+# the ENDS end it at once.
 SERVICE, CAUGHT = 'trunk', (signal.SIGHUP, signal.SIGUSR1, signal.SIGUSR2, signal.SIGTERM, signal.SIGINT)
 ENDS = CAUGHT[-2:]
 

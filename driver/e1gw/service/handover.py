@@ -48,6 +48,7 @@ class Notifier:
 
     @property
     def has_manager(self) -> bool:
+        """Whether systemd listens, which begins another service if this one fails."""
         return bool(self._path)
 
     def tell(self, *lines: str, file: int = -1) -> bool:
