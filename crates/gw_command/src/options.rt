@@ -248,9 +248,9 @@ const RECORD_OVER: OptionRow = OptionRow {
 
 const SENDERS: OptionRow = OptionRow {
     name: "senders",
-    kind: Kind::Named(&["any", "host", "peer"]),
+    kind: Kind::Named(&["any", "host", "peer", "first"]),
     defaults: &["any"],
-    help: "Senders let in: any, host for the peer's address at any port,\npeer for its address and port",
+    help: "Senders let in: any; host or peer, the peer's address (and port);\nfirst, a call's first one",
     ..OPTION
 };
 

@@ -9,7 +9,7 @@ use Rattle.log_files.specs.declared.loading.Loaded.{Loaded}
 use Rattle.log_files.specs.declared.loading.Loaded.TheVariants.{First, Second}
 use Rattle.log_files.proofs.Logs.{blank_before, newest_first, newest_second}
 use Rattle.gw_log.specs.Logs.{files_over}
-use Rattle.gw_files.specs.LogContents.{IsFoundIn}
+use Rattle.gw_files.specs.Resuming.{IsFoundIn}
 use Rattle.gw_files.specs.Starts.{Disk, IsFrontOf, ReadsWhatWasWritten}
 
 -- what has an area at its front has it

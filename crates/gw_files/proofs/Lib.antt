@@ -1,15 +1,8 @@
-pub mod Made
-pub mod Folders
-pub mod Lines
-mod Front
-mod Loading
-pub mod Results
-pub mod Filling
-pub mod Resumed
-pub mod Given
-pub mod Configured
-pub mod Replaying
-pub mod Disks
-pub mod Starting
-pub mod Lives
+mod Filling
+mod Replaying
+mod Resumed
+mod Configured
+mod Disks
+mod Starting
+mod Lives
 mod Rows

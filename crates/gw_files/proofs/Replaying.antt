@@ -19,8 +19,8 @@ use Rattle.gw_session.proofs.ReadBack.{reads_all}
 use Rattle.log_files.specs.Pairs.{Kept}
 use Rattle.gw_log.proofs.Checkpointing.{checkpoint_begins, checkpoint_behind, checkpoint_long}
 use Rattle.gw_log.specs.Logs.{kept_as}
-use Rattle.gw_machine.specs.Log.{GoesOnWith, IsResumed}
-use Rattle.gw_machine.specs.State.{IsCheckpoint, IsStateIn}
+use Rattle.gw_files.specs.Resuming.{GoesOnWith, IsResumed}
+use Rattle.gw_files.specs.State.{IsCheckpoint, IsStateIn}
 
 -- the state in octets that are a checkpoint is the one behind its head
 state_in : (content state octets inside : List ℕ) → IsCheckpoint content → drop 12 content ≡ state
@@ -51,10 +51,10 @@ resumes go_on one_reading config fits turn place saved next before records stand
     record { long = checkpoint_long place state; begins = checkpoint_begins place state } in
     let behind = checkpoint_behind place state in
     let kept-is : kept.state ≡ content = ap (λ (k : Kept). k.state) (sym same) in
-    let found-is = state_in content state r.was.octets r.was.state is behind (r.was.given ∙ kept-is) r.was.inside in
+    let found-is = state_in content state kept.state r.was.state is behind kept-is r.was.inside in
     let old : config ≡ r.found.old = (r.was.is.goes_on config config saved before there fits found-is).0 in
     let was = r.replayed.was in
-    let again-is = state_in content state was.octets was.state is behind (was.given ∙ kept-is) was.inside in
+    let again-is = state_in content state kept.state was.state is behind kept-is was.inside in
     let loaded = (go_on config config r.found.old saved before was.state r.loaded there fits again-is was.is).unchanged
     old in
     let given = r.replayed.given in

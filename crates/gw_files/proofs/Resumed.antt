@@ -1,5 +1,5 @@
 -- A gateway goes on from what was kept, and from the log that has it.
-use Rattle.std.proofs.Common.{◌≡◌, ◌≢◌, ◌∙◌, ◌<◌, ◌-◌, inl, inr, ℕ, suc, List, None, length, get_or, arith}
+use Rattle.std.proofs.Common.{◌≡◌, ◌≢◌, ◌∙◌, ◌<◌, ◌-◌, inl, inr, ℕ, suc, length, get_or, arith}
 use Rattle.std.proofs.lemmas.List.{get_or_default}
 use Rattle.gw_circuit.specs.declared.config.CircuitConfig.{CircuitConfig}
 use Rattle.gw_switch.specs.Whole.{spare_config}
@@ -7,35 +7,30 @@ use Rattle.gw_switch.specs.declared.GatewayConfig.{GatewayConfig}
 use Rattle.gw_switch.specs.declared.gateway.Gateway.{Gateway}
 use Rattle.gw_state.specs.declared.loading.Loaded.{Loaded}
 use Rattle.log_files.specs.Loading.{IsLoadedOf, NamesNewer, kept_of}
-use Rattle.log_files.specs.Pairs.{Contents, Kept}
+use Rattle.log_files.specs.Pairs.{Contents, IsNewest, Kept}
 use Rattle.log_files.specs.declared.loading.KeptContents.{KeptContents}
 use Rattle.log_files.specs.declared.loading.Loaded as found
 use Rattle.log_files.specs.declared.loading.Loaded.TheVariants.{First, Second}
-use Rattle.gw_machine.specs.Log.{FolderGives, GoesOnWith, HaveSameCircuits, IsInLog, IsReplayed, IsResumed}
-use Rattle.gw_machine.specs.State.{WasLoaded}
+use Rattle.gw_files.specs.Resuming.{GoesOnWith, HaveSameCircuits, IsReplayed, IsResumed}
+use Rattle.gw_files.specs.State.{WasLoaded}
 
--- what is loaded of two pairs is in the log whose pairs they are
-pub in_log : (folder : List ℕ) (first second : Contents) (loaded : found.Loaded) (kept : KeptContents)
-    → FolderGives folder first second → NamesNewer first second loaded → IsLoadedOf loaded kept
-    → IsInLog folder (kept_of kept)
-in_log folder first second (First l) kept gives newer same =
-    record { first = first; second = second; gives = gives; newest = inl (rw same newer) }
-in_log folder first second (Second l) kept gives newer same =
-    record { first = first; second = second; gives = gives; newest = inr (rw same newer) }
+-- what is loaded of two pairs is the newest
+pub is_newest : (first second : Contents) (loaded : found.Loaded) (kept : KeptContents)
+    → NamesNewer first second loaded → IsLoadedOf loaded kept → IsNewest first second (kept_of kept)
+is_newest first second (First l) kept newer same = inl (rw same newer)
+is_newest first second (Second l) kept newer same = inr (rw same newer)
 
 -- a gateway of what was kept, loaded with the configuration that it was kept with, goes on
-pub resumed_with : (kept : Kept) (config old : GatewayConfig) (before gateway : Gateway)
-    → (found : Loaded) × WasLoaded (λ given. given ≡ kept.state) (λ asked. asked ≡ None) config found
-    × (old ≡ found.old)
-    → (loaded : Loaded) × IsReplayed kept old loaded before → GoesOnWith old config before gateway
-    → IsResumed kept config gateway
-resumed_with kept config old before gateway (found, was, same) (loaded, is) goes = record {
+pub resumed_with : (kept : Kept) (config : GatewayConfig) (found : Loaded) (before gateway : Gateway)
+    → WasLoaded kept.state config found → (loaded : Loaded) × IsReplayed kept found.old loaded before
+    → GoesOnWith found.old config before gateway → IsResumed kept config gateway
+resumed_with kept config found before gateway was (loaded, is) goes = record {
   found = found;
   was = was;
   loaded = loaded;
   before = before;
-  replayed = rw (← same) is;
-  goes_on = rw (← same) goes;
+  replayed = is;
+  goes_on = goes;
 }
 
 -- configurations of which one circuit differs have not the same circuits

@@ -21,9 +21,9 @@ use Rattle.log_files.specs.Pairs.{StandsFor}
 use Rattle.log_files.specs.Stores.{WhereKnown}
 use Rattle.gw_log.specs.Calls.{AreLogged, LeavesBehind, LogsAreLeft, WasServed}
 use Rattle.gw_log.specs.Logs.{CanFollow, HalfCheckpointed, LeavesOf, TrunkLogState, kept_as}
-use Rattle.gw_machine.specs.State.{BeginsWaiting}
-use Rattle.gw_files.specs.Starts.{AreStarts, BeginsIn, Disk, HasLogged, HaveLogged, IsGivenBy, IsStart}
-use Rattle.gw_files.specs.Starts.{Start, StartsGoOn, given_wait}
+use Rattle.gw_files.specs.Resuming.{BeginsFrom}
+use Rattle.gw_files.specs.Starts.{AreStarts, Disk, HasLogged, HaveLogged, IsStart, ReadsWhatWasWritten}
+use Rattle.gw_files.specs.Starts.{Start, StartsGoOn, Waits, given_wait}
 use Rattle.gw_files.proofs.Configured.{IsPlain, configured_still, plain_events, plain_wait}
 use Rattle.gw_files.proofs.Disks.{IsOver, blank_nothing, none_newest, one_newest, over_read, newest_read, read_newest}
 use Rattle.gw_files.proofs.Replaying.{resumes}
@@ -94,11 +94,11 @@ newest_of {place = place} {gateway = gateway} {records = records} {newest = newe
     (left_newest l.left one two)
 
 -- a gateway that is given a wait
-waited : (config : GatewayConfig) (gateway : Gateway) (history : List Event) {Begins : Gateway → Type 0}
-    {Asks : Option ℕ → Type 0} (b : BeginsWaiting Begins Asks gateway) (wait : Option ℕ) → b.wait ≡ wait
-    → HasHistory config b.first history → HasHistory config gateway (history ++ given_wait wait)
-waited config gateway history b None same stands = rw (append-nil, rw same at b.waits) stands
-waited config gateway history b (Some signals) same stands = (rw same at b.waits) config history stands
+waited : (config : GatewayConfig) (begun gateway : Gateway) (history : List Event) (wait : Option ℕ)
+    → Waits wait begun gateway → HasHistory config begun history
+    → HasHistory config gateway (history ++ given_wait wait)
+waited config begun gateway history None waits stands = rw (append-nil, waits) stands
+waited config begun gateway history (Some signals) waits stands = waits config history stands
 
 -- all that has happened, by what is before a state and what is behind it
 all_of : (history wait : List Event) (records first others : List Record) → records ≡ first ++ others
@@ -138,31 +138,32 @@ may_leave (Some old) (Some new) pair pair' kept one two w =
     rw (same, same') at w.fact
 
 module _ (left_law : LogsAreLeft) (go_on : LoadedGatewaysGoOn) (one_reading : AtMostOneReading)
-    (folder : List ℕ) (config : GatewayConfig) (fits : ConfigFits config)
+    (config : GatewayConfig) (fits : ConfigFits config)
   where
     -- a start begins with the gateway that the files have
     pub begins_with : (disk : Disk) (history : List Event) (next : Gateway)
-        → Holds config disk.first disk.second history → (begins : BeginsIn folder config next)
-        → IsGivenBy disk folder config next begins → HasHistory config next history
-    begins_with disk history next (inl none) (inl from) given =
-        absurd (none_newest none.0 none.1 (newest_read given from.in_log.newest))
-    begins_with disk history next (inl none) (inr new) given = rw none.2 new.1
-    begins_with disk history next (inr k) (inl from) given =
-        let same = one_newest (read_newest given k.newest) from.in_log.newest in
+        → Holds config disk.first disk.second history → (first second : Contents)
+        → ReadsWhatWasWritten disk first second → BeginsFrom first second config next
+        → HasHistory config next history
+    begins_with disk history next (inl none) first second given (inl from) =
+        absurd (none_newest none.0 none.1 (newest_read given from.newest))
+    begins_with disk history next (inl none) first second given (inr new) = rw none.2 new.1
+    begins_with disk history next (inr k) first second given (inl from) =
+        let same = one_newest (read_newest given k.newest) from.newest in
         rw k.history_is
         (resumes go_on one_reading config fits k.turn k.place k.saved next k.before k.records k.stands
         (configured_still config k.before k.plain) k.fits k.good from.kept same from.resumed)
-    begins_with disk history next (inr k) (inr new) given =
-        absurd (none_newest new.0.new.0 new.0.new.1 (read_newest given k.newest))
+    begins_with disk history next (inr k) first second given (inr new) =
+        absurd (none_newest new.0.0 new.0.1 (read_newest given k.newest))
 
     module _ (disk : Disk) (history : List Event) (start : Start) (held : Holds config disk.first disk.second history)
-        (is : IsStart folder config disk start)
+        (is : IsStart config disk start)
       where
         -- what has happened to the gateway of a start
         pub stands_now : HasHistory config start.gateway (history ++ given_wait start.wait)
         stands_now =
-            let first = begins_with disk history is.begins.first held is.begins.begun is.given in
-            waited config start.gateway history is.begins start.wait is.begins.asked first
+            waited config is.begun start.gateway history start.wait is.waits
+            (begins_with disk history is.begun held is.first is.second is.given is.begins)
 
         plain_now : AllByRecursion IsPlain (history ++ given_wait start.wait)
         plain_now =
@@ -173,7 +174,7 @@ module _ (left_law : LogsAreLeft) (go_on : LoadedGatewaysGoOn) (one_reading : At
         is_over : IsOver disk start.opened.files
         is_over =
             rw is.over.files
-            (over_read disk is.over.first is.over.second is.over.pair is.over.other is.over.found is.held.reads
+            (over_read disk is.first_again is.second_again is.over.pair is.over.other is.over.found is.held.reads
             is.over.is is.held.first_is is.held.second_is)
 
         -- what it has logged, and the two pairs have
@@ -327,15 +328,15 @@ module _ (left_law : LogsAreLeft) (go_on : LoadedGatewaysGoOn) (one_reading : At
 
     -- starts, one behind the other
     all_starts : (starts : List Start) (disk disk' : Disk) (history : List Event) (next : Gateway)
-        → Holds config disk.first disk.second history → AreStarts folder config disk starts disk'
-        → (begins : BeginsIn folder config next) → IsGivenBy disk' folder config next begins
+        → Holds config disk.first disk.second history → AreStarts config disk starts disk'
+        → (first second : Contents) → ReadsWhatWasWritten disk' first second → BeginsFrom first second config next
         → (logged : List Event) × HaveLogged starts logged × HasHistory config next (history ++ logged)
-    all_starts [] disk disk' history next held same begins given =
+    all_starts [] disk disk' history next held same first second given begins =
         let there : Holds config disk'.first disk'.second history = rw same held in
-        ([], refl, rw append-nil (begins_with disk' history next there begins given))
-    all_starts (start ∷ starts) disk disk' history next held (is, are) begins given =
+        ([], refl, rw append-nil (begins_with disk' history next there first second given begins))
+    all_starts (start ∷ starts) disk disk' history next held (is, are) first second given begins =
         let l = one_start disk history start held is in
-        let rest = all_starts starts start.left disk' (history ++ l.0) next l.2 are begins given in (
+        let rest = all_starts starts start.left disk' (history ++ l.0) next l.2 are first second given begins in (
           l.0 ++ rest.0,
           (l.0, rest.0, l.1, rest.1, refl),
           rw append_assoc at rest.2,
@@ -343,6 +344,6 @@ module _ (left_law : LogsAreLeft) (go_on : LoadedGatewaysGoOn) (one_reading : At
 
 -- the gateway with which the next start begins is a new one behind all that the starts before have logged
 pub starts_go_on : LogsAreLeft → LoadedGatewaysGoOn → AtMostOneReading → StartsGoOn
-starts_go_on left_law go_on one_reading folder config disk disk' starts next fits none nor are begins given =
-    all_starts left_law go_on one_reading folder config fits starts disk disk' [] next (inl (none, nor, refl)) are
-    begins given
+starts_go_on left_law go_on one_reading config disk disk' starts next fits none nor are first second given begins =
+    all_starts left_law go_on one_reading config fits starts disk disk' [] next (inl (none, nor, refl)) are
+    first second given begins

@@ -1,5 +1,5 @@
 -- What starts of the program did until each was killed, by what they have logged.
-use Rattle.std.specs.Prelude.{◌≡◌, ◌⊎◌, ℕ, List, [], ◌∷◌, ◌++◌, flat_map, map}
+use Rattle.std.specs.Prelude.{◌≡◌, ◌⊎◌, List, [], ◌∷◌, ◌++◌, flat_map, map}
 use Rattle.std.specs.List.{AllByRecursion}
 use Rattle.gw_switch.specs.Events.{Event}
 use Rattle.gw_switch.specs.Standing.{HasHistory}
@@ -14,7 +14,9 @@ use Rattle.gw_session.specs.Tape.{Act}
 use Rattle.log_files.specs.Pairs.{HasNothingWhole}
 use Rattle.gw_log.specs.Calls.{AreLogged, WasServed}
 use Rattle.gw_log.specs.Logs.{HalfCheckpointed}
-use Rattle.gw_files.specs.Starts.{AreStarts, BeginsIn, Disk, HasLogged, IsGivenBy, Start, given_wait}
+use Rattle.log_files.specs.Pairs.{Contents}
+use Rattle.gw_files.specs.Resuming.{BeginsFrom}
+use Rattle.gw_files.specs.Starts.{AreStarts, Disk, HasLogged, ReadsWhatWasWritten, Start, given_wait}
 
 -- a start, and what its session did until it was killed
 pub record Life : Type 0 where
@@ -59,8 +61,9 @@ HaveDone config before (life ∷ lives) logged = (first : List Event) × (rest :
 -- first of what answers what it has logged, and all of that but for a part of the last record's; and the next
 -- start begins with a new gateway behind all that they have logged.
 abbrev pub StartsAnswerTheirLogs : Type 0
-StartsAnswerTheirLogs = (folder : List ℕ) (config : GatewayConfig) (disk disk' : Disk) (lives : List Life)
-    (next : Gateway) → ConfigFits config → HasNothingWhole disk.first → HasNothingWhole disk.second
-    → AreStarts folder config disk (map start_of lives) disk' → AllByRecursion WasKilledSo lives
-    → (begins : BeginsIn folder config next) → IsGivenBy disk' folder config next begins
+StartsAnswerTheirLogs = (config : GatewayConfig) (disk disk' : Disk) (lives : List Life) (next : Gateway)
+    → ConfigFits config → HasNothingWhole disk.first → HasNothingWhole disk.second
+    → AreStarts config disk (map start_of lives) disk' → AllByRecursion WasKilledSo lives
+    → (first second : Contents) → ReadsWhatWasWritten disk' first second
+    → BeginsFrom first second config next
     → (logged : List Event) × HaveDone config [] lives logged × HasHistory config next logged

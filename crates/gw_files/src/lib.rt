@@ -2,14 +2,12 @@
 //! and the reports of CRC-4.
 #![tactic(auto)]
 
-mod file_system;
 mod files;
 pub mod laws;
 mod lock_process;
 mod log_contents;
 mod log_folder;
 mod log_tape;
-mod nowhere;
 mod one_of;
 mod recording;
 mod recording_file;
@@ -19,10 +17,8 @@ mod room;
 mod setup;
 mod state;
 
-pub use file_system::{FileSystem, LocalFiles};
 pub use log_folder::{LogLock, lock_log};
 pub use log_tape::begin_log;
-pub use nowhere::Nowhere;
 pub use one_of::OneOf;
 pub use recording::{Recording, Tape, begin};
 pub use recording_file::RecordingFile;

@@ -1,8 +1,7 @@
 //! The number of the process that has the folder of a log, in the file of its lock.
 
-use crate::files::open_file;
 use gw_machine::Machine;
-use std::fs::File;
+use std::fs::{self, File};
 use std::io::{self, Read};
 use std::os::unix::fs::FileExt;
 
@@ -29,7 +28,7 @@ fn process_in(octets: &[u8]) -> u32 {
 // The number of this process, in decimal, and behind it a line feed.
 fn own_process(rt: &impl Machine) -> io::Result<Vec<u8>> {
     let mut octets = Vec::new(rt.alloc());
-    open_file(rt, "/proc/self/stat")?
+    fs::open(rt, "/proc/self/stat")?
         .take(16)
         .read_to_end(&mut octets)?;
     let len = digits_in(octets.as_slice()).len();

@@ -1,6 +1,6 @@
 //! One of two tapes (`OneOf`).
 
-ghost use Rattle.gw_files.specs.OneOf.{tells_of_one};
+ghost use Rattle.gw_files.specs.OneOf.{is_lost_of_one, tells_of_one};
 
 use g704_cas::CircuitNo;
 use gw_records::RecordHead;
@@ -18,6 +18,8 @@ pub enum OneOf<A, B> {
 
 impl<A: Tape, B: Tape> Tape for OneOf<A, B> {
     ghost tells = { λ tape. tells_of_one A.tells B.tells tape };
+
+    ghost is_lost = { λ tape. is_lost_of_one A.is_lost B.is_lost tape };
 
     fn put(&mut self, head: RecordHead, body: &[u8]) {
         match self {
@@ -37,6 +39,13 @@ impl<A: Tape, B: Tape> Tape for OneOf<A, B> {
         match self {
             OneOf::First(tape) => tape.end(),
             OneOf::Second(tape) => tape.end(),
+        }
+    }
+
+    fn is_lost(&self) -> bool {
+        match self {
+            OneOf::First(tape) => tape.is_lost(),
+            OneOf::Second(tape) => tape.is_lost(),
         }
     }
 

@@ -1,25 +1,15 @@
 //! How the FIFO of `--reports` is opened, between `crc4 --check` and `crc4`.
 
-ghost use Rattle.std.specs.Prelude.{IfOk, IfErr};
-ghost use Rattle.gw_files.specs.Recording.{SystemNeverWaits};
-ghost use Rattle.gw_files.specs.FileCalls.{Does, MakesSuch, is_done};
-ghost use Rattle.gw_files.specs.ReportsFile.{AreNotOpened, AreOpenAt, LacksReportsAt, ReportsBy};
-ghost use Rattle.gw_files.specs.ReportsFile.{SystemOpensBoth, opening_reports};
-
-use crate::file_system::FileSystem;
-use gw_machine::ProgramFault;
+use crate::files::{is_regular, never_wait};
+use gw_machine::{Machine, ProgramFault};
+use std::fs::{File, OpenOptions};
 use std::io;
 
-// Opens the file for both, so that no call of it waits. The error is the system's.
-fn open<F: FileSystem>(files: &mut F, path: &str) -> io::Result<F::File>
-    ensures opens { IfOk result (λ file. SystemOpensBoth path.now (F.system file)) }
-    ensures never_waits { IfOk result (λ file. SystemNeverWaits (F.system file)) }
-    ensures err { IfErr result (AreNotOpened path.now) }
-    ensures calls { MakesSuch F.has_made files.old files.new
-        (Does (opening_reports path.now) (is_done result)) }
-{
-    let file = files.open_both(path)?;
-    files.never_wait(&file)?;
+// Opens what is at a path to be read and written, so that the opening of a FIFO waits for nobody, and no call
+// of it waits.
+fn open(rt: &impl Machine, path: &str) -> io::Result<File> {
+    let file = OpenOptions::new().read(true).write(true).open(rt, path)?;
+    never_wait(&file)?;
     Ok(file)
 }
 
@@ -28,18 +18,11 @@ fn open<F: FileSystem>(files: &mut F, path: &str) -> io::Result<F::File>
 /// # Errors
 ///
 /// [`ProgramFault::Reports`] if it can't be opened or is a regular file, or want of memory.
-pub fn open_reports<F: FileSystem>(files: &mut F, path: &str) -> Result<F::File, ProgramFault>
-    ensures ok { IfOk result (λ file. AreOpenAt path.now (F.system file)) }
-    ensures err { IfErr result (LacksReportsAt path.now) }
-    ensures calls { MakesSuch F.has_made files.old files.new (ReportsBy path.now (is_done result)) }
-{
-    match files.look(path) {
-        Ok(None) => {}
-        Ok(Some(_)) => return Err(ProgramFault::Reports),
-        Err(error) => return Err(ProgramFault::of(&error, ProgramFault::Reports)),
-    }
-    match open(files, path) {
-        Ok(file) => Ok(file),
-        Err(error) => Err(ProgramFault::of(&error, ProgramFault::Reports)),
-    }
+pub fn open_reports(rt: &impl Machine, path: &str) -> Result<File, ProgramFault> {
+    let opened = match is_regular(rt, path) {
+        Ok(true) => return Err(ProgramFault::Reports),
+        Ok(false) => open(rt, path),
+        Err(error) => Err(error),
+    };
+    opened.map_err(|error| ProgramFault::of(&error, ProgramFault::Reports))
 }

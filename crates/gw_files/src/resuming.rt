@@ -1,28 +1,28 @@
-//! How a gateway goes on from what a log has (`resumed_gateway`).
+//! How a gateway goes on from what a log has (`resumed`).
 
-ghost use Rattle.std.specs.Prelude.{◌≡◌, ◌<◌, ◌^◌, IfOk, IfErr, MatchOption, OnOk, Some, None, length};
-ghost use Rattle.std.specs.Prelude.{false, true};
-ghost use Rattle.gw_state.specs.Memory.{MemoryIsRefused};
+ghost use Rattle.std.specs.Prelude.{◌≡◌, ◌≢◌, ◌<◌, ◌^◌, IfOk, IfSome, OnOk, Some, None, length, true, false};
 ghost use Rattle.gw_state.specs.declared.loading.Loaded.{Loaded};
 ghost use Rattle.log_files.specs.Loading.{kept_of};
-ghost use Rattle.gw_machine.specs.Log.{FailsToGive, FailsToRenew, FailsToResume, GoesOnWith};
-ghost use Rattle.gw_machine.specs.Log.{HaveSameCircuits, IsFromLog, IsNewLog, IsReplayed, IsResumed};
-ghost use Rattle.gw_machine.specs.Log.{LacksLogged, WasGivenAll};
-ghost use Rattle.gw_machine.specs.State.{WasLoaded};
-ghost use Rattle.gw_files.specs.BeginCalls.{FindsBy, GoesOnBy, RenewsBy};
-ghost use Rattle.gw_files.specs.FileCalls.{MakesSuch, is_done};
-ghost use Rattle.gw_files.specs.Resuming.{run_trouble};
+ghost use Rattle.gw_files.specs.LogContents.{contents_of};
+ghost use Rattle.gw_files.specs.Resuming.{GoesOnWith, HaveSameCircuits, IsFromLog, IsReplayed, IsResumed};
+ghost use Rattle.gw_files.specs.Resuming.{AreNewFiles, WasGivenAll};
 
-use crate::file_system::FileSystem;
-use crate::log_contents::log_contents;
-use crate::nowhere::Nowhere;
-use crate::state::{is_same, load_trouble, loaded_of, tell_renewed};
-use gw_machine::ProgramFault;
+use crate::log_contents::{LogContents, log_contents};
+use crate::state::{load_trouble, loaded_of, tell_renewed};
+use gw_circuit::CircuitConfig;
+use gw_machine::{Machine, Nowhere, ProgramFault};
 use gw_session::{RunFault, Source, SourceFault, run};
 use gw_state::{load_gateway, state_file};
 use gw_switch::{Gateway, GatewayConfig};
 use log_files::KeptContents;
 use std::alloc::Global;
+
+/// A gateway that goes on, and the configuration that it was kept with.
+#[derive(Drop)]
+pub(crate) struct Found {
+    pub(crate) gateway: Gateway,
+    pub(crate) old: GatewayConfig,
+}
 
 // The records of a log as a source, which has all of them.
 #[derive(Drop)]
@@ -50,9 +50,7 @@ impl Source for KeptRecords<'_> {
 }
 
 // The fault if a gateway does not take the records of a log.
-fn run_trouble(fault: RunFault) -> ProgramFault
-    ensures { result ≡ run_trouble fault }
-{
+fn run_trouble(fault: RunFault) -> ProgramFault {
     match fault {
         RunFault::OutOfMemory => ProgramFault::OutOfMemory,
         _ => ProgramFault::BadLog,
@@ -60,11 +58,9 @@ fn run_trouble(fault: RunFault) -> ProgramFault
 }
 
 // Gives a gateway what the records say that octets spell. What answers them goes nowhere.
-#[tactic(auto, unfolding(gw_state::specs::Memory::MemoryIsRefused))]
 fn give_all(alloc: Global, gateway: &mut Gateway, records: &[u8]) -> Result<(), ProgramFault>
     requires { length records.now < 2 ^ 32 }
-    ensures ok { OnOk result (WasGivenAll records.now gateway.old gateway.new) }
-    ensures err { IfErr result (FailsToGive records.now) }
+    ensures { OnOk result (WasGivenAll records.now gateway.old gateway.new) }
 {
     let mut source = KeptRecords {
         rest: records,
@@ -83,9 +79,8 @@ fn replayed(
     kept: &KeptContents<'_>,
 ) -> Result<Gateway, ProgramFault>
     requires { length kept.now.records.now < 2 ^ 32 }
-    ensures ok { IfOk result (λ gateway. (loaded : Loaded)
+    ensures { IfOk result (λ gateway. (loaded : Loaded)
         × IsReplayed (kept_of kept.now) config.now loaded gateway) }
-    ensures err { IfErr result (FailsToResume (kept_of kept.now)) }
 {
     let mut gateway = match loaded_of(alloc, config, kept.state) {
         Ok(loaded) => loaded.gateway,
@@ -95,6 +90,14 @@ fn replayed(
         Ok(()) => Ok(gateway),
         Err(fault) => Err(fault),
     }
+}
+
+/// Whether two configurations of a circuit are the same.
+pub(crate) fn is_same(old: &CircuitConfig, config: &CircuitConfig) -> bool
+    ensures yes { result ≡ true → old.now ≡ config.now }
+    ensures no { result ≡ false → old.now ≢ config.now }
+{
+    old == config
 }
 
 // Whether two configurations have the same circuits.
@@ -110,87 +113,83 @@ fn have_same_circuits(old: &GatewayConfig, config: &GatewayConfig) -> bool
     true
 }
 
-// The gateway with another configuration. Circuits whose configuration changed begin as new, and standard
-// error says which.
-fn renewed<F: FileSystem>(
-    files: &mut F,
+// The gateway with another configuration. Circuits whose configuration changed begin as new.
+fn renewed(
+    alloc: Global,
     old: &GatewayConfig,
     config: &GatewayConfig,
     gateway: &Gateway,
 ) -> Result<Gateway, ProgramFault>
     requires { ¬ HaveSameCircuits old.now config.now 30 }
-    ensures ok { IfOk result (GoesOnWith old.now config.now gateway.now) }
-    ensures err { IfErr result (FailsToRenew old.now config.now gateway.now) }
-    ensures calls { MakesSuch F.has_made files.old files.new
-        (RenewsBy old.now config.now (is_done result)) }
+    ensures { IfOk result (GoesOnWith old.now config.now gateway.now) }
 {
-    let Ok(state) = state_file(files.alloc(), old, gateway) else {
+    let Ok(state) = state_file(alloc, old, gateway) else {
         return Err(ProgramFault::OutOfMemory);
     };
-    match load_gateway(files.alloc(), config, state.as_slice()) {
-        Ok(loaded) => {
-            tell_renewed(files, old, config);
-            Ok(loaded.gateway)
-        }
+    match load_gateway(alloc, config, state.as_slice()) {
+        Ok(loaded) => Ok(loaded.gateway),
         Err(fault) => Err(load_trouble(fault)),
     }
 }
 
-// The configuration with which a gateway was kept whose state is loaded with this one.
-fn config_of(
+// The gateway of what was kept, with this configuration.
+fn resumed(
     alloc: Global,
     config: &GatewayConfig,
     kept: &KeptContents<'_>,
-) -> Result<GatewayConfig, ProgramFault>
-    ensures ok { IfOk result (λ old. (found : Loaded) × WasLoaded (λ given. given ≡ kept.now.state.now)
-        (λ asked. asked ≡ None) config.now found × (old ≡ found.old)) }
-    ensures err { IfErr result (FailsToResume (kept_of kept.now)) }
+) -> Result<Found, ProgramFault>
+    requires { length kept.now.records.now < 2 ^ 32 }
+    ensures { IfOk result (λ resumed. IsResumed (kept_of kept.now) config.now resumed.gateway) }
 {
-    match loaded_of(alloc, config, kept.state) {
-        Ok(loaded) => Ok(loaded.old),
+    let found = loaded_of(alloc, config, kept.state)?;
+    let before = replayed(alloc, &found.old, kept)?;
+    let old = found.old;
+    if have_same_circuits(&old, config) {
+        return Ok(Found {
+            gateway: before,
+            old,
+        });
+    }
+    match renewed(alloc, &old, config, &before) {
+        Ok(gateway) => Ok(Found { gateway, old }),
         Err(fault) => Err(fault),
     }
 }
 
-// The gateway of what was kept, with this configuration.
-fn resumed<F: FileSystem>(
-    files: &mut F,
+// The gateway of what the files of a log have: that of the state that was kept last, with the configuration
+// that it was kept with, behind the records that were kept behind it, and then with this configuration. None
+// if nothing was ever kept.
+fn resumed_of(
+    alloc: Global,
     config: &GatewayConfig,
-    kept: &KeptContents<'_>,
-) -> Result<Gateway, ProgramFault>
-    requires { length kept.now.records.now < 2 ^ 32 }
-    ensures ok { IfOk result (IsResumed (kept_of kept.now) config.now) }
-    ensures err { IfErr result (FailsToResume (kept_of kept.now)) }
-    ensures calls { MakesSuch F.has_made files.old files.new
-        (GoesOnBy (kept_of kept.now) config.now (is_done result)) }
+    contents: &LogContents,
+) -> Result<Option<Found>, ProgramFault>
+    ensures some { IfOk result (λ found. IfSome found (λ resumed. IsFromLog (contents_of contents.now.first)
+        (contents_of contents.now.second) config.now resumed.gateway)) }
+    ensures none { IfOk result (λ found. found ≡ None → AreNewFiles (contents_of contents.now.first)
+        (contents_of contents.now.second)) }
 {
-    let old = config_of(files.alloc(), config, kept)?;
-    let gateway = replayed(files.alloc(), &old, kept)?;
-    if have_same_circuits(&old, config) {
-        return Ok(gateway);
-    }
-    renewed(files, &old, config, &gateway)
-}
-
-/// The gateway of the log in a folder: that of the state that was kept last, with the configuration that it
-/// was kept with, behind the records that were kept behind it. Then circuits whose configuration changed
-/// begin as new. None if nothing was ever kept.
-pub(crate) fn resumed_gateway<F: FileSystem>(
-    files: &mut F,
-    config: &GatewayConfig,
-    folder: &str,
-) -> Result<Option<Gateway>, ProgramFault>
-    ensures ok { IfOk result (λ found. MatchOption found (IsNewLog folder.now)
-        (IsFromLog folder.now config.now)) }
-    ensures err { IfErr result (LacksLogged folder.now) }
-    ensures calls { MakesSuch F.has_made files.old files.new (FindsBy folder.now config.now result) }
-{
-    let contents = log_contents(files, folder)?;
     match contents.newest()? {
-        Some(loaded) => match resumed(files, config, &loaded.kept()) {
-            Ok(gateway) => Ok(Some(gateway)),
+        Some(loaded) => match resumed(alloc, config, &loaded.kept()) {
+            Ok(resumed) => Ok(Some(resumed)),
             Err(fault) => Err(fault),
         },
+        None => Ok(None),
+    }
+}
+
+/// The gateway of the log in a folder (`resumed_of`). Standard error says which circuits begin as new.
+pub(crate) fn resumed_gateway(
+    rt: &impl Machine,
+    config: &GatewayConfig,
+    folder: &str,
+) -> Result<Option<Gateway>, ProgramFault> {
+    let contents = log_contents(rt, folder)?;
+    match resumed_of(rt.alloc(), config, &contents)? {
+        Some(Found { gateway, old }) => {
+            tell_renewed(rt, &old, config);
+            Ok(Some(gateway))
+        }
         None => Ok(None),
     }
 }

@@ -1,8 +1,8 @@
 //! How the room of a log's file is filled (`fill_file`).
 
-ghost use Rattle.std.specs.Prelude.{◌≡◌, ◌≤◌, ◌+◌, OnOk, OnErr};
+ghost use Rattle.std.specs.Prelude.{◌≡◌, ◌≤◌, ◌+◌, OnOk};
 ghost use Rattle.log_files.specs.Stores.{WhereKnown};
-ghost use Rattle.gw_files.specs.LogFolder.{FillsFrom, SystemFailsToFill, SystemFills, WritesSome};
+ghost use Rattle.gw_files.specs.Room.{FillsFrom, WritesSome};
 
 use log_files::{FileStore, Store, StoreFault};
 use std::fs::File;
@@ -36,10 +36,6 @@ fn fill<S: Store>(store: &mut S, from: u64) -> Result<(), StoreFault>
 }
 
 /// Writes zeros to a file from this octet on, up to its room.
-#[tactic(auto, unfolding(crate::specs::LogFolder::SystemFills, crate::specs::LogFolder::SystemFailsToFill))]
-pub(crate) fn fill_file(file: File, from: u64, room: u64) -> Result<(), StoreFault>
-    ensures ok { OnOk result (SystemFills file from room) }
-    ensures err { OnErr result SystemFailsToFill }
-{
+pub(crate) fn fill_file(file: File, from: u64, room: u64) -> Result<(), StoreFault> {
     fill(&mut FileStore::new(file, room), from)
 }

@@ -51,7 +51,7 @@ fn place_after_loaded(loaded: &Option<Loaded<'_>>) -> u64
 
 /// Keeps a gateway, and the records of what it takes behind that, in files. Before a record, if 1 MiB of
 /// records is behind the gateway that the files have, it writes the present one. If a write fails, or there
-/// is no room for a record, it ends.
+/// is no room for a record, it ends, and so does a session with it ([`Tape::is_lost`]).
 #[derive(Drop)]
 pub struct TrunkLog<S: Store> {
     room: Box<TrunkRecord>,
@@ -123,13 +123,6 @@ impl<S: Store> TrunkLog<S> {
         )
     }
 
-    /// Whether it has ended.
-    pub fn has_ended(&self) -> bool
-        ensures { result ≡ self.now.ended }
-    {
-        self.log.has_ended()
-    }
-
     /// Writes a checkpoint of the gateway, which stands behind all that the log took.
     ///
     /// # Errors
@@ -147,6 +140,8 @@ impl<S: Store> TrunkLog<S> {
 
 impl<S: Store> Tape for TrunkLog<S> {
     ghost tells = { told_by };
+
+    ghost is_lost = { λ log. log.ended };
 
     fn put(&mut self, head: RecordHead, body: &[u8])
         requires { IsGood all_kinds (named head body.now) }
@@ -171,6 +166,12 @@ impl<S: Store> Tape for TrunkLog<S> {
         ensures same { self.new ≡ record self.old { ended = true } }
     {
         self.log.end();
+    }
+
+    fn is_lost(&self) -> bool
+        ensures { result ≡ self.now.ended }
+    {
+        self.log.has_ended()
     }
 
     fn keep(&mut self, gateway: &Gateway)

@@ -1,12 +1,1 @@
 pub mod Status
-pub mod Calls
-pub mod Lines
-pub mod Report
-pub mod Files
-pub mod Renewals
-pub mod Setup
-pub mod State
-pub mod Log
-pub mod System
-pub mod SystemCalls
-pub mod CommandLine

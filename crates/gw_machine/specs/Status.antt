@@ -1,11 +1,7 @@
--- What a failed call comes to, and the status of the program at each trouble: 1 at a fault of a session, a
--- socket or a trunk other than want of memory and if a state is not saved, 2 if the command line, a file or
--- the configuration is refused, 3 for want of memory.
-use Rattle.std.specs.Prelude.{◌≡◌, ℕ}
-use Rattle.std.specs.declared.io.Error.{Error}
-use Rattle.std.specs.IoError.{error_kind}
-use Rattle.std.specs.declared.io.ErrorKind as kinds
-use Rattle.std.specs.declared.io.ErrorKind.TheVariants as errors
+-- The status of the program at each fault: 1 at a fault of a session, a socket or a trunk other than want of
+-- memory, if a state is not saved, or a log has too little room or takes no writes, 3 for want of memory, and
+-- else 2.
+use Rattle.std.specs.Prelude.{ℕ}
 use Rattle.gw_config.specs.declared.fault.ConfigFault.{ConfigFault}
 use Rattle.gw_config.specs.declared.fault.ConfigFault.TheVariants as configs
 use Rattle.gw_records.specs.declared.outcome.RunFault.{RunFault}
@@ -14,16 +10,6 @@ use Rattle.gw_state.specs.declared.fault.LoadFault.{LoadFault}
 use Rattle.gw_state.specs.declared.fault.LoadFault.TheVariants as loads
 use Rattle.gw_machine.specs.declared.program_fault.ProgramFault.{ProgramFault}
 use Rattle.gw_machine.specs.declared.program_fault.ProgramFault.TheVariants as program_faults
-
--- what a failed call of the system comes to: want of memory, or else this
-abbrev pub fault_of_error : kinds.ErrorKind → ProgramFault → ProgramFault
-fault_of_error errors.OutOfMemory otherwise = program_faults.OutOfMemory
-fault_of_error _ otherwise = otherwise
-
--- a fault says that the system refused something with an error
-abbrev pub SaysRefused : (Error → Type 0) → ProgramFault → ProgramFault → Type 0
-SaysRefused refuses otherwise fault =
-    (error : Error) × refuses error × (fault ≡ fault_of_error (error_kind error) otherwise)
 
 -- the status at a fault of a session
 abbrev pub fault_status : RunFault → ℕ
@@ -40,28 +26,16 @@ abbrev pub load_status : LoadFault → ℕ
 load_status loads.OutOfMemory = 3
 load_status (loads.Refused kind place) = 2
 
--- the status at any trouble
+-- the status at any fault
 abbrev pub program_fault_status : ProgramFault → ℕ
 program_fault_status (program_faults.Session fault) = fault_status fault
 program_fault_status (program_faults.Socket circuit) = 1
 program_fault_status program_faults.FarEnd = 1
-program_fault_status program_faults.PacketSize = 2
 program_fault_status program_faults.Trunk = 1
-program_fault_status program_faults.NotText = 2
-program_fault_status program_faults.Nothing = 2
-program_fault_status program_faults.File = 2
-program_fault_status program_faults.Recording = 2
-program_fault_status program_faults.OldRecording = 2
-program_fault_status program_faults.NoLog = 2
-program_fault_status (program_faults.LogInUse process) = 2
 program_fault_status (program_faults.LogRoom octets) = 1
-program_fault_status program_faults.BadLog = 2
-program_fault_status program_faults.TwoRecordings = 2
-program_fault_status program_faults.Reports = 2
-program_fault_status program_faults.NoState = 2
-program_fault_status (program_faults.State fault) = load_status fault
+program_fault_status program_faults.LogLost = 1
 program_fault_status program_faults.NotSaved = 1
-program_fault_status program_faults.Control = 2
-program_fault_status program_faults.Tell = 2
+program_fault_status (program_faults.State fault) = load_status fault
 program_fault_status (program_faults.Config fault) = config_status fault
 program_fault_status program_faults.OutOfMemory = 3
+program_fault_status _ = 2

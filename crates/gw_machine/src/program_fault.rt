@@ -1,11 +1,10 @@
 //! Why the program failed, as the line that it prints and its exit status (`ProgramFault`).
 
-ghost use Rattle.std.specs.Prelude.{◌≡◌, ◌≤◌};
-ghost use Rattle.std.specs.IoError.{error_kind};
-ghost use Rattle.gw_machine.specs.Status.{fault_of_error, fault_status, program_fault_status};
+ghost use Rattle.std.specs.Prelude.{◌≡◌};
+ghost use Rattle.gw_machine.specs.Status.{program_fault_status};
 
 use gw_config::ConfigFault;
-use gw_session::RunFault;
+use gw_records::RunFault;
 use gw_state::LoadFault;
 use std::io;
 use thiserror::Error;
@@ -18,8 +17,7 @@ const FAULT: u8 = 1;
 /// The status if the command line, the file or the configuration is refused.
 pub const REFUSED: u8 = 2;
 
-/// The status for want of memory.
-pub const NO_MEMORY: u8 = 3;
+const NO_MEMORY: u8 = 3;
 
 /// Why the program failed. It prints as the line on standard error.
 #[derive(Debug, Drop, Error)]
@@ -66,6 +64,9 @@ pub enum ProgramFault {
     /// The files of the trunk's log have nothing that can be loaded, and are not new.
     #[error("the log of the trunk has no state that can be loaded")]
     BadLog,
+    /// A write of the trunk's log failed: the trunk ended behind what it had in hand.
+    #[error("cannot write the log of the trunk")]
+    LogLost,
     /// A recording and a log are both named.
     #[error("error: give --record or --log")]
     TwoRecordings,
@@ -97,18 +98,16 @@ pub enum ProgramFault {
 
 impl ProgramFault {
     /// The fault of a failed system call: out of memory, or `otherwise`.
-    pub fn of(error: &io::Error, otherwise: ProgramFault) -> ProgramFault
-        ensures { result ≡ fault_of_error (error_kind error.now) otherwise }
-    {
+    pub fn of(error: &io::Error, otherwise: ProgramFault) -> ProgramFault {
         match error.kind() {
             io::ErrorKind::OutOfMemory => ProgramFault::OutOfMemory,
             _ => otherwise,
         }
     }
 
-    /// The exit status: 1 for a fault of a session, a socket or a trunk, if a state is not saved or a log has
-    /// too little room, 2 if the
-    /// command line, a file or the configuration is refused, and 3 if out of memory.
+    /// The exit status: 1 for a fault of a session, a socket or a trunk, if a state is not saved, or if a log
+    /// has too little room or takes no writes; 2 if the command line, a file or the configuration is refused;
+    /// 3 if out of memory.
     pub fn status(&self) -> u8
         ensures { result ≡ program_fault_status self.now }
     {
@@ -122,6 +121,7 @@ impl ProgramFault {
             | ProgramFault::FarEnd
             | ProgramFault::Trunk
             | ProgramFault::LogRoom(_)
+            | ProgramFault::LogLost
             | ProgramFault::NotSaved => FAULT,
             ProgramFault::NotText
             | ProgramFault::PacketSize

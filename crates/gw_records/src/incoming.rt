@@ -1,5 +1,5 @@
 //! What a session takes its records from: what octets spell, or what comes as records (`Records`).
-ghost use Rattle.std.specs.Prelude.{◌≡◌, ◌^◌, [], drop, IfOk, IfErr, Some};
+ghost use Rattle.std.specs.Prelude.{◌≡◌, ◌^◌, [], drop, Bool, IfOk, IfErr, OnOk, Some, false, is_ok, true};
 ghost use Rattle.gw_records.specs.declared.records.AcceptedKinds.{AcceptedKinds};
 ghost use Rattle.gw_records.specs.Streams.{SourceState, CanCount};
 ghost use Rattle.gw_records.specs.Records.{IsFirst, end_of, named, record_at};
@@ -22,6 +22,9 @@ pub trait Records {
 
     /// What has come and is not passed, and how many reads may follow.
     ghost holds: { Self → Held };
+
+    /// Whether they can be ended before their source does.
+    ghost stops: { Bool };
 
     /// Before the first read, with the memory for the longest record.
     fn begin(alloc: Global) -> Result<Self, AllocError>
@@ -58,6 +61,16 @@ pub trait Records {
         ensures fault { IfErr result (λ e. (e ≡ RunFault.Read)
             × FailsToRead (tells source.old) (tells source.new) (holds self.old) (holds self.new)
             ending) };
+
+    /// Ends them before their source does, as a failed read would: the source counts a failure. Records that
+    /// cannot be ended so, and those that have ended otherwise, stay as they are.
+    fn stop(&mut self, _ending: RecordsEnd, _source: &mut Self::Source) -> Result<(), RunFault>
+        requires reads { CanCount (tells _source.old).failures }
+        ensures ok { OnOk result ((_source.new ≡ _source.old) × (self.new ≡ self.old)) }
+        ensures fault { IfErr result (λ e. (e ≡ RunFault.Read)
+            × FailsToRead (tells _source.old) (tells _source.new) (holds self.old) (holds self.new)
+            _ending) }
+        ensures stops { stops ≡ true → _ending ≡ RecordsEnd.End → is_ok result ≡ false };
 }
 
 /// The records that the octets of a source spell.
@@ -73,6 +86,8 @@ impl<S: Source> Records for OctetRecords<S> {
     ghost tells = { S.tells };
 
     ghost holds = { λ r. holds r.reader };
+
+    ghost stops = { false };
 
     fn begin(alloc: Global) -> Result<OctetRecords<S>, AllocError> {
         Ok(OctetRecords {
@@ -101,5 +116,9 @@ impl<S: Source> Records for OctetRecords<S> {
         source: &mut S,
     ) -> Result<bool, RunFault> {
         self.reader.read_on(kinds, ending, source)
+    }
+
+    fn stop(&mut self, _ending: RecordsEnd, _source: &mut S) -> Result<(), RunFault> {
+        Ok(())
     }
 }

@@ -1,5 +1,5 @@
 //! The trait of the circuits' ports, which receive and send datagrams (`Ports`).
-ghost use Rattle.std.specs.Prelude.{◌≡◌, ◌≤◌, length, IfOk, IfSome, ⊤};
+ghost use Rattle.std.specs.Prelude.{◌≡◌, ◌≤◌, length, IfOk, IfSome};
 ghost use Rattle.gw_records.specs.Ports.{PortsState, Receives, Sends, CountsFault, KeepsSends, KeepsReceives};
 
 use g704_cas::CircuitNo;
@@ -17,14 +17,27 @@ pub trait Ports {
     /// results.
     ghost tells: { Self → PortsState };
 
-    /// Holds of ports that have looked.
-    ghost has_looked: { Self → Type 0 } = { λ _. ⊤ };
-
     /// Learns which circuits have a datagram waiting; receives and sends nothing. It is called before the
-    /// first octet of each trunk record.
+    /// first octet of each trunk record. Ports that need not know do nothing.
     fn look(&mut self)
-        ensures tells { tells self.new ≡ tells self.old }
-        ensures looked { has_looked self.new };
+        ensures { tells self.new ≡ tells self.old }
+    {}
+
+    /// Whether these ports follow the calls: they are told which datagrams are accepted, and which paths are
+    /// closed.
+    fn follows_calls(&self) -> bool {
+        false
+    }
+
+    /// Learns whether the datagram that the last receive gave was accepted by its circuit, this one.
+    fn judge(&mut self, _circuit: CircuitNo, _accepted: bool)
+        ensures { tells self.new ≡ tells self.old }
+    {}
+
+    /// Learns that the path of a circuit is closed.
+    fn close(&mut self, _circuit: CircuitNo)
+        ensures { tells self.new ≡ tells self.old }
+    {}
 
     /// Receives one datagram of a circuit into `room` and returns its length.
     ///

@@ -134,10 +134,20 @@ impl<P: Ports + Drop> Repeating<P> {
 impl<P: Ports> Ports for Repeating<P> {
     ghost tells = { λ r. told (P.tells r.ports) r.send_failed r.log.calls };
 
-    ghost has_looked = { λ r. P.has_looked r.ports };
-
     fn look(&mut self) {
         self.ports.look();
+    }
+
+    fn follows_calls(&self) -> bool {
+        self.ports.follows_calls()
+    }
+
+    fn judge(&mut self, circuit: CircuitNo, accepted: bool) {
+        self.ports.judge(circuit, accepted);
+    }
+
+    fn close(&mut self, circuit: CircuitNo) {
+        self.ports.close(circuit);
     }
 
     #[inline]

@@ -48,6 +48,11 @@ abbrev pub tells_of : {T : Type 0} → (T → TapeState) → Option T → TapeSt
 tells_of tells None = no_tape
 tells_of tells (Some tape) = tells tape
 
+-- whether a session is not to go on, by its tape, or without one
+abbrev pub is_lost_of : {T : Type 0} → (T → Bool) → Option T → Bool
+is_lost_of is_lost None = false
+is_lost_of is_lost (Some tape) = is_lost tape
+
 -- a datagram among events is longer than a record can say
 abbrev pub HasLong : List Event → Type 0
 HasLong es =

@@ -115,8 +115,12 @@ impl SessionBuffers {
     }
 
     // Begins a record of this many octets of the trunk, before which the ports look for datagrams.
-    fn begin_record<O: PacketPorts<A>, A: Answers>(&mut self, packet_ports: &mut O, len: usize)
-        ensures looked { O.has_looked packet_ports.new }
+    fn begin_record<O: PacketPorts<A>, A: Answers>(
+        &mut self,
+        gateway: &Gateway,
+        packet_ports: &mut O,
+        len: usize,
+    )
         ensures tells { O.tells packet_ports.new ≡ O.tells packet_ports.old }
         ensures holding { self.new.holding ≡ (self.old.held.holds && nat_le len 2048) }
         ensures empty { self.new.held.packets.items ≡ [] }
@@ -132,7 +136,7 @@ impl SessionBuffers {
         self.recorded = 0;
         self.batch.clear();
         self.holding = self.held.begin(len);
-        packet_ports.look_for_datagrams();
+        packet_ports.look_for_datagrams(gateway);
     }
 
     // Sends the packet that goes with an octet, or holds it.
@@ -258,7 +262,8 @@ impl SessionBuffers {
                     batch_arrival(tape, &mut self.batch, fresh, circuit, octets);
                     self.recorded = heard.len();
                     let totals = &mut self.totals;
-                    let _ = give_shown(gateway, heard.len(), circuit, octets, totals, watch);
+                    let code = give_shown(gateway, heard.len(), circuit, octets, totals, watch);
+                    packet_ports.judge_datagram(circuit, code == 0);
                 }
                 Ok(None) => return,
                 Err(_) => {
@@ -296,7 +301,7 @@ impl SessionBuffers {
         ensures late { A.late answers.new ≡ A.late answers.old }
         ensures holds { self.new.held.holds ≡ self.old.held.holds }
     {
-        self.begin_record(packet_ports, octets.len());
+        self.begin_record(gateway, packet_ports, octets.len());
         for i in 0..octets.len() {
             let heard = &octets[..i];
             self.receive_datagrams(gateway, packet_ports, tape, heard, watch);

@@ -1,11 +1,14 @@
 //! Where the packets of a session go, and where datagrams come from beside its records.
-ghost use Rattle.std.specs.Prelude.{◌≡◌, ◌≤◌, ◌<◌, ◌++◌, ⊤, length, IfOk, IfSome, OnErr};
+ghost use Rattle.std.specs.Prelude.{◌≡◌, ◌≤◌, ◌<◌, ◌++◌, length, not, IfOk, IfSome, OnErr};
+ghost use Rattle.q421_line.specs.Tables.{is_open};
 ghost use Rattle.gw_records.specs.Streams.{CanCount, Puts};
 ghost use Rattle.gw_records.specs.Ports.{PortsState, Receives, CountsFault, KeepsSends, KeepsReceives};
 ghost use Rattle.gw_session.specs.PacketPorts.{PacketOutput, silent, in_record, no_ports, Went};
 
 use g704_cas::CircuitNo;
 use gw_records::{Answers, OctetAnswers, PortFault, Ports, RunFault, Sink};
+use gw_switch::Gateway;
+use q421_line::State;
 
 /// Where the packets of a session go, and where datagrams come from beside its records.
 pub trait PacketPorts<A: Answers> {
@@ -13,13 +16,14 @@ pub trait PacketPorts<A: Answers> {
     ghost tells: { Self → PortsState };
     /// What a packet puts in front of the answer.
     ghost spells: { PacketOutput };
-    /// Holds if it has looked for datagrams.
-    ghost has_looked: { Self → Type 0 } = { λ _. ⊤ };
 
-    /// Learns which circuits have a datagram waiting, as [`Ports::look`] does.
-    fn look_for_datagrams(&mut self)
-        ensures tells { tells self.new ≡ tells self.old }
-        ensures looked { has_looked self.new };
+    /// Learns which circuits have a datagram waiting, as [`Ports::look`] does, and which paths are closed.
+    fn look_for_datagrams(&mut self, gateway: &Gateway)
+        ensures { tells self.new ≡ tells self.old };
+
+    /// Learns whether a datagram was accepted, as [`Ports::judge`] does.
+    fn judge_datagram(&mut self, circuit: CircuitNo, accepted: bool)
+        ensures { tells self.new ≡ tells self.old };
 
     /// Takes out the first datagram that waits at a circuit, as [`Ports::receive`] does.
     fn receive_datagram(
@@ -64,7 +68,10 @@ impl<K: Sink> PacketPorts<OctetAnswers<K>> for InRecords {
     ghost spells = { in_record };
 
     #[inline(always)]
-    fn look_for_datagrams(&mut self) {}
+    fn look_for_datagrams(&mut self, _gateway: &Gateway) {}
+
+    #[inline(always)]
+    fn judge_datagram(&mut self, _circuit: CircuitNo, _accepted: bool) {}
 
     #[inline(always)]
     fn receive_datagram(
@@ -89,15 +96,41 @@ impl<K: Sink> PacketPorts<OctetAnswers<K>> for InRecords {
     }
 }
 
+// Whether the path of a circuit is closed when its line is in this state.
+#[tactic(auto, unfolding(q421_line::specs::Tables::is_open))]
+fn is_closed(state: State) -> bool
+    ensures { result ≡ not (is_open state) }
+{
+    !matches!(state, State::Acked | State::Answered | State::ClearedBack)
+}
+
+// Tells ports which paths are closed.
+fn close_paths<P: Ports>(ports: &mut P, gateway: &Gateway)
+    ensures { P.tells ports.new ≡ P.tells ports.old }
+{
+    for number in 1..=30u8 {
+        if let Some(circuit) = CircuitNo::new(number) {
+            if is_closed(gateway.status(circuit).state) {
+                ports.close(circuit);
+            }
+        }
+    }
+}
+
 impl<P: Ports, A: Answers> PacketPorts<A> for P {
     ghost tells = { P.tells };
 
     ghost spells = { silent };
 
-    ghost has_looked = { P.has_looked };
-
-    fn look_for_datagrams(&mut self) {
+    fn look_for_datagrams(&mut self, gateway: &Gateway) {
         self.look();
+        if self.follows_calls() {
+            close_paths(self, gateway);
+        }
+    }
+
+    fn judge_datagram(&mut self, circuit: CircuitNo, accepted: bool) {
+        self.judge(circuit, accepted);
     }
 
     fn receive_datagram(

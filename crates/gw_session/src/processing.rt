@@ -1,7 +1,9 @@
 //! The loop of a session over the records of its source, and how it ends (`process_records`).
-ghost use Rattle.std.specs.Prelude.{◌≡◌, ◌^◌, [], IfOk, IfErr, true};
+ghost use Rattle.std.specs.Prelude.{◌≡◌, ◌^◌, [], IfOk, IfErr, OnOk, Some, false, true};
 ghost use Rattle.std.specs.Io.KnownBytes.{Appends};
-ghost use Rattle.gw_records.specs.Streams.{CanBegin};
+ghost use Rattle.gw_records.specs.Reader.{FailsToRead, ReadsOn};
+ghost use Rattle.gw_records.specs.Records.{end_of};
+ghost use Rattle.gw_records.specs.Streams.{CanBegin, CanCount};
 ghost use Rattle.gw_records.specs.Outcome.{nothing_counted, EndsAll, EndsUntil};
 ghost use Rattle.gw_session.specs.Exchange.{written_by, WatchedTrace, TraceToWriteError};
 ghost use Rattle.gw_session.specs.Exchange.{IsSilent};
@@ -12,12 +14,35 @@ use crate::exchange::SessionBuffers;
 use crate::packet_ports::PacketPorts;
 use crate::tape::Tape;
 use crate::watch::Watch;
-use gw_records::{AcceptedKinds, Answers, Records, RunFault, Totals, answer};
+use gw_records::{AcceptedKinds, Answers, Records, RecordsEnd, RunFault, Totals, answer};
 use gw_switch::Gateway;
+
+// Takes more of the source, as `Records::read_on` does, unless the tape is lost and the records can be ended.
+fn read_more<R: Records, T: Tape>(
+    kinds: &AcceptedKinds,
+    ending: RecordsEnd,
+    records: &mut R,
+    source: &mut R::Source,
+    tape: &T,
+) -> Result<bool, RunFault>
+    requires ends { end_of kinds.now (R.holds records.old).octets ≡ Some ending }
+    requires reads { CanCount (R.tells source.old).failures }
+    ensures ok { IfOk result (λ came. ReadsOn (R.tells source.old) (R.tells source.new)
+        (R.holds records.old) (R.holds records.new) ending came) }
+    ensures fault { IfErr result (λ e. (e ≡ RunFault.Read) × FailsToRead (R.tells source.old)
+        (R.tells source.new) (R.holds records.old) (R.holds records.new) ending) }
+    ensures kept { R.stops ≡ true → ending ≡ RecordsEnd.End → OnOk result (T.is_lost tape.now ≡ false) }
+{
+    if tape.is_lost() {
+        records.stop(ending, source)?;
+    }
+    records.read_on(kinds, ending, source)
+}
 
 /// Gives a gateway the records of the source, of these kinds, records on a tape what it takes, and shows a
 /// watch each datagram and then each record when the gateway has acted on it. Before each record the tape is
-/// shown the gateway. It is inlined, so that a session tests for no other kinds than its own.
+/// shown the gateway. If the tape is lost, the session ends before the next read, where its records can be
+/// ended. It is inlined, so that a session tests for no other kinds than its own.
 #[inline(always)]
 pub(crate) fn process_records<O: PacketPorts<A>, R: Records, A: Answers, T: Tape, W: Watch>(
     kinds: &AcceptedKinds,
@@ -45,6 +70,7 @@ pub(crate) fn process_records<O: PacketPorts<A>, R: Records, A: Answers, T: Tape
         (T.tells tape.old) (T.tells tape.new)
         (λ first. Appends (A.tells sink.old).taken (A.tells sink.new).taken)
         (λ inputs. InputsShown W.shows gateway.old watch.old watch.new inputs []))) }
+    ensures kept { R.stops ≡ true → OnOk result (T.is_lost tape.new ≡ false) }
     ensures fault { IfErr result (EndsUntil kinds.now
         (R.tells source.old) (R.tells source.new) (A.tells sink.old) (A.tells sink.new)
         (λ totals. WatchedTrace (written_by O.spells)
@@ -80,7 +106,7 @@ pub(crate) fn process_records<O: PacketPorts<A>, R: Records, A: Answers, T: Tape
             }
             Err(ending) => {
                 answers.write_out(sink)?;
-                if !records.read_on(kinds, ending, source)? {
+                if !read_more(kinds, ending, records, source, tape)? {
                     return answer(ending, session.totals);
                 }
             }

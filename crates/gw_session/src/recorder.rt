@@ -114,6 +114,8 @@ impl<K: Sink> Tape for Recorder<K> {
       acts = None;
     } };
 
+    ghost is_lost = { λ _. false };
+
     fn put(&mut self, head: RecordHead, body: &[u8]) {
         if self.ended {
             return;
@@ -128,6 +130,10 @@ impl<K: Sink> Tape for Recorder<K> {
 
     fn end(&mut self) {
         self.ended = true;
+    }
+
+    fn is_lost(&self) -> bool {
+        false
     }
 
     #[inline(always)]

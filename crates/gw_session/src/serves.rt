@@ -1,5 +1,5 @@
 //! A session whose datagrams come and go through ports, also recorded (`serve`).
-ghost use Rattle.std.specs.Prelude.{◌≡◌, ◌^◌, [], IfOk, IfErr};
+ghost use Rattle.std.specs.Prelude.{◌≡◌, ◌^◌, [], IfOk, IfErr, OnOk, false, true};
 ghost use Rattle.gw_records.specs.Streams.{CanBegin};
 ghost use Rattle.gw_session.specs.Tape.{no_tape};
 ghost use Rattle.gw_session.specs.Serve.{ServesAll, ServesUntil, around, around_in, around_log};
@@ -92,6 +92,7 @@ fn serve_holding<R: Records + Drop, A: Answers + Drop, P: Ports, T: Tape, W: Wat
         (around_in held.holds (R.tells source.old) (A.tells sink.old) (P.tells ports.old) (T.tells tape.old))
         (around_in held.holds (R.tells source.new) (A.tells sink.new) (P.tells ports.new) (T.tells tape.new))
         gateway.old gateway.new) }
+    ensures kept { R.stops ≡ true → OnOk result (T.is_lost tape.new ≡ false) }
     ensures watched { ServesWatched
         (around_in held.holds (R.tells source.old) (A.tells sink.old) (P.tells ports.old) (T.tells tape.old))
         (around_in held.holds (R.tells source.new) (A.tells sink.new) (P.tells ports.new) (T.tells tape.new))
@@ -162,11 +163,12 @@ pub fn serve_recorded<S: Source, P: Ports, K: Sink, T: Tape>(
 /// but sends the packets of a record of the trunk when all of it is on the tape, in their order, behind the
 /// receives of its octets. (A record of more than 2,048 octets has its packets sent as they are made.) A
 /// watch is shown each datagram when the gateway was given it, and each record when the gateway has acted on
-/// it. A record in which a write fails may not be shown.
+/// it. A record in which a write fails may not be shown. If the tape is lost, the session ends before the
+/// next read, where its records can be ended.
 ///
 /// # Errors
 ///
-/// Those of [`serve`].
+/// Those of [`serve`], and [`RunFault::Read`] for a tape that is lost.
 pub fn serve_logged<R: Records + Drop, A: Answers + Drop, P: Ports, T: Tape, W: Watch>(
     alloc: Global,
     gateway: &mut Gateway,
@@ -185,6 +187,7 @@ pub fn serve_logged<R: Records + Drop, A: Answers + Drop, P: Ports, T: Tape, W: 
         (around_log (R.tells source.old) (A.tells sink.old) (P.tells ports.old) (T.tells tape.old))
         (around_log (R.tells source.new) (A.tells sink.new) (P.tells ports.new) (T.tells tape.new))
         gateway.old gateway.new) }
+    ensures kept { R.stops ≡ true → OnOk result (T.is_lost tape.new ≡ false) }
     ensures watched { ServesWatched
         (around_log (R.tells source.old) (A.tells sink.old) (P.tells ports.old) (T.tells tape.old))
         (around_log (R.tells source.new) (A.tells sink.new) (P.tells ports.new) (T.tells tape.new))

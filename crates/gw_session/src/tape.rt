@@ -1,11 +1,13 @@
 //! In which order events are recorded, and which are collected for one write (`Tape`).
 ghost use Rattle.std.specs.Prelude.{◌≡◌, ◌+◌, ◌^◌, ◌<◌, ◌≤◌, ◌∷◌, ◌++◌, [], length, map, true, false, None};
+ghost use Rattle.std.specs.Prelude.{Bool};
 ghost use Rattle.gw_circuit.specs.Items.{Datagram};
 ghost use Rattle.gw_switch.specs.Events.{Event};
 ghost use Rattle.gw_records.specs.Records.{IsGood, named};
 ghost use Rattle.gw_session.specs.Answers.{events_of};
 ghost use Rattle.gw_session.specs.Running.{all_kinds};
 ghost use Rattle.gw_session.specs.Tape.{TapeState, no_tape, tells_of, Recorded, HasEnded, Learns, keeps_at};
+ghost use Rattle.gw_session.specs.Tape.{is_lost_of};
 ghost use Rattle.gw_session.specs.Tape.{sends_at};
 ghost use Rattle.gw_session.specs.Tape.{WritesRecords, Batches, RecordsAll, taping, answers_at};
 
@@ -28,6 +30,9 @@ pub trait Tape {
     /// greatest u64, and, where they are known, the octets that it took and the acts that it was told of.
     ghost tells: { Self → TapeState };
 
+    /// Whether the session is not to go on, since this tape has ended.
+    ghost is_lost: { Self → Bool };
+
     /// Records what a record of this head and body says. The tape may end at it; one that has ended does
     /// nothing.
     fn put(&mut self, head: RecordHead, body: &[u8])
@@ -44,6 +49,10 @@ pub trait Tape {
     /// Ends the tape.
     fn end(&mut self)
         ensures { HasEnded (tells self.old) (tells self.new) };
+
+    /// Whether the session is not to go on, since this tape has ended.
+    fn is_lost(&self) -> bool
+        ensures { result ≡ is_lost self.now };
 
     /// Learns the gateway, which stands behind all that was put. It is shown before each record.
     fn keep(&mut self, gateway: &Gateway)
@@ -66,11 +75,18 @@ pub struct NoTape;
 impl Tape for NoTape {
     ghost tells = { λ _. no_tape };
 
+    ghost is_lost = { λ _. false };
+
     fn put(&mut self, _head: RecordHead, _body: &[u8]) {}
 
     fn put_together(&mut self, _octets: &[u8]) {}
 
     fn end(&mut self) {}
+
+    #[inline(always)]
+    fn is_lost(&self) -> bool {
+        false
+    }
 
     #[inline(always)]
     fn keep(&mut self, _gateway: &Gateway) {}
@@ -83,6 +99,8 @@ impl Tape for NoTape {
 /// A tape, or none.
 impl<T: Tape> Tape for Option<T> {
     ghost tells = { λ tape. tells_of T.tells tape };
+
+    ghost is_lost = { λ tape. is_lost_of T.is_lost tape };
 
     fn put(&mut self, head: RecordHead, body: &[u8]) {
         if let Some(tape) = self {
@@ -99,6 +117,13 @@ impl<T: Tape> Tape for Option<T> {
     fn end(&mut self) {
         if let Some(tape) = self {
             tape.end();
+        }
+    }
+
+    fn is_lost(&self) -> bool {
+        match self {
+            Some(tape) => tape.is_lost(),
+            None => false,
         }
     }
 

@@ -2,7 +2,7 @@
 
 ghost use Rattle.std.specs.Prelude.{◌≡◌, ◌≢◌, ◌<◌, ◌≤◌, ◌^◌, ◌-◌, ◌+◌, ◌++◌, [], length, IfOk, IfErr};
 ghost use Rattle.std.specs.Prelude.{IfSome, IfNone};
-ghost use Rattle.std.specs.Prelude.{OnErr, Ok, Some, None, true, false, ◌⊎◌};
+ghost use Rattle.std.specs.Prelude.{OnErr, OnOk, Ok, Some, None, true, false, is_ok, ◌⊎◌};
 ghost use Rattle.gw_records.specs.Records.{IsGood, end_of, named, spelled};
 ghost use Rattle.gw_records.specs.Streams.{CanCount, CountsRead, CountsTurn};
 ghost use Rattle.gw_records.specs.declared.records.FirstRecord.{FirstRecord};
@@ -171,6 +171,16 @@ impl<I: TrunkInput> TrunkRecordSource<I> {
         }
     }
 
+    // Counts a failure, with which a session ends.
+    fn fail(&mut self)
+        ensures failed { CanCount self.old.failed → self.old.failed < self.new.failed }
+        ensures incoming { self.new.incoming ≡ self.old.incoming }
+        ensures reads { self.new.reads ≡ self.old.reads }
+        ensures log { self.new.log ≡ self.old.log }
+    {
+        self.failed = self.failed.saturating_add(1);
+    }
+
     /// What the trunk's octets and the clients' commands come from.
     pub fn into_incoming(self) -> I
         ensures { result ≡ self.incoming }
@@ -210,6 +220,8 @@ impl<I: TrunkInput> Records for TrunkRecords<I> {
     ghost tells = { λ s. source_told s.failed s.reads s.log.octets };
 
     ghost holds = { λ r. holding r.first r.room r.reads_left };
+
+    ghost stops = { true };
 
     fn begin(_alloc: Global) -> Result<TrunkRecords<I>, AllocError> {
         Ok(TrunkRecords {
@@ -279,5 +291,26 @@ impl<I: TrunkInput> Records for TrunkRecords<I> {
             }
             Err(_) => Err(RunFault::Read),
         }
+    }
+
+    fn stop(
+        &mut self,
+        ending: RecordsEnd,
+        source: &mut TrunkRecordSource<I>,
+    ) -> Result<(), RunFault>
+        requires reads { CanCount source.old.failed }
+        ensures ok { OnOk result ((source.new ≡ source.old) × (self.new ≡ self.old)) }
+        ensures fault { IfErr result (λ e. (e ≡ RunFault.Read) × FailsToRead
+            (source_told source.old.failed source.old.reads source.old.log.octets)
+            (source_told source.new.failed source.new.reads source.new.log.octets)
+            (holding self.old.first self.old.room self.old.reads_left)
+            (holding self.new.first self.new.room self.new.reads_left) ending) }
+        ensures stops { ending ≡ RecordsEnd.End → is_ok result ≡ false }
+    {
+        if ending != RecordsEnd::End {
+            return Ok(());
+        }
+        source.fail();
+        Err(RunFault::Read)
     }
 }

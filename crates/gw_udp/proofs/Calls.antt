@@ -2,6 +2,7 @@
 use Rattle.std.proofs.Common.{◌≡◌, ◌⊎◌, ℕ, ◌-◌, ◌≤◌, ◌++◌, ◌∷◌, [], List, length, Bool, true, false}
 use Rattle.std.proofs.Common.{Option, Some, None, Result, Ok, Err, refl, inl, inr, arith}
 use Rattle.std.proofs.lemmas.Bool.{ltb-true, ltb-false}
+use Rattle.std.specs.declared.net.socket_addr.SocketAddr.{SocketAddr}
 use Rattle.std.proofs.lemmas.Bool.Decides.{eqb_tells}
 use Rattle.std.proofs.Math.ListN.{get_or-eq_default}
 use Rattle.std.specs.Prelude.{nat_lt, slice_index_or}
@@ -27,28 +28,29 @@ called_more receives sends call (c ∷ calls) old between new some one =
     (some.0, some.1, called_more receives sends call calls some.0 between new some.2 one)
 
 -- a receive for a circuit was a call at its own socket
-asked_called : {S : Type 0} (receives : Received S) (sends : Sent S) (circuit : ℕ)
+asked_called : {S : Type 0} (receives : Received S) (sends : Sent S) (first : Option SocketAddr) (circuit : ℕ)
     (old new : List (Option (Endpoint S))) (r : Result (Option ℕ) PortFault) (room : List ℕ) → 1 ≤ circuit
-    → EndpointReceives receives circuit old new r room → KeepsOthers circuit old new
+    → EndpointReceives receives first circuit old new r room → KeepsOthers circuit old new
     → HasCalledOne receives sends (receive_call circuit r room) old new
-asked_called receives sends circuit old new (Ok (Some n)) room some own others = record {
+asked_called receives sends first circuit old new (Ok (Some n)) room some own others = record {
   some = some;
-  own = λ d. record { len = n; room = room; front = refl; received = own d };
+  own = λ d. record { len = n; room = room; front = refl; first = first; received = own d };
   others = others;
 }
-asked_called receives sends circuit old new (Ok None) room some own others =
-    record { some = some; own = λ d. inl (room, own d); others = others }
-asked_called receives sends circuit old new (Err fault) room some own others =
-    record { some = some; own = λ d. (fault, room, own d); others = others }
+asked_called receives sends first circuit old new (Ok None) room some own others =
+    record { some = some; own = λ d. inl (room, first, own d); others = others }
+asked_called receives sends first circuit old new (Err fault) room some own others =
+    record { some = some; own = λ d. (fault, room, first, own d); others = others }
 
 -- .. or it was held back, and found none
-pub receive_called : {S : Type 0} (receives : Received S) (sends : Sent S) (circuit : ℕ) (enough : Type 0)
-    (old new : List (Option (Endpoint S))) (r : Result (Option ℕ) PortFault) (room : List ℕ) → 1 ≤ circuit
-    → (enough → r ≡ Ok None) → EndpointReceives receives circuit old new r room ⊎ (enough × (new ≡ old))
+pub receive_called : {S : Type 0} (receives : Received S) (sends : Sent S) (first : Option SocketAddr)
+    (circuit : ℕ) (enough : Type 0) (old new : List (Option (Endpoint S))) (r : Result (Option ℕ) PortFault)
+    (room : List ℕ) → 1 ≤ circuit → (enough → r ≡ Ok None)
+    → EndpointReceives receives first circuit old new r room ⊎ (enough × (new ≡ old))
     → KeepsOthers circuit old new → HasCalledOne receives sends (receive_call circuit r room) old new
-receive_called receives sends circuit enough old new r room some none (inl own) others =
-    asked_called receives sends circuit old new r room some own others
-receive_called receives sends circuit enough old new r room some none (inr held) others =
+receive_called receives sends first circuit enough old new r room some none (inl own) others =
+    asked_called receives sends first circuit old new r room some own others
+receive_called receives sends first circuit enough old new r room some none (inr held) others =
     rw (none held.0, held.1) (record { some = some; own = λ d. inr refl; others = λ i d other. refl })
 
 -- a send of a circuit was a call at its own socket

@@ -9,7 +9,7 @@ use Rattle.std.specs.Prelude.{IfOk, IfSome, ◌≢◌, ◌⊎◌, max, nat_lt, r
 use Rattle.gw_records.specs.declared.ports.PortFault.{PortFault}
 use Rattle.gw_records.specs.Ports.{PortCall, receive_call, send_call}
 use Rattle.gw_records.specs.Streams.{at_most}
-use Rattle.gw_udp.specs.Given.{GivesFew, HasGivenEnough, given_after, given_by, longest_of, octets_given}
+use Rattle.gw_udp.specs.Given.{GivesFew, given_after, given_by, longest_of, octets_given}
 
 -- the longest one, with one call more
 longest_push : (circuit : ℕ) (calls : List PortCall) (call : PortCall)
@@ -95,7 +95,7 @@ datagram_more before calls counts circuit n octets thirty some most len less was
 -- a receive of a circuit is counted, and gave none if this had given enough
 pub receive_few : (before calls : List PortCall) (counts : List ℕ) (circuit : ℕ)
     (r : Result (Option ℕ) PortFault) (room : List ℕ) → length counts ≡ 30 → 1 ≤ circuit → circuit ≤ 30
-    → IfOk r (λ got. IfSome got (λ n. n ≤ length room)) → (HasGivenEnough counts circuit → r ≡ Ok None)
+    → IfOk r (λ got. IfSome got (λ n. n ≤ length room)) → (65536 ≤ given_by counts circuit → r ≡ Ok None)
     → GivesFew before calls counts
     → GivesFew before (calls ++ receive_call circuit r room ∷ []) (given_after counts circuit r)
 receive_few before calls counts circuit (Ok None) room thirty some most bound held was =

@@ -6,6 +6,7 @@ use Rattle.gw_records.specs.declared.ports.PortFault.{PortFault}
 use Rattle.gw_udp.specs.declared.source_filter.SourceFilter.TheVariants.{Any}
 use Rattle.gw_udp.specs.declared.system_socket.SystemSocket.{SystemSocket}
 use Rattle.gw_udp.specs.Outcome.{IsReceived}
+use Rattle.gw_udp.specs.SourceFilter.{IsAccepted}
 use Rattle.gw_udp.specs.Socket.{Received, ReceivesAny}
 use Rattle.gw_udp.specs.System.{ReceivesOnce, SystemReceivesAny}
 use Rattle.gw_udp.specs.Udp.{ReceivesFrom}
@@ -19,24 +20,24 @@ any_once old new (Err error) (Ok got) room heard is = rw is.0 (Err error, heard,
 any_once old new (Err error) (Err e) room heard is = (Err error, heard, is)
 
 -- if all senders are accepted, the first datagram is accepted
-pub first_of_any : {S : Type 0} (receives : Received S) (peer : SocketAddr) (old new : S)
-    (r : Result (Option ℕ) PortFault) (room : List ℕ) → ReceivesAny receives old new r room
-    → ReceivesFrom receives Any peer old new r room
-first_of_any receives peer old new (Ok (Some len)) room got = record {
+pub first_of_any : {S : Type 0} (receives : Received S) (peer : SocketAddr) (first : Option SocketAddr)
+    (old new : S) (r : Result (Option ℕ) PortFault) (room : List ℕ) → ReceivesAny receives old new r room
+    → ReceivesFrom receives (IsAccepted Any peer first) old new r room
+first_of_any receives peer first old new (Ok (Some len)) room got = record {
   skipped = 0;
   few = omega arith;
   last = old;
   skips = refl;
   ends = (got.0, got.1, tt);
 }
-first_of_any receives peer old new (Ok None) room got = record {
+first_of_any receives peer first old new (Ok None) room got = record {
   skipped = 0;
   few = omega arith;
   last = old;
   skips = refl;
   ends = inl got;
 }
-first_of_any receives peer old new (Err e) room got = record {
+first_of_any receives peer first old new (Err e) room got = record {
   skipped = 0;
   few = omega arith;
   last = old;

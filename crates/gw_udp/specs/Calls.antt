@@ -1,6 +1,7 @@
 -- The effect of port calls at the sockets of circuits.
 use Rattle.std.specs.Prelude.{◌≡◌, ◌⊎◌, ◌==◌, ◌-◌, ◌≤◌, ℕ, List, [], ◌∷◌, take, filter, slice_index_or}
 use Rattle.std.specs.Prelude.{Option, Some, None, Ok, Err, ⊤}
+use Rattle.std.specs.declared.net.socket_addr.SocketAddr.{SocketAddr}
 use Rattle.gw_records.specs.declared.ports.PortFault.{PortFault}
 use Rattle.gw_records.specs.Ports.{PortCall}
 use Rattle.gw_udp.specs.Socket.{Bound, Received, Sent}
@@ -21,7 +22,8 @@ pub record HasGiven {S : Type 0} (receives : Received S) (octets : List ℕ) (ol
   pub len : ℕ
   pub room : List ℕ
   pub front : octets ≡ take len room
-  pub received : ReceivesAt receives old new (Ok (Some len)) room
+  pub first : Option SocketAddr
+  pub received : ReceivesAt receives first old new (Ok (Some len)) room
 
 -- A call was made at this socket, or without a socket found nothing or was dropped. What was held back found
 -- nothing either, and the socket is unchanged.
@@ -29,9 +31,11 @@ abbrev pub HasMade : {S : Type 0} → Received S → Sent S → PortCall → Opt
     → Option (Endpoint S) → Type 0
 HasMade receives sends (PortCall.Gave circuit octets) old new = HasGiven receives octets old new
 HasMade receives sends (PortCall.FoundNone circuit) old new =
-    ((room : List ℕ) × ReceivesAt receives old new (Ok None) room) ⊎ (new ≡ old)
+    ((room : List ℕ) × (first : Option SocketAddr) × ReceivesAt receives first old new (Ok None) room)
+    ⊎ (new ≡ old)
 HasMade receives sends (PortCall.ReceiveFailed circuit) old new =
-    (fault : PortFault) × (room : List ℕ) × ReceivesAt receives old new (Err fault) room
+    (fault : PortFault) × (room : List ℕ) × (first : Option SocketAddr)
+    × ReceivesAt receives first old new (Err fault) room
 HasMade receives sends (PortCall.Took circuit octets) old new = SendsAt sends old new octets (Ok tt)
 HasMade receives sends (PortCall.SendFailed circuit octets) old new =
     (fault : PortFault) × SendsAt sends old new octets (Err fault)

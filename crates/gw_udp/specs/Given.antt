@@ -1,7 +1,8 @@
 -- How many octets sockets gave since the ports last looked.
 use Rattle.std.specs.Prelude.{◌≡◌, ◌+◌, ◌-◌, ◌<◌, ◌≤◌, ◌==◌, ◌++◌, ℕ, List, [], ◌∷◌, length, max, sum_by}
-use Rattle.std.specs.Prelude.{Option, Some, None, Result, Ok, Err, slice_index_or, slice_set}
+use Rattle.std.specs.Prelude.{Option, Some, None, Result, Ok, Err, true, slice_index_or, slice_set}
 use Rattle.std.specs.Prelude.{if◌then◌else◌}
+use Rattle.gw_udp.specs.declared.given.GivenOctets.{GivenOctets}
 use Rattle.gw_records.specs.declared.ports.PortFault.{PortFault}
 use Rattle.gw_records.specs.Ports.{PortCall}
 use Rattle.gw_records.specs.Streams.{at_most}
@@ -10,9 +11,10 @@ use Rattle.gw_records.specs.Streams.{at_most}
 abbrev pub given_by : List ℕ → ℕ → ℕ
 given_by counts circuit = slice_index_or counts (circuit - 1) 0
 
--- these are enough: until the ports look again the circuit receives nothing more
-abbrev pub HasGivenEnough : List ℕ → ℕ → Type 0
-HasGivenEnough counts circuit = 65536 ≤ given_by counts circuit
+-- these are enough, where they are limited: until the ports look again the circuit receives nothing more
+pub record HasGivenEnough (given : GivenOctets) (circuit : ℕ) : Type 0 where
+  pub limited : given.limited ≡ true
+  pub enough : 65536 ≤ given_by given.counts circuit
 
 -- the counts after a receive of a circuit: if it gave a datagram, that circuit's has its octets too
 abbrev pub given_after : List ℕ → ℕ → Result (Option ℕ) PortFault → List ℕ

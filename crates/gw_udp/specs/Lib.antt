@@ -11,4 +11,5 @@ pub mod System
 pub mod Resting
 pub mod Ready
 pub mod Given
+pub mod First
 pub mod Sockets

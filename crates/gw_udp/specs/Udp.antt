@@ -89,28 +89,29 @@ EndsWith receives accepted n old new (Ok None) room =
 EndsWith receives accepted n old new (Err e) room = receives old new (Err e) room
 
 -- a receive discarded strangers' datagrams and gave what came then
-pub record ReceivesFrom {S : Type 0} (receives : Received S) (senders : SourceFilter) (peer : SocketAddr)
+pub record ReceivesFrom {S : Type 0} (receives : Received S) (accepted : SocketAddr → Type 0)
     (old new : S) (r : Result (Option ℕ) PortFault) (room : List ℕ) : Type 0 where
   pub skipped : ℕ
   pub few : skipped ≤ 16
   pub last : S
-  pub skips : Skips receives (λ from. IsAccepted senders from peer) skipped old last
-  pub ends : EndsWith receives (λ from. IsAccepted senders from peer) skipped last new r room
+  pub skips : Skips receives accepted skipped old last
+  pub ends : EndsWith receives accepted skipped last new r room
 
--- the receive of one circuit: no socket was asked, or this one, whose answer is the result
-abbrev pub ReceivesAt : {S : Type 0} → Received S → Option (Endpoint S) → Option (Endpoint S)
-    → Result (Option ℕ) PortFault → List ℕ → Type 0
-ReceivesAt receives None new r room = (new ≡ None) × (r ≡ Ok None)
-ReceivesAt receives (Some e) None r room = ⊥
-ReceivesAt receives (Some e) (Some f) r room =
+-- the receive of one circuit: no socket was asked, or this one, whose answer is the result; the circuit keeps
+-- to this sender, if it keeps to the first one
+abbrev pub ReceivesAt : {S : Type 0} → Received S → Option SocketAddr → Option (Endpoint S)
+    → Option (Endpoint S) → Result (Option ℕ) PortFault → List ℕ → Type 0
+ReceivesAt receives first None new r room = (new ≡ None) × (r ≡ Ok None)
+ReceivesAt receives first (Some e) None r room = ⊥
+ReceivesAt receives first (Some e) (Some f) r room =
     (f.here ≡ e.here) × (f.peer ≡ e.peer) × (f.senders ≡ e.senders)
-    × ReceivesFrom receives e.senders e.peer e.socket f.socket r room
+    × ReceivesFrom receives (IsAccepted e.senders e.peer first) e.socket f.socket r room
 
 -- a receive for circuit c is one at its own socket
-abbrev pub EndpointReceives : {S : Type 0} → Received S → ℕ → List (Option (Endpoint S))
+abbrev pub EndpointReceives : {S : Type 0} → Received S → Option SocketAddr → ℕ → List (Option (Endpoint S))
     → List (Option (Endpoint S)) → Result (Option ℕ) PortFault → List ℕ → Type 0
-EndpointReceives {S} receives c old new r room = (d : Option (Endpoint S))
-    → ReceivesAt receives (slice_index_or old (c - 1) d) (slice_index_or new (c - 1) d) r room
+EndpointReceives {S} receives first c old new r room = (d : Option (Endpoint S))
+    → ReceivesAt receives first (slice_index_or old (c - 1) d) (slice_index_or new (c - 1) d) r room
 
 -- the socket of one circuit rested, if there is one
 abbrev pub RestsAt : {S : Type 0} → (S → S → Type 0) → Option (Endpoint S) → Option (Endpoint S) → Type 0

@@ -2,6 +2,7 @@
 #![tactic(auto)]
 
 mod asking;
+mod first_senders;
 mod given;
 mod inherited;
 pub mod laws;

@@ -1,7 +1,7 @@
-//! Whether a sender's datagrams are accepted: any, the peer's host, the peer (`SourceFilter`).
+//! Whether a sender's datagrams are accepted: any, the peer's host, the peer, the first (`SourceFilter`).
 
 ghost use Rattle.std.specs.Prelude.{◌≡◌, ◌≢◌, ◌↔◌, IfSome, IfNone, IsTrue};
-ghost use Rattle.gw_udp.specs.SourceFilter.{IsAccepted, senders_name};
+ghost use Rattle.gw_udp.specs.SourceFilter.{IsAccepted, IsSameSender, senders_name};
 
 use std::net::SocketAddr;
 
@@ -14,10 +14,12 @@ pub enum SourceFilter {
     Host,
     /// The address and the port of its peer.
     Peer,
+    /// The address and the port of the first datagram that its call accepted, until its path closes.
+    First,
 }
 
 impl SourceFilter {
-    /// The senders with this name: `any`, `host` or `peer`.
+    /// The senders with this name: `any`, `host`, `peer` or `first`.
     pub fn named(name: &str) -> Option<SourceFilter>
         ensures found { IfSome result (λ senders. name.now ≡ senders_name senders) }
         ensures none { IfNone result ((senders : SourceFilter) → name.now ≢ senders_name senders) }
@@ -26,18 +28,30 @@ impl SourceFilter {
             "any" => Some(SourceFilter::Any),
             "host" => Some(SourceFilter::Host),
             "peer" => Some(SourceFilter::Peer),
+            "first" => Some(SourceFilter::First),
             _ => None,
         }
     }
 
-    /// Whether a datagram from an address is accepted, given the peer's.
-    pub fn accepts(self, from: SocketAddr, peer: SocketAddr) -> bool
-        ensures { IsTrue result ↔ IsAccepted self from peer }
+    /// Whether a datagram from an address is accepted, given the peer's, and the first sender of the call.
+    pub fn accepts(self, from: SocketAddr, peer: SocketAddr, first: Option<SocketAddr>) -> bool
+        ensures { IsTrue result ↔ IsAccepted self peer first from }
     {
         match self {
             SourceFilter::Any => true,
             SourceFilter::Host => from.ip() == peer.ip(),
-            SourceFilter::Peer => from.ip() == peer.ip() && from.port() == peer.port(),
+            SourceFilter::Peer => is_same(from, peer),
+            SourceFilter::First => match first {
+                Some(known) => is_same(from, known),
+                None => true,
+            },
         }
     }
+}
+
+// Whether two senders have one address and one port.
+fn is_same(from: SocketAddr, other: SocketAddr) -> bool
+    ensures { IsTrue result ↔ IsSameSender from other }
+{
+    from.ip() == other.ip() && from.port() == other.port()
 }

@@ -2,12 +2,15 @@
 
 ghost use Rattle.std.specs.Prelude.{◌≡◌, ◌≢◌, ◌⊎◌, ◌-◌, ◌≤◌, ℕ, Bool, List, Option, vec_len, vec_capacity};
 ghost use Rattle.std.specs.Prelude.{length, slice_index_or, Ok, None, IfOk, IfErr, IfSome, IsSomeAnd};
-ghost use Rattle.std.specs.Prelude.{MatchOption, ⊤};
+ghost use Rattle.std.specs.Prelude.{MatchOption, ⊤, replicate, slice_set, true};
 ghost use Rattle.std.specs.Prelude.{IsTrue, IsFalse, OnErr, string_bytes};
 ghost use Rattle.std.specs.IoError.{error_kind};
 ghost use Rattle.gw_records.specs.Ports.{Receives, Sends, CountsFault, KeepsSends, KeepsReceives};
 ghost use Rattle.gw_state.specs.Memory.{MemoryIsRefused};
 ghost use Rattle.gw_udp.specs.Names.{IsAddressOf, LacksAddress, SystemLooksUp};
+ghost use Rattle.std.specs.declared.net.socket_addr.SocketAddr.{SocketAddr};
+ghost use Rattle.gw_udp.specs.First.{EndpointSender, IsSenderOf, first_of, known_after};
+ghost use Rattle.gw_udp.specs.SourceFilter.{IsAccepted};
 ghost use Rattle.gw_udp.specs.Given.{GivesFew, HasGivenEnough, given_after};
 ghost use Rattle.gw_udp.specs.Inheriting.{IsAt, IsHere, IsRefusedAt};
 ghost use Rattle.gw_udp.specs.Ready.{Clears, IsAsked, IsCounted};
@@ -17,6 +20,7 @@ ghost use Rattle.gw_udp.specs.Socket.{KeepsBound};
 ghost use Rattle.gw_udp.specs.Udp.{ReceivesFrom, EndpointReceives, EndpointRests, EndpointSends, TakesFrom};
 ghost use Rattle.gw_udp.specs.Calls.{HasCalled, AreBound, IsFresh};
 
+use crate::first_senders::FirstSenders;
 use crate::given::GivenOctets;
 use crate::inherited::{Descriptors, socket_at};
 use crate::names::NameLookup;
@@ -27,8 +31,9 @@ use g704_cas::CircuitNo;
 use gw_config::Port;
 use gw_records::{AtStart, Log, PortFault, Ports};
 use std::alloc::{AllocError, Global};
-use std::io::{Error, ErrorKind};
+use std::io::{self, ErrorKind};
 use std::net::{IpAddr, Net, SocketAddr};
+use thiserror::Error;
 
 const CIRCUITS: usize = 30;
 
@@ -36,12 +41,14 @@ const CIRCUITS: usize = 30;
 const MOST_STRANGERS: usize = 16;
 
 /// Why sockets cannot be opened.
-#[derive(Clone, Copy, Debug, PartialEq, Eq)]
+#[derive(Clone, Copy, Debug, PartialEq, Eq, Error)]
 pub enum OpenFault {
     /// Memory was refused.
+    #[error("out of memory")]
     OutOfMemory,
     /// The socket of this circuit cannot be opened, its host or its peer has no address, or their addresses
     /// are of different families.
+    #[error("socket {0}")]
     Socket(u8),
 }
 
@@ -72,6 +79,8 @@ pub struct UdpPorts<S: Socket> {
     pub(crate) endpoints: Vec<Option<Endpoint<S>>>,
     readiness: Readiness,
     pub(crate) given: GivenOctets,
+    pub(crate) firsts: FirstSenders,
+    follows_calls: bool,
     receive_failed: u64,
     send_failed: u64,
     pub(crate) opened: AtStart<Vec<Option<Endpoint<S>>>>,
@@ -81,12 +90,12 @@ pub struct UdpPorts<S: Socket> {
     ghost memory: { vec_capacity endpoints ≡ 30 },
     ghost bound: { ∥ AreBound (IsHere S.is_bound S.inherits) opened.value.items ∥₁ },
     ghost called: { ∥ HasCalled S.receives S.sends log.calls opened.value.items endpoints.items ∥₁ },
-    ghost few: { ∥ GivesFew at_look.value.calls log.calls given.counts ∥₁ },
+    ghost few: { given.limited ≡ true → ∥ GivesFew at_look.value.calls log.calls given.counts ∥₁ },
 }
 
 // The fault of an error: out of memory, or a fault of this circuit.
 #[tactic(auto, unfolding(gw_state::specs::Memory::MemoryIsRefused))]
-fn fault_of(circuit: u8, error: &Error) -> OpenFault
+fn fault_of(circuit: u8, error: &io::Error) -> OpenFault
     ensures { Blames circuit (error_kind error.now) result }
 {
     match error.kind() {
@@ -202,16 +211,23 @@ fn receive_accepted<S: Socket>(
     socket: &mut S,
     senders: SourceFilter,
     peer: &SocketAddr,
+    first: Option<SocketAddr>,
+    came: &mut Option<SocketAddr>,
     room: &mut [u8],
 ) -> Result<Option<usize>, PortFault>
     ensures bound { IfOk result (λ got. IfSome got (λ n. n ≤ length room.new)) }
-    ensures received { ReceivesFrom S.receives senders peer.now socket.old socket.new result room.new }
-    ensures asks { ReceivesFrom S.asks senders peer.now socket.old socket.new result room.new }
+    ensures received { ReceivesFrom S.receives (IsAccepted senders peer.now first) socket.old socket.new
+        result room.new }
+    ensures asks { ReceivesFrom S.asks (IsAccepted senders peer.now first) socket.old socket.new result
+        room.new }
+    ensures sender { IfOk result (λ got. IfSome got (λ len. IsSenderOf S.receives socket.new room.new len
+        came.new)) }
 {
     for _turn in 0..MOST_STRANGERS {
         match socket.receive(room)? {
             Some((len, from)) => {
-                if senders.accepts(from, *peer) {
+                if senders.accepts(from, *peer, first) {
+                    *came = Some(from);
                     return Ok(Some(len));
                 }
             }
@@ -227,15 +243,23 @@ fn receive_from<S: Socket>(
     socket: &mut S,
     senders: SourceFilter,
     peer: &SocketAddr,
+    first: Option<SocketAddr>,
+    came: &mut Option<SocketAddr>,
     room: &mut [u8],
 ) -> Result<Option<usize>, PortFault>
     ensures bound { IfOk result (λ got. IfSome got (λ n. n ≤ length room.new)) }
-    ensures received { ReceivesFrom S.receives senders peer.now socket.old socket.new result room.new }
-    ensures asks { ReceivesFrom S.asks senders peer.now socket.old socket.new result room.new }
+    ensures received { ReceivesFrom S.receives (IsAccepted senders peer.now first) socket.old socket.new
+        result room.new }
+    ensures asks { ReceivesFrom S.asks (IsAccepted senders peer.now first) socket.old socket.new result
+        room.new }
+    ensures sender { senders ≢ SourceFilter.Any → IfOk result (λ got. IfSome got (λ len.
+        IsSenderOf S.receives socket.new room.new len came.new)) }
 {
     match senders {
         SourceFilter::Any => socket.receive_any(room),
-        SourceFilter::Host | SourceFilter::Peer => receive_accepted(socket, senders, peer, room),
+        SourceFilter::Host | SourceFilter::Peer | SourceFilter::First => {
+            receive_accepted(socket, senders, peer, first, came, room)
+        }
     }
 }
 
@@ -248,8 +272,8 @@ fn rests_at<S: Socket>(
     came: bool,
 ) -> bool
     requires { length endpoints.old ≡ 30 }
-    ensures rests { IsTrue result → (room : List ℕ)
-        → EndpointReceives S.receives circuit endpoints.old endpoints.new (Ok None) room }
+    ensures rests { IsTrue result → (first : Option SocketAddr) (room : List ℕ)
+        → EndpointReceives S.receives first circuit endpoints.old endpoints.new (Ok None) room }
     ensures rested { IsTrue result → EndpointRests S.rested circuit endpoints.old endpoints.new }
     ensures stays { IsFalse result → endpoints.new ≡ endpoints.old }
     ensures others { KeepsOthers circuit endpoints.old endpoints.new }
@@ -264,22 +288,30 @@ fn rests_at<S: Socket>(
 // Receives at a circuit's socket, by a call of the system.
 fn ask_at<S: Socket>(
     endpoints: &mut [Option<Endpoint<S>>],
+    firsts: &mut FirstSenders,
     circuit: CircuitNo,
     room: &mut [u8],
 ) -> Result<Option<usize>, PortFault>
     requires { length endpoints.old ≡ 30 }
     ensures bound { IfOk result (λ got. IfSome got (λ n. n ≤ length room.new)) }
-    ensures own { EndpointReceives S.receives circuit endpoints.old endpoints.new
+    ensures own { EndpointReceives S.receives (first_of firsts.old circuit) circuit endpoints.old
+        endpoints.new result room.new }
+    ensures asks { EndpointReceives S.asks (first_of firsts.old circuit) circuit endpoints.old endpoints.new
         result room.new }
-    ensures asks { EndpointReceives S.asks circuit endpoints.old endpoints.new result room.new }
+    ensures sender { IfOk result (λ got. IfSome got (λ len. EndpointSender S.receives circuit endpoints.new
+        room.new len firsts.new.came)) }
+    ensures known { firsts.new.known ≡ firsts.old.known }
     ensures others { KeepsOthers circuit endpoints.old endpoints.new }
 {
+    let first = firsts.of(circuit);
     let at = usize::from(circuit.get()) - 1;
     match &mut endpoints[at] {
         Some(endpoint) => receive_from(
             &mut endpoint.socket,
             endpoint.senders,
             &endpoint.peer,
+            first,
+            &mut firsts.came,
             room,
         ),
         None => Ok(None),
@@ -293,18 +325,22 @@ fn ask_more<S: Socket>(
     endpoints: &mut [Option<Endpoint<S>>],
     readiness: &mut Readiness,
     given: &GivenOctets,
+    firsts: &mut FirstSenders,
     circuit: CircuitNo,
     room: &mut [u8],
 ) -> Result<Option<usize>, PortFault>
     requires { length endpoints.old ≡ 30 }
     ensures bound { IfOk result (λ got. IfSome got (λ n. n ≤ length room.new)) }
-    ensures enough { HasGivenEnough given.now.counts circuit
+    ensures enough { HasGivenEnough given.now circuit
         → (result ≡ Ok None) × (endpoints.new ≡ endpoints.old) × (readiness.new ≡ readiness.old) }
-    ensures own { EndpointReceives S.receives circuit endpoints.old endpoints.new result room.new
-        ⊎ (HasGivenEnough given.now.counts circuit × (endpoints.new ≡ endpoints.old)) }
-    ensures asks { ¬ HasGivenEnough given.now.counts circuit
-        → EndpointReceives S.asks circuit endpoints.old endpoints.new result room.new }
-    ensures clears { ¬ HasGivenEnough given.now.counts circuit
+    ensures own { EndpointReceives S.receives (first_of firsts.old circuit) circuit endpoints.old
+        endpoints.new result room.new ⊎ (HasGivenEnough given.now circuit × (endpoints.new ≡ endpoints.old)) }
+    ensures asks { ¬ HasGivenEnough given.now circuit → EndpointReceives S.asks (first_of firsts.old circuit)
+        circuit endpoints.old endpoints.new result room.new }
+    ensures sender { IfOk result (λ got. IfSome got (λ len. EndpointSender S.receives circuit endpoints.new
+        room.new len firsts.new.came)) }
+    ensures known { firsts.new.known ≡ firsts.old.known }
+    ensures clears { ¬ HasGivenEnough given.now circuit
         → Clears readiness.old.came readiness.new.came circuit
         × (readiness.new.receives ≡ readiness.old.receives) }
     ensures others { KeepsOthers circuit endpoints.old endpoints.new }
@@ -314,7 +350,7 @@ fn ask_more<S: Socket>(
         return Ok(None);
     }
     readiness.clear(circuit);
-    ask_at(endpoints, circuit, room)
+    ask_at(endpoints, firsts, circuit, room)
 }
 
 // Receives at the socket of a circuit, unless it gave enough since the last look. (What may ask the system is
@@ -324,19 +360,24 @@ fn receive_more<S: Socket>(
     endpoints: &mut [Option<Endpoint<S>>],
     readiness: &mut Readiness,
     given: &GivenOctets,
+    firsts: &mut FirstSenders,
     circuit: CircuitNo,
     room: &mut [u8],
 ) -> Result<Option<usize>, PortFault>
     requires { length endpoints.old ≡ 30 }
     ensures bound { IfOk result (λ got. IfSome got (λ n. n ≤ length room.new)) }
-    ensures enough { HasGivenEnough given.now.counts circuit
+    ensures enough { HasGivenEnough given.now circuit
         → (result ≡ Ok None) × IsCounted readiness.old readiness.new × ((endpoints.new ≡ endpoints.old)
         ⊎ EndpointRests S.rested circuit endpoints.old endpoints.new) }
-    ensures own { EndpointReceives S.receives circuit endpoints.old endpoints.new result room.new
-        ⊎ (HasGivenEnough given.now.counts circuit × (endpoints.new ≡ endpoints.old)) }
-    ensures asks { ¬ HasGivenEnough given.now.counts circuit
+    ensures own { EndpointReceives S.receives (first_of firsts.old circuit) circuit endpoints.old
+        endpoints.new result room.new ⊎ (HasGivenEnough given.now circuit × (endpoints.new ≡ endpoints.old)) }
+    ensures asks { ¬ HasGivenEnough given.now circuit
         → (came : Bool) × IsAsked readiness.old readiness.new circuit came × (IsTrue came
-        → EndpointReceives S.asks circuit endpoints.old endpoints.new result room.new) }
+        → EndpointReceives S.asks (first_of firsts.old circuit) circuit endpoints.old endpoints.new result
+        room.new) }
+    ensures sender { IfOk result (λ got. IfSome got (λ len. EndpointSender S.receives circuit endpoints.new
+        room.new len firsts.new.came)) }
+    ensures known { firsts.new.known ≡ firsts.old.known }
     ensures others { KeepsOthers circuit endpoints.old endpoints.new }
     ensures in_range { (1 ≤ circuit) × (circuit ≤ 30) }
 {
@@ -344,7 +385,7 @@ fn receive_more<S: Socket>(
     if rests_at(endpoints, circuit, came) {
         return Ok(None);
     }
-    ask_more(endpoints, readiness, given, circuit, room)
+    ask_more(endpoints, readiness, given, firsts, circuit, room)
 }
 
 // Sends by the socket of a circuit, to its peer.
@@ -430,6 +471,8 @@ impl<S: Socket> UdpPorts<S> {
             endpoints,
             readiness,
             given: GivenOctets::new(),
+            firsts: FirstSenders::new(),
+            follows_calls: matches!(senders, SourceFilter::First),
             receive_failed: 0,
             send_failed: 0,
             opened,
@@ -439,17 +482,56 @@ impl<S: Socket> UdpPorts<S> {
     }
 }
 
+impl<S: Socket> UdpPorts<S> {
+    /// From now on a circuit that gave 65,536 octets since the ports last looked gives none until they look
+    /// again: what is received between two records of the trunk has room in its log.
+    pub fn limit(&mut self)
+        ensures given { self.new.given ≡ record { counts = replicate 30 0; limited = true } }
+        ensures endpoints { self.new.endpoints ≡ self.old.endpoints }
+        ensures log { self.new.log ≡ self.old.log }
+    {
+        self.given.limit();
+        self.at_look = AtStart::of(&self.log);
+    }
+}
+
 impl<S: Socket> Ports for UdpPorts<S> {
     ghost use Rattle.gw_udp.specs.Telling.{HasLooked, told};
 
     ghost tells = { told };
 
-    ghost has_looked = { λ p. HasLooked p };
-
-    fn look(&mut self) {
+    fn look(&mut self)
+        ensures tells { told self.new ≡ told self.old }
+        ensures looked { HasLooked self.new }
+    {
         self.readiness.look();
         self.given.clear();
         self.at_look = AtStart::of(&self.log);
+    }
+
+    fn follows_calls(&self) -> bool {
+        self.follows_calls
+    }
+
+    fn judge(&mut self, circuit: CircuitNo, accepted: bool)
+        ensures tells { told self.new ≡ told self.old }
+        ensures firsts { self.new.firsts ≡ record self.old.firsts {
+          known = slice_set self.old.firsts.known (circuit - 1)
+              (known_after (first_of self.old.firsts circuit) self.old.firsts.came accepted);
+        } }
+        ensures endpoints { self.new.endpoints ≡ self.old.endpoints }
+    {
+        self.firsts.judge(circuit, accepted);
+    }
+
+    fn close(&mut self, circuit: CircuitNo)
+        ensures tells { told self.new ≡ told self.old }
+        ensures firsts { self.new.firsts ≡ record self.old.firsts {
+          known = slice_set self.old.firsts.known (circuit - 1) None;
+        } }
+        ensures endpoints { self.new.endpoints ≡ self.old.endpoints }
+    {
+        self.firsts.close(circuit);
     }
 
     #[inline]
@@ -458,18 +540,24 @@ impl<S: Socket> Ports for UdpPorts<S> {
         ensures receives { Receives (told self.old) (told self.new) circuit result room.new }
         ensures counts { CountsFault self.old.receive_failed self.new.receive_failed result }
         ensures sends_stay { KeepsSends (told self.old) (told self.new) }
-        ensures enough { HasGivenEnough self.old.given.counts circuit → (result ≡ Ok None)
+        ensures enough { HasGivenEnough self.old.given circuit → (result ≡ Ok None)
             × IsCounted self.old.readiness self.new.readiness
             × ((self.new.endpoints.items ≡ self.old.endpoints.items)
             ⊎ EndpointRests S.rested circuit self.old.endpoints.items self.new.endpoints.items) }
-        ensures own { EndpointReceives S.receives circuit self.old.endpoints.items self.new.endpoints.items
-            result room.new ⊎ (HasGivenEnough self.old.given.counts circuit
+        ensures own { EndpointReceives S.receives (first_of self.old.firsts circuit) circuit
+            self.old.endpoints.items self.new.endpoints.items result room.new
+            ⊎ (HasGivenEnough self.old.given circuit
             × (self.new.endpoints.items ≡ self.old.endpoints.items)) }
-        ensures asks { ¬ HasGivenEnough self.old.given.counts circuit
+        ensures asks { ¬ HasGivenEnough self.old.given circuit
             → (came : Bool) × IsAsked self.old.readiness self.new.readiness circuit came
-            × (IsTrue came → EndpointReceives S.asks circuit self.old.endpoints.items
-            self.new.endpoints.items result room.new) }
-        ensures given { self.new.given.counts ≡ given_after self.old.given.counts circuit result }
+            × (IsTrue came → EndpointReceives S.asks (first_of self.old.firsts circuit) circuit
+            self.old.endpoints.items self.new.endpoints.items result room.new) }
+        ensures sender { IfOk result (λ got. IfSome got (λ len. EndpointSender S.receives circuit
+            self.new.endpoints.items room.new len self.new.firsts.came)) }
+        ensures known { self.new.firsts.known ≡ self.old.firsts.known }
+        ensures given { self.new.given ≡ record self.old.given {
+          counts = given_after self.old.given.counts circuit result;
+        } }
         ensures at_look { self.new.at_look ≡ self.old.at_look }
         ensures others { KeepsOthers circuit self.old.endpoints.items self.new.endpoints.items }
     {
@@ -477,6 +565,7 @@ impl<S: Socket> Ports for UdpPorts<S> {
             self.endpoints.as_mut_slice(),
             &mut self.readiness,
             &self.given,
+            &mut self.firsts,
             circuit,
             room,
         );
@@ -493,6 +582,7 @@ impl<S: Socket> Ports for UdpPorts<S> {
         ensures own { EndpointSends S.sends circuit self.old.endpoints.items self.new.endpoints.items
             datagram.now result }
         ensures given { self.new.given ≡ self.old.given }
+        ensures firsts { self.new.firsts ≡ self.old.firsts }
         ensures at_look { self.new.at_look ≡ self.old.at_look }
         ensures others { KeepsOthers circuit self.old.endpoints.items self.new.endpoints.items }
     {

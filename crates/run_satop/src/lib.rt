@@ -1,11 +1,8 @@
-//! The subcommand `satop`: the emulated circuit that the command line asks for, opened and carried.
+//! The subcommand `satop`: the emulated circuit that is asked for, opened and carried (RFC 4553).
 #![tactic(auto)]
 
 mod asked;
 mod carrying;
 mod ends;
-mod fileless;
-mod sealed;
 
 pub use carrying::emulate;
-pub use fileless::Fileless;

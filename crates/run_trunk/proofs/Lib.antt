@@ -1,4 +1,3 @@
 mod Written
 mod Carried
 mod Filtered
-pub mod Served

@@ -1,3 +1,3 @@
 pub mod Serving
 pub mod Filters
-pub mod Trunks
+pub mod Opening

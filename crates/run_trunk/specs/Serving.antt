@@ -1,5 +1,5 @@
 -- A trunk that is served by a gateway: what comes and what goes (module `serving`).
-use Rattle.std.specs.Prelude.{◌≡◌, ◌++◌, ◌∷◌, ℕ, List, [], flat_map, Some, Result, MatchResult}
+use Rattle.std.specs.Prelude.{◌≡◌, ◌++◌, ◌∷◌, ℕ, List, [], flat_map, Some, Result, MatchResult, true}
 use Rattle.gw_switch.specs.declared.GatewayConfig.{GatewayConfig}
 use Rattle.gw_switch.specs.declared.gateway.Gateway.{Gateway}
 use Rattle.gw_switch.specs.Events.{CircuitEvent, Event, octets}
@@ -12,7 +12,7 @@ use Rattle.gw_records.specs.Octets.{octet_of_command, octet_of_codec}
 use Rattle.gw_records.specs.Records.{Record}
 use Rattle.gw_records.specs.Streams.{SourceState, SinkState}
 use Rattle.gw_session.specs.Answers.{written_out, answers, events}
-use Rattle.gw_session.specs.Serve.{octets_for}
+use Rattle.gw_session.specs.Serve.{SessionStreams, ServesAll, ServesUntil, octets_for}
 use Rattle.gw_session.specs.ServeLaws.{without_datagrams}
 use Rattle.gw_session.specs.Tape.{TapeState, Recorded}
 use Rattle.gw_trunk.specs.Pieces.{Woven, from_clients}
@@ -103,3 +103,12 @@ abbrev pub Carried : GatewayConfig → List Event → Gateway → TapeState → 
     → Result Totals RunFault → Type 0
 Carried config before gateway' tape tape' t end = MatchResult end
     (λ _. Carries config before gateway' tape tape' t) (CarriesUntil config before gateway' tape tape' t)
+
+-- A gateway served a trunk and its clients, between whom this passed, and each record was logged before its
+-- packets were sent. What went is what the definitions give after all that had happened to the gateway.
+pub record CarriesTrunk (a a' : SessionStreams) (t : Traffic) (gateway gateway' : Gateway)
+    (end : Result Totals RunFault) : Type 0 where
+  pub holds : a.holds ≡ true
+  pub served : MatchResult end (ServesAll a a' gateway gateway') (ServesUntil a a' gateway gateway')
+  pub carried : (config : GatewayConfig) (before : List Event) → HasHistory config gateway before
+      → ∥ Carried config before gateway' a.tape a'.tape t end ∥₁

@@ -1,91 +1,77 @@
 //! What passes the filters that the command line asks for, at both ends of a trunk (`TrunkFilters`).
 
-ghost use Rattle.std.specs.Prelude.{◌≡◌, ◌<◌, ◌∷◌, ℕ, List, [], true, IfOk, IfErr, IfSome, is_some};
-ghost use Rattle.std.specs.Prelude.{codes, option_map};
-ghost use Rattle.clap.specs.Words.{subcommand_rows_of};
+ghost use Rattle.std.specs.Prelude.{◌≡◌, ◌<◌, [], IfOk, IfSome, is_some, option_map};
 ghost use Rattle.g704_bits.specs.Standing.{StandsAfter};
-ghost use Rattle.g704_crc4.specs.ReceiverCounts.{receiver_counts_of};
-ghost use Rattle.gw_command.specs.Command.{HasFlag, HasText};
 ghost use Rattle.gw_filter.specs.Check.{HasReported};
-ghost use Rattle.gw_machine.specs.Calls.{MakesSuch};
-ghost use Rattle.gw_machine.specs.Lines.{Line, SystemWrites};
-ghost use Rattle.gw_machine.specs.CommandLine.{CommandLine};
 ghost use Rattle.gw_slots.specs.Receiving.{HasMadeWhole};
-ghost use Rattle.run_trunk.specs.Filters.{AreAsked, AreCounts, AreCountsIf, AreIf, AreJoined};
-ghost use Rattle.run_trunk.specs.Filters.{Goes, GoesFramed, both_ended};
-ghost use Rattle.run_trunk.specs.Trunks.{LacksStream};
+ghost use Rattle.run_trunk.specs.Filters.{AreFresh, AreUnused, Comes, Goes, GoesFramed, both_ended};
 
-use crate::fileless::Fileless;
 use clap::ArgMatches;
 use e1_g711::Law;
 use g704_bits::BitAligner;
 use gw_command::{asks_align, asks_crc4, asks_live, asks_slots};
 use gw_filter::{
-    BufferFilter, CountsTeller, ReceiverCounts, ReportingChecker, ReportingSender, ToReports,
+    BufferFilter, Checked, CountsTeller, ReceiverCounts, ReportingChecker, ReportingSender,
+    ToReports,
 };
 use gw_filtered::{FilteredInput, FilteredOutput, Phase, PhasedFilter, Switch, SwitchedFilter};
-use gw_machine::{ErrorLines, ProgramFault, StandardError, tell_check, tell_live, tell_slots};
-use gw_session::{FromRead, Totals};
+use gw_machine::{ProgramFault, tell_live, tell_slots};
+use gw_records::NO_TOTALS;
+use gw_session::FromRead;
 use gw_slots::{DeviceSlots, SlotDropper, SlotInput, SlotReceiver, SlotTeller};
 use gw_trunk::{DeviceFault, MultiframeDropper, TrunkInput, TrunkOutput, open_pair};
 use mio::net::UnixStream;
 use std::marker::PhantomData;
+use std::net::Net;
 use std::rt::Stderr;
 
 /// Checks the CRC-4 multiframes of what comes, and reports errored ones to the sender.
-pub(crate) type Checker<'r, R, V> = ReportingChecker<
-    ToReports<UnixStream>,
-    PrintedCounts<'r, R, V>,
->;
+pub(crate) type Checker<V> = ReportingChecker<ToReports<UnixStream>, PrintedCounts<V>>;
 
 /// Puts CRC-4 multiframes into what goes, from a place in a multiframe on.
 pub(crate) type Sender<P> = PhasedFilter<ReportingSender<FromRead<UnixStream>>, P>;
 
 /// Prints on standard error when slot 16 is found and lost.
 #[derive(Drop)]
-pub(crate) struct PrintedSlots<'r, R> {
-    /// The machine on whose standard error it prints.
-    pub(crate) rt: &'r R,
+pub(crate) struct PrintedSlots {
+    pub(crate) errors: Stderr,
 }
 
-impl<R: Fileless> SlotTeller for PrintedSlots<'_, R> {
-    ghost use Rattle.std.specs.Prelude.{◌∷◌, []};
-    ghost use Rattle.gw_machine.specs.Lines.{SystemWrites};
-    ghost use Rattle.gw_machine.specs.Report.{slots_line};
+impl SlotTeller for PrintedSlots {
+    ghost use Rattle.std.specs.Prelude.{⊤};
 
-    ghost has_told = { λ _ late. SystemWrites (slots_line late ∷ []) };
+    ghost has_told = { λ _ _. ⊤ };
 
     fn tell(&mut self, late: Option<u8>) {
-        tell_slots(&mut StandardError::new(self.rt), late);
+        tell_slots(&self.errors, late);
     }
 }
 
 /// Prints the counts of a checker on standard error, if that is asked for.
 #[derive(Drop)]
-pub(crate) struct PrintedCounts<'r, R, V: Switch> {
-    rt: &'r R,
+pub(crate) struct PrintedCounts<V: Switch> {
+    errors: Stderr,
     is_live: bool,
     of: PhantomData<V>,
     ghost is: { is_live ≡ V.is_on },
 }
 
-impl<R: Fileless, V: Switch> CountsTeller for PrintedCounts<'_, R, V> {
-    ghost use Rattle.std.specs.Prelude.{◌∷◌, []};
-    ghost use Rattle.gw_machine.specs.Lines.{Line, SystemWrites};
+impl<V: Switch> CountsTeller for PrintedCounts<V> {
+    ghost use Rattle.std.specs.Prelude.{⊤};
 
-    ghost has_told = { λ _ counts. V.is_on ≡ true → SystemWrites (Line.Live counts ∷ []) };
+    ghost has_told = { λ _ _. ⊤ };
 
     fn tell(&mut self, counts: &ReceiverCounts) {
         if self.is_live {
-            tell_live(&mut StandardError::new(self.rt), counts);
+            tell_live(&self.errors, counts);
         }
     }
 }
 
 /// What comes of a trunk, with all slots, aligned and then checked.
-pub(crate) type Incoming<'t, 'r, R, I, S, K, L, V> = FilteredInput<
-    FilteredInput<SlotInput<I, PrintedSlots<'t, R>, S>, SwitchedFilter<BitAligner, K>>,
-    SwitchedFilter<Checker<'r, R, V>, L>,
+pub(crate) type Incoming<I, S, K, L, V> = FilteredInput<
+    FilteredInput<SlotInput<I, PrintedSlots, S>, SwitchedFilter<BitAligner, K>>,
+    SwitchedFilter<Checker<V>, L>,
 >;
 
 /// Where what is sent goes, with CRC-4 and then without slot 0.
@@ -117,8 +103,7 @@ pub(crate) struct TrunkFilters {
 
 // The aligner of what comes, if the matches ask for one.
 fn aligner_as_asked(matches: &ArgMatches<'_>) -> Option<BitAligner>
-    ensures asked { HasFlag (codes "align") (subcommand_rows_of matches.now) (is_some result) }
-    ensures new { IfSome result (λ aligner. StandsAfter aligner []) }
+    ensures { IfSome result (λ aligner. StandsAfter aligner []) }
 {
     if asks_align(matches) {
         return Some(BitAligner::new());
@@ -126,10 +111,9 @@ fn aligner_as_asked(matches: &ArgMatches<'_>) -> Option<BitAligner>
     None
 }
 
-// Two connections that the system has joined, one for reports to go and one for them to come.
-fn open_crc4(rt: &impl Fileless) -> Result<Crc4, ProgramFault>
-    ensures ok { IfOk result AreJoined }
-    ensures err { IfErr result LacksStream }
+// Two connections that are joined, one for reports to go and one for them to come.
+fn open_crc4(rt: &impl Net) -> Result<Crc4, ProgramFault>
+    ensures { IfOk result AreUnused }
 {
     match open_pair(rt) {
         Ok((near, far)) => Ok(Crc4 {
@@ -141,10 +125,8 @@ fn open_crc4(rt: &impl Fileless) -> Result<Crc4, ProgramFault>
 }
 
 // Where reports go and come from, if the matches ask for CRC-4.
-fn crc4_as_asked(rt: &impl Fileless, matches: &ArgMatches<'_>) -> Result<Option<Crc4>, ProgramFault>
-    ensures asked { IfOk result (λ c. HasFlag (codes "crc4") (subcommand_rows_of matches.now) (is_some c)) }
-    ensures joined { IfOk result (λ c. IfSome c AreJoined) }
-    ensures err { IfErr result LacksStream }
+fn crc4_as_asked(rt: &impl Net, matches: &ArgMatches<'_>) -> Result<Option<Crc4>, ProgramFault>
+    ensures { IfOk result (λ c. IfSome c AreUnused) }
 {
     if !asks_crc4(matches) {
         return Ok(None);
@@ -157,11 +139,10 @@ fn crc4_as_asked(rt: &impl Fileless, matches: &ArgMatches<'_>) -> Result<Option<
 
 /// The filters that the matches ask for.
 pub(crate) fn filters_as_asked(
-    rt: &impl Fileless,
+    rt: &impl Net,
     matches: &ArgMatches<'_>,
 ) -> Result<TrunkFilters, ProgramFault>
-    ensures ok { IfOk result (AreAsked (subcommand_rows_of matches.now)) }
-    ensures err { IfErr result LacksStream }
+    ensures { IfOk result AreFresh }
 {
     match crc4_as_asked(rt, matches) {
         Ok(crc4) => Ok(TrunkFilters {
@@ -188,11 +169,11 @@ pub(crate) fn parted(
 }
 
 /// The checker of what comes, if its reports go anywhere.
-pub(crate) fn checker_from<'r, R: Fileless, V: Switch>(
-    rt: &'r R,
+pub(crate) fn checker_from<V: Switch>(
+    errors: Stderr,
     is_live: bool,
     outward: Option<ToReports<UnixStream>>,
-) -> Option<Checker<'r, R, V>>
+) -> Option<Checker<V>>
     requires live { is_live ≡ V.is_on }
     requires unsent { IfSome outward (λ o. o.log.octets ≡ []) }
     ensures is { is_some result ≡ is_some outward }
@@ -201,7 +182,11 @@ pub(crate) fn checker_from<'r, R: Fileless, V: Switch>(
     match outward {
         Some(outward) => {
             let of = PhantomData;
-            let teller = PrintedCounts { rt, is_live, of };
+            let teller = PrintedCounts {
+                errors,
+                is_live,
+                of,
+            };
             Some(ReportingChecker::new(outward, teller))
         }
         None => None,
@@ -221,22 +206,13 @@ pub(crate) fn receiver_from(is_on: bool, law: Law, place: u16) -> Option<SlotRec
 }
 
 /// What comes of a trunk, as these filters return it.
-pub(crate) fn filtered_input<
-    't,
-    'r,
-    R: Fileless,
-    I: TrunkInput,
-    S: DeviceSlots,
-    K: Switch,
-    L: Switch,
-    V: Switch,
->(
-    teller: PrintedSlots<'t, R>,
+pub(crate) fn filtered_input<I: TrunkInput, S: DeviceSlots, K: Switch, L: Switch, V: Switch>(
+    errors: Stderr,
     incoming: I,
     slots: Option<SlotReceiver>,
     aligner: Option<BitAligner>,
-    checker: Option<Checker<'r, R, V>>,
-) -> Incoming<'t, 'r, R, I, S, K, L, V>
+    checker: Option<Checker<V>>,
+) -> Incoming<I, S, K, L, V>
     requires came { I.came incoming ≡ [] }
     requires slots { IfSome slots (λ s. HasMadeWhole s S.law S.place [] []) }
     requires aligner { IfSome aligner (λ a. StandsAfter a []) }
@@ -245,12 +221,10 @@ pub(crate) fn filtered_input<
     ensures came { result.log.octets ≡ [] }
     ensures asked { I.asked result.incoming.incoming.incoming ≡ I.asked incoming }
 {
-    let whole = SlotInput::<I, PrintedSlots<'t, R>, S>::new(incoming, slots, teller);
+    let teller = PrintedSlots { errors };
+    let whole = SlotInput::<I, PrintedSlots, S>::new(incoming, slots, teller);
     let aligned = FilteredInput::new(whole, SwitchedFilter::<BitAligner, K>::new(aligner));
-    FilteredInput::new(
-        aligned,
-        SwitchedFilter::<Checker<'r, R, V>, L>::new(checker),
-    )
+    FilteredInput::new(aligned, SwitchedFilter::<Checker<V>, L>::new(checker))
 }
 
 // The sender of what goes, from a place in a multiframe on.
@@ -269,8 +243,8 @@ fn sender_from<P: Phase>(reports: Option<FromRead<UnixStream>>, place: u16) -> O
 
 /// Where what is sent goes, by multiframes, with CRC-4 from a place on if there are reports, and without slot
 /// 0 if the device has none.
-pub(crate) fn filtered_output<R: Fileless, O: TrunkOutput, S: DeviceSlots, L: Switch, P: Phase>(
-    rt: &R,
+pub(crate) fn filtered_output<O: TrunkOutput, S: DeviceSlots, L: Switch, P: Phase>(
+    errors: Stderr,
     outgoing: O,
     slots: bool,
     reports: Option<FromRead<UnixStream>>,
@@ -286,10 +260,10 @@ pub(crate) fn filtered_output<R: Fileless, O: TrunkOutput, S: DeviceSlots, L: Sw
     let sender = sender_from(reports, place);
     let frames = FilteredOutput::new(outgoing, SlotDropper::<S>::new(slots, place));
     let framed = FilteredOutput::new(frames, SwitchedFilter::<Sender<P>, L>::new(sender));
-    MultiframeDropper::new(framed, rt.error_stream())
+    MultiframeDropper::new(framed, errors)
 }
 
-// How two writers ended, one behind the other.
+// How two writers ended, one behind the other: whether both took all.
 fn both_ended(
     all: Result<bool, DeviceFault>,
     rest: Result<bool, DeviceFault>,
@@ -309,9 +283,8 @@ fn finish_framed<O: TrunkOutput + Drop, S: DeviceSlots, L: Switch, P: Phase>(
     framed: Framed<O, S, L, P>,
 ) -> Result<bool, DeviceFault>
     requires { S.place ≡ P.place }
-    ensures { (command : CommandLine) → HasText (codes "slots") (codes "1-31") command S.is_on
-        → HasFlag (codes "crc4") command L.is_on
-        → ∥ GoesFramed command P.place framed.log.octets (O.slow_waits framed.outgoing.outgoing) result ∥₁ }
+    ensures { ∥ GoesFramed S.is_on L.is_on P.place framed.log.octets (O.slow_waits framed.outgoing.outgoing)
+        result ∥₁ }
 {
     let mut framed = framed;
     let all = framed.finish();
@@ -326,9 +299,7 @@ pub(crate) fn finish_output<O: TrunkOutput + Drop, S: DeviceSlots, L: Switch, P:
     outgoing: Outgoing<O, S, L, P>,
 ) -> (u64, Result<bool, DeviceFault>)
     requires { S.place ≡ P.place }
-    ensures { (command : CommandLine) → HasText (codes "slots") (codes "1-31") command S.is_on
-        → HasFlag (codes "crc4") command L.is_on
-        → ∥ Goes command P.place outgoing.log.octets result.0 result.1 ∥₁ }
+    ensures { ∥ Goes S.is_on L.is_on P.place outgoing.log.octets result.0 result.1 ∥₁ }
 {
     let mut dropper = outgoing;
     dropper.finish();
@@ -336,59 +307,22 @@ pub(crate) fn finish_output<O: TrunkOutput + Drop, S: DeviceSlots, L: Switch, P:
     (discarded, finish_framed(dropper.into_outgoing()))
 }
 
-// Tells the counts of a checker, and how many errored submultiframes are not reported.
-fn tell_counts<E: ErrorLines, R: Fileless, V: Switch>(
-    errors: &mut E,
-    checker: &Checker<'_, R, V>,
-    totals: &Totals,
+// A law: what came of a trunk is what its filters, in their order, made of what the device gave.
+fn comes<I: TrunkInput, S: DeviceSlots, K: Switch, L: Switch, V: Switch>(
+    incoming: &Incoming<I, S, K, L, V>,
 )
-    ensures { MakesSuch E.has_written errors.old errors.new (λ lines. (octets returned : List ℕ)
-        → HasReported checker.now.checker checker.now.reported checker.now.reports.log.octets octets returned
-        → AreCounts octets lines) }
+    ensures { ∥ Comes S.is_on K.is_on L.is_on S.law S.place
+        (I.came incoming.now.incoming.incoming.incoming) incoming.now.log.octets ∥₁ }
 {
-    let checked = checker.checked(*totals);
-    tell_check(errors, true, &checked);
+    let _incoming = incoming;
 }
 
-// Tells the counts of a checker as a line if that is asked for, and as those of the end if the totals are.
-fn tell_checked<E: ErrorLines, R: Fileless, V: Switch>(
-    errors: &mut E,
-    checker: &mut Checker<'_, R, V>,
-    totals: Option<Totals>,
-)
-    ensures live { (octets returned : List ℕ) → HasReported checker.old.checker checker.old.reported
-        checker.old.reports.log.octets octets returned → V.is_on ≡ true
-        → SystemWrites (Line.Live (receiver_counts_of octets) ∷ []) }
-    ensures counts { MakesSuch E.has_written errors.old errors.new (AreIf (is_some totals) (λ lines.
-        (octets returned : List ℕ) → HasReported checker.old.checker checker.old.reported
-        checker.old.reports.log.octets octets returned → AreCounts octets lines)) }
-{
+/// What was counted of what came, if it was checked. It is printed as a line if that is asked for.
+pub(crate) fn finish_input<I: TrunkInput + Drop, S: DeviceSlots, K: Switch, L: Switch, V: Switch>(
+    incoming: Incoming<I, S, K, L, V>,
+) -> Option<Checked> {
+    comes(&incoming);
+    let mut checker = incoming.into_filter().into_filter()?;
     checker.tell_now();
-    if let Some(totals) = totals {
-        tell_counts(errors, checker, &totals);
-    }
-}
-
-/// Tells the counts of what came, if it was checked: as a line if that is asked for, and as those of the end
-/// if the totals are.
-pub(crate) fn finish_input<
-    't,
-    'r,
-    E: ErrorLines,
-    R: Fileless,
-    I: TrunkInput + Drop,
-    S: DeviceSlots,
-    K: Switch,
-    L: Switch,
-    V: Switch,
->(errors: &mut E, incoming: Incoming<'t, 'r, R, I, S, K, L, V>, totals: Option<Totals>)
-    ensures live { L.is_on ≡ true → V.is_on ≡ true
-        → ∥ SystemWrites (Line.Live (receiver_counts_of incoming.entry.log.octets) ∷ []) ∥₁ }
-    ensures counts { MakesSuch E.has_written errors.old errors.new
-        (AreCountsIf L.is_on (is_some totals) incoming.entry.log.octets) }
-{
-    if let Some(checker) = incoming.into_filter().into_filter() {
-        let mut checker = checker;
-        tell_checked(errors, &mut checker, totals);
-    }
+    Some(checker.checked(NO_TOTALS))
 }

@@ -2,11 +2,9 @@
 #![tactic(auto)]
 
 mod carrying;
-mod fileless;
 mod filters;
-mod performing;
-mod sealed;
+mod opening;
 mod serving;
 
-pub use carrying::serve;
-pub use fileless::Fileless;
+pub use carrying::{TrunkEnd, serve};
+pub use opening::{OpenTrunk, open_trunk};

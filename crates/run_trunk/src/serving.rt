@@ -1,10 +1,9 @@
 //! Serves a trunk and its clients by a gateway, until no octet comes any more (`serve_trunk`).
 
-ghost use Rattle.std.specs.Prelude.{◌≡◌};
+ghost use Rattle.std.specs.Prelude.{◌≡◌, OnOk, false};
 ghost use Rattle.gw_session.specs.Serve.{around_log};
 ghost use Rattle.gw_session.specs.Watch.{InputsShown, ServesWatched};
-ghost use Rattle.run_trunk.specs.Serving.{IsUnread, IsUntaken, traffic};
-ghost use Rattle.run_trunk.specs.Trunks.{CarriesTrunk};
+ghost use Rattle.run_trunk.specs.Serving.{CarriesTrunk, IsUnread, IsUntaken, traffic};
 
 use gw_records::{Answers, Records};
 use gw_session::{Ports, RunFault, Tape, Totals, Watch, serve_logged};
@@ -21,7 +20,8 @@ use std::alloc::Global;
 //
 // # Errors
 //
-// [`RunFault::Read`] where the device that octets come from fails: all that came is answered.
+// [`RunFault::Read`] where the device that octets come from fails, or the tape is lost: all that came is
+// answered.
 // [`RunFault::Write`] where the other fails. [`RunFault::OutOfMemory`] where memory was refused: nothing
 // comes, is asked or goes.
 #[inline(never)]
@@ -50,6 +50,7 @@ pub(crate) fn serve_trunk<
         (⟦<TrunkAnswers<O, A> as Answers>⟧.tells sink.new) (P.tells ports.new) (T.tells tape.new))
         (traffic (I.came source.new.incoming) (I.asked source.new.incoming)
         (O.went sink.new.outgoing) (A.went sink.new.answers)) gateway.old gateway.new result }
+    ensures kept { OnOk result (T.is_lost tape.new ≡ false) }
     ensures watched { ServesWatched
         (around_log (⟦<TrunkRecords<I> as Records>⟧.tells source.old)
         (⟦<TrunkAnswers<O, A> as Answers>⟧.tells sink.old) (P.tells ports.old) (T.tells tape.old))

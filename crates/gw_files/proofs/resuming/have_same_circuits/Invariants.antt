@@ -1,4 +1,4 @@
-use Rattle.gw_machine.specs.Log.{HaveSameCircuits}
+use Rattle.gw_files.specs.Resuming.{HaveSameCircuits}
 use Rattle.gw_files.proofs.resuming.have_same_circuits.Given as goal
 
 abbrev pub invariant-loop-at : goal.invariant-loop-at

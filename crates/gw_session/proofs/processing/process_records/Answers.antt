@@ -86,7 +86,7 @@ returns-in_err-write_out-in-Err-clause-fault g c =
 pub handling-preserved : goal.handling-preserved
 handling-preserved g c =
     let w = c.handling.invariant in
-    let r = rw c.if-not-branch.false at c.in_ok-read_on-in-Err.ensures.ok in
+    let r = rw c.if-not-branch.false at c.in_ok-read_more-in-Err.ensures.ok in
     let flushed = c.in_ok-write_out-in-Err.ensures in
     let seen = InputsShown g.W.Watch.shows c.args.gateway.now c.args.watch.now c.handling.watch in (
       w.0 ++ r.octets,
@@ -101,25 +101,32 @@ handling-preserved g c =
       },
     )
 
-pub returns-then-not-branch : goal.returns-then-not-branch
-returns-then-not-branch g c =
+pub returns-then-not-branch-clause-ok : goal.returns-then-not-branch-clause-ok
+returns-then-not-branch-clause-ok g c =
     let w = c.handling.invariant in
     let seen = InputsShown g.W.Watch.shows c.args.gateway.now c.args.watch.now c.handling.watch in
-    let r = rw c.if-not-branch.true at c.in_ok-read_on-in-Err.ensures.ok in
+    let r = rw c.if-not-branch.true at c.in_ok-read_more-in-Err.ensures.ok in
     let e = ended c.handling.session.totals w.2.stage r refl c.in-Err.ensures.end
     c.in_ok-write_out-in-Err.ensures.writes.1
     (through_all _ seen _ w.2.through c.in_ok-write_out-in-Err.ensures.writes.0) in
-    record {
-      ok = (ends_so (λ records. Unit {0}) _ _ _ e.0 r.ended e.1 c.answer.ensures).0;
-      fault = (ends_so _ _ _ _ e.0 r.ended e.1 c.answer.ensures).1;
-    }
+    (ends_so (λ records. Unit {0}) _ _ _ e.0 r.ended e.1 c.answer.ensures).0
 
-pub returns-in_err-read_on-in-Err-clause-fault : goal.returns-in_err-read_on-in-Err-clause-fault
-returns-in_err-read_on-in-Err-clause-fault g c =
+pub returns-then-not-branch-clause-fault : goal.returns-then-not-branch-clause-fault
+returns-then-not-branch-clause-fault g c =
     let w = c.handling.invariant in
-    let fault = c.in_err-read_on-in-Err.ensures.fault in
     let seen = InputsShown g.W.Watch.shows c.args.gateway.now c.args.watch.now c.handling.watch in
-    goes_up _ _ faults.Read c.from_residual-in_err-read_on-in-Err.ensures.1 fault.0
+    let r = rw c.if-not-branch.true at c.in_ok-read_more-in-Err.ensures.ok in
+    let e = ended c.handling.session.totals w.2.stage r refl c.in-Err.ensures.end
+    c.in_ok-write_out-in-Err.ensures.writes.1
+    (through_all _ seen _ w.2.through c.in_ok-write_out-in-Err.ensures.writes.0) in
+    (ends_so _ _ _ _ e.0 r.ended e.1 c.answer.ensures).1
+
+pub returns-in_err-read_more-in-Err-clause-fault : goal.returns-in_err-read_more-in-Err-clause-fault
+returns-in_err-read_more-in-Err-clause-fault g c =
+    let w = c.handling.invariant in
+    let fault = c.in_err-read_more-in-Err.ensures.fault in
+    let seen = InputsShown g.W.Watch.shows c.args.gateway.now c.args.watch.now c.handling.watch in
+    goes_up _ _ faults.Read c.from_residual-in_err-read_more-in-Err.ensures.1 fault.0
     (gives_up c.handling.session.totals w.2.stage fault.1 refl c.in-Err.ensures.end
     c.in_ok-write_out-in-Err.ensures.writes.1
     (through_all _ seen _ w.2.through c.in_ok-write_out-in-Err.ensures.writes.0))

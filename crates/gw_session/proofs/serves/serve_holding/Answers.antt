@@ -11,6 +11,7 @@ returns g c =
     let ok = rw holds at c.process_records.ensures.ok in
     let fault = rw (c.at_once-answers.ensures.late, holds) at c.process_records.ensures.fault in
     record {
+      kept = c.process_records.ensures.kept;
       ok = all_as _ _ _ _ _ (λ t records p. serves records p.0) c.process_records.result ok;
       fault = until_as _ _ _ _ _ (λ t records p. serves records p.0) _ c.process_records.result
           (serves_until shown) fault;

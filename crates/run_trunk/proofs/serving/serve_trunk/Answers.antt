@@ -6,7 +6,8 @@ use Rattle.run_trunk.proofs.serving.serve_trunk.Goals as goal
 
 pub returns-clause-carries : goal.returns-clause-carries
 returns-clause-carries g c = record {
-  served = (refl, either_way _ _ c.serve_logged.result c.serve_logged.ensures.ok c.serve_logged.ensures.fault);
+  holds = refl;
+  served = either_way _ _ c.serve_logged.result c.serve_logged.ensures.ok c.serve_logged.ensures.fault;
   carried = λ config before new. ∥∥₁_map c.serve_logged.new.source.woven (λ w.
       carried _ _ config before c.serve_logged.result _ _ _ _ _ _
       (record { unread = c.requires.source.2; read = refl; untaken = c.requires.sink.1; took = refl })

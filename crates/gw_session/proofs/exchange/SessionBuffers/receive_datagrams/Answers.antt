@@ -24,17 +24,18 @@ receiving-preserved g c =
     let n = c.in-Ok-Some.n in
     let r = rw c.in-Ok-Some.field-0-is at c.in-Ok-Some.ensures.receives in
     let said = rw c.deref.ensures at c.batch_arrival.ensures.batches in
-    let given = rw c.deref.ensures at c.give_shown.ensures.given in
-    let shown = rw c.deref.ensures at c.give_shown.ensures.shown in
+    let given = rw c.deref.ensures at c.give_shown-code.ensures.given in
+    let shown = rw c.deref.ensures at c.give_shown-code.ensures.shown in
     let fresh : take (length c.args.heard.now - recorded) (drop recorded c.args.heard.now)
     ≡ drop recorded c.args.heard.now = take_rest c.args.heard.now recorded in
+    rw c.judge_datagram.ensures
     record {
       receiving = (
         w.0 ++ take n items ∷ [],
         omega (arith, w.1, length-append w.0 (take n items ∷ [])),
         receiving_more _ (take n items) w.2 r.0 r.1 r.2 c.in-Ok-Some.ensures.counts
             c.receive_datagram.ensures.sends_stay given
-            c.give_shown.ensures.others refl,
+            c.give_shown-code.ensures.others refl,
         behind_more _ _ _ _ _ _ _ _ _ w.0 _ w.3 fresh refl said,
         shown_next w.0 (take n items) w.2 w.4 shown,
       );

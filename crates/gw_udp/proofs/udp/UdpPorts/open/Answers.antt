@@ -63,6 +63,6 @@ invariant_of-result g c = record {
       (IsAt g.S.Socket.is_bound g.S.Socket.inherits g.S.Socket.lacks c.args.among) g.S.Socket.is_open SystemLooksUp
       c.args.host.now c.args.senders c.args.ports.now c.loop-number.endpoints.items (c.loop-number.number - 1)
       (search rules) c.loop-number.invariant.own)) ∣₁;
-  few = ∣ rw (c.of.ensures, c.new-log.ensures, c.new.ensures) (none_since []) ∣₁;
+  few = λ _. ∣ rw (c.of.ensures, c.new-log.ensures, c.new.ensures) (none_since []) ∣₁;
   called = ∣ rw (c.new-log.ensures, c.of-opened.ensures) refl ∣₁;
 }

@@ -7,5 +7,5 @@ invariant_of-self g c = record {
   memory = c.args.self.now.memory;
   bound = c.args.self.now.bound;
   called = c.args.self.now.called;
-  few = ∣ rw (c.clear.ensures, c.of-self.ensures) (none_since _) ∣₁;
+  few = λ _. ∣ rw (c.clear.ensures, c.of-self.ensures) (none_since _) ∣₁;
 }

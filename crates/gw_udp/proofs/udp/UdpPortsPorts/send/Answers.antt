@@ -20,6 +20,6 @@ invariant_of-self g c =
           (send_called _ _ c.args.circuit _ _ c.args.datagram.now c.send_from-sent.result
           c.send_from-sent.ensures.some (rw same at c.send_from-sent.ensures.own)
           (rw same at c.send_from-sent.ensures.others))));
-      few = ∥∥₁_map c.args.self.now.few (λ few. rw (c.sent.ensures)
+      few = λ limited. ∥∥₁_map (c.args.self.now.few limited) (λ few. rw (c.sent.ensures)
           (nothing_more _ _ _ _ (send_gives_none c.args.circuit c.args.datagram.now c.send_from-sent.result) few));
     }

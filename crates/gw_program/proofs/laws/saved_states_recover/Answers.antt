@@ -1,5 +1,0 @@
-use Rattle.gw_program.proofs.Continuing.{saved_recover}
-use Rattle.gw_program.proofs.laws.saved_states_recover.Goals as goal
-
-pub returns : goal.returns
-returns c = saved_recover c.loaded_gateways_go_on.ensures

@@ -1,9 +1,0 @@
-pub mod Jobs
-pub mod Sessions
-pub mod Listing
-pub mod Performing
-pub mod StandardEnds
-pub mod Filters
-pub mod Requests
-pub mod Continuing
-pub mod Standard

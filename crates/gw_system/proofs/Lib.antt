@@ -1,2 +1,0 @@
-pub mod Lacked
-pub mod Made

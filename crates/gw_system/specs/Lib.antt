@@ -1,6 +1,0 @@
-pub mod Asked
-pub mod Lacking
-pub mod Opening
-pub mod Telling
-pub mod Tapes
-pub mod LocalCalls

@@ -1,2 +1,0 @@
-pub mod Satop
-pub mod Asked

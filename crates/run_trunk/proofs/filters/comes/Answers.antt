@@ -1,0 +1,27 @@
+use Rattle.std.proofs.Common.{◌++◌, refl}
+use Rattle.gw_filter.specs.Align.{align_reply}
+use Rattle.gw_filter.specs.Check.{HasReported}
+use Rattle.gw_filter.specs.Filter.{RepliesTo}
+use Rattle.gw_filtered.proofs.Returned.{returned-if}
+use Rattle.run_trunk.proofs.Filtered.{Aligned, checked, made-if, of-three}
+use Rattle.run_trunk.specs.Filters.{Checks}
+use Rattle.run_trunk.proofs.filters.comes.Goals as goal
+
+pub returns : goal.returns
+returns g c =
+    let incoming = c.args.incoming.now in
+    let aligned = incoming.incoming in
+    let slots = aligned.incoming in
+    of-three incoming.filtered aligned.filtered slots.came (λ checks aligns made. record {
+      made = slots.log.octets ++ slots.held.items;
+      is_made = made-if g.S.DeviceSlots.law g.S.DeviceSlots.place g.S.DeviceSlots.is_on slots.slots _ _ _ slots.is made;
+      whole = slots.log.octets;
+      rest = slots.held.items;
+      made_are = refl;
+      few = slots.few;
+      aligned = aligned.log.octets;
+      aligns = returned-if Aligned (RepliesTo align_reply) aligned.filter.filter g.K.Switch.is_on _ _
+          aligned.filter.is (λ f s. s.1) aligns;
+      checks = returned-if (λ f. HasReported f.checker f.reported f.reports.log.octets) Checks
+          incoming.filter.filter g.L.Switch.is_on _ _ incoming.filter.is (λ f s. checked _ _ _ _ _ s) checks;
+    })

@@ -1,0 +1,119 @@
+//! How the trunk that the command line asks for is opened (`open_trunk`).
+
+ghost use Rattle.std.specs.Prelude.{◌≡◌, [], IfOk};
+ghost use Rattle.run_trunk.specs.Opening.{IsFreshEnd, IsFreshTrunk};
+
+use crate::filters::{TrunkFilters, filters_as_asked};
+use clap::ArgMatches;
+use gw_command::{control_of, end_of};
+use gw_machine::{Machine, ProgramFault};
+use gw_trunk::{FromDevice, LocalDoors, ToDevice, WithClients, open_clients};
+use mio::net::UnixStream;
+use std::net::Net;
+use std::rt::{Stderr, Stdin, Stdout};
+
+// The descriptors of standard input and output.
+const STDIN: i32 = 0;
+
+const STDOUT: i32 = 1;
+
+/// Standard input, with the clients of a Unix socket or without.
+#[derive(Drop)]
+pub(crate) enum Incoming {
+    Alone(FromDevice<Stdin>),
+    Clients(WithClients<Stdin>, ToDevice<UnixStream>),
+}
+
+/// A trunk that is open, of which nothing was read and to which nothing was written.
+#[derive(Drop)]
+pub struct OpenTrunk {
+    pub(crate) incoming: Incoming,
+    pub(crate) outgoing: ToDevice<Stdout>,
+    pub(crate) filters: TrunkFilters,
+    pub(crate) errors: Stderr,
+}
+
+// Opens standard input without clients.
+fn open_alone(rt: &(impl Net + AllocGlobal), input: Stdin) -> Result<Incoming, ProgramFault>
+    ensures { IfOk result IsFreshEnd }
+{
+    match FromDevice::open(rt, input, STDIN) {
+        Ok(incoming) => Ok(Incoming::Alone(incoming)),
+        Err(error) => Err(ProgramFault::of(&error, ProgramFault::Trunk)),
+    }
+}
+
+// Opens standard input and the socket of clients at a path. The descriptor asks for the end of the trunk, if
+// one is named.
+fn open_with_clients(
+    rt: &impl Machine,
+    input: Stdin,
+    path: &str,
+    end: Option<u16>,
+) -> Result<Incoming, ProgramFault>
+    ensures { IfOk result IsFreshEnd }
+{
+    let mut doors = LocalDoors::new(rt);
+    let (mut incoming, answers) = match open_clients(rt, &mut doors, input, STDIN, path) {
+        Ok(both) => both,
+        Err(error) => return Err(ProgramFault::of(&error, ProgramFault::Control)),
+    };
+    if let Some(descriptor) = end {
+        if let Err(error) = incoming.end_by(i32::from(descriptor)) {
+            return Err(ProgramFault::of(&error, ProgramFault::Trunk));
+        }
+    }
+    Ok(Incoming::Clients(incoming, answers))
+}
+
+// Opens standard input, and the socket of clients if the matches name one.
+fn open_incoming(
+    rt: &impl Machine,
+    matches: &ArgMatches<'_>,
+    input: Stdin,
+) -> Result<Incoming, ProgramFault>
+    ensures { IfOk result IsFreshEnd }
+{
+    match control_of(matches) {
+        Some(path) => open_with_clients(rt, input, path, end_of(matches)),
+        None => open_alone(rt, input),
+    }
+}
+
+// Opens standard output.
+fn open_outgoing(
+    rt: &(impl Net + AllocGlobal),
+    output: Stdout,
+) -> Result<ToDevice<Stdout>, ProgramFault>
+    ensures { IfOk result (λ d. d.log.octets ≡ []) }
+{
+    match ToDevice::open(rt, output, STDOUT) {
+        Ok(outgoing) => Ok(outgoing),
+        Err(error) => Err(ProgramFault::of(&error, ProgramFault::Trunk)),
+    }
+}
+
+/// Opens the trunk at standard input and output, with the clients and the filters that the matches ask for.
+///
+/// # Errors
+///
+/// [`ProgramFault::Control`] if the socket of clients can't be opened, [`ProgramFault::Trunk`] if a stream of
+/// the trunk or the descriptor of its end can't be waited for, [`ProgramFault::OutOfMemory`].
+pub fn open_trunk(
+    rt: &impl Machine,
+    matches: &ArgMatches<'_>,
+    input: Stdin,
+    output: Stdout,
+) -> Result<OpenTrunk, ProgramFault>
+    ensures { IfOk result IsFreshTrunk }
+{
+    let incoming = open_incoming(rt, matches, input)?;
+    let outgoing = open_outgoing(rt, output)?;
+    let filters = filters_as_asked(rt, matches)?;
+    Ok(OpenTrunk {
+        incoming,
+        outgoing,
+        filters,
+        errors: rt.errors(),
+    })
+}

@@ -1,0 +1,137 @@
+"""Tests which files and sockets each command opens, renames and removes, in which order, and that it opens no others,
+for scripts/look.
+
+A command runs under strace on an empty input. A row has all such calls, as far as the programmer of a command decides
+them: `run` is its first read of standard input. Names of files are those in the folder of the run.
+"""
+import os
+import re
+import shutil
+import subprocess
+from collections.abc import Callable, Iterator
+from functools import partial
+
+import paths    # noqa: F401 (makes e1gw known)
+from e1gw.testing.datagrams import CIRCUIT, CONFIG, SECONDS, Wrongs
+from e1gw.testing.ports import free_ports
+
+TRACED = ('open,openat,openat2,creat,rename,renameat,renameat2,unlink,unlinkat,rmdir,mkdir,mkdirat,link,linkat,symlink,'
+          'symlinkat,chmod,fchmodat,truncate,flock,fsync,fdatasync,socket,socketpair,bind,connect,execve,read')
+# What each command opens first, before it looks at its words: what stands for closed descriptors.
+HELD = ['open /dev/null WRONLY', 'open /dev/null RDONLY', 'open /dev/null RDONLY']
+QUIET = {'NOCTTY', 'CLOEXEC', 'NONBLOCK'}
+
+READ_CONFIG, NEW_STATE = ['open config RDONLY'], ['open new.new WRONLY|CREAT|TRUNC', 'sync', 'rename new.new new']
+DOOR = ['socket UNIX STREAM', 'bind {0}', 'chmod {0}']
+UDP = ['socket INET DGRAM', 'bind 127.0.0.1:near']
+LOG = [f'log/{name}' for name in ('state.0', 'records.0', 'state.1', 'records.1')]
+
+
+def door(name: str) -> list[str]:
+    """A Unix socket that clients connect to."""
+    return [each.format(name) for each in DOOR]
+
+
+def logged(flags: str) -> list[str]:
+    """The four files of the log are opened."""
+    return [f'open {name} {flags}' for name in LOG]
+
+
+LOCKED = ['open log/lock RDWR|CREAT', 'lock', *logged('RDWR|CREAT'), 'open /proc/self/stat RDONLY']
+# By command: the calls.
+CALLS: dict[str, list[str]] = {
+    '--help': [],
+    'encode': ['run'],
+    'decode': ['run'],
+    'align': ['run'],
+    'crc4': ['run'],
+    'crc4 --check --live': ['run'],
+    'crc4 --reports /dev/zero': ['open /dev/zero RDWR', 'run'],
+    'crc4 --check --reports /dev/zero': ['open /dev/zero RDWR', 'run'],
+    'check --config config --load old': [*READ_CONFIG, 'open old RDONLY', 'run'],
+    'replay --config config': [*READ_CONFIG, 'run'],
+    'replay --config config --load old --save new --tell tell':
+        [*READ_CONFIG, 'open old RDONLY', *door('tell'), 'run', *NEW_STATE],
+    'serve --config config --record kept --save new':
+        [*READ_CONFIG, 'open kept WRONLY|CREAT|EXCL', *UDP, 'run', *NEW_STATE],
+    'serve --config config --senders peer': [*READ_CONFIG, *UDP, 'connect 127.0.0.1:far', 'run'],
+    'trunk --config config': [*READ_CONFIG, *UDP, 'run'],
+    'trunk --config config --crc4 --align --slots 1-31': ['pair', *READ_CONFIG, *UDP, 'run'],
+    'trunk --config config --record kept': [*READ_CONFIG, 'open kept WRONLY|CREAT|EXCL', *UDP, 'run'],
+    'trunk --config config --log log --load old --save new --control control --tell tell --crc4':
+        [*LOCKED, *door('control'), 'pair', 'pair', *READ_CONFIG, *logged('RDONLY'), 'open old RDONLY',
+         *logged('RDONLY'), *logged('RDWR|CREAT'), *UDP, *door('tell'), 'run', *NEW_STATE],
+    'satop 127.0.0.1:near 127.0.0.1:far': [*UDP, 'connect 127.0.0.1:far', 'run'],
+}
+
+
+def address_in(call: str, names: dict[str, str]) -> str:
+    """The address of a bind or a connect; a port has its name."""
+    path = re.search(r'sun_path="([^"]*)"', call)
+    port, host = re.search(r'htons\((\d+)\)', call), re.search(r'"([^"]*)"', call)
+    return path[1] if path else f'{host[1] if host else call}:{names.get(port[1], port[1]) if port else "none"}'
+
+
+def said_of(call: str, names: dict[str, str]) -> str | None:
+    """A call as the table has it; None of a read that is none of standard input."""
+    name, rest = call.split('(', 1)
+    texts, flags = re.findall(r'"([^"]*)"', rest), [it for it in re.findall(r'\bO_(\w+)', rest) if it not in QUIET]
+    match name:
+        case 'read':
+            return 'run' if rest.startswith('0,') else None
+        case 'openat' | 'open':
+            return f'open {texts[0]} {"|".join(flags)}'
+        case 'socket':
+            return ' '.join(['socket', *re.findall(r'(?:AF|SOCK)_(INET6?|UNIX|DGRAM|STREAM)', rest)])
+        case 'bind' | 'connect':
+            return f'{name} {address_in(rest, names)}'
+    words = {'flock': 'lock', 'fsync': 'sync', 'socketpair': 'pair', 'unlink': 'remove'}
+    return ' '.join([words.get(name, name), *texts])
+
+
+def calls_in(trace: str, names: dict[str, str]) -> list[str]:
+    """The calls of a run, from the first that is the program's own on; of reads of standard input the first alone."""
+    found: list[str] = []
+    for line in trace.splitlines():
+        said = said_of(line, names) if re.match(r'\w+\(', line) else None
+        if said == HELD[0] or (found and said and not (said == 'run' and 'run' in found)):
+            found.append(said or '')
+    return found
+
+
+def prepare(room: str, program: str) -> dict[str, str]:
+    """A configuration, an old state and the folder of a log. Returns the names of the ports."""
+    near, far = free_ports(2)
+    with open(os.path.join(room, 'config'), 'w', encoding='ascii') as text:
+        text.write(CONFIG.format(host='127.0.0.1')
+                   + CIRCUIT.format(number=1, local=near, peer_host='127.0.0.1', peer=far))
+    subprocess.run([program, 'replay', '--config', 'config', '--save', 'old'], stdin=subprocess.DEVNULL, cwd=room,
+                   timeout=SECONDS, check=True)
+    os.mkdir(os.path.join(room, 'log'))
+    return {str(near): 'near', str(far): 'far'}
+
+
+def makes(command: str, wanted: list[str], program: str, room: str) -> Wrongs:
+    """The calls of a command are these, in this order, and no others."""
+    names = prepare(room, program)
+    words = command
+    for port, name in names.items():
+        words = words.replace(f':{name}', f':{port}')
+    done = subprocess.run(['strace', '-qq', '-e', f'trace={TRACED}', '-s', '300', '-o', 'trace', program,
+                           *words.split()], stdin=subprocess.DEVNULL, capture_output=True, cwd=room, timeout=SECONDS,
+                          check=False)
+    with open(os.path.join(room, 'trace'), encoding='utf-8', errors='replace') as text:
+        found = calls_in(text.read(), names)
+    if found != [*HELD, *wanted] or done.returncode:
+        at = next((at for at, (one, other) in enumerate(zip(found, [*HELD, *wanted])) if one != other),
+                  min(len(found), len(HELD) + len(wanted)))
+        yield f'status {done.returncode}, {done.stderr!r}, from call {at} on: {found[at:]}'
+
+
+def call_looks() -> Iterator[tuple[str, Callable[[str, str], Wrongs]]]:
+    """The looks: a name, and what yields what is wrong, given the program and a folder to work in."""
+    if not shutil.which('strace'):
+        print('not looked at: calls, which takes strace')
+        return
+    for command, wanted in CALLS.items():
+        yield f'calls of {command}', partial(makes, command, wanted)
