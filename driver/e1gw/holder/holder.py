@@ -1,0 +1,274 @@
+"""One trunk that is held: what there is of it, and a turn, which does what is due."""
+from __future__ import annotations
+
+import os
+import time
+from contextlib import suppress
+
+from .. import VERSION
+from ..fault_words import words_of_fault
+from ..holder_state import ACTIVE, INTERFACE, STANDBY, HolderState
+from ..writers import put_file
+from .decisions import Deaths, EndReason, Renewals
+from .ending import finish, follow, is_late
+from .journal import Severity, has_failed, say
+from .line import HeldLine
+from .log import FILES, HeldLog
+from .loop import Loop
+from .options import Options
+from .program import HeldProgram, start_of
+from .reloading import Reloads
+from .requests import Door, HolderRequest
+from .sockets import HeldSockets
+from .starting import start, up
+from .store import Store
+from .version import Versions
+
+TICK, SOON = 0.24, 0.002    # seconds between two looks while nothing happens, and while something is to come
+LAGS = 0.01                 # .. while systemd has no room for what it is told
+AGAIN = 0.1                 # .. before what has failed is begun again
+NEEDED = 'program', 'tell', 'log/lock', *(f'log/{name}' for name in FILES)     # of the folder, by a program
+
+
+class Holder:
+    """What is held. Each step may be begun again after one that has failed."""
+
+    def __init__(self, options: Options, store: Store, line: HeldLine, loop: Loop) -> None:
+        self.options, self.store, self.line, self.loop = options, store, line, loop
+        self.folder = options.folder
+        self.sockets, self.log = HeldSockets(store.files), HeldLog(store.files)
+        self.versions, self.reloads = Versions(None), Reloads(self)
+        self.door = Door(loop, self.asked)
+        self.program: HeldProgram | None = None
+        self.reason, self.requests = EndReason.NONE, list[HolderRequest]()  # why it is to end; who waits for another
+        self.ending, self.status = '', None     # type: str, int | None
+        self.is_active = True                   # this holder is to have the trunk
+        self.was_up, self.why, self.lost = False, 'begins', ''      # in words, of the next program
+        self.silent, self.since = time.monotonic(), time.time()     # since when no program is up; since when one is
+        self.deaths, self.renewals, self.due, self._ticked = Deaths(), Renewals(), 0.0, 0.0
+        self._waits = self._failed = ''
+        self.log_user, self.lock = (0, 0.0), -1     # who has the log locked, and since when; the lock of the trunk
+        loop.signalled = self.reloads.signalled
+
+    # ---- turns ----
+
+    def run(self) -> int:
+        """Until the end; returns the status."""
+        while self.status is None:
+            try:
+                self.turn(time.monotonic())
+                self.loop.wait(self._wait())
+            except Exception as fault:      # pylint: disable=broad-exception-caught
+                has_failed(fault, self._failed)
+                self._failed = str(fault)
+                time.sleep(AGAIN)
+        return self.status
+
+    def _wait(self) -> float:
+        """How long nothing is to be done."""
+        now = time.monotonic()
+        if self.status is not None:
+            return 0.0
+        if self.program and not self.program.is_up or self.reloads.is_busy:
+            return SOON
+        if self.store.lags:
+            return LAGS
+        dues = [due for due in (self.due, self.line.due, self._ticked + TICK) if due > now]
+        return min(dues, default=now + TICK) - now
+
+    def turn(self, now: float) -> None:
+        """Does what is due now."""
+        self.store.send()
+        if now >= self._ticked + TICK:
+            self._ticked = now
+            self._tick(now)
+        self.reloads.look(now)
+        if self.line.files:
+            self.line.step(now)
+        if self.program:
+            self._look_at(self.program, now)
+        if not self.program and self.status is None:        # (at once: calls wait)
+            self._go_on(now)
+
+    def _look_at(self, program: HeldProgram, now: float) -> None:
+        """Whether it has ended, is late, or has come to carry the trunk."""
+        if (status := program.ended()) is not None:
+            follow(self, program, status, now)
+        elif is_late(program, now):
+            program.kill()
+        elif not program.is_up and program.looks_up(f'{self.folder}/program'):
+            up(self, now)
+
+    def _go_on(self, now: float) -> None:
+        """Goes on without a program."""
+        if self.ending:
+            finish(self, self.ending, 0)
+        elif self.is_active:
+            self._bring_up(now)
+        elif self.line.is_opening and self.line.look(now):
+            self.line.close()               # (it was opened too late)
+
+    def _bring_up(self, now: float) -> None:
+        """Goes towards a program, if there is none: a version, the line, a start."""
+        if not self.versions.now:
+            return self.reloads.first() if now >= self.due else None
+        if not self.line.files and self.line.look(now):
+            self._is_opened()
+        if self.line.files and now >= self.due and self.status is None:
+            start(self, now)
+
+    def _is_opened(self) -> None:
+        """It has come to be known whether the line can be opened."""
+        if self.line.files:
+            self.keep()
+            self.tell()
+        elif self.options.line.reopens or self.was_up:
+            self.waits('the trunk is not open yet')
+        else:
+            finish(self, self.line.fault, 1)
+
+    def _tick(self, now: float) -> None:
+        """A few times a second."""
+        self.store.tell('WATCHDOG=1')
+        if self.versions.before and self.versions.trial and now >= self.versions.trial.until:
+            self.versions.stays()
+            self.sockets.keep(self.versions.addresses())
+            self.keep()
+            self.tell()
+        self.listen()
+        if self.program and self.program.is_up and not self.program.asked:
+            self._see_to(self.program, now)
+
+    def _see_to(self, program: HeldProgram, now: float) -> None:
+        """Sees to a program that carries the trunk."""
+        if program.is_stopped():
+            say(Severity.WARNING, f'program {program.pid} was stopped by a signal, and is killed')
+            return program.kill()
+        program.forget_lines()
+        if now >= self.renewals.due and self.versions.now and (
+                not all(os.path.lexists(f'{self.folder}/{name}') for name in NEEDED) or
+                self.sockets.lacking and self.sockets.bind(self.versions.now.its.ports)):
+            self.renew(now)
+
+    def listen(self) -> None:
+        """Listens in the folder, if that is there and has no socket of this holder."""
+        with suppress(OSError):
+            self.door.open_at(f'{self.folder}/hold')
+
+    # ---- what is wanted ----
+
+    def renew(self, now: float) -> str:
+        """Another program is to follow, which has again what is gone; or why not."""
+        self.renewals = self.renewals.with_one(now)
+        try:
+            os.makedirs(f'{self.folder}/log', 0o700, exist_ok=True)
+        except OSError as fault:
+            say(Severity.ERROR, f'{words_of_fault(fault)}: the program goes on without its folder')
+            return words_of_fault(fault)
+        self.want(EndReason.RENEW, now)
+        return ''
+
+    def want(self, reason: EndReason, now: float) -> None:
+        """The program of now is to end for this, unless for more."""
+        if self.reason is not EndReason.RELEASE or reason is EndReason.END:
+            self.reason = reason
+        if self.program:
+            self.program.ask(now)
+
+    def end(self, why: str) -> None:
+        """The end is asked for."""
+        self.ending = self.ending or why
+        self.store.say('STOPPING=1')
+        self.want(EndReason.END, time.monotonic())
+
+    def asked(self, request: HolderRequest) -> None:
+        """Somebody asks for something at the socket."""
+        now = time.monotonic()
+        match request.text:
+            case 'reload' | 'reload force':
+                self.reloads.begin(request)
+            case 'replace':
+                self.reloads.replace(request)
+            case 'renew' if self.program and self.program.is_up:
+                if why := self.renew(now):
+                    return request.refused(why)
+                self.requests.append(request)
+            case 'renew':
+                request.refused('no program carries the trunk')
+            case 'take' | 'release':
+                self._change_role(request, now)
+            case 'quit':
+                request.done()
+                self.end('quit')
+            case 'version':
+                request.answer(f'version: done: {VERSION}')
+            case _:
+                request.answer('unknown')
+
+    def _change_role(self, request: HolderRequest, now: float) -> None:
+        """It is to have the trunk from now on, or not."""
+        is_active = request.word == 'take'
+        put_file(f'{self.folder}/role', (ACTIVE if is_active else STANDBY).encode(), 0o640)
+        if is_active == self.is_active and (not is_active or self.program and self.program.is_up):
+            return request.done()
+        self.is_active = is_active
+        self.requests.append(request)
+        if is_active:
+            self.due, self.silent = now, now
+        elif self.program:
+            self.want(EndReason.RELEASE, now)
+        else:
+            self.release()
+        self.tell()
+
+    def release(self) -> None:
+        """The other machine carries the trunk."""
+        self.line.close()
+        self.sockets.keep(())
+        self.log.close()                    # (who is fed makes another one)
+        self.keep()
+        self.waits('it does not have the trunk')
+        self.settle('release')
+
+    def settle(self, word: str, refused: str = '') -> None:
+        """Answers those who have waited for this."""
+        its = [each for each in self.requests if each.word == word]
+        self.requests = [each for each in self.requests if each.word != word]
+        for each in its:
+            if refused:
+                each.refused(refused)
+            else:
+                each.done()
+
+    # ---- what others have and know ----
+
+    def kept(self) -> dict[str, int]:
+        """What the next holder needs, the line first."""
+        version = self.versions.kept()
+        its = {'program': version.program, 'tried': version.file} if version else {}
+        return {**self.line.kept(), **its, **self.log.files, **self.sockets.files}
+
+    def keep(self) -> None:
+        """Has systemd keep that; nothing of a trunk that has ended, or is released."""
+        self.store.keep(self.kept() if self.is_active and self.status is None else {})
+
+    def tell(self) -> None:
+        """Puts down what others know of it."""
+        program, line, version = self.program, self.line, self.versions.now
+        pid, its = program.pid if program else 0, version.its if version else None
+        state = HolderState(
+            INTERFACE, VERSION, os.getpid(), pid, start_of(pid) if pid else 0, self.since, self.why,
+            bool(self.lost), bool(line.files), line.since, line.fault, (*sorted(self.sockets.lacking),),
+            its.name if its else '', its.senders if its else '', self.versions.before is not None,
+            ACTIVE if self.is_active else STANDBY, self.options.line.trunk)
+        try:
+            put_file(f'{self.folder}/holder', state.spell(), 0o640)
+        except OSError as fault:
+            say(Severity.WARNING, f'{words_of_fault(fault)}: who watches the trunk sees it as it was')
+
+    def waits(self, words: str) -> None:
+        """It has begun, and waits for this."""
+        if words != self._waits:
+            self.store.say('READY=1', f'STATUS={words}')
+        self._waits = words
+        self.tell()

@@ -1,0 +1,148 @@
+"""The line: a device, files, a Unix or TCP socket. A thread opens it, however long that takes; it is opened again when
+it has ended, later and later if that was soon."""
+from __future__ import annotations
+
+import os
+import select
+import stat
+import threading
+import time
+import zlib
+from typing import Any, Mapping
+
+from ..fault_words import words_of_fault
+from .card import Card, card_of
+from .decisions import Openings
+from .journal import Severity, say
+from .loop import Loop
+from .options import LineWants
+
+
+
+class HeldLine:
+    """Its descriptors, if it is open, by names that no other line has."""
+
+    ends = 'line-in', 'line-out'
+
+    def __init__(self, options: LineWants, files: Mapping[str, int], loop: Loop) -> None:
+        """`files` were given to this process, of the same line."""
+        self.options, self.loop = options, loop
+        self.reads, self.writes = (f'{each}-{zlib.crc32(options.trunk.encode()):08x}' for each in self.ends)
+        self.files = {name: files[name] for name in (self.reads, self.writes) if name in files}
+        self.fault, self.since = '', time.time()        # why it is not open; since when it is, or is not
+        self.card: Card | None = None
+        self._openings = Openings()
+        self._thread: threading.Thread | None = None
+        self._found: Mapping[str, int] | Exception | None = None
+        if self.files:
+            self.is_open()
+
+    @property
+    def both(self) -> tuple[int, int]:
+        """Those for a program."""
+        return self.files[self.reads], self.files.get(self.writes, self.files[self.reads])
+
+    def kept(self) -> dict[str, int]:
+        """Those for the next holder."""
+        return self.files
+
+    @property
+    def due(self) -> float:
+        """When it is opened again."""
+        return self._openings.due
+
+    # ---- opening ----
+
+    @property
+    def is_opening(self) -> bool:
+        return self._thread is not None
+
+    def look(self, now: float) -> bool:
+        """To be called while it is not open: whether it has come to be known that it can or cannot be."""
+        if self._thread is None and now >= self._openings.due:
+            self._found, self._thread = None, threading.Thread(target=self._work, daemon=True)
+            self._thread.start()
+        if self._found is None:
+            return False
+        found, self._found, self._thread = self._found, None, None
+        self._openings = self._openings.with_one(now)
+        if isinstance(found, Exception):
+            self.has_failed(f'the trunk cannot be opened: {words_of_fault(found)}', now)
+            return True
+        self.files = {**found}
+        self.is_open()
+        return True
+
+    def has_failed(self, fault: str, now: float) -> None:
+        """It is not open, and why: it is said once."""
+        if fault != self.fault:
+            say(Severity.WARNING, f'{fault}; it is tried again' if self.options.reopens else fault)
+        self.fault = fault
+        self._openings = self._openings.with_end(now)
+
+    def _work(self) -> None:
+        try:
+            self._found = self.opened()
+        except Exception as fault:      # pylint: disable=broad-exception-caught
+            self._found = fault
+        self.loop.wake()
+
+    def opened(self) -> Mapping[str, int]:
+        """Opens it, in a thread. (What only that wants is loaded here: who has the descriptors does without.)"""
+        stream = self.options.open()
+        return {self.reads: stream.reads} | ({self.writes: stream.writes} if stream.writes != stream.reads else {})
+
+    def is_open(self) -> None:
+        """It has come to be open."""
+        self.fault, self.since = '', time.time()
+        self.card = card_of(self.both[0], self.loop)
+
+    # ---- while it is open ----
+
+    def begin(self, now: float) -> None:
+        """A program is to start on it."""
+        if self.card:
+            self.card.take_events()
+
+    def step(self, now: float) -> None:
+        """To be called now and then."""
+
+    def why_ended(self, took: int) -> str:
+        """Why it has ended: the other end has closed it; of a device, that a program `took` nothing of it before its
+        end. Nothing if it has not."""
+        if self.card and self.card.is_gone():
+            return 'the card is gone'
+        return 'the trunk has ended' if has_ended(self.both[0], took) else ''
+
+    def note(self) -> dict[str, Any]:
+        """What the process has to know that this one becomes, which has all descriptors."""
+        return {'since': self.since}
+
+    def take_up(self, note: Mapping[str, Any]) -> None:
+        """The reverse."""
+        self.since = note['since']
+
+    def end(self, why: str, now: float) -> None:
+        """It is closed, to be opened again."""
+        self.close()
+        self.has_failed(why, now)
+        self.since = time.time()
+
+    def close(self) -> None:
+        if self.card:
+            self.card.close()
+        self.card = None
+        while self.files:
+            os.close(self.files.popitem()[1])
+
+
+def has_ended(reads: int, took: int) -> bool:
+    """Whether the other end of a descriptor has closed it."""
+    about = os.fstat(reads)
+    if stat.S_ISCHR(about.st_mode) and not os.isatty(reads):
+        return took == 0
+    if stat.S_ISREG(about.st_mode):
+        return os.lseek(reads, 0, os.SEEK_CUR) >= about.st_size
+    poll = select.poll()
+    poll.register(reads, select.POLLIN | select.POLLRDHUP)
+    return any(events & (select.POLLHUP | select.POLLRDHUP | select.POLLERR) for _, events in poll.poll(0))

@@ -1,0 +1,187 @@
+"""The command: begins to hold a trunk, or goes on where the holder before has left."""
+from __future__ import annotations
+
+import os
+import signal
+import stat
+import sys
+from typing import NoReturn
+
+from ..fault_words import options_words, words_of_fault
+from ..lock import InUse, hold, let_go
+from ..writers import hold_descriptors
+from .decisions import Beginning, beginning_of, is_active
+from .ending import LOST, finish
+from .files import plain_in, word_in
+from .holder import Holder
+from .job import Job
+from .journal import NAME, Severity, say
+from .line import HeldLine
+from .log import is_there, silence_of
+from .loop import Loop
+from .options import HELP, Options, OptionsRefused, options_of
+from .program import HeldProgram, taken
+from .requests import HolderRequest
+from .satop_line import SatopLine
+from .sockets import NAME as SOCKETS
+from .store import Store
+from .version import Version, tried_in, version_of
+
+AGAIN = 0.25                # seconds before what cannot be had yet is tried again
+
+
+def main(words: list[str] | None = None) -> NoReturn:
+    """Holds a trunk to its end."""
+    hold_descriptors()
+    words = sys.argv[1:] if words is None else words
+    if {'-h', '--help'} & {*words}:
+        print(HELP, end='', flush=True)
+        os._exit(0)
+    try:
+        options = options_of(words, os.environ)
+    except OptionsRefused as fault:
+        say(Severity.ERROR, f'{fault}; see {NAME} --help{options_words()}')
+        os._exit(2)
+    loop, store = Loop(), Store()
+    lock = locked(options, loop, store)
+    line = SatopLine if options.line.satop else HeldLine
+    holder = Holder(options, store, line(options.line, store.files, loop), loop)
+    holder.lock = lock
+    begin(holder)
+    start_watcher(options, store)
+    status = holder.run()
+    let_go(holder.lock, f'{options.folder}.lock')
+    os._exit(status)
+
+
+def locked(options: Options, loop: Loop, store: Store) -> int:
+    """The lock of the trunk, whose folder nobody else can write to. What cannot be had is waited for, if a trunk is to
+    be waited for; an end that is asked for meanwhile comes at once."""
+    loop.signalled = lambda number: os._exit(0) if number in (signal.SIGTERM, signal.SIGINT) else None
+    loop.catch()
+    said, lock = '', store.files.get('lock', -1)
+    while True:
+        try:
+            os.makedirs(os.path.dirname(options.folder), exist_ok=True)
+            lock = hold(f'{options.folder}.lock') if lock < 0 else lock
+            make_own(options.folder)
+            return lock
+        except InUse as fault:
+            say(Severity.ERROR, f'process {fault} holds this trunk')
+            os._exit(2)
+        except OSError as fault:
+            if (why := words_of_fault(fault)) != said:
+                say(Severity.ERROR, why)
+            said = why
+            if not options.line.reopens:
+                os._exit(1)
+            store.tell('WATCHDOG=1')
+            loop.wait(AGAIN)
+
+
+def make_own(folder: str) -> None:
+    """Makes a folder that no other user can write to. OSError if such a one has made it before."""
+    os.makedirs(folder, 0o700, exist_ok=True)
+    about = os.lstat(folder)
+    if not stat.S_ISDIR(about.st_mode) or about.st_uid != os.getuid() or about.st_mode & 0o022:
+        raise OSError(f'{folder}: other users can write there; --folder gives another place')
+
+
+def begin(holder: Holder) -> None:
+    """Goes on where the holder before this one has left, or from what was saved, or anew."""
+    store, options, log = holder.store, holder.options, f'{holder.folder}/log'
+    has_log = is_there(log) or bool(holder.log.files)
+    how = beginning_of('child' in store.was, has_log, bool(options.state) and os.path.exists(options.state))
+    holder.is_active = is_active(options.is_standby, word_in(f'{holder.folder}/role'), bool(holder.line.files))
+    holder.why, holder.was_up = str(how.value), how in (Beginning.REPLACED, Beginning.KILLED)
+    if version := version_left(holder, how):
+        holder.versions.follows(version)
+    if how is Beginning.REPLACED:
+        replaced(holder)
+    elif how is Beginning.KILLED:
+        holder.silent -= silence_of(log)
+        holder.lost = LOST if has_died(holder.folder) else ''
+        if 'DSCP' in os.environ:            # (it marks what this cgroup has opened, and that of before is gone)
+            holder.sockets.keep(())
+            holder.keep()
+            store.let_go()
+        if holder.line.files:
+            holder.line.since = plain_in(f'{holder.folder}/holder').get('opened', holder.line.since)
+    elif how is Beginning.SAVED:
+        load(holder)
+    close_rest(holder)
+    holder.listen()                         # (before it is known: who knows it may ask)
+    if not holder.is_active:
+        holder.waits('it does not have the trunk')
+    holder.keep()
+    holder.tell()
+
+
+def version_left(holder: Holder, how: Beginning) -> Version | None:
+    """That of the holder before this one; None if it is not known, or there was none."""
+    files = holder.store.files
+    if {'program', 'tried'} <= files.keys():
+        return Version(files['program'], files['tried'])
+    if how is Beginning.KILLED:
+        try:
+            found = tried_in(plain_in(f'{holder.folder}/tried'))
+            return version_of(os.open(holder.options.program, os.O_RDONLY | os.O_CLOEXEC), found)
+        except (OSError, KeyError, TypeError, ValueError):
+            pass
+    return None
+
+
+def start_watcher(options: Options, store: Store) -> None:
+    """Starts e1gw-watch(1), where no systemd does. It ends with the trunk, and nothing here depends on it."""
+    path = os.path.join(os.path.dirname(os.path.abspath(sys.argv[0])), 'e1gw-watch')
+    if options.watch == 'no' or store.has_manager or store.was or not os.path.exists(path):
+        return
+    import shlex
+    words = [path, '--config', options.config, '--name', options.name, '--program', options.program, '--folder',
+             os.path.dirname(options.folder), *shlex.split(options.watch)]
+    try:
+        os.posix_spawn(path, words, os.environ, setsigmask=[], setsigdef=[signal.SIGPIPE])
+    except OSError as fault:
+        say(Severity.ERROR, f'e1gw-watch is not started: {words_of_fault(fault, path)}')
+
+
+def replaced(holder: Holder) -> None:
+    """This process was another holder, whose child and descriptors it has."""
+    was, files = holder.store.was, holder.store.files
+    holder.program = HeldProgram(was['child'], files['leash'], files['said'])
+    holder.loop.watch(holder.program.file, lambda: None)
+    holder.since = was['since']
+    holder.line.take_up(was['line'])
+    if 'client' in files:
+        HolderRequest.of(files['client'], 'replace').done()
+    say(Severity.NOTICE, f'{holder.why}: program {was["child"]} goes on')
+
+
+def has_died(folder: str) -> bool:
+    """Whether the program before this holder has ended in no order."""
+    try:
+        with open(f'{folder}/said', encoding='utf-8', errors='replace') as text:
+            return taken(text.read().splitlines()) is None
+    except OSError:
+        return True
+
+
+def load(holder: Holder) -> None:
+    """Begins with the state that was saved."""
+    try:
+        found = Job({'what': 'load', 'state': holder.options.state, 'log': f'{holder.folder}/log'}).wait()
+    except OSError as fault:
+        found = {'later': words_of_fault(fault)}
+    if why := found.get('refused') or found.get('later'):
+        finish(holder, f'the state is not loaded: {why}', 1)
+
+
+def close_rest(holder: Holder) -> None:
+    """Closes what was given and is not used."""
+    its = {*holder.kept().values(), *holder.line.files.values(), holder.lock}
+    program = holder.program
+    if program:
+        its |= {program.leash, program.said}
+    for name, file in holder.store.files.items():
+        if file not in its and not name.startswith(SOCKETS) and name != 'client':
+            os.close(file)

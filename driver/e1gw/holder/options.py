@@ -1,0 +1,203 @@
+"""The options of a holder. They are read without argparse, whose import would be a part of each silence."""
+from __future__ import annotations
+
+import os
+from dataclasses import dataclass
+from typing import Callable, Mapping
+
+from ..trunks import Stream, host_and_port, open_tcp, open_unix
+
+NAME, MEMORY = 'e1gw-trunk', '/dev/shm'
+MOST_PATH, LONGEST = 107, 'program.new'     # octets of the path of a socket; the longest one in the folder
+HELP = f'''usage: {NAME} --config FILE (--in FILE --out FILE | --unix PATH | --tcp HOST:PORT | --satop ENDS) [OPTION..]
+
+Holds an E1 trunk: it opens the line, binds the circuits' sockets, and keeps a program on them that carries it, e1gw(1).
+If it ends, the program ends with it, and the next one goes on with all calls.
+
+  --config FILE         the configuration, e1gw.toml(5)
+  --name NAME           the name of the trunk in files [default: that of FILE]
+  --program E1GW        the program [default: that of this repository, or e1gw]
+  --folder DIR          where its sockets and its log are, in memory [default: RUNTIME_DIRECTORY, or {MEMORY}]
+  --in FILE, --out FILE a device, files or FIFOs to read the trunk from, and to write it to; both may be one
+  --unix PATH           a Unix stream socket to connect to, in place of the two
+  --tcp HOST:PORT       a TCP socket to connect to, in place of the two
+  --satop ENDS          SAToP (RFC 4553) over UDP: LOCAL:PORT,PEER:PORT, and options of e1gw satop as ,size=512,jitter=8
+  --reopen              opens a trunk that ends or fails again, each second
+  --clear               the device gives time slots 1 to 31 alone
+  --blocks FRAMES,N     of a DAHDI card: frames of a block, and how many it holds each way [default: 16,16]
+  --align               octets of the trunk may begin at any bit
+  --crc4                CRC-4: it is sent, and counted each second in what comes
+  --senders WHOSE       whose datagrams are received, e1gw(1): any, host or peer [default: host]
+  --repeat N            sends each datagram again behind the N-th after it, 0 to 8 [default: 0, never]
+  --seizure-wait MS     a seizure that is not acknowledged is released then, 200 to 8000 [default: 200]
+  --state FILE          the state is saved there at the end, and loaded at the start if it is there
+  --standby             does not begin with the trunk, but once it is to take it
+  --watch OPTIONS       further options of the e1gw-watch(1) that is started, too, where no systemd is; `no` starts none
+
+Signals: SIGHUP reload; SIGUSR2 another process in place of this one; SIGTERM, SIGINT end.
+Statuses: 0 ended as asked, or with the trunk's input; 1 the trunk or the program failed; 2 the command line or the
+configuration, or another one holds the trunk.
+'''
+TEXTS = ('config', 'name', 'program', 'folder', 'in', 'out', 'unix', 'tcp', 'satop', 'blocks', 'senders', 'repeat',
+         'seizure-wait', 'state', 'watch')
+FLAGS = 'reopen', 'clear', 'align', 'crc4', 'standby'
+SENDERS = 'any', 'host', 'peer'
+SATOP = ('size', 'jitter', 'rtp', 'fill', 'clock')      # options of e1gw satop
+SATOP_DEFAULTS = {'size': '256'}
+
+
+class OptionsRefused(Exception):
+    """What is wrong with a command line."""
+
+
+@dataclass(frozen=True)
+class LineWants:
+    """What the line is. `open` opens it, but for SAToP, which has two ends and the options of `e1gw satop`."""
+
+    trunk: str                  # how it is named
+    open: Callable[[], Stream]
+    satop: tuple[str, ...]
+    reopens: bool
+    crc4: bool
+    program: str                # for `e1gw satop`
+    folder: str                 # .. which is known there by the next holder
+
+
+@dataclass(frozen=True)
+class Options:
+    """What is asked for. `words` are options of each program."""
+
+    config: str
+    program: str
+    name: str
+    folder: str
+    line: LineWants
+    words: tuple[str, ...]
+    senders: str
+    wait: int
+    state: str
+    is_standby: bool
+    watch: str
+
+
+def options_of(words: list[str], around: Mapping[str, str]) -> Options:
+    """Those of a command line. OptionsRefused says what is wrong with it."""
+    try:
+        return _options_of(read(words), around)
+    except ValueError as fault:
+        raise OptionsRefused(str(fault)) from None
+
+
+def _options_of(asked: Mapping[str, str], around: Mapping[str, str]) -> Options:
+    if not asked['config']:
+        raise OptionsRefused('--config is wanted')
+    config = os.path.abspath(asked['config'])
+    name = asked['name'] or os.path.splitext(os.path.basename(config))[0]
+    if '/' in name or not name.isprintable() or name in ('.', '..'):
+        raise OptionsRefused(f'--name {name!r} is no name of a file')
+    within = asked['folder'] or around.get('RUNTIME_DIRECTORY', '').partition(':')[0] or MEMORY
+    folder = os.path.join(os.path.abspath(within), f'{name}-{os.getuid()}')
+    if len(os.fsencode(f'{folder}/{LONGEST}')) > MOST_PATH:
+        raise OptionsRefused(f'{folder}/{LONGEST}: a path of a socket has {MOST_PATH} octets at most')
+    senders = asked['senders'] or 'host'
+    if senders not in SENDERS:
+        raise OptionsRefused(f'--senders is {", ".join(SENDERS)}')
+    wait = number(asked, 'seizure-wait', 200, 8000, 200)
+    program = program_of(asked['program'], around)
+    return Options(config, program, name, folder, line_of(asked, program, folder), words_of(asked, wait),
+                   senders, wait, asked['state'] and os.path.abspath(asked['state']), bool(asked['standby']),
+                   asked['watch'])
+
+
+def read(words: list[str]) -> dict[str, str]:
+    """The options by their names; nothing for what is not asked for."""
+    asked, rest = dict.fromkeys((*TEXTS, *FLAGS), ''), iter(words)
+    for word in rest:
+        name, equals, value = word.removeprefix('--').partition('=')
+        if not word.startswith('--') or name not in asked:
+            raise OptionsRefused(f'{word}: no such option')
+        if name in FLAGS:
+            value = 'yes'
+        elif not equals:
+            value = next(rest, '')
+        if not value:
+            raise OptionsRefused(f'--{name} wants a value')
+        asked[name] = value
+    return asked
+
+
+def number(asked: Mapping[str, str], name: str, least: int, most: int, default: int) -> int:
+    text = asked[name] or str(default)
+    if not (text.isascii() and text.isdecimal() and least <= int(text) <= most):
+        raise OptionsRefused(f'--{name} is {least} to {most}')
+    return int(text)
+
+
+def words_of(asked: Mapping[str, str], wait: int) -> tuple[str, ...]:
+    """The options of each program."""
+    repeat = number(asked, 'repeat', 0, 8, 0)
+    if asked['align'] and (asked['satop'] or asked['clear']):
+        raise OptionsRefused('--align is for all 32 slots of a device or a socket; --satop aligns in any case')
+    if asked['crc4'] and asked['clear']:
+        raise OptionsRefused('--crc4 is for all 32 slots; the device of --clear sends slot 0 itself, and CRC-4 in it')
+    words = ['--repeat', str(repeat)] * (repeat > 0) + ['--align'] * bool(asked['align'])
+    words += ['--crc4', '--live'] * bool(asked['crc4']) + ['--slots', '1-31'] * bool(asked['clear'])
+    return (*words, *['--seizure-wait', str(wait)] * (wait != 200))
+
+
+def program_of(asked: str, around: Mapping[str, str]) -> str:
+    """The path of the program, which is proved."""
+    path = asked or around.get('E1GW', '')
+    if '/' in path and not os.path.basename(os.path.realpath(path)).endswith('.unproved'):
+        return os.path.abspath(path)
+    from ..programs import proved_program_of
+    return proved_program_of(path)
+
+
+# ---- the line ----
+
+def line_of(asked: Mapping[str, str], program: str, folder: str) -> LineWants:
+    """What the line is."""
+    kinds = asked['in'] and asked['out'], asked['unix'], asked['tcp'], asked['satop']
+    if bool(asked['in']) != bool(asked['out']) or sum(map(bool, kinds)) != 1:
+        raise OptionsRefused('a trunk is --in and --out, or --unix, or --tcp, or --satop')
+    if asked['clear'] and asked['satop']:
+        raise OptionsRefused('--clear is for a device that keeps slot 0; --satop has all 32 slots')
+    path, reads, writes = asked['unix'], asked['in'], asked['out']
+    place = host_and_port(asked['tcp']) if asked['tcp'] else None
+    blocks, is_clear = blocks_of(asked['blocks'] or '16,16'), bool(asked['clear'])
+
+    def opens() -> Stream:
+        if path or place:
+            return open_tcp(*place) if place else open_unix(path)
+        from ..card_opening import open_device      # (who has the descriptors already does without)
+        from ..dahdi import Blocks
+        return open_device(reads, writes, Blocks(*blocks).check(), is_clear)
+    trunk = asked['satop'] or path or asked['tcp'] or (reads if reads == writes else f'{reads} {writes}')
+    return LineWants(trunk, opens, satop_of(asked['satop']), bool(asked['reopen']), bool(asked['crc4']),
+                     program, folder)
+
+
+def blocks_of(text: str) -> tuple[int, int]:
+    frames, _, buffers = text.partition(',')
+    if not (frames.isdecimal() and buffers.isdecimal() and 1 <= int(frames) <= 64 and 2 <= int(buffers) <= 32):
+        raise OptionsRefused('--blocks is FRAMES,N: 1 to 64 frames, 2 to 32 blocks')
+    return int(frames), int(buffers)
+
+
+def satop_of(text: str) -> tuple[str, ...]:
+    """Both ends, and the options of `e1gw satop`."""
+    if not text:
+        return ()
+    near, far, *more = [*text.split(','), '']
+    for each in near, far:
+        host_and_port(each)
+    asked = dict(SATOP_DEFAULTS)
+    for each in filter(None, more):
+        name, _, value = each.partition('=')
+        if name not in SATOP or not value:
+            raise OptionsRefused(f'--satop has {each}, and knows {", ".join(SATOP)}')
+        asked[name] = value
+    if not asked['size'].isdecimal() or int(asked['size']) not in range(32, 1281, 32):
+        raise OptionsRefused('size= of --satop is 32 to 1280, a multiple of 32')
+    return (near, far, *(word for name, value in asked.items() for word in (f'--{name}', value)))

@@ -1,0 +1,168 @@
+"""What an operator asks for: another program or configuration, and another holder in place of this one. Each is tried
+by a process of its own, while the program of now carries the trunk."""
+from __future__ import annotations
+
+import os
+import signal
+import time
+from typing import TYPE_CHECKING, Any, Mapping
+
+from ..fault_words import words_of_fault
+from .decisions import EndReason
+from .ending import finish
+from .job import Job
+from .journal import Severity, say
+from .requests import HolderRequest
+from .version import Version, tried_in, version_of
+
+if TYPE_CHECKING:
+    from .holder import Holder
+
+AGAIN = 0.5                 # seconds before a first version is tried again
+
+
+class Reloads:
+    """One trial at a time."""
+
+    def __init__(self, holder: Holder) -> None:
+        self._holder, self._program, self._said = holder, -1, ''
+        self._job: Job | None = None
+        self._request = HolderRequest(None, '')
+
+    @property
+    def is_busy(self) -> bool:
+        return self._job is not None
+
+    def signalled(self, number: int) -> None:
+        if number in (signal.SIGTERM, signal.SIGINT):
+            self._holder.end(f'signal {number}')
+        elif number == signal.SIGHUP:
+            self.begin(HolderRequest(None, 'reload'))
+        elif number == signal.SIGUSR2:
+            self.replace(HolderRequest(None, 'replace'))
+
+    # ---- a version ----
+
+    def first(self) -> None:
+        """Tries the first version, where there is none before it."""
+        if not self.is_busy:
+            try:
+                self._try(HolderRequest(None, 'begin'), None)
+            except OSError as fault:
+                self._has_no_version({'later': words_of_fault(fault)})
+
+    def begin(self, request: HolderRequest) -> None:
+        """Tries the program and the configuration of now; a program of them follows if they will do."""
+        holder = self._holder
+        if self.is_busy or not holder.versions.now or holder.ending:
+            return request.refused('the end is asked for' if holder.ending else 'one is tried already')
+        holder.store.say('RELOADING=1', f'MONOTONIC_USEC={time.monotonic_ns() // 1000}')
+        try:
+            self._try(request, holder.versions.now)
+        except OSError as fault:
+            self._refuse(request, words_of_fault(fault))
+
+    def _try(self, request: HolderRequest, before: Version | None) -> None:
+        """OSError if the program is not there, or nothing can be started."""
+        options = self._holder.options
+        self._program = program = os.open(options.program, os.O_RDONLY | os.O_CLOEXEC)
+        asked = {'what': 'try', 'program': program, 'config': options.config, 'senders': options.senders,
+                 'wait': options.wait, 'log': f'{self._holder.folder}/log', 'force': request.text.endswith(' force'),
+                 'before': vars(before.its) if before else None, 'program_before': before.program if before else -1}
+        try:
+            self._job = Job(asked, [program, before.program] if before else [program])
+        except OSError:
+            os.close(program)
+            raise
+        self._request = request
+
+    def look(self, now: float) -> None:
+        """Does what follows a trial."""
+        found = self._job.look() if self._job else None
+        if found is None:
+            return
+        request, self._job = self._request, None
+        if request.word == 'replace':
+            return self._become(request, found)
+        if 'tried' in found:
+            version = version_of(self._program, tried_in(found['tried']))
+            return self._follow(request, version, found.get('told', ''), now)
+        os.close(self._program)
+        if request.word == 'begin':
+            return self._has_no_version(found)
+        self._refuse(request, str(found.get('refused') or found.get('later')))
+
+    def _follow(self, request: HolderRequest, version: Version, told: str, now: float) -> None:
+        """A program of this version follows."""
+        holder = self._holder
+        if told:
+            say(Severity.WARNING, f'reload: {told}')
+        holder.versions.follows(version)
+        if holder.program and holder.is_active:
+            holder.requests.append(request)
+            holder.want(EndReason.RELOAD, now)
+        elif holder.line.files and holder.is_active and request.word == 'reload':
+            holder.requests.append(request)
+            holder.due = now
+        else:                               # (there is nothing to go back to)
+            holder.versions.stays()
+            holder.keep()
+            if request.word == 'reload':
+                holder.store.say('READY=1')
+            request.done()
+
+    def _has_no_version(self, found: Mapping[str, Any]) -> None:
+        """What there is will not do for a first program. What may come back is waited for, if somebody wants that."""
+        holder, why = self._holder, str(found.get('refused') or found.get('later'))
+        if not holder.was_up and ('refused' in found or not holder.options.line.reopens):
+            return finish(holder, why, 2 if 'refused' in found else 1)
+        if why != self._said:
+            say(Severity.ERROR, f'{why}; it is tried again')
+            holder.waits(why)
+        self._said = why
+        holder.due = time.monotonic() + AGAIN
+
+    def _refuse(self, request: HolderRequest, why: str) -> None:
+        say(Severity.ERROR, f'reload: refused, the trunk goes on as it was: {why}')
+        self._holder.store.say('READY=1')
+        request.refused(f'the trunk goes on as it was: {why}')
+
+    # ---- a holder ----
+
+    def replace(self, request: HolderRequest) -> None:
+        """Another holder in place of this one, if it can begin. The program goes on meanwhile."""
+        if why := self._why_not_replaced():
+            return self._keep_on(request, why)
+        try:
+            self._job, self._request = Job({'what': 'begin'}), request
+        except OSError as fault:
+            self._keep_on(request, words_of_fault(fault))
+
+    def _why_not_replaced(self) -> str:
+        program = self._holder.program
+        if self.is_busy or not (program and program.is_up and not program.asked):
+            return 'no program carries the trunk, or another one is to follow'
+        return ''
+
+    def _keep_on(self, request: HolderRequest, why: str) -> None:
+        say(Severity.ERROR, f'replace: refused: {why}')
+        request.refused(why)
+
+    def _become(self, request: HolderRequest, found: Mapping[str, Any]) -> None:
+        holder, program = self._holder, self._holder.program
+        why = str(found.get('refused') or found.get('later') or '') or self._why_not_replaced()
+        if why or not program:
+            return self._keep_on(request, why)
+        holder.versions.stays()             # (its trial ends here)
+        holder.keep()
+        client = request.detach()
+        files = {**holder.kept(), **holder.line.files, 'leash': program.leash, 'said': program.said,
+                 'lock': holder.lock} | ({'client': client} if client >= 0 else {})
+        holder.store.become_next(files, {'child': program.pid, 'since': holder.since, 'line': holder.line.note()})
+
+    def close(self) -> None:
+        """Ends what is tried."""
+        if self._job:
+            self._job.end()
+            self._request.refused('the trunk has ended')
+        self._job = None

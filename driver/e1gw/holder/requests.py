@@ -1,0 +1,98 @@
+"""The socket at which a holder is asked, a word a connection. One who does not end his line is asked nothing."""
+from __future__ import annotations
+
+import os
+import socket
+from contextlib import suppress
+from typing import Callable
+
+from .loop import Loop
+
+MOST_OCTETS, MOST_CLIENTS = 64, 8
+
+
+class HolderRequest:
+    """One that was made, which is answered once."""
+
+    def __init__(self, line: socket.socket | None, text: str) -> None:
+        self.text, self._line = text, line
+        self.word = text.partition(' ')[0]
+
+    @classmethod
+    def of(cls, file: int, text: str) -> HolderRequest:
+        """One that was made of the process which has become this one."""
+        return cls(socket.socket(fileno=file), text)
+
+    def done(self) -> None:
+        self.answer(f'{self.word}: done')
+
+    def refused(self, why: str) -> None:
+        self.answer(f'{self.word}: refused: {" ".join(why.splitlines())}')
+
+    def answer(self, words: str) -> None:
+        if self._line:
+            with suppress(OSError):
+                self._line.send(f'{words}\n'.encode())
+            self._line.close()
+        self._line = None
+
+    def detach(self) -> int:
+        """Its descriptor, or -1: another process is to answer it."""
+        line, self._line = self._line, None
+        return line.detach() if line else -1
+
+
+class Door:
+    """The socket. `asked` is called with each request."""
+
+    def __init__(self, loop: Loop, asked: Callable[[HolderRequest], object]) -> None:
+        self._loop, self._asked, self._path = loop, asked, ''
+        self._line: socket.socket | None = None
+        self._clients = dict[int, tuple[socket.socket, bytearray]]()
+
+    def open_at(self, path: str) -> None:
+        """Listens there, if it does not. OSError if it cannot."""
+        if self._line and path == self._path and os.path.lexists(path):
+            return
+        self.close()
+        with suppress(FileNotFoundError):
+            os.unlink(path)
+        self._line, self._path = socket.socket(socket.AF_UNIX), path
+        self._line.setblocking(False)
+        self._line.bind(path)
+        os.chmod(path, 0o600)
+        self._line.listen(MOST_CLIENTS)
+        self._loop.watch(self._line.fileno(), self._comes)
+
+    def close(self) -> None:
+        if self._line:
+            self._loop.leave(self._line.fileno())
+            self._line.close()
+        self._line = None
+
+    def _comes(self) -> None:
+        with suppress(OSError):
+            assert self._line
+            line = self._line.accept()[0]
+            line.setblocking(False)
+            if len(self._clients) >= MOST_CLIENTS:
+                self._drop(next(iter(self._clients))).close()
+            self._clients[line.fileno()] = line, bytearray()
+            self._loop.watch(line.fileno(), lambda: self._says(line))
+
+    def _drop(self, file: int) -> socket.socket:
+        self._loop.leave(file)
+        return self._clients.pop(file)[0]
+
+    def _says(self, line: socket.socket) -> None:
+        file, octets = line.fileno(), b''
+        said = self._clients[file][1]
+        with suppress(OSError):
+            octets = line.recv(MOST_OCTETS + 1)
+        said += octets
+        text, end, _ = said.partition(b'\n')
+        if end and len(text) <= MOST_OCTETS:
+            self._drop(file)
+            self._asked(HolderRequest(line, text.decode(errors='replace').strip()))
+        elif not octets or len(said) > MOST_OCTETS:
+            self._drop(file).close()

@@ -1,0 +1,239 @@
+"""The line of an emulated circuit: `e1gw satop` stands between the packets and the program, joined by a socket pair of
+which the program has the end `near`, the process `far`. The holder holds both, so neither sees the other one die, and
+starts the process again in its place. If the holder dies both end, and the next one begins with a pair of its own."""
+from __future__ import annotations
+
+import json
+import os
+import signal
+import socket
+import time
+from contextlib import contextmanager, suppress
+from typing import Any, Iterator, Mapping
+
+from ..writers import put_file
+from .decisions import Openings
+from .files import plain_in
+from .journal import Severity, say
+from .line import HeldLine
+from .loop import Loop
+from .options import LineWants
+from .program import end_words, fields_of
+
+OCTETS_A_SECOND, MULTIFRAME = 256_000, 512
+ONES = b'\xff' * 2 * MULTIFRAME         # behind which frame alignment is looked for again
+ANEW = 0.2                  # seconds for the far end to take its packets as a new stream
+GRACE, SOON = 1.0, 0.005    # seconds for the process to send what it was given last; between two looks
+ENDED, BROKEN = 'the trunk has ended', 'the trunk cannot be read or written'
+
+
+def next_number(first: int, lines: list[str], seconds: float, size: int) -> int:
+    """The number of the next packet behind those of a process that began with the first one: by how many it said last
+    that it had sent, and the seconds since. (A few more or less are within the window of the far end.)"""
+    sent = 0
+    for line in lines:
+        words = dict(word.partition('=')[::2] for word in line.split()[1:]) if line.startswith('satop ') else {}
+        sent = int(words['sent']) if words.get('sent', '').isdecimal() else sent
+    return first + sent + round(max(0.0, seconds) * OCTETS_A_SECOND / size) & 0xffff
+
+
+class SatopLine(HeldLine):
+    """Such a line. `near` is what a program reads and writes."""
+
+    ends = 'near', 'far'
+
+    def __init__(self, options: LineWants, files: Mapping[str, int], loop: Loop) -> None:
+        self._words = list[str]()       # of the process: both ends as addresses, and options
+        self._pid, self._file = 0, -1
+        self._restarts, self._why, self._lacked = Openings(), '', False
+        self._ones_due = 0.0            # when the far end is given ones, if it is to be
+        super().__init__(options, files, loop)
+
+    @property
+    def both(self) -> tuple[int, int]:
+        return self.files[self.reads], self.files[self.reads]
+
+    def kept(self) -> dict[str, int]:
+        return {}
+
+    def _path(self, name: str) -> str:
+        return f'{self.options.folder}/{name}'
+
+    @property
+    def due(self) -> float:
+        dues = [self._ones_due] if self._ones_due else []
+        return min([*dues, self._restarts.due if self.files and not self._pid else super().due])
+
+    # ---- its beginning ----
+
+    def opened(self) -> Mapping[str, int]:
+        """Looks both ends up, unless that is known, and makes the pair."""
+        from ..satop import addresses_of, ends_of
+        before = plain_in(self._path('satop.ends'))
+        near, far, *words = self.options.satop
+        known = before.get('words', []) if before.get('asked') == [*self.options.satop] else []
+        self._words = known or [*addresses_of(*ends_of(f'{near},{far}')), *words]
+        pair = socket.socketpair()
+        pair[0].setblocking(False)
+        return {self.reads: pair[0].detach(), self.writes: pair[1].detach()}
+
+    def is_open(self) -> None:
+        super().is_open()
+        self._why = ''
+        if not self._pid and self._words:
+            self._start(time.monotonic())
+
+    def _start(self, now: float) -> None:
+        """Starts the process, or lets it be started later."""
+        from ..satop import can_send
+        path, size = self._path('satop'), int(self._words[self._words.index('--size') + 1])
+        number = self._next_number(size)
+        self._lacked, self._restarts = not can_send(self._words), self._restarts.with_one(now)
+        try:
+            put_file(f'{path}', b'', 0o640)
+            put_file(f'{path}.ends', self._text(number).encode(), 0o640)
+            said = os.open(f'{path}', os.O_RDWR | os.O_APPEND | os.O_CLOEXEC)
+        except OSError:
+            said = os.memfd_create('e1gw-satop')
+        try:
+            far = self.files[self.writes]
+            self._pid = os.posix_spawn(
+                self.options.program, ['e1gw', 'satop', *self._words, '--sequence', str(number)], os.environ,
+                file_actions=[(os.POSIX_SPAWN_DUP2, file, to) for to, file in enumerate((far, far, said))],
+                setsid=True, setsigmask=[], setsigdef=[signal.SIGPIPE])
+            self._watch()
+        except OSError as fault:
+            say(Severity.ERROR, f'e1gw satop cannot be started: {fault.strerror}')
+            self._restarts = self._restarts.with_end(now)
+        finally:
+            os.close(said)
+
+    def _text(self, number: int) -> str:
+        return json.dumps({'asked': [*self.options.satop], 'words': self._words, 'first': number})
+
+    def _next_number(self, size: int) -> int:
+        """With which the process begins: behind those of the one before it."""
+        path, before = self._path('satop'), plain_in(self._path('satop.ends'))
+        first = before.get('first')
+        if not isinstance(first, int):
+            return int.from_bytes(os.urandom(2))
+        try:
+            since = time.time() - os.stat(f'{path}').st_mtime
+            return next_number(first, self._lines(), since, size)
+        except OSError:
+            return first
+
+    def _lines(self) -> list[str]:
+        """What the process has said."""
+        try:
+            with open(f'{self._path("satop")}', encoding='utf-8', errors='replace') as file:
+                return file.read().splitlines()
+        except OSError:
+            return []
+
+    def _watch(self) -> None:
+        self._file = os.pidfd_open(self._pid)
+        self.loop.watch(self._file, self._ended)
+
+    # ---- while it is there ----
+
+    def step(self, now: float) -> None:
+        if self._ones_due and now >= self._ones_due:
+            self._ones_due = 0.0
+            give(self.files[self.reads], ONES)
+        if self._pid and fields_of(self._pid)[:1] == ['T']:
+            self._signal(signal.SIGKILL)
+        elif not self._pid and not self._why and (now >= self._restarts.due or self._lacked and self._can_send()):
+            self._start_again(now)
+
+    def _can_send(self) -> bool:
+        from ..satop import can_send
+        return can_send(self._words)
+
+    def _start_again(self, now: float) -> None:
+        """Octets are missing then, so with CRC-4 the program and the far end are given ones, behind which they look for
+        multiframes again: moved by half a multiframe each submultiframe would be right, and E bits read where there are
+        none."""
+        if self.options.crc4:
+            give(self.files[self.writes], ONES)
+            self._ones_due = now + ANEW
+        self._start(now)
+        if self._pid:
+            self.fault = ''
+
+    def _signal(self, number: int) -> None:
+        with suppress(OSError):
+            signal.pidfd_send_signal(self._file, number)
+
+    def _ended(self) -> None:
+        """The process has ended. One that has done so by itself ends the line, unless it failed and is tried again."""
+        status, now = self._reap(), time.monotonic()
+        if status is None:
+            return
+        words, self._restarts = f'e1gw satop {end_words(status, self._lines())}', self._restarts.with_end(now)
+        if status >= 0 and not (status and self.options.reopens):
+            self._why = f'{BROKEN}: {words}' if status else ENDED
+            return shut(self.files[self.writes])    # (the program is given what has come, and ends behind that)
+        self.fault = f'{BROKEN}: {words}'
+        say(Severity.WARNING, self.fault)
+        self.step(now)
+
+    def _reap(self) -> int | None:
+        pid, status = os.waitpid(self._pid, os.WNOHANG) if self._pid else (0, 0)
+        if not pid:
+            return None
+        self.loop.leave(self._file)
+        os.close(self._file)
+        self._pid, self._file = 0, -1
+        return os.waitstatus_to_exitcode(status)
+
+    # ---- its end ----
+
+    def why_ended(self, took: int) -> str:
+        return self._why
+
+    def close(self) -> None:
+        if self.files:
+            shut(self.files[self.reads])
+        until = time.monotonic() + GRACE
+        while self._pid and self._reap() is None:
+            drop(self.files[self.reads])        # (who cannot write does not look for an end)
+            if time.monotonic() >= until:
+                self._signal(signal.SIGKILL)
+            time.sleep(SOON)
+        self._ones_due = 0.0
+        super().close()
+
+    def note(self) -> dict[str, Any]:
+        return {**super().note(), 'pid': self._pid, 'words': self._words, 'why': self._why}
+
+    def take_up(self, note: Mapping[str, Any]) -> None:
+        super().take_up(note)
+        self._pid, self._words, self._why = note['pid'], note['words'], note['why']
+        if self._pid:
+            self._watch()
+
+
+@contextmanager
+def end_of(file: int) -> Iterator[socket.socket]:
+    """This end of a socket pair as a socket. What fails there is passed over."""
+    with suppress(OSError), socket.socket(fileno=os.dup(file)) as line:
+        yield line
+
+
+def drop(file: int) -> None:
+    """Takes what it has, which nobody reads any more."""
+    with end_of(file) as line:
+        line.recv(1 << 16, socket.MSG_DONTWAIT)
+
+
+def shut(file: int) -> None:
+    """Nothing more is sent by this end: the other one sees the end of it."""
+    with end_of(file) as line:
+        line.shutdown(socket.SHUT_WR)
+
+
+def give(file: int, octets: bytes) -> None:
+    """Sends octets by this end, as far as there is room."""
+    with end_of(file) as line:
+        line.send(octets, socket.MSG_DONTWAIT)

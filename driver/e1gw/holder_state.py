@@ -1,0 +1,122 @@
+"""What a holder says of its trunk, in the file FOLDER/holder, which it puts whole at each change; and the paths of that
+folder. The holder writes it, and e1gw-watch reads it."""
+from __future__ import annotations
+
+import json
+import os
+from dataclasses import dataclass, fields
+
+INTERFACE = 1               # of this file, and of the words at FOLDER/hold
+MEMORY = '/dev/shm'         # where the folder of a trunk is by default
+SAVED = 'begins with what was saved'   # `why` of a log that begins with a state of --state
+ACTIVE, STANDBY = 'active', 'standby'
+
+
+@dataclass(frozen=True)
+class HolderState:
+    """`program` is the number of the process that carries the trunk, 0 without one, and `started` when that was started
+    (field 22 of /proc/PID/stat); it goes on from its log for the reason `why`, `since` that time of day, and if
+    `octets_lost` the one before it may have had some in hand. The line is `open` since `opened`, or has a `fault`.
+    `lacking` are circuits without a port. A `trial` is of a version that may go back."""
+
+    interface: int
+    version: str
+    holder: int
+    program: int
+    started: int
+    since: float
+    why: str
+    octets_lost: bool
+    open: bool
+    opened: float
+    fault: str
+    lacking: tuple[int, ...]
+    program_version: str
+    senders: str
+    trial: bool
+    role: str
+    trunk: str
+
+    def spell(self) -> bytes:
+        return json.dumps(vars(self)).encode() + b'\n'
+
+
+def state_in(octets: bytes) -> HolderState:
+    """The state that the octets of a file are. ValueError if they are none; one of another interface has its number,
+    and nothing else."""
+    plain = json.loads(octets)
+    if plain.get('interface') != INTERFACE:
+        return other_interface(plain.get('interface'))
+    try:
+        return HolderState(**{each.name: plain[each.name] for each in fields(HolderState) if each.name != 'lacking'},
+                           lacking=tuple(plain['lacking']))
+    except (KeyError, TypeError) as fault:
+        raise ValueError(f'no state of a holder: {fault}') from None
+
+
+def other_interface(number: object) -> HolderState:
+    return HolderState(number if isinstance(number, int) else 0, '', 0, 0, 0, 0.0, '', False, False, 0.0, '', (), '',
+                       '', False, ACTIVE, '')
+
+
+@dataclass(frozen=True)
+class TrunkPlaces:
+    """What the folder of a trunk has."""
+
+    folder: str
+
+    def _path(self, *names: str) -> str:
+        return os.path.join(self.folder, *names)
+
+    @property
+    def holder(self) -> str:
+        """The state, which the holder puts."""
+        return self._path('holder')
+
+    @property
+    def hold(self) -> str:
+        """Its socket, for a line each."""
+        return self._path('hold')
+
+    @property
+    def log(self) -> str:
+        return self._path('log')
+
+    @property
+    def control(self) -> str:
+        """The program's, for records."""
+        return self._path('program')
+
+    @property
+    def tell(self) -> str:
+        return self._path('tell')
+
+    @property
+    def said(self) -> str:
+        """What the program says on standard error."""
+        return self._path('said')
+
+    @property
+    def satop(self) -> str:
+        """What `e1gw satop` says there."""
+        return self._path('satop')
+
+    @property
+    def config(self) -> str:
+        """The configuration of the program of now, in which names are addresses."""
+        return self._path('config')
+
+    @property
+    def watch(self) -> str:
+        """The folder of e1gw-watch."""
+        return self._path('watch')
+
+    @property
+    def watch_lock(self) -> str:
+        return self._path('watch.lock')
+
+
+def folder_of(name: str, within: str | None) -> str:
+    """The folder of a trunk, the same for each start, and for who watches it."""
+    within = within or os.environ.get('RUNTIME_DIRECTORY', '').partition(':')[0] or MEMORY
+    return os.path.join(within, f'{name}-{os.getuid()}')

@@ -1,0 +1,286 @@
+"""A process of its own, which a holder starts and which answers in JSON: it tries a program and a configuration on the
+log of now, begins a log with a saved state, or saves the state behind a log."""
+from __future__ import annotations
+
+import ipaddress
+import json
+import os
+import re
+import socket
+import stat
+import subprocess
+import sys
+import threading
+import tomllib
+from contextlib import closing
+from dataclasses import dataclass
+from typing import Any, Callable, Iterable, Mapping, Sequence
+
+from .explain import config_words
+from .fault_words import words_of_fault
+from .holder.log import remove
+from .holder.version import Tried, tried_in
+from .lines import IN_CALL, config_text, no_peers, tables_of
+from .log_folder import LogFiles, LogPair, LogWriter
+from .memory import in_memory
+from .session import CIRCUITS
+from .writers import put_file
+
+MOST_OCTETS = 65_536        # of a configuration
+MOST_ENDED = 3              # calls that a reload may end without force
+PORTS = 'local_port', 'peer_port'
+NEW = re.compile(r'circuit (\d+) begins as new')
+
+Asked = Mapping[str, Any]   # what a holder asks
+
+
+class TrialRefused(Exception):
+    """Why a version will not do."""
+
+
+class TrialLater(Exception):
+    """Why a version will not do now, and may do later."""
+
+
+# ---- a program ----
+
+def run(asked: Asked, program: int, words: Sequence[str], config: str, begun: LogPair | None) -> tuple[int, str, str]:
+    """Runs a program to its end, over the records behind a state if there is one: its status, what it says, and what it
+    writes."""
+    wait, seconds = asked['wait'], asked['seconds']
+    files = [in_memory(config.encode()), in_memory(begun.state if begun else b'')]
+    load = ['--load', f'/dev/fd/{files[1]}'] if begun else []
+    its = ['e1gw', words[0], '--config', f'/dev/fd/{files[0]}', *['--seizure-wait', str(wait)] * (wait != 200),
+           *words[1:], *load]
+    try:
+        done = subprocess.run(its, executable=f'/proc/self/fd/{program}', input=begun.records if begun else b'',
+                              capture_output=True, pass_fds=[*files, program], timeout=seconds, check=False)
+    except subprocess.TimeoutExpired:
+        raise TrialLater(f'the program does not check the configuration within {seconds:g} s') from None
+    finally:
+        for file in files:
+            os.close(file)
+    return done.returncode, done.stderr.decode(errors='replace').strip(), done.stdout.decode(errors='replace')
+
+
+def check(asked: Asked, program: int, config: str, begun: LogPair | None) -> tuple[frozenset[int], frozenset[int]]:
+    """Has a program check a configuration, and whether it goes on from a log: the circuits that begin as new then, and
+    those that are in a call."""
+    status, said, listed = run(asked, program, ['check'], config, begun)
+    lines = said.splitlines()
+    if status:
+        raise TrialRefused('; '.join(line for line in lines if not NEW.fullmatch(line)) or f'status {status}')
+    rows = [line.split() for line in listed.splitlines()]
+    return (frozenset(int(found[1]) for line in lines if (found := NEW.fullmatch(line))),
+            frozenset(int(row[0]) for row in rows if row[2:] and row[2] in IN_CALL))
+
+
+def version_name(asked: Asked) -> str:
+    """The version that a program says; nothing if it says none."""
+    program = asked['program']
+    done = subprocess.run(['e1gw', '--version'], executable=f'/proc/self/fd/{program}', pass_fds=[program],
+                          stdin=subprocess.DEVNULL, capture_output=True, timeout=asked['seconds'], check=False)
+    name, _, version = done.stdout.decode(errors='replace').strip().partition(' ')
+    return version if name == 'e1gw' else ''
+
+
+# ---- a configuration ----
+
+def read(path: str) -> str:
+    """The text of a configuration. What is no file (a FIFO, say) or is too long is refused."""
+    file = os.open(path, os.O_RDONLY | os.O_NONBLOCK | os.O_CLOEXEC)
+    with open(file, 'rb') as opened:
+        if not stat.S_ISREG(os.fstat(file).st_mode):
+            raise TrialLater(f'{path} is no file')
+        octets = opened.read(MOST_OCTETS + 1)
+    if len(octets) > MOST_OCTETS:
+        raise TrialRefused(f'the configuration has more than {MOST_OCTETS} octets')
+    return octets.decode()
+
+
+def is_address(host: str) -> bool:
+    try:
+        ipaddress.ip_address(host)
+    except ValueError:
+        return False
+    return True
+
+
+def look_up(names: Iterable[str], seconds: float) -> dict[str, str]:
+    """The addresses of names, which are looked up side by side."""
+    found, faults = dict[str, str](), dict[str, str]()
+
+    def looks(name: str) -> None:
+        try:
+            answers = socket.getaddrinfo(name, None, type=socket.SOCK_DGRAM)
+            found[name] = str(min(answers, key=lambda each: each[0] is not socket.AF_INET)[4][0])
+        except OSError as fault:
+            faults[name] = f'{name}: {fault.strerror or fault}'
+    threads = [threading.Thread(target=looks, args=[name], daemon=True) for name in names]
+    for each in threads:
+        each.start()
+    for each in threads:
+        each.join(seconds)
+    if faults:
+        raise TrialLater('; '.join(faults.values()))
+    if late := {*names} - {*found}:
+        raise TrialLater(f'names are not looked up within {seconds:g} s: {", ".join(sorted(late))}')
+    return found
+
+
+def with_addresses(tables: Mapping[str, Any], seconds: float) -> dict[str, Any]:
+    """The same configuration with addresses in place of names, however the file has spelled it."""
+    circuits = tables.get('circuit', [])
+    hosts = {str(table['peer_host']) for table in circuits if 'peer_host' in table} | {
+        str(each) for each in [tables.get('host')] if each}
+    found = look_up(sorted(host for host in hosts if not is_address(host)), seconds)
+    host = {'host': found.get(tables['host'], tables['host'])} if 'host' in tables else {}
+    return {**tables, **host, 'circuit': [
+        table | {'peer_host': found.get(table['peer_host'], table['peer_host'])} if 'peer_host' in table else table
+        for table in circuits]}
+
+
+def in_pieces(tables: Mapping[str, Any], senders: str, name: str) -> Tried:
+    """A configuration as a holder has it."""
+    def piece(table: Mapping[str, Any]) -> str:
+        return config_text({'circuit': [table]})
+    host, circuits = str(tables.get('host', '127.0.0.1')), tables_of(tables)
+    return Tried(config_text({key: value for key, value in tables.items() if key != 'circuit'}),
+                 {n: (piece(table), piece({key: value for key, value in table.items() if key not in PORTS}))
+                  for n, (_, table) in circuits.items()},
+                 {n: (host, table['local_port']) for n, (_, table) in circuits.items() if 'local_port' in table},
+                 senders, name)
+
+
+# ---- what is asked ----
+
+@dataclass(frozen=True)
+class ReloadEffects:
+    """Circuits: in a call now; those that begin as new; those that had a port, and those that have one then."""
+
+    calls: frozenset[int]
+    new: frozenset[int]
+    ports: frozenset[int]
+    ports_then: frozenset[int]
+
+    @property
+    def ended(self) -> frozenset[int]:
+        """Whose calls end."""
+        return self.new & self.calls
+
+    @property
+    def mute(self) -> frozenset[int]:
+        """Whose calls lose their ports."""
+        return (self.calls & self.ports) - self.ports_then - self.new
+
+    def is_refused(self, force: bool) -> bool:
+        """Whether it ends too many calls."""
+        return len(self.ended | self.mute) > MOST_ENDED and not force
+
+
+def tried(asked: Asked) -> dict[str, Any]:
+    """Tries a version, behind one before it if there is one."""
+    program, config = asked['program'], asked['config']
+    text, name = read(config), version_name(asked)
+    try:
+        check(asked, program, text, None)       # (before any Python reads it)
+        tables = with_addresses(tomllib.loads(text), asked['seconds'])
+        if why := no_peers(tables):
+            raise TrialRefused(why)
+    except TrialRefused as fault:
+        cause = config_words(config)
+        raise TrialRefused(f'{fault}: {cause}' if cause else str(fault)) from None
+    version, log = in_pieces(tables, asked['senders'], name), last_of(asked['log'])
+    new, in_call = check(asked, program, version.config(), log)
+    told = effects(asked, version, new, calls_of(asked, log, in_call)) if asked['before'] else ''
+    return {'tried': vars(version), 'told': told}
+
+
+def calls_of(asked: Asked, log: LogPair | None, in_call: frozenset[int]) -> frozenset[int]:
+    """The circuits that are in a call, with the configuration before, by either program. If neither says it, all may
+    be."""
+    before = tried_in(asked['before'])
+    for program in asked['program'], asked['program_before']:
+        try:
+            return check(asked, program, before.config(), log)[1] | in_call
+        except (TrialRefused, TrialLater, OSError):
+            pass
+    return frozenset(CIRCUITS)
+
+
+def effects(asked: Asked, version: Tried, new: frozenset[int], calls: frozenset[int]) -> str:
+    """What a reload does to calls, in words. TrialRefused if that is too much."""
+    found = ReloadEffects(calls, new, frozenset(tried_in(asked['before']).ports), frozenset(version.ports))
+    if found.is_refused(asked['force']):
+        raise TrialRefused(f'it would end {calls_in(found.ended | found.mute)}; reload force does')
+    return '; '.join([*[f'it ends {calls_in(found.ended)}'] * bool(found.ended),
+                      *[f'it takes the ports of {calls_in(found.mute)}'] * bool(found.mute)])
+
+
+def calls_in(circuits: Iterable[int]) -> str:
+    """How many calls these are, and of which circuits."""
+    numbers = sorted(circuits)
+    return f'{len(numbers)} calls (circuits {", ".join(map(str, numbers))})'
+
+
+def last_of(folder: str) -> LogPair | None:
+    """What a log has that can be loaded, if there is one."""
+    try:
+        with closing(LogFiles(folder)) as files:
+            return files.last()
+    except OSError:
+        return None
+
+
+def loaded(asked: Asked) -> dict[str, Any]:
+    """Begins a log with the state that was saved in a file: all of it, or nothing."""
+    with open(asked['state'], 'rb') as file:
+        octets = file.read()
+    remove(new := f'{asked["log"]}.new')
+    with closing(LogWriter(new)) as writer:
+        writer.begin(0, octets)
+    remove(asked['log'])
+    os.rename(new, asked['log'])
+    return {}
+
+
+def saved(asked: Asked) -> dict[str, Any]:
+    """Puts the state behind a whole log into a file, whole and up to the disk."""
+    if log := last_of(asked['log']):
+        new = f'{asked["state"]}.new'
+        status, said, _ = run(asked, asked['program'], ['replay', '--save', new], asked['config'], log)
+        if status:
+            raise OSError(0, said or f'status {status}')
+        with open(new, 'rb') as file:
+            octets = file.read()
+        os.unlink(new)
+        put_file(asked['state'], octets, 0o640, is_synced=True)
+    return {}
+
+
+def begins(asked: Asked) -> dict[str, Any]:
+    """The holder of now could begin."""
+    from .holder import main as _       # noqa: F401
+    return {}
+
+
+DOES: Mapping[str, Callable[[Asked], dict[str, Any]]] = {
+    'try': tried, 'load': loaded, 'save': saved, 'begin': begins}
+
+
+def answer(asked: Asked) -> dict[str, Any]:
+    """What is answered: what was found; why it is refused; or why it cannot be done now."""
+    try:
+        return DOES[asked['what']](asked)
+    except TrialRefused as fault:
+        return {'refused': str(fault)}
+    except (ValueError, RecursionError) as fault:
+        return {'refused': f'the configuration is not understood: {fault}'}
+    except Exception as fault:      # pylint: disable=broad-exception-caught
+        return {'later': words_of_fault(fault) or type(fault).__name__}
+
+
+def main() -> None:
+    """Answers what standard input asks."""
+    os.write(1, json.dumps(answer(json.load(sys.stdin))).encode())
+    os._exit(0)                 # (threads may look names up still)

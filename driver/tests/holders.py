@@ -1,0 +1,119 @@
+"""A holder with thirty calls for tests, whose program or which itself is killed, stopped or replaced. The exchange goes
+in lock step with it: it waits for what comes back, or for the holder to say that another program goes on."""
+from __future__ import annotations
+
+import os
+import signal
+import socket
+import subprocess
+import sys
+from typing import Any
+
+from . import limits, support
+from .keepers import KeeperCase
+from .manager import Manager
+from .support import SECONDS
+from e1gw.holder_state import HolderState, TrunkPlaces, state_in
+
+LONG = {f'holder.{name}': limits.LONG for name in (
+    'starting.START', 'starting.RELOADED', 'starting.OLD', 'starting.LEFT', 'ending.GRACE', 'job.SECONDS',
+    'job.PATIENCE', 'store.HEARD', 'store.GRACE')}
+
+
+class HolderCase(KeeperCase):
+    """Such a holder, and systemd, which keeps what it is told to keep."""
+
+    line_options: tuple[str, ...] = ('--unix', '@/card')
+
+    def setUp(self) -> None:
+        super().setUp()
+        self.manager = Manager(self.path('notify'))
+        self.addCleanup(self.manager.close)
+        self.places = TrunkPlaces(os.path.join(self.memory, f'trunk-{os.getuid()}'))
+        self.control = self.places.control
+        self.options = ['--config', self.config, '--folder', self.memory, '--program', support.program(), '--reopen',
+                        '--watch', 'no', *(word.replace('@', self.folder) for word in self.line_options)]
+        self.within: dict[str, Any] = {}        # type: ignore[assignment]
+        self.addCleanup(self.end_all)
+
+    def end_all(self) -> None:
+        """Ends what a failed test leaves. (The program ends with its holder.)"""
+        for pid in [self.keeper.pid] if hasattr(self, 'keeper') else []:
+            if self.keeper.poll() is None:
+                os.kill(pid, signal.SIGKILL)
+                self.keeper.wait()
+
+    def words(self) -> list[str]:
+        return [sys.executable, '-B', support.launcher('hold'), *self.options]
+
+    def starts_holder(self, is_by_hand: bool = False) -> None:
+        """Starts a holder, by hand or by systemd with what that keeps."""
+        around = limits.around(LONG | self.within)
+        os.environ |= around                    # (Manager.starts gives this on)
+        try:
+            with open(self.path('told'), 'ab') as told:
+                self.told_from = len(self.told())
+                self.keeper = subprocess.Popen(self.words(), stderr=told, stdin=subprocess.DEVNULL) if is_by_hand else \
+                    self.manager.starts(self.words(), told.fileno())
+        finally:
+            for name in around:
+                del os.environ[name]
+
+    def begins(self, *options: str) -> None:
+        """The first start, with thirty calls."""
+        self.options += options
+        self.starts_holder()
+        self.device.accept()
+        self.goes_on()
+        self.calls()
+        self.settles()
+
+    def scripted(self, *lines: str) -> str:
+        """A program: a script, which does this, and goes on as the program."""
+        path = self.write('e1gw.new', '\n'.join(['#!/bin/sh', *lines, f'exec {support.program()} "$@"', '']))
+        os.chmod(path, 0o700)
+        os.replace(path, self.path('e1gw'))     # (a program that was started has the file before)
+        return self.path('e1gw')
+
+    # ---- what is known of it ----
+
+    def state(self) -> HolderState:
+        with open(self.places.holder, 'rb') as file:
+            return state_in(file.read())
+
+    def settles(self) -> None:
+        """Until systemd has all that the next one needs."""
+        files = {'program', 'tried', *(f'log-{name}.{n}' for name in ('state', 'records') for n in '01')}
+        support.until(lambda: self.manager.told() and files <= {*self.manager.files}
+                      and len(self.manager.files) == len(files) + 30 + 1)
+
+    def asks(self, words: str) -> str:
+        """The answer to a word, if that comes."""
+        with self.asking(words) as line:
+            return line.makefile('r').read().strip()
+
+    def asking(self, words: str) -> socket.socket:
+        """A connection at which a word was said."""
+        line = support.connected(self.places.hold)
+        line.sendall(f'{words}\n'.encode())
+        return line
+
+    # ---- deaths ----
+
+    def kill_holder(self, number: int = signal.SIGKILL) -> None:
+        os.kill(self.keeper.pid, number)
+        self.keeper.wait(SECONDS)
+
+    def goes_on_all(self) -> None:
+        """Another program goes on with all calls, and octets flow."""
+        self.goes_on()
+        self.step(20)
+        self.assertEqual(self.device.exchange.signals, self.up())
+
+    def ends(self) -> None:
+        """It ends, and leaves nothing."""
+        self.keeper.terminate()
+        self.assertEqual(self.keeper.wait(SECONDS), 0, self.told())
+        self.assertEqual(os.listdir(self.memory), [])
+        self.manager.take_all()
+        self.assertEqual(self.manager.files, {})

@@ -1,0 +1,109 @@
+"""What a holder has done by a process of its own: what it answers of a version, and of a state."""
+from __future__ import annotations
+
+import os
+import socket
+from typing import Any, Mapping
+from unittest import mock
+
+from . import support
+from .support import config_text
+from e1gw import trial
+from e1gw.holder.job import Job
+from e1gw.holder.version import tried_in
+from e1gw.log_folder import LogFiles
+
+CONFIG = config_text({1: {'role': 'incoming', 'local_port': 5000, 'peer_port': 5002, 'peer_host': 'localhost'},
+                      2: {'role': 'outgoing'}})
+
+
+class TrialTests(support.FolderCase):
+    def setUp(self) -> None:
+        super().setUp()
+        self.file = os.open(support.program(), os.O_RDONLY)
+        self.addCleanup(os.close, self.file)
+        self.config = self.write('trunk.toml', CONFIG)
+
+    def asked(self, **more: Any) -> dict[str, Any]:
+        return {'what': 'try', 'program': self.file, 'config': self.config, 'senders': 'host', 'wait': 200,
+                'force': False, 'log': self.path('log'), 'before': None, 'program_before': -1,
+                'seconds': support.SECONDS, **more}
+
+    def answer(self, **more: Any) -> Mapping[str, Any]:
+        """By a process of its own."""
+        return Job(self.asked(**more), [self.file]).wait()
+
+    def test_tried(self) -> None:
+        """Names are addresses, and the pieces are what the program takes with its ports and without."""
+        found = tried_in(self.answer()['tried'])
+        self.assertEqual(found.ports, {1: ('127.0.0.1', 5000)})
+        self.assertIn(f'peer_host = "{socket.gethostbyname("localhost")}"', found.config())
+        for lacking in list[int](), [1]:
+            path = self.write('pieces.toml', found.config(lacking))
+            self.assertEqual(support.ran(support.program(), 'check', '--config', path)[0], 0)
+        self.assertEqual('local_port' in found.config([1]), False)
+        self.assertEqual(found.name, support.run('--version').decode().split()[1])
+
+    def test_refused(self) -> None:
+        """For good, or until something is back."""
+        refused: tuple[tuple[str | bytes, str], ...] = (
+            ('x = 1', 'x is not a key here'), ('[' * 100, 'deep'), ('#' * 70_000, '65536 octets'),
+            (CONFIG.replace('localhost', '224.0.0.1'), 'multicast'), (b'\xff', 'not understood'))
+        for text, words in refused:
+            self.config = self.write('trunk.toml', text)
+            self.assertRegex(self.answer().get('refused', ''), words)
+        os.unlink(self.config)
+        self.assertEqual(self.answer(), {'later': f'{self.config}: No such file or directory'})
+        os.mkfifo(self.config)
+        self.assertEqual(self.answer(), {'later': f'{self.config} is no file'})
+
+    def test_a_name_that_is_not_found(self) -> None:
+        """It may be later: a name server is away, or answers nothing."""
+        with mock.patch('socket.getaddrinfo', side_effect=OSError(2, 'Name or service not known')):
+            self.assertEqual(trial.answer(self.asked()), {'later': 'localhost: Name or service not known'})
+        with mock.patch('threading.Thread.start'), mock.patch('threading.Thread.join'):
+            self.assertRegex(trial.answer(self.asked())['later'], 'names are not looked up within .*: localhost')
+
+    def test_one_that_dies(self) -> None:
+        """Nothing waits for it."""
+        job = Job({'what': 'x'})
+        self.assertEqual(job.wait(), {'later': "'x'"})
+        with mock.patch('e1gw.holder.job.PYTHON', 'import os; os.kill(os.getpid(), 9)'):
+            self.assertEqual(Job({'what': 'try'}).wait(), {'later': 'it is not tried to its end'})
+        with mock.patch.multiple('e1gw.holder.job', PYTHON='import time; time.sleep(900)', PATIENCE=0.2):
+            self.assertEqual(Job({'what': 'try'}).wait(), {'later': 'it is not tried to its end'})
+
+    def test_states(self) -> None:
+        """A log begins with one, and one is saved of a log; whole."""
+        state = self.path('state')
+        self.write('plain.toml', CONFIG.replace('localhost', '127.0.0.1'))
+        support.run('replay', '--config', self.path('plain.toml'), '--save', state)
+        self.assertEqual(self.answer(what='load', state=state), {})
+        log = LogFiles(self.path('log'))
+        last = log.last()
+        assert last
+        self.assertEqual((last.place, last.state, last.records), (0, support.octets_of(state), b''))
+        log.close()
+        new = self.path('new')
+        text = support.text_of(self.path('plain.toml'))
+        self.assertEqual(self.answer(what='save', state=new, config=text), {})
+        self.assertEqual(support.octets_of(new), support.octets_of(state))
+        self.assertRegex(self.answer(what='save', state=self.path('x/y'), config=text)['later'], 'cannot save')
+
+    def test_what_a_reload_ends(self) -> None:
+        """More than three calls want force."""
+        before = {'head': 'law = "A"\n', 'circuits': {}, 'ports': {str(n): ['h', n] for n in range(1, 5)},
+                  'senders': 'host', 'name': ''}
+        version = tried_in({**before, 'ports': {}})
+        for new, calls, force, words in (
+                ((), (), False, ''),
+                ((1, 2), (1, 2, 3), False, 'it ends 2 calls .circuits 1, 2.; it takes the ports of 1 calls'),
+                ((1, 2, 3, 4), (1, 2, 3, 4), True, 'it ends 4 calls'),
+                ((1, 2, 3, 4), (1, 2, 3), False, 'it ends 3 calls')):
+            self.assertRegex(trial.effects(self.asked(before=before, force=force), version, frozenset(new),
+                                           frozenset(calls)), f'^{words}')
+        with self.assertRaisesRegex(trial.TrialRefused, 'it would end 4 calls .*; reload force does'):
+            trial.effects(self.asked(before=before), version, frozenset((1, 2)), frozenset((1, 2, 3, 4)))
+
+    def test_what_can_begin(self) -> None:
+        self.assertEqual(self.answer(what='begin'), {})
