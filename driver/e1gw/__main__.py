@@ -1,7 +1,6 @@
 """Starts a command: python3 -m e1gw NAME [WORD..], as the program e1gw-NAME does.
 
 The names are {names}."""
-import argparse
 import importlib
 import os
 import signal
@@ -14,10 +13,13 @@ COMMANDS = {
     'call': 'tools.call', 'config': 'config', 'ctl': 'ctl', 'exchange': 'tools.exchange', 'explain': 'explain',
     'pcap': 'tools.pcap', 'picture': 'picture.main', 'records': 'tools.records', 'tie': 'tie.main',
     'trunk': 'service.service'}
+# Those that are not offered yet: they have no page, and no program.
+NOT_OFFERED = {'hold': 'holder.main'}
 # The service catches these signals. As it begins they wait until it knows what the service before it has left: they
 # would end it, in systemd's view in order, and nobody would look after a program that goes on. Where nothing is left
 # the ENDS end it at once.
-SERVICE, CAUGHT = 'trunk', (signal.SIGHUP, signal.SIGUSR1, signal.SIGUSR2, signal.SIGTERM, signal.SIGINT)
+HOLDER, SERVICE = 'hold', 'trunk'
+CAUGHT = (signal.SIGHUP, signal.SIGUSR1, signal.SIGUSR2, signal.SIGTERM, signal.SIGINT)
 ENDS = CAUGHT[-2:]
 
 
@@ -32,12 +34,14 @@ def load(name: str) -> ModuleType:
     if name == SERVICE:
         for number in ENDS:
             signal.signal(number, lambda *_: os._exit(0))
+    if name in (HOLDER, SERVICE):
         signal.pthread_sigmask(signal.SIG_BLOCK, CAUGHT)
-    return importlib.import_module(f'e1gw.{COMMANDS[name]}')
+    return importlib.import_module(f'e1gw.{(COMMANDS | NOT_OFFERED)[name]}')
 
 
 def complete() -> None:
     """Has the command's parser answer bash, which asks what a word may be, by argcomplete."""
+    import argparse
     try:
         import argcomplete
     except ImportError:
@@ -59,7 +63,7 @@ def start(name: str) -> NoReturn:
 
 def named(path: str) -> str:
     """The command that a program is named by, or else one of the links that the path leads through."""
-    while (name := os.path.basename(path).removeprefix('e1gw-')) not in COMMANDS:
+    while (name := os.path.basename(path).removeprefix('e1gw-')) not in COMMANDS | NOT_OFFERED:
         if not os.path.islink(path):
             refuse(f'{path}: no command of e1gw has this name')
         path = os.path.join(os.path.dirname(path), os.readlink(path))
@@ -76,7 +80,7 @@ def main() -> None:
     name = sys.argv[1] if sys.argv[1:] else '--help'
     if name in ('-h', '--help'):
         print((__doc__ or '').format(names=', '.join(COMMANDS)))
-    elif name in COMMANDS:
+    elif name in COMMANDS | NOT_OFFERED:
         sys.argv[:2] = [f'e1gw-{name}']
         start(name)
     else:

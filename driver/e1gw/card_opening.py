@@ -9,7 +9,7 @@ import stat
 from contextlib import suppress
 
 from .dahdi import Blocks, CardFault, DahdiChannel, is_channel
-from .faults import named, words_of_fault
+from .fault_words import named, words_of_fault
 from .trunks import Stream, open_files
 
 FOLDER = '/dev/dahdi/'                  # of DAHDI's devices, with its driver and without

@@ -62,6 +62,10 @@ class DisconnectWatch:
         self._due = None
         return 'on-loss: done'
 
+    def holds(self, client: object) -> bool:
+        """Whether something is to be done when it is gone."""
+        return client in self._asked
+
     def said(self, client: object, now: float) -> None:
         """A client has said something: it is there."""
         if its := self._asked.get(client):

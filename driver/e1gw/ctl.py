@@ -21,11 +21,10 @@ import os
 import socket
 import subprocess
 import sys
-from contextlib import suppress
 from pathlib import Path
 from typing import BinaryIO
 
-from .ctl_all import PATIENCE, SOCKETS, answer_of, connected, overview, trunks_here
+from .ctl_all import PATIENCE, SOCKETS, answer_to, connected, overview, trunks_here
 from .ctl_calls import OutageForm, Wanted, calls_listed, outages_listed
 from .ctl_drain import drain
 from .faults import checked, number, words_of_fault
@@ -76,12 +75,9 @@ def each_circuit(command: str) -> list[str]:
     return [' '.join([words[0], circuit, *words[2:]]) for circuit in circuits_of(words[1])]
 
 
-def ask(stream: BinaryIO, line: socket.socket, command: str, typed: str, front: str = '') -> bool:
+def ask(stream: BinaryIO, line: socket.socket, command: str, typed: str, patience: float, front: str = '') -> bool:
     """Gives a command and prints what answers it, by the word that was typed; returns whether it was done."""
-    with suppress(BrokenPipeError):     # (there is no answer then)
-        line.sendall(command.encode() + b'\n')
-    lines = answer_of(stream)
-    word = command.split()[0]
+    lines, word = answer_to(line, stream, command, patience), command.split()[0]
     lines = [typed + each.removeprefix(word) if each.startswith(f'{word} ') else each for each in lines]
     print('\n'.join(f'{front}{each}' for each in lines), flush=True)
     if word in ASKING and not lines[0].endswith(('help', 'to 30')):
@@ -95,18 +91,17 @@ def follow(stream: BinaryIO) -> None:
         print(event.decode(errors='replace'), end='', flush=True)
 
 
-def run(path: str, words: list[str]) -> int:
+def run(path: str, words: list[str], patience: float) -> int:
     """Gives a trunk one command, or those of standard input; returns the status."""
-    with socket.socket(socket.AF_UNIX) as line:
-        line.connect(path)
+    with connected(path, patience) as line:
         stream: BinaryIO = line.makefile('rb')
         if words == ['events']:
-            line.sendall(b'events\n')
-            answer_of(stream)
+            answer_to(line, stream, 'events', patience)
+            line.settimeout(None)
             follow(stream)
             return 0
         commands = [' '.join(words)] if words else (each.strip() for each in sys.stdin)
-        done = [ask(stream, line, each, command.split()[0])
+        done = [ask(stream, line, each, command.split()[0], patience)
                 for command in commands if command for each in each_circuit(command)]
     return 0 if all(done) else 1
 
@@ -118,7 +113,8 @@ def run_all(words: list[str], patience: float) -> int:
         try:
             with connected(path, patience) as line:
                 stream: BinaryIO = line.makefile('rb')
-                done = [ask(stream, line, each, command.split()[0], f'{name}: ') for each in each_circuit(command)]
+                done = [ask(stream, line, each, command.split()[0], patience, f'{name}: ')
+                        for each in each_circuit(command)]
                 status |= not all(done)
         except (OSError, EOFError) as fault:
             print(f'{name}: it does not answer: {words_of_fault(fault, path)}', flush=True)
@@ -159,7 +155,7 @@ def started(asked: argparse.Namespace, parser: argparse.ArgumentParser, patience
         return run_all(command, patience)
     if command and command[0] in [name for name, _ in trunks_here()]:
         parser.error(f'{command[0]} is a trunk: a command goes to one of them, and with --all to each')
-    return run(path_of(asked.path), command) if asked.path else overview(patience)
+    return run(path_of(asked.path), command, patience) if asked.path else overview(patience)
 
 
 def next_words(parsed_args: argparse.Namespace, **_: object) -> list[str]:
@@ -213,6 +209,9 @@ def main(patience: float = PATIENCE) -> None:
         status = 0
     except EOFError:
         print('e1gw-ctl: the trunk has ended', file=sys.stderr)
+        status = 1
+    except (TimeoutError, BlockingIOError) as fault:
+        print(f'e1gw-ctl: {words_of_fault(fault, path_of(asked.path))}', file=sys.stderr)
         status = 1
     except OSError as fault:
         path = fault.filename or path_of(asked.path or '')

@@ -6,6 +6,7 @@ import os
 import socket
 import struct
 import time
+from contextlib import suppress
 from typing import Any, BinaryIO, Callable, Iterable, Iterator, Mapping, NamedTuple
 
 from .events import REMOTE
@@ -14,6 +15,7 @@ from .metrics import drain_words, state_of
 
 SOCKETS, UNITS = '/run/e1gw', '/etc/e1gw'
 PATIENCE = 5.0              # seconds that a trunk has to answer
+LIMITS = {'reload': 120.0, 'promote': 60.0, 'demote': 60.0, 'move': 60.0}       # .. what may take it longer
 EXAMPLE = 'example'         # of the package, and no trunk
 HEAD = f'{"trunk":12} {"e1gw":8} {"up since (UTC)":17} {"calls":>5} {"lost":>8} {"late":>8}  state'
 
@@ -59,6 +61,17 @@ def answer_of(stream: BinaryIO) -> list[str]:
     if line == b'' and not lines:
         raise EOFError
     return lines
+
+
+def answer_to(line: socket.socket, stream: BinaryIO, command: str, patience: float) -> list[str]:
+    """The lines that answer a command, which has as long as it may take. EOFError where the trunk ends before it."""
+    line.settimeout(limit := max(patience, LIMITS.get(command.split()[0], 0.0)))
+    with suppress(BrokenPipeError):     # (there is no answer then)
+        line.sendall(command.encode() + b'\n')
+    try:
+        return answer_of(stream)
+    except TimeoutError:
+        raise TimeoutError(f'no answer within {limit:g} s, it may still be done') from None
 
 
 def status_of(path: str, patience: float) -> dict[str, Any]:

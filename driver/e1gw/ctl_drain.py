@@ -4,7 +4,7 @@ from __future__ import annotations
 import time
 from typing import BinaryIO
 
-from .ctl_all import answer_of, connected, status_of
+from .ctl_all import answer_to, connected, status_of
 from .faults import words_of_fault
 from .lines import circuit_words
 
@@ -17,8 +17,7 @@ def is_taken(name: str, path: str, command: str, patience: float) -> bool:
     """Has a trunk take no more calls. OSError or EOFError if it does not answer."""
     with connected(path, patience) as line:
         stream: BinaryIO = line.makefile('rb')
-        line.sendall(command.encode() + b'\n')
-        *_, last = answer_of(stream)
+        *_, last = answer_to(line, stream, command, patience)
     if not last.endswith(': done'):
         print(f'{name}: {last}', flush=True)
     return last.endswith(': done')

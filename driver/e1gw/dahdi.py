@@ -14,13 +14,12 @@ import struct
 from contextlib import suppress
 from dataclasses import dataclass
 
-from .slots import SLOTS
-
 CHANNELS = 'dahdi_channels'         # what the driver calls its devices
 DEVICES, NODES = '/sys/bus/dahdi_channels/devices', '/dev/dahdi/chan'      # of all channels
 PARAMETERS, BUFFERS = struct.Struct('=12i40s11iI'), struct.Struct('=6i')
 SPAN = struct.Struct('=i20s40s7i5I7i40s40s40s40s2i6s')
 NUMBER = struct.Struct('=i')
+SLOTS = 31                  # octets of a frame
 CLEAR = 1 << 7              # the signalling of a clear channel
 MOST_FRAMES = 64            # of a block: the most that the program reads at once
 MOST_BUFFERS, MOST_OCTETS = 32, 32_768

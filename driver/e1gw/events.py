@@ -233,6 +233,12 @@ class RateChanged(Event):
 # ---- what carries and watches the trunk ----
 
 @dataclass(frozen=True)
+class LogLost(Event):
+    """A write of the program's log failed, or the log cannot be opened."""
+    name, text = 'log lost', 'the log took no write: the next program goes on behind what it has'
+
+
+@dataclass(frozen=True)
 class TrunkOpened(Event):
     name, text, usual, turns = 'trunk', 'trunk open: {0.trunk}', Level.NOTICE, ('trunk lost', False)
     trunk: str                          # the name of its device or of its other end

@@ -1,26 +1,14 @@
-"""Errors of the system in words that name what was refused, never a number alone."""
+"""What was refused, in words, and readers of options that say so."""
 from __future__ import annotations
 
 import argparse
-import os
 from typing import Any, Callable, NoReturn
 
+from .fault_words import named, options_words, words_of_fault
 from .lines import Role
 from .session import CommandRefusal, Refusal
 
-
-def words_of_fault(fault: BaseException, what: str = '') -> str:
-    """`what: No such file or directory`; `what` is by default the file that the fault names."""
-    if not isinstance(fault, OSError):
-        return f'{what}: {fault}' if what else str(fault)
-    why = fault.strerror or str(fault) or type(fault).__name__
-    name = what or (fault.filename if isinstance(fault.filename, str) else '')
-    return f'{name}: {why}' if name and name not in why else why
-
-
-def named(fault: OSError, what: str) -> OSError:
-    """The same error, which names what it is about."""
-    return OSError(fault.errno or 0, words_of_fault(fault, what))
+__all__ = ['Parser', 'checked', 'named', 'number', 'options_words', 'words_of_fault', 'words_of_refusal']
 
 
 def words_of_refusal(refusal: Refusal, circuit: int, role: Role) -> str:
@@ -30,14 +18,6 @@ def words_of_refusal(refusal: Refusal, circuit: int, role: Role) -> str:
     whose = ('the exchange seizes and clears it' if role is Role.INCOMING
              else 'the exchange answers, clears back and blocks it')
     return f'{refusal.words} (circuit {circuit} is {role}; {whose})'
-
-
-def options_words() -> str:
-    """The file with a unit's options, behind an error in them; nothing if no unit started this."""
-    path = os.environ.get('E1GW_OPTIONS')
-    if not path:
-        return ''
-    return f'; its options are in {path}' if os.path.exists(path) else f'; {path}, which has its options, is missing'
 
 
 def number(least: float, most: float, kind: type = int) -> Callable[[str], Any]:

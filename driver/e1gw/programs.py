@@ -9,8 +9,10 @@ PATIENCE = 5.0              # seconds for a program to say its version
 
 TOP = os.path.dirname(os.path.dirname(os.path.dirname(os.path.abspath(__file__))))
 
+HOST = 'host'
 SENDERS = {'any': 'datagrams of any sender are received (--senders any)',
-           'host': 'datagrams are received from the address of peer_host alone (--senders host)',
+           'first': 'datagrams are received from the address of the first one that a call accepted (--senders first)',
+           HOST: 'datagrams are received from the address of peer_host alone (--senders host)',
            'peer': 'datagrams are received from peer_host and peer_port alone (--senders peer)'}
 
 

@@ -6,10 +6,10 @@ import re
 from dataclasses import dataclass
 from typing import Any
 
+from .dahdi import SLOTS
 from .events import SlotsChange, SlotsChanged
 
 SAID = re.compile(r'slots (?:lost|found ([0-9]+))')
-SLOTS = 31                  # octets of a frame
 
 
 @dataclass(frozen=True)

@@ -5,7 +5,7 @@ import os
 import socket
 import tty
 
-from .faults import named
+from .fault_words import named
 
 
 class Stream:

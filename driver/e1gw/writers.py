@@ -5,6 +5,7 @@ import errno
 import os
 import sys
 import time
+from contextlib import suppress
 
 OPENS = 2.0                 # seconds in which somebody reads a FIFO
 
@@ -16,6 +17,17 @@ def write_all(file: int, octets: bytes) -> None:
             octets = octets[os.write(file, octets):]
         except BlockingIOError:
             time.sleep(0.02)
+
+
+def append_line(file: int, line: str) -> None:
+    """Appends a line to a file, or nothing of it. OSError if it cannot be."""
+    length = os.fstat(file).st_size
+    try:
+        write_all(file, f'{line}\n'.encode())
+    except OSError:
+        with suppress(OSError):         # (a FIFO has no length)
+            os.ftruncate(file, length)
+        raise
 
 
 def write_at(file: int, octets: bytes, place: int) -> None:
@@ -37,9 +49,9 @@ def put_file(path: str, octets: bytes, mode: int = 0o644, part: str = '.new', is
     os.replace(f'{path}{part}', path)
 
 
-def open_to_append(path: str) -> int:
-    """Opens a file behind what it has; a FIFO that nobody reads is waited for OPENS."""
-    until = time.monotonic() + OPENS
+def open_to_append(path: str, waits: bool = True) -> int:
+    """Opens a file behind what it has; a FIFO that nobody reads may be waited for OPENS."""
+    until = time.monotonic() + OPENS * waits
     while True:
         try:
             flags = os.O_WRONLY | os.O_CREAT | os.O_APPEND | os.O_CLOEXEC | os.O_NOCTTY | os.O_NONBLOCK

@@ -194,10 +194,6 @@ class ServiceCase(support.LoopCase):
 
 def plain(lines: list[str]) -> list[str]:
     """Lines of the journal: programs by their order, and no times that differ."""
-    text, pids = '\n'.join(lines), list[str]()
-    for pid in re.findall(r'\bprogram (\d+)', text):
-        if pid not in pids:
-            pids.append(pid)
-    for n, pid in enumerate(pids):
-        text = re.sub(rf'\b{pid}\b', 'ABCDEFGHIJ'[n], text)
-    return re.sub(r'\d+ ms(?!\))', 'T ms', text).split('\n')
+    text = re.sub(r'\d+ ms(?!\))', 'T ms', '\n'.join(lines))
+    pids = [*dict.fromkeys(re.findall(r'\bprogram (\d+)', text))]
+    return re.sub(r'\bprogram (\d+)', lambda found: f'program {"ABCDEFGHIJ"[pids.index(found[1])]}', text).split('\n')

@@ -22,6 +22,7 @@ from .manager import Manager
 from .support import SECONDS, octets_in
 from .world import trunk_command, words_of
 from e1gw.exchange import ACKNOWLEDGED, ANSWERED, SEIZED
+from e1gw.log_folder import HELD, RECORDS, STATES
 from e1gw.service.note import NoteFiles, ServiceNote, note_in
 from e1gw.service.sockets import name_of
 from e1gw.session import (FRAME, MULTIFRAME, Codec, Command, Kind, Packet, codec_record, command_record, packet_of,
@@ -29,6 +30,7 @@ from e1gw.session import (FRAME, MULTIFRAME, Codec, Command, Kind, Packet, codec
 from e1gw.testing.ports import free_ports
 from e1gw.testing.service import ask
 
+LOG = {HELD + name for name in (*STATES, *RECORDS)}     # the names of its descriptors at systemd
 NO_EFFECT = codec_record(1, Codec.G726_16, 1)    # no payload type of the codec: it is refused
 CIRCUITS = range(1, 31)
 GOES_ON = re.compile(r'program (\d+) (?:goes on|carries)(.*)')
@@ -353,7 +355,7 @@ class RestartedKeeperCase(KeeperCase):
     def settles(self) -> None:
         """Until systemd has the descriptors of the trunk and of thirty sockets, and what is noted is of now."""
         sockets = {name_of(('127.0.0.1', port)) for port in self.peers.circuits}
-        support.until(lambda: (note := self.noted()) and {*note.trunk.names} | sockets == {*self.manager.files})
+        support.until(lambda: (note := self.noted()) and {*note.trunk.names} | sockets | LOG == {*self.manager.files})
 
     def noted(self) -> ServiceNote | None:
         """What the service of now has noted, with a program that was up; None before that."""

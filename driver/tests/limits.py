@@ -19,7 +19,8 @@ TELLS = {'service.connection.PATIENCE': LONG}
 # Files of a ring are of a second there, and of each program: more of them are kept than of hours. What draws and what
 # keeps has its share of a loaded machine.
 STARTED: dict[str, Any] = {
-    'clock.STEADY': 0.0, 'service.decisions.TRIED': LONG, 'recording_ring.MOST_OWN': 1000,
+    'clock.STEADY': 0.0, 'holder.decisions.TRIED': LONG, 'holder.decisions.MOST_LINE_PAUSE': 0.01,
+    'recording_ring.MOST_OWN': 1000,
     **dict.fromkeys(('service.pages.put_behind', 'service.recordings.put_behind'), lambda *_: None)}
 LIMITS: dict[str, Any] = {
     'service.lifecycle.START': LONG, 'service.lifecycle.GRACE': LONG, 'service.lifecycle.RELOADED': LONG,

@@ -3,7 +3,7 @@ from __future__ import annotations
 
 import unittest
 
-from e1gw.service.log_folder import FolderReader, LogBegun, LogFiles, LogPiece, LogWriter, NoRoom
+from e1gw.log_folder import FolderReader, LogBegun, LogFiles, LogPiece, LogWriter, NoRoom
 from e1gw.session import MULTIFRAME, trunk_record
 
 

@@ -17,13 +17,13 @@ from unittest import mock
 
 from . import support
 from .properties import PropertyCase
-from e1gw import call_names
+from e1gw import call_names, log_folder
 from e1gw.calls import FIELDS
 from e1gw.counts import DatagramCounts
 from e1gw.events import Event, LineChanged
 from e1gw.lines import IN_CALL, Role, State
-from e1gw.service import log_folder, reader as readers, status as statuses
-from e1gw.service.log_folder import LogPair, LogWriter
+from e1gw.log_folder import LogPair, LogWriter
+from e1gw.service import reader as readers, status as statuses
 from e1gw.service.reader import ReadingNote
 from e1gw.service.status import OperatedTrunk, TrunkStatus
 from e1gw.session import CIRCUITS, MULTIFRAME, Command, trunk_record
@@ -50,7 +50,7 @@ ENDED_BY = {(Role.OUTGOING, State.SEIZED): 'not acknowledged', (Role.OUTGOING, S
             (Role.INCOMING, State.CLEAREDBACK): 'gateway'}
 
 
-class Died(Exception):
+class Died(BaseException):
     """The service was killed."""
 
 

@@ -162,7 +162,7 @@ class CompletionTests(unittest.TestCase):
     def test_words(self) -> None:
         for line, words in (('e1gw-tie --congestion ', 'clear-back wait'),
                             ('e1gw-tie --co', '--congestion --connect --control'),
-                            ('e1gw-trunk --senders ', 'any host peer'), ('e1gw-trunk --satop-f', '--satop-fill'),
+                            ('e1gw-trunk --senders ', 'any first host peer'), ('e1gw-trunk --satop-f', '--satop-fill'),
                             ('e1gw-config --role o', 'odd outgoing'), ('e1gw-picture --la', '--last'),
                             ('e1gw-ctl ./west cl', 'clear clear-back'), ('e1gw-ctl --all se', 'seize'),
                             ('e1gw-ctl ./west codec 3 g726-1', 'g726-16')):

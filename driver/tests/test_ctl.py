@@ -14,7 +14,7 @@ import threading
 import unittest
 from unittest import mock
 
-from . import support
+from . import limits, support
 from .limits import LONG
 from .test_texts import STATUS
 from e1gw import ctl, ctl_all
@@ -36,6 +36,15 @@ class CtlWordTests(unittest.TestCase):
             self.assertEqual(len(ctl.circuits_of(word)), circuits, word)
         for word in ('7,1,123456', '4,3-1', '4,-1'):        # (of which no circuit is meant)
             self.assertEqual(ctl.circuits_of(word), [word])
+
+    def test_limits(self) -> None:
+        """A command has longer than it may take: of a reload its program is asked, its names are looked up, and it is
+        checked twice, on the log, and twice for the calls of now, before a program follows."""
+        last = {name.removeprefix('service.'): limit for name, limit in limits.USUAL.items()}
+        self.assertGreater(ctl_all.LIMITS['reload'], last['programs.PATIENCE'] + last['version.LOOK_UP'] +
+                           5 * last['version.CHECK'] + last['reload.PATIENCE'])
+        for word in 'promote', 'demote', 'move':
+            self.assertGreater(ctl_all.LIMITS[word], last['pair.PATIENCE'] + last['feed.PATIENCE'])
 
     def test_paths(self) -> None:
         """The name of a trunk, unless it has a / or is that of a socket here."""
@@ -155,12 +164,23 @@ class CtlAnswerTests(support.FolderCase):
         """Nobody is waited for longer than that: to be let in, or for an answer."""
         for trunk in self.trunks.values():
             trunk.answers['seize 9'] = ''
+        why = 'control: no answer within 0.05 s, it may still be done'
         status, told, _ = self.ctl('--all', 'seize', '9', patience=0.05)
-        self.assertEqual((status, [line[-9:] for line in told]), (1, ['timed out'] * 2))
+        self.assertEqual((status, [line[-len(why):] for line in told]), (1, [why] * 2))
+        status, told, said = self.ctl('west', 'seize', '9', patience=0.05)
+        self.assertEqual((status, told, said[-len(why) - 1:]), (1, [], f'{why}\n'))
         with support.listening(self.path('full')), contextlib.ExitStack() as waiting:
             with self.assertRaises(BlockingIOError):
                 for _ in range(9):
                     waiting.enter_context(ctl_all.connected(self.path('full'), 0.05))
+
+    def test_what_takes_longer(self) -> None:
+        for trunk in self.trunks.values():
+            trunk.answers['reload'] = ''
+        with mock.patch.dict(ctl_all.LIMITS, reload=0.15):
+            for words, told in (('--all reload', 'east: '), ('west reload', '')):
+                status, lines, said = self.ctl(*words.split(), patience=0.05)
+                self.assertEqual((status, 'no answer within 0.15 s' in ''.join([*lines, said])), (1, True), told)
 
     def test_calls(self) -> None:
         """Those that have ended, of a file and the one before it, whose last line may be torn, and then those that go

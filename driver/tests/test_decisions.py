@@ -9,9 +9,10 @@ from types import SimpleNamespace
 from typing import Iterator
 
 from . import support
-from e1gw.service.decisions import (DEATHS, FIRST_PAUSE, MOST_DEATHS, MOST_ENDED, MOST_PAUSE, QUIET, TRIED, WITHIN, Act,
-                                    Deaths, Failures, Flow, FlowChange, Found, NextStep, ProgramEnd, ProgramFault,
-                                    ReloadEffects, Takeover, Trial, Wish, after_end, takeover_of, who_goes)
+from e1gw.holder.decisions import (DEATHS, FIRST_PAUSE, MOST_DEATHS, MOST_PAUSE, TRIED, WITHIN, Deaths, Trial)
+from e1gw.service.decisions import (QUIET, Act, Failures, Flow, FlowChange, Found, NextStep, ProgramEnd, ProgramFault,
+                                    Takeover, Wish, after_end, takeover_of, who_goes)
+from e1gw.trial import MOST_ENDED, ReloadEffects
 
 OFTEN = Deaths((1.0, 1.1, 1.2, 1.3), 0.0, DEATHS - 1)       # one more at 1.4 waits; a crash is one too many
 
@@ -31,7 +32,8 @@ class AfterEndTests(unittest.TestCase):
         for end in ends():
             step = after_end(end)
             self.assertEqual(step.act, self.wanted(end), end)
-            is_death = step.act is Act.START and not (end.is_well and end.wish is not Wish.NONE and end.was_up)
+            is_death = step.act in (Act.TAKE_LOG, Act.MOVE_LOG) or step.act is Act.START and not (
+                end.is_well and end.wish is not Wish.NONE and end.was_up)
             self.assertEqual(step.pause, FIRST_PAUSE if is_death else 0.0, end)
             is_counted = is_death or step.act is Act.GO_BACK and end.was_up or \
                 step.act is Act.NEW_LOG and end.fault is not ProgramFault.LOG_LOST
@@ -50,6 +52,7 @@ class AfterEndTests(unittest.TestCase):
             (not end.was_up and end.is_first, Act.FINISH),
             (end.was_up and is_asked, Act.START),
             (end.was_up and end.is_trunk_over, Act.REOPEN if end.reopens else Act.FINISH),
+            (not end.was_up and end.fault is ProgramFault.LOG_WRITE, Act.MOVE_LOG),
             (last_chance, Act.GO_BACK), (not end.was_up and end.is_crash, Act.NEW_LOG), (True, Act.START))
         return next(act for holds, act in rules if holds)
 
@@ -154,8 +157,11 @@ class DecisionTests(unittest.TestCase):
         self.assertEqual(Flow(7, 51.0, None, 1).seen(8, 99.0, True), (Flow(8, 99.0, None, 1), None))
 
     def test_who_goes(self) -> None:
-        """The one idle for longest; one that follows events only if all do."""
-        idle, busy, follows, old = (SimpleNamespace(follows=its, last=last) for its, last in (
-            (False, 5.0), (False, 9.0), (True, 1.0), (True, 0.0)))
-        for clients, gone in (([busy, idle, follows, old], idle), ([follows, busy], busy), ([follows, old], old)):
+        """The one idle for longest; one that follows events behind the others, and one that holds calls last."""
+        idle, busy, follows, old, holds, front = (
+            SimpleNamespace(follows=its, last=last, holds=are_held) for its, last, are_held in (
+                (False, 5.0, False), (False, 9.0, False), (True, 1.0, False), (True, 0.0, False), (False, 0.0, True),
+                (True, 0.0, True)))
+        for clients, gone in (([busy, idle, follows, old], idle), ([follows, busy], busy), ([follows, old], old),
+                              ([holds, follows], follows), ([front, busy, holds], busy), ([front, holds], holds)):
             self.assertIs(who_goes(clients), gone)

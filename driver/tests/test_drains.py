@@ -5,6 +5,7 @@ from __future__ import annotations
 
 import asyncio
 import json
+import os
 import signal
 import unittest
 from collections import deque
@@ -232,6 +233,9 @@ class KeptTests(support.FolderCase, unittest.IsolatedAsyncioTestCase):
         told = await asyncio.gather(*(kept.put(Drains().taken(range(1, n))) for n in (3, 31, 5)))
         self.assertEqual((told, json.loads(support.text_of(self.path('drains')))), ([''] * 3, [1, 2, 3, 4]))
         self.assertEqual([*KeptDrains(self.path('drains')).now.circuits], [1, 2, 3, 4])
+        with mock.patch.object(os, 'fsync') as synced:
+            await kept.put(Drains())
+        self.assertTrue(synced.called, 'a crash of the machine empties the file')
         for octets in (b'', b'7', b'{"1": 2}', b'[1', b'[31, "a"]', b'\xff'):
             with mock.patch('e1gw.service.drains.logger'):
                 self.assertEqual(KeptDrains(self.write('bad', octets)).now.circuits, {}, octets)

@@ -27,7 +27,7 @@ from e1gw.service.drains import Drains, KeptDrains
 from e1gw.service.feed import BACK, CARRIES, LENGTH, MARK, MOST_PIECE, PIECE, STATE, TAKES, FeedServer
 from e1gw.service.handover import CannotBegin
 from e1gw.service.lifecycle import GRACE
-from e1gw.service.log_folder import STATE_ROOM, LogPair
+from e1gw.log_folder import STATE_ROOM, LogPair
 from e1gw.service.missed import passed
 from e1gw.service.pair import TrunkPair, open_pair
 from e1gw.service.program import TrunkProgram
@@ -299,7 +299,7 @@ class PairRoleTests(unittest.IsolatedAsyncioTestCase):
             with self.assertLogs('e1gw.service.pair') as told:
                 its = await open_pair(asked, self.carrier, mock.Mock(is_active=True))
         self.assertRegex(told.records[0].getMessage(), taken)
-        self.assertEqual((refused.exception.status, its and its.is_active), (2, True))
+        self.assertEqual((refused.exception.status, its and its.is_active), (1, True))
         await open_pair(asked, self.carrier, None)
         _, writer = await asyncio.open_connection(HOST, port)
         writer.close()

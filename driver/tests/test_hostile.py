@@ -23,7 +23,7 @@ from e1gw.service import trunk
 from e1gw.service.commands import MOST_CLIENTS
 from e1gw.service.pages import MOST_READERS, MOST_VISITORS
 from e1gw.service.handover import CannotBegin
-from e1gw.service.log_folder import RECORDS_ROOM, LogFiles
+from e1gw.log_folder import RECORDS_ROOM, LogFiles
 from e1gw.service.service import make_own
 from e1gw.testing.service import ask
 from e1gw.tie.site import STRANGERS

@@ -9,8 +9,8 @@ from typing import Callable
 from unittest import mock
 
 from . import support
-from e1gw.service import log_folder
-from e1gw.service.log_folder import (HEAD_LEN, RECORDS, STATES, FolderReader, LogBegun, LogFiles, LogNews, LogPair,
+from e1gw import log_folder
+from e1gw.log_folder import (HEAD_LEN, RECORDS, STATES, FolderReader, LogBegun, LogFiles, LogNews, LogPair,
                                      LogPiece, LogState, LogTurn, LogWriter, NoRoom, head_of, holder_of)
 
 ROOM = 1 << 12              # octets of the files
@@ -283,6 +283,8 @@ class HolderTests(support.FolderCase):
         with subprocess.Popen(words, stdin=subprocess.PIPE, stdout=subprocess.PIPE) as process:
             assert process.stdin and process.stdout
             process.stdout.readline()
+            self.assertEqual(holder_of(self.folder), process.pid)
+            self.write('lock', '1')         # (another one had written its number there)
             self.assertEqual(holder_of(self.folder), process.pid)
             process.stdin.close()
             process.wait()

@@ -330,6 +330,26 @@ class ServiceSequenceRingTests(ServiceSequenceTests):
         self.each_file_replays()
 
 
+class GoneFolderTests(RestartedKeeperCase):
+    def test_gone_with_the_service(self) -> None:
+        """Systemd has the log: the program that lives ends, and the next one goes on with it; also if both died."""
+        self.begins()
+        for dies in False, True:
+            self.settles()
+            self.kill_keeper()
+            os.kill(self.program, signal.SIGKILL if dies else 0)
+            (folder,) = glob.glob(os.path.join(self.memory, '*'))
+            shutil.rmtree(folder)
+            self.again()
+            self.device.accept()
+            self.awaits('the service was killed')
+            self.goes_on()
+            self.step(20)
+        self.assertNotIn('begin anew', self.told())
+        self.as_uncut()
+        self.leaves_nothing()
+
+
 class RecordedRingTests(RecorderCase):
     def starts_ring(self, **around: str) -> None:
         self.starts('--session', self.path('ring'), '--keep', LONG, '--name', 'west', **around)

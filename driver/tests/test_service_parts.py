@@ -23,18 +23,18 @@ from e1gw import crc4
 from e1gw.calls import CallRecord, CallsNote
 from e1gw.crc4 import Crc4Note
 from e1gw.events import AlarmChanged, AlignmentLost
+from e1gw.holder.decisions import TRIED
 from e1gw.lines import Alignment
+from e1gw.log_folder import LogPair
+from e1gw.memory import in_memory
 from e1gw.service import connection, events, lifecycle, reload, trunk
 from e1gw.service.commands import unix_listener
 from e1gw.service.connection import NoAnswer, ProgramConnection
-from e1gw.service.decisions import TRIED, Wish
+from e1gw.service.decisions import Deaths, Wish
 from e1gw.service.journal import MOST, LineLimit
-from e1gw.service.handover import Handover, Left, Notifier, given_files, note_of, takes_up
+from e1gw.service.handover import Handover, Left, Notifier, given_files, takes_up
 from e1gw.service.lifecycle import TrunkCarrier, point
-from e1gw.service.log_folder import LogPair
-from e1gw.service.memory import in_memory
-from e1gw.service.note import NoteFiles, ServiceNote
-from e1gw.service.process import start_of
+from e1gw.service.note import NoteFiles, ServiceNote, note_in
 from e1gw.service.program import ProgramPlaces
 from e1gw.service.reader import ReadingNote
 from e1gw.service.recordings import RecordingNote
@@ -163,7 +163,7 @@ class LineLimitTests(unittest.TestCase):
         self.assertEqual([getattr(record, 'kind') for record in told.records], ['alarm'])
 
 
-class HandoverTests(support.FolderCase):
+class HandoverTests(support.FolderCase, unittest.IsolatedAsyncioTestCase):
     """What the next service is given."""
 
     def setUp(self) -> None:
@@ -174,8 +174,8 @@ class HandoverTests(support.FolderCase):
 
     def note(self, **other: Any) -> ServiceNote:
         return replace(ServiceNote(
-            opens=('x', None), pid=os.getpid(), started=start_of(os.getpid()), senders='any', program='0.1.0',
-            is_active=True, was_up=True, begun=3, read=ReadingNote(7, 5, 0, ((5, 1.5),)), lacking=(3,),
+            opens=('x', None), pid=os.getpid(), senders='any', program='0.1.0', is_active=True, was_up=True, begun=3,
+            read=ReadingNote(7, 5, 0, ((5, 1.5),)), lacking=(3,),
             trunk=trunk.TrunkFiles(trunk.LineOptions()).note(), recording=None, calls=None), **other)
 
     def test_descriptors(self) -> None:
@@ -236,7 +236,7 @@ class HandoverTests(support.FolderCase):
 
     def test_what_a_program_begins_with(self) -> None:
         """It is noted before that begins: its service may be killed behind that. So are the ports that it lacks."""
-        noted, reader, (free,) = list[ServiceNote](), mock.Mock(octets=77), free_ports(1)
+        noted, reader, (free,) = list[ServiceNote](), mock.Mock(octets=77, files={}), free_ports(1)
         reader.noted.return_value, reader.recording_note.return_value = ReadingNote(), None
         carrier = mock.Mock(status=None, program=None, reader=reader, pair=None, sockets=CircuitSockets(),
                             trunk=mock.Mock(files={}),
@@ -246,7 +246,7 @@ class HandoverTests(support.FolderCase):
         self.addCleanup(os.close, config)
         self.addCleanup(carrier.sockets.close)
         carrier.sockets.adopts(version, (3,))
-        TrunkCarrier.note(carrier)
+        TrunkCarrier._put_note(carrier)
         self.assertEqual((noted[0].begun, noted[0].lacking), (77, (3,)))
         self.assertEqual([carrier.sockets.look(version, now, True) for now in (1.0, 1.5, 2.5)], [True, False, False])
 
@@ -261,25 +261,21 @@ class HandoverTests(support.FolderCase):
         self.assertAlmostEqual(carrier.silent, 98.5)
 
     def test_note(self) -> None:
-        """It is of a service that is no more, and of the same trunk; what is no note of this version is none."""
-        handover, opens = Handover(self.folder, Notifier(), {}), ('x', None)
+        """What is no note of this version is none."""
+        handover = Handover(self.folder, Notifier(), {})
         counts = Crc4Note({'errored': 3}, None, {})
         line = replace(self.note().trunk, names=('near', 'far'), crc4=counts, satop=SatopNote(('a', 'b'), 7, '', 8, 9))
         ring = RecordingNote('/kept', 3600, '', (('west-1', 0), ('west-2', 99)), 'west-2', 99, 1000, 500, 7)
         calls = CallsNote(7, 8.5, {3: ('idle', 9, 4.5)}, (CallRecord(3, None, 1), CallRecord(4, 1.5, 0, 2.5, number=7)),
                           {3: {'sent': 5}}, ('a line',))
-        for note in (self.note(opens=opens),
-                     self.note(trunk=line, recording=ring, read=ReadingNote(1 << 60), calls=calls)):
+        for note in (self.note(), self.note(trunk=line, recording=ring, read=ReadingNote(1 << 60), calls=calls)):
             handover.put(note, {})
-            self.assertEqual(note_of(self.folder, opens), note)
-        self.assertIsNone(note_of(self.folder, ('y', None)))
-        with mock.patch('os.getpid', lambda: 1):
-            self.assertIsNone(note_of(self.folder, opens))      # (it is there)
+            self.assertEqual(note_in(NoteFiles(self.folder).read()), note)
         text = note.text()
         for octets in (text[:40], text.replace(b'"version": 1', b'"version": 2'), text.replace(b'true', b'"yes"'),
                        text.replace(b'"place": ', b'"plaice": '), text.replace(b'99]', b'99, 1]'), b'[]', b'7'):
             NoteFiles(self.folder).put(octets)
-            self.assertIsNone(note_of(self.folder, opens), octets)
+            self.assertIsNone(note_in(NoteFiles(self.folder).read()), octets)
 
     def test_a_note_that_is_torn(self) -> None:
         """The one before it is whole: they are written in turn. What is there is not written again."""
@@ -299,25 +295,27 @@ class HandoverTests(support.FolderCase):
         self.assertEqual(NoteFiles(self.folder).read(), b'')
 
     def test_another_program_for_what_is_gone(self) -> None:
-        """Once a minute at most; at once for a port that is free again."""
-        carrier, program, wishes = mock.Mock(_due=0.0, _noted=(200.0, None)), mock.Mock(), list[Wish]()
+        """Soon: a death meanwhile would end calls. If it is gone again and again there are pauses, as behind deaths. At
+        once for a port that is free again."""
+        carrier = mock.Mock(_due=0.0, _noted=(200.0, None), _renewals=Deaths())
+        program, wishes = mock.Mock(), list[Wish]()
         program.process.over.is_set.return_value, carrier.want = False, lambda wish: setattr(carrier, 'wish', wish)
         carrier.trunk.note.return_value, carrier.sockets.look.return_value = None, False
-        for now in 100.0, 130.0, 159.0, 160.0, 161.0:
-            carrier.wish, carrier.sockets.look.return_value = Wish.NONE, now > 160
+        for now in 100.0, 100.25, 100.5, 100.75, 101.0, 101.25, 101.5, 101.75:
+            carrier.wish, carrier.sockets.look.return_value = Wish.NONE, now > 101.5
             with mock.patch.object(lifecycle, 'time', SimpleNamespace(monotonic=lambda: now)):
                 TrunkCarrier._look(carrier, program)
             wishes.append(carrier.wish)
-        self.assertEqual(wishes, [Wish.RENEW, Wish.NONE, Wish.NONE, Wish.RENEW, Wish.RENEW])
+        self.assertEqual(wishes, [*[Wish.RENEW] * 5, Wish.NONE, *[Wish.RENEW] * 2])
         carrier.note.assert_not_called()
 
-    def test_another_configuration(self) -> None:
+    async def test_another_configuration(self) -> None:
         """Of what is logged before it nothing is told again."""
-        carrier = mock.Mock(places=ProgramPlaces(self.folder), _gone=None)
+        carrier = mock.Mock(places=ProgramPlaces(self.folder), gone=None)
         for config, first in (b'one', 0), (b'one', 0), (b'two', 77):
             carrier.reader.first, carrier.reader.octets = 0, 77
             carrier.versions.now.config_octets.return_value = config
-            TrunkCarrier._make_folder(carrier)
+            await lifecycle.make_folder(carrier, mock.AsyncMock())
             self.assertEqual((carrier.reader.first, support.octets_of(self.path('config'))), (first, config))
 
 

@@ -6,10 +6,12 @@ import glob
 import json
 import os
 import re
+import shutil
 import signal
 import socket
-from functools import partialmethod
-from typing import Any
+from contextlib import closing, nullcontext
+from functools import partial, partialmethod
+from typing import Any, Callable
 from unittest import mock
 
 from . import support
@@ -17,14 +19,18 @@ from .in_process import ServiceCase, plain
 from .support import SECONDS
 from .world import words_of
 from e1gw import writers
-from e1gw.service import decisions, lifecycle, service, version
-from e1gw.service.decisions import Takeover
-from e1gw.service.handover import Left, version_for
-from e1gw.service.log_folder import LogPair
+from e1gw.holder import decisions
+from e1gw.log_folder import LogFiles, LogPair, LogWriter
+from e1gw.service import handover, lifecycle, service, version
+from e1gw.service.commands import MOST_CLIENTS
+from e1gw.service.decisions import Takeover, Wish
+from e1gw.service.handover import CannotBegin, Left, version_for
+from e1gw.service.lifecycle import TrunkCarrier
 from e1gw.service.note import NoteFiles, note_in
 from e1gw.service.options import wants_of
 from e1gw.service.program import ProgramPlaces
-from e1gw.service.version import ProgramVersion, version_of_now
+from e1gw.service.reader import LogReader
+from e1gw.service.version import ProgramVersion, version_left, version_of_now
 from e1gw.testing.ports import free_port, free_ports
 
 LOGGED = LogPair(1, 0, b'state', b'')
@@ -64,7 +70,7 @@ ENDS: dict[str, tuple[str, list[dict[str, Any]], list[str], int]] = {
         QUIT], 0),
     'a log in use': ('', [says('e1gw: the log x is in use by 7'), WAITS], [
         'program: e1gw: the log x is in use by 7',
-        'warning: the program says: e1gw: the log x is in use by 7: that one ends',
+        'warning: the program says: e1gw: the log x is in use by 7: another process has locked it',
         'notice: the program says: e1gw: the log x is in use by 7: program A carries the trunk', QUIT], 0),
     'one never comes up later': ('', [UP, says('log y wants 8 octets'), WAITS], [
         BEGINS, 'program: log y wants 8 octets',
@@ -83,6 +89,11 @@ ENDS: dict[str, tuple[str, list[dict[str, Any]], list[str], int]] = {
 
 
 class PlayedEndTests(ServiceCase):
+    def test_how_lines_are_made_plain(self) -> None:
+        """A process may have the number that a time has. (In a container they are small.)"""
+        self.assertEqual(plain(['program 23 goes on after 23 ms', 'program 7: 23']),
+                         ['program A goes on after T ms', 'program B: 23'])
+
     async def follows(self, options: str, plans: list[dict[str, Any]], lines: list[str], status: int) -> None:
         """What a row of the table says, of which there is a test each."""
         with mock.patch.object(decisions, 'WITHIN', SECONDS):       # (deaths go by no clock)
@@ -132,7 +143,9 @@ class PlayedEndTests(ServiceCase):
             self.begins('--state', state)
             await self.says('begins with what was saved: program')
             self.assertFalse(os.path.exists(state))
-            self.assertEqual((await self.ask('quit'), await self.task), ('quit: done', status))
+            with mock.patch.object(os, 'fsync') as synced:
+                self.assertEqual((await self.ask('quit'), await self.task), ('quit: done', status))
+            self.assertEqual(synced.call_count, int(not status), 'up to the disk, or a crash of the machine empties it')
             self.assertEqual(support.text_of(state) if os.path.exists(state) else '', kept)
         self.assertEqual(self.said()[-1], 'error: the state is not saved: no room')
 
@@ -275,11 +288,12 @@ class PlayedRefusalTests(PlayedRefusalCase):
                 (f'--control {taken}', 2, f'at {taken} another one listens'),
                 (f'--program-control {taken}', 2, f'--program-control {taken}: somebody listens there'),
                 (f'--tell {precious}', 2, f'--tell {precious}: somebody listens there, or something'),
-                (f'--http {place}', 2, f'cannot listen: --http {place}: Address already in use'),
-                (f'--config {none}', 2, f'{none}: No such file or directory'),
-                (f'--program {none}', 2, f'{none}: No such file or directory'),
                 ('--keep 1h', 2, '--keep wants --session; see e1gw-trunk --help'),
                 # the unit tries these again
+                (f'--http {place}', 1, f'cannot listen: --http {place}: Address already in use'),
+                (f'--feed {place} --standby 127.0.0.1:9', 1, f'cannot listen: --feed {place}: '),
+                *((f'--{each} {path}', 1, why) for each in ('config', 'program') for path, why in (
+                    (none, f'{none}: No such file or directory'), (self.folder, f'{self.folder} is no file'))),
                 (f'--config {names}', 1, 'no.such.invalid: Name or service not known'),
                 (f'--unix {none}', 1, f'{lost}{none}: No such file or directory'),
                 (f'--tcp {away}', 1, f'{lost}{away}: Connection refused'),
@@ -340,21 +354,22 @@ class PlayedFailureTests(PlayedRefusalCase):
 class PlayedVersionTests(ServiceCase):
     """What a configuration is before a program has it."""
 
-    async def version(self, text: str, senders: str | None = None, path: str = '') -> ProgramVersion:
+    async def version(self, text: str, path: str = '') -> ProgramVersion:
         self.write('trunk.toml', text)
-        found = await version_of_now(self.path('e1gw'), path or self.config, senders, 300)
+        found = await version_of_now(self.path('e1gw'), path or self.config, 'host', 300)
         self.addCleanup(found.close)
         return found
 
     async def test_what_is_refused(self) -> None:
         os.mkfifo(self.path('fifo'))
         peer = support.config_text({3: {'local_port': 9, 'peer_port': 9, 'peer_host': '255.255.255.255'}})
-        for text, path, words in (('x = ' + '[' * 1200, '', 'the configuration is not understood: '),
-                                  ('#' * 65_537, '', 'the configuration has more than 65536 octets'),
-                                  ('', self.path('fifo'), f'{self.path("fifo")} is no file'),
-                                  (peer, '', 'circuit 3: peer_host 255.255.255.255 is the address of no machine')):
+        for text, words in (('x = ' + '[' * 1200, 'the configuration is not understood: '),
+                            ('#' * 65_537, 'the configuration has more than 65536 octets'),
+                            (peer, 'circuit 3: peer_host 255.255.255.255 is the address of no machine')):
             with self.subTest(words), self.assertRaisesRegex(version.VersionRefused, f'^{words}'):
-                await self.version(text, path=path)
+                await self.version(text)
+        with self.assertRaisesRegex(OSError, f'{self.path("fifo")} is no file$'):
+            await self.version('', path=self.path('fifo'))
         await self.version('#' * 65_536)
         self.plan(says('state 5 Config at 0'), what='check')
         with self.assertRaisesRegex(version.VersionRefused, '^state 5 Config at 0$') as refused:
@@ -362,19 +377,41 @@ class PlayedVersionTests(ServiceCase):
         self.assertTrue(refused.exception.is_config)
 
     async def test_names_are_looked_up_once(self) -> None:
-        """No program has a name to look up. Whose datagrams are received follows from whether there are names."""
+        """No program has a name to look up."""
         found = [(socket.AF_INET6, 0, 0, '', ('::1', 0)), (socket.AF_INET, 0, 0, '', ('10.0.0.1', 0))]
         with mock.patch.object(asyncio.BaseEventLoop, 'getaddrinfo', mock.AsyncMock(return_value=found)):
-            for host, asked, address, senders in (
-                    ('west', None, '10.0.0.1', 'any'), ('10.0.0.2', None, '10.0.0.2', 'host'),
-                    ('west', 'host', '10.0.0.1', 'host'), ('10.0.0.2', 'any', '10.0.0.2', 'any')):
+            for host, address in ('west', '10.0.0.1'), ('10.0.0.2', '10.0.0.2'):
                 text = support.config_text({3: {'local_port': 9, 'peer_port': 9, 'peer_host': host}, 4: {}})
-                its = await self.version(text.replace('peer_host', '"peer_host"'), asked)
+                its = await self.version(text.replace('peer_host', '"peer_host"'))
                 text = its.config_octets().decode()
-                self.assertEqual((text.count('west'), text.count(f' = "{address}"'), its.senders, its.name),
-                                 (0, 1, senders, '7.7'))
+                self.assertEqual((text.count('west'), text.count(f' = "{address}"'), its.name), (0, 1, '7.7'))
         words = self.starts('check')[-1]
-        self.assertEqual((len(self.starts('check')), words[words.index('--seizure-wait') + 1]), (6, '300'))
+        self.assertEqual((len(self.starts('check')), words[words.index('--seizure-wait') + 1]), (3, '300'))
+
+    async def test_whose_datagrams_are_received(self) -> None:
+        """Those of peer_host unless another word was asked for, whether that is a name or not. The journal says at each
+        start which it is, and when that of the next program differs; the status has it."""
+        words = {each: f'datagrams {text}' for each, text in (
+            ('any', 'of any sender are received (--senders any)'),
+            ('host', 'are received from the address of peer_host alone (--senders host)'))}
+        self.begins('--senders', 'any')
+        await self.says('carries')
+        file = await self.until(lambda: self.manager.files.get('line-in'))
+        await self.dies()
+        with mock.patch.dict(os.environ, {'E1GW_NUMBERS': json.dumps({'line-in': os.dup(file)})}):
+            self.begins()
+            await self.says('killed; program')
+        told = [json.loads(await self.ask('status json'))['senders']]
+        for host in '127.0.0.1', 'localhost':
+            self.write('trunk.toml', support.config_text({1: {'local_port': free_port(kind=socket.SOCK_DGRAM),
+                                                              'peer_port': 9, 'peer_host': host}}))
+            self.assertEqual(await self.ask('reload'), 'reload: done')
+            told.append(json.loads(await self.ask('status json'))['senders'])
+        self.assertEqual(told, ['any', 'host', 'host'])
+        self.assertEqual([each[each.index('--senders') + 1] for each in self.starts()], ['any', 'host', 'host'])
+        self.assertEqual([each.getMessage() for each in self.records if each.name == version.__name__],
+                         [words['any'], words['any'], words['host']])
+        await self.ends()
 
 
 class PlayedWatchTests(ServiceCase):
@@ -398,6 +435,43 @@ class PlayedWatchTests(ServiceCase):
         status = json.loads(await self.ask('status json'))
         self.assertEqual(status['commands'], [{'command': 'codec', 'answer': 'done', 'count': 1},
                                               {'command': 'seize', 'answer': 'done', 'count': 2}])
+        await self.ends()
+
+    async def test_more_clients_than_there_is_room_for(self) -> None:
+        """Who holds calls stays, and who gives way is told why."""
+        self.begins()
+        await self.says('carries')
+
+        async def connected(said: bytes) -> tuple[asyncio.StreamReader, asyncio.StreamWriter]:
+            """One who has an answer."""
+            reader, writer = await asyncio.open_unix_connection(self.control)
+            self.addCleanup(writer.close)
+            writer.write(said)
+            await reader.readuntil(b'\n\n')
+            return reader, writer
+        front, asks = await connected(b'on-loss clear 0\n')
+        idle, _ = await connected(b'role\n')
+        first, *others = [await connected(b'events\n') for _ in range(MOST_CLIENTS)]
+        why = 'another client has come, and 64 are the most'
+        self.assertEqual((await idle.read()).decode(), f'closed: {why}\n')
+        told = json.loads((await first[0].read()).splitlines()[-1])
+        self.assertEqual((told['event'], told['what'], told['why']), ('ended', 'control', why))
+        asks.write(b'role\n')
+        self.assertEqual(await front.readline(), b'role: there is no other machine (--feed, --standby)\n')
+        for _, writer in others:
+            writer.close()
+        await self.ends()
+
+    async def test_a_line_that_is_cut(self) -> None:
+        """It is none: `clear 1` may have been to be `clear 12`."""
+        self.begins()
+        await self.says('carries')
+        reader, writer = await asyncio.open_unix_connection(self.control)
+        self.addCleanup(writer.close)
+        writer.write(b'undrain 1\ndrain 1')
+        writer.write_eof()
+        self.assertEqual(await reader.read(), b'undrain 1: not blocked\n\n')
+        self.assertEqual(json.loads(await self.ask('status json'))['circuits'][0]['drain'], None)
         await self.ends()
 
     async def test_what_is_noted(self) -> None:
@@ -508,6 +582,12 @@ class PlayedPairTests(ServiceCase):
         await self.ends()
 
 
+def left_as_it_is(*words: Any) -> ProgramVersion:
+    """The version of a program that is played, which Python executes."""
+    program, config, senders, name, wait, _ = words
+    return version_left(program, config, senders, name, wait, 0)
+
+
 class PlayedTakeoverTests(ServiceCase):
     """A service that was killed, and the next one."""
 
@@ -537,6 +617,101 @@ class PlayedTakeoverTests(ServiceCase):
                 self.assertEqual(len(self.starts()), 1 + line.count('B'))
                 await asyncio.to_thread(self.manager.forget)
 
+    async def test_a_log_that_is_gone_with_the_service(self) -> None:
+        """A program that lives is never left beside another one. It goes on until the next has its log, which systemd
+        has held; it ends if nobody has that."""
+        anew, goes = (f'the service was killed: program A {does}' for does in ('carries the trunk', 'goes on'))
+        for gone, is_held, lines in (
+                ('log', True, ['the service was killed; program A goes on',
+                               f'{Wish.RENEW.value}: program B goes on']),
+                ('', True, [goes]), ('', False, [anew])):
+            with self.subTest(gone, held=is_held):
+                self.write('starts', '')
+                self.begins()
+                await self.says('carries')
+                (folder,) = glob.glob(self.path('run/*'))
+                with closing(LogWriter(f'{folder}/log')) as log:
+                    log.begin(0, b'state', b'')
+                its = await self.until(lambda: 'log-records.1' in self.manager.files and {**self.manager.files})
+                numbers = json.dumps({name: os.dup(file) for name, file in its.items()} if is_held else {})
+                await self.dies()
+                shutil.rmtree(os.path.join(folder, gone))
+                self.records.clear()
+                with mock.patch.dict(os.environ, {'E1GW_NUMBERS': numbers}), \
+                        mock.patch.object(handover, 'version_left', left_as_it_is):
+                    self.begins()
+                    await self.until(lambda: len(self.starts()) == 2)
+                    await self.says(f'program {self.starts()[1][1]}')
+                said = [line.partition(' after')[0].removeprefix('notice: ') for line in plain(self.said())]
+                self.assertEqual((said, words_of(self.starts()[0][1])), (lines, []))
+                with closing(LogFiles(f'{folder}/log')) if is_held else nullcontext() as files:
+                    self.assertEqual(files and files.last(), LogPair(2, 0, b'state', b'') if is_held else None)
+                await self.ends()
+                await asyncio.to_thread(self.manager.forget)
+
+    async def test_a_report_that_fails(self) -> None:
+        """It is told, and the next program starts all the same."""
+        self.begins()
+        await self.says('carries')
+        for owner, name in ((LogReader, 'look'), (LogReader, 'copied'), (LogReader, 'noted'),
+                            (TrunkCarrier, '_pass_on')):
+            with self.subTest(name), mock.patch.object(owner, name, side_effect=OSError(5, 'Input/output error')):
+                self.records.clear()
+                os.kill(self.starts()[-1][1], signal.SIGKILL)
+                await self.says('goes on after')
+                self.assertTrue(any('goes on: OSError' in each.getMessage() for each in self.records))
+                self.assertFalse(any('the service goes on' in each.getMessage() for each in self.records))
+        await self.ends()
+
+    async def test_options_that_were_edited(self) -> None:
+        """The program is taken up, and another one has them on the same log. What is opened otherwise is opened again,
+        once what was open is closed."""
+        for options, is_opened_again in (('--align', '--crc4', '--repeat', '3'), False), (('--clear',), True):
+            self.write('starts', '')
+            self.begins()
+            await self.says('carries')
+            file = await self.until(lambda: self.manager.files.get('line-in'))
+            before, numbers = os.fstat(file).st_ino, json.dumps({'line-in': os.dup(file)})
+            await self.dies()
+            self.records.clear()
+            with mock.patch.dict(os.environ, {'E1GW_NUMBERS': numbers}), \
+                    mock.patch.object(handover, 'version_left', left_as_it_is):
+                self.begins(*options)
+                await self.until(lambda: len(self.starts()) == 2)
+                await self.says(f'program {self.starts()[1][1]}')
+            (_, old, *first), (_, new, *then) = self.starts()
+            self.assertEqual((words_of(old), '--repeat' in then, '--slots' in then, then[then.index('--log'):][:2]),
+                             ([], not is_opened_again, is_opened_again, first[first.index('--log'):][:2]))
+            lines = ['the service was killed: program A carries the trunk'] if is_opened_again else [
+                'the service was killed; program A goes on', 'it has other options: program B goes on after T ms']
+            self.assertEqual(plain(self.said()), [f'notice: {line}' for line in lines])
+            ends = {os.fstat(each).st_ino for each in self.manager.files.values()}
+            self.assertEqual(before in ends, not is_opened_again)
+            await self.ends()
+
+    async def test_the_same_command_again(self) -> None:
+        """It is refused while the first one is there, also of a trunk that can be opened twice, and touches nothing;
+        also if the folder was removed meanwhile and made again. A unit tries again."""
+        for trunk in (), ('--in', '/dev/zero', '--out', '/dev/null'):
+            self.begins(*trunk)
+            await self.says('carries')
+            asked = service.parser().parse_args(self.words('--control', self.control, *trunk))
+            folder = (wants := wants_of(asked)).folder
+            for is_new in False, True:
+                if is_new:
+                    os.rename(folder, self.path('gone'))
+                    shutil.rmtree(self.path('gone'))
+                    await self.says('is to be had again: program')
+                    await self.until(lambda: len(os.listdir(folder)) > 7)       # (what is noted)
+                before = sorted(os.listdir(folder)), len(self.starts())
+                for manager, status in (self.manager.path, 1), ('', 2):
+                    with mock.patch.dict(os.environ, {'NOTIFY_SOCKET': manager}), self.assertRaisesRegex(
+                            CannotBegin, f'^process {os.getpid()} carries this trunk') as refused:
+                        await service.serve(asked, wants)
+                    self.assertEqual(refused.exception.status, status)
+                self.assertEqual((sorted(os.listdir(folder)), len(self.starts())), before)
+            await self.ends()
+
     async def test_names_while_calls_wait(self) -> None:
         """A name server that is away is not waited for long: the next program has the addresses of the one before."""
         places, before = ProgramPlaces(self.path('run')), b'# of the program before\n'
@@ -551,6 +726,25 @@ class PlayedTakeoverTests(ServiceCase):
         self.assertEqual(found.config_octets(), before)
         self.assertTrue(self.records[-1].getMessage().endswith(': the configuration of the program before goes on'))
 
+    async def test_files_that_are_away_while_calls_wait(self) -> None:
+        """Those of the program before do, if they are there; else it is tried again, and no service is the last one."""
+        places, left = ProgramPlaces(self.path('run')), Left(None, {}, 0, LOGGED)
+        self.write('run/config', '# before\n')
+        wants = wants_of(service.parser().parse_args(self.words()))
+        acts: tuple[tuple[Callable[[str], None], str, str], ...] = (
+            (partial(os.chmod, mode=0o644), self.path('e1gw'), ': Permission denied'),
+            (os.unlink, self.config, ': No such file or directory'), (os.mkdir, self.config, ' is no file'))
+        for does, path, words in acts:
+            does(path)
+            found = await version_for(wants, places, left, Takeover.START)
+            self.addCleanup(found.close)
+            self.assertEqual(found.config_octets(), b'# before\n')
+            self.assertEqual(self.records[-1].getMessage(),
+                             f'{path}{words}: the configuration of the program before goes on')
+        os.unlink(self.path('e1gw'))
+        with self.assertRaisesRegex(FileNotFoundError, 'e1gw'):
+            await version_for(wants, places, left, Takeover.START)
+
     async def test_what_systemd_is_told(self) -> None:
         self.begins()
         await self.says('carries')
@@ -562,4 +756,29 @@ class PlayedTakeoverTests(ServiceCase):
         self.assertEqual(self.manager.files, {})
         self.assertIn('WATCHDOG', told)
         self.assertEqual([word for word in told if word != 'WATCHDOG'],
-                         ['READY', 'STATUS', 'RELOADING', 'MONOTONIC_USEC', 'READY', 'STATUS', 'STOPPING'])
+                         ['READY', 'STATUS', 'RELOADING', 'MONOTONIC_USEC', 'READY', 'STATUS', 'READY', 'STOPPING'])
+
+    async def test_each_reload_is_ready(self) -> None:
+        """Whatever comes of it, and where no program is: systemctl reload waited for ever."""
+        none, stands_by = self.path('none'), [('--feed', f'127.0.0.1:{port}', '--standby', '127.0.0.1:9')
+                                              for port in free_ports(2)]
+        refused, back = 'reload: refused, the trunk goes on as it was', 'reload: refused, the version before goes on'
+        rows: tuple[tuple[tuple[str, ...], list[dict[str, Any]], list[dict[str, Any]], str], ...] = (
+            ((), [WAITS, WAITS], [WAITS, WAITS, WAITS], 'reload: done'),
+            ((), [WAITS], [WAITS, says('config 2')], refused),
+            ((), [WAITS], [WAITS, new(3, 4, 5, 8), new()], refused),
+            ((), [WAITS, says('socket 1'), WAITS], [WAITS, new(), new()], back),
+            (('--in', none, '--out', none, '--reopen'), [], [], 'reload: done'),
+            (('--in', none, '--out', none, '--reopen'), [], [WAITS, says('config 2')], refused),
+            (stands_by[0], [], [], 'reload: done'), (stands_by[1], [], [WAITS, says('config 2')], refused))
+        for options, plans, checks, answer in rows:
+            with self.subTest(answer, options=options):
+                self.plan(*plans)
+                before = len(self.manager.told())
+                self.begins(*options)
+                await self.until(lambda: 'READY=1' in self.manager.told()[before:])
+                self.plan(*checks, what='check')
+                self.assertTrue((await self.ask('reload')).startswith(answer))
+                told = self.manager.told()[before:]
+                self.assertIn('READY=1', told[told.index('RELOADING=1'):])
+                await self.ends()

@@ -21,7 +21,7 @@ from .test_reports import BEGIN, row
 from e1gw.clock import TICK, ClockFinding
 from e1gw.counts import DatagramCounts
 from e1gw.service import reader, recordings, status
-from e1gw.service.log_folder import RECORDS, LogState
+from e1gw.log_folder import RECORDS, LogState
 from e1gw.service.reader import LogReader, ReadingNote
 from e1gw.service.recordings import RecordingNote, RecordingWants, TrunkRecording
 from e1gw.session import MULTIFRAME, OCTETS_A_SECOND

@@ -1,6 +1,7 @@
 """One process a trunk: what its options ask for, how processes end, and what a program lacks."""
 from __future__ import annotations
 
+import asyncio
 import io
 import os
 import signal
@@ -13,7 +14,7 @@ from . import support
 from .support import SECONDS
 from e1gw.service import program
 from e1gw.service.decisions import ProgramFault
-from e1gw.service.memory import give_back, given_back, in_memory, reserve, words_file
+from e1gw.memory import give_back, given_back, in_memory, reserve, words_file
 from e1gw.service.options import folder_of, opens_of, recording_of, wants_of, watched_of
 from e1gw.service.process import UNKNOWN, Child, ran, signal_words, start_of
 from e1gw.service.program import MOST_PATH, WORDS, ProgramPlaces, TrunkProgram
@@ -24,7 +25,7 @@ from e1gw.service.watch import WatchWants
 
 HERE = os.path.abspath('.')
 PLAIN: dict[str, Any] = {'control': None, 'tell': None, 'state': None, 'words': [], 'wait': 200, 'totals': False,
-                         'senders': None}
+                         'senders': 'host'}
 LINE: dict[str, Any] = {'crc4': False, 'clear': False, 'reopens': False}
 # Options, what is wanted of the program besides PLAIN, and of the trunk besides LINE.
 OPTIONS: list[tuple[str, dict[str, Any], dict[str, Any]]] = [
@@ -79,16 +80,16 @@ class OptionTests(unittest.TestCase):
             self.assertIn('/none/west.options, which has its options, is missing', told.getvalue())
 
     def test_the_folder(self) -> None:
-        """The same for each start of a trunk, and for no other one."""
-        trunks = ('--unix u', '--unix v', '--in u --out v', '--in v --out u', '--tcp a:1', '--unix u --align',
-                  '--unix u --crc4', '--unix u --clear', '--unix u --program-control p', '--satop a:1,b:2')
+        """The same for each start of a trunk, however its options were edited."""
+        trunks = ('--unix u', '--unix v', '--in u --out v', '--in v --out u', '--tcp a:1', '--unix u --clear',
+                  '--satop a:1,b:2')
         with mock.patch.dict(os.environ, {'RUNTIME_DIRECTORY': '/run/one:/run/two'}):
-            folders = [folder_of(self.asked(words)) for words in trunks]
-            self.assertEqual(folder_of(self.asked(f'--unix {HERE}/u --json j')), folders[0])
-            self.assertEqual(folder_of(self.asked('--unix u --folder /f'))[:3], '/f/')
-        self.assertEqual(len({*folders}), len(trunks))
-        self.assertTrue(folders[0].startswith(f'/run/one/west-{os.getuid()}-'))
-        self.assertEqual(opens_of(self.asked('--unix u --crc4')), (None, None, f'{HERE}/u', None, None, None, 'crc4'))
+            self.assertEqual({folder_of(self.asked(words)) for words in trunks}, {f'/run/one/west-{os.getuid()}'})
+            self.assertEqual(folder_of(self.asked('--unix u --folder /f --name east')), f'/f/east-{os.getuid()}')
+            self.assertEqual(folder_of(self.asked('--unix u --folder f')), f'{HERE}/f/west-{os.getuid()}')
+        self.assertEqual(len({opens_of(self.asked(words)) for words in trunks}), len(trunks))
+        self.assertEqual(opens_of(self.asked(f'--unix {HERE}/u --align --crc4 --program-control p')),
+                         opens_of(self.asked('--unix u')))
 
     def test_what_is_kept_and_seen(self) -> None:
         words = '--unix u --session s --keep 1h --name east --seizure-wait 300'
@@ -215,7 +216,17 @@ class ChildEndTests(unittest.IsolatedAsyncioTestCase):
         self.assertEqual(start_of(pid), when)
         os.kill(pid, signal.SIGSTOP)
         await its.over.wait()
-        self.assertEqual((its.status, its.words()), (UNKNOWN, 'ended'))
+        ended = (-9, 'ended by signal 9 (SIGKILL)') if os.getpid() == 1 else (UNKNOWN, 'ended')     # (1: a child)
+        self.assertEqual((its.status, its.words()), ended)
+
+    async def test_a_number_that_another_child_has(self) -> None:
+        """What had this number before is over. (As process 1 a service has all processes as children.)"""
+        child = Child.start('/bin/sh', ['sh', '-c', 'exec sleep 900'], 0, 1)
+        self.addCleanup(child.close)
+        self.assertTrue(Child(child.pid, child.started + 1).over.is_set())
+        self.assertFalse(child.over.is_set())
+        await child.kill()
+        self.assertEqual(child.status, -9)
 
 
 class ProgramFaultTests(support.FolderCase, unittest.IsolatedAsyncioTestCase):
@@ -224,7 +235,9 @@ class ProgramFaultTests(support.FolderCase, unittest.IsolatedAsyncioTestCase):
              ('socket 3', ProgramFault.NONE), ('', ProgramFault.NONE),
              ('e1gw: the log x is in use by 7', ProgramFault.LOG_IN_USE), ('state 4 Sum at 0', ProgramFault.LOG_LOST),
              ('e1gw: the log x has no state', ProgramFault.LOG_LOST), ('state x', ProgramFault.NONE),
-             ('e1gw: the log x wants 8 octets', ProgramFault.NO_ROOM), ('blog wants', ProgramFault.NONE))
+             ('e1gw: the log x wants 8 octets', ProgramFault.NO_ROOM), ('blog wants', ProgramFault.NONE),
+             ('cannot write the log of the trunk', ProgramFault.LOG_WRITE),
+             ('cannot open the log of the trunk', ProgramFault.LOG_WRITE))
 
     async def test_lines(self) -> None:
         """The first line of which something is known; and whether it has ended in order."""
@@ -251,6 +264,27 @@ class ProgramFaultTests(support.FolderCase, unittest.IsolatedAsyncioTestCase):
             os.unlink(self.path(name))
             self.assertTrue(its.lacks())
             self.write(name, '')
+
+    async def test_who_answers(self) -> None:
+        """None but the process that was started carries the trunk, whoever else listens there."""
+        places, other = ProgramPlaces(self.folder), Child(os.getppid())
+        listener = support.listening(places.control)
+        self.addCleanup(listener.close)
+        listener.listen(9)
+        listener.setblocking(False)
+
+        async def answers() -> None:
+            while True:
+                hello, _ = await loop.sock_accept(listener)
+                with hello, (await loop.sock_accept(listener))[0] as probe:
+                    await loop.sock_recv(probe, 4)
+                    probe.close()
+                    await loop.sock_recv(hello, 1)
+        loop = asyncio.get_running_loop()
+        self.addCleanup(asyncio.create_task(answers()).cancel)
+        for child, is_up in (other, False), (Child(os.getpid()), True):
+            its = TrunkProgram(ProgramVersion('e1gw', 0, 0, 'any'), places, child, -1, False)
+            self.assertIs(await its._answers(), is_up)
 
     def test_room_for_what_is_said(self) -> None:
         """A log that takes all room of a disk leaves that for why it does not fit; else it is said in memory."""

@@ -12,8 +12,8 @@ from unittest import mock
 
 from . import support
 from .keepers import CIRCUITS, GOES_ON, RestartedKeeperCase
-from e1gw.service.log_folder import LogFiles
-from e1gw.service.memory import in_memory, octets_in
+from e1gw.log_folder import LogFiles
+from e1gw.memory import in_memory, octets_in
 from e1gw.service.sockets import AGAIN, NAME, CircuitSockets, address_in, addresses_of, name_of
 from e1gw.service.version import ProgramVersion
 from e1gw.testing.ports import free_port, free_ports

@@ -15,7 +15,7 @@ from e1gw import ctl_all, metrics
 from e1gw.events import (AlarmChanged, Burst, CallsCleared, CardAlarm, CardAlarmChanged, CircuitsDrained, Connected,
                          Crc4Change, Crc4Changed, Disconnected, DrainNews, Event, Fed, Flows, LineChanged, NotFed,
                          RateChanged, RemoteAlarmChanged, RoleGiven, SatopChanged, Slip, SlotsChange, SlotsChanged,
-                         Stalled, TrunkLost, TrunkOpened, WatchEnded)
+                         LogLost, Stalled, TrunkLost, TrunkOpened, WatchEnded)
 from e1gw.faults import Parser, checked, named, number, options_words, words_of_fault, words_of_refusal
 from e1gw.lines import Alignment, Role, State
 from e1gw.session import CommandRefusal
@@ -246,6 +246,7 @@ class EventAndFaultTextTests(unittest.TestCase):
             (CardAlarmChanged(CardAlarm.RED, False), 'card: RED alarm over'),
             (SlotsChanged(SlotsChange.MOVED, 3), 'slots moved by 3: slot 16 found again, speech goes on'),
             (TrunkOpened('/dev/e1', {'waiting': 0}), 'trunk open: /dev/e1'), (TrunkLost('w'), 'trunk lost: w'),
+            (LogLost(), 'the log took no write: the next program goes on behind what it has'),
             (Connected('program'), 'connected to the program'),
             (Disconnected('program', 'w'), 'no connection to the program: w'),
             (Crc4Changed(Crc4Change.GIVEN_UP, True, 2),

@@ -20,7 +20,7 @@ from e1gw.session import CIRCUITS
 from e1gw.testing.ports import free_port
 from e1gw.tie.main import ANYBODY
 from e1gw.tie.messages import Greeting, Message, SiteState, encode_message, message_of
-from e1gw.tie.site import GONE, Reasons, Site, has_name, one_too_many
+from e1gw.tie.site import GONE, STRANGERS, Reasons, Site, has_name, one_too_many
 from e1gw.tie.tie import Tie, TieOptions
 from e1gw.tls import context_of
 
@@ -33,10 +33,15 @@ class SiteRuleTests(unittest.TestCase):
         self.assertEqual([reasons.is_told('3', at) for at in (66.9, 67.0, 68.0)], [False, True, False])
 
     def test_one_too_many(self) -> None:
-        """The oldest of the address that has most; of those that have as many, the oldest of all."""
-        self.assertIsNone(one_too_many({n: 'a' for n in range(7)}))
-        for addresses, last in (('abcdefgh', 0), ('abbcdefg', 1), ('abccabab', 0), ('abcdeffe', 4), ('aaabbbbc', 3)):
-            self.assertEqual(one_too_many(dict(enumerate(addresses))), last, addresses)
+        """The oldest of the address that has most; of those that have as many, the oldest of all. That of the site
+        stays."""
+        rest = [f'{n}' for n in range(STRANGERS - 8)]
+        self.assertIsNone(one_too_many(dict(enumerate([*rest, *'aaaaaaa'])), ''))
+        for addresses, known, last in (
+                ('abcdefgh', '', 0), ('abbcdefg', '', 1), ('abccabab', '', 0), ('abcdeffe', '', 4), ('aaabbbbc', '', 3),
+                ('abcdefgh', 'a', 1), ('aaabbbbc', 'b', 0), ('aaabbbbc', 'a', 3)):
+            self.assertEqual(one_too_many(dict(enumerate([*addresses, *rest])), known), last, addresses)
+        self.assertEqual(one_too_many(dict(enumerate('a' * STRANGERS)), 'a'), 0)
 
     def test_names(self) -> None:
         """A certificate is that of a host, by its name or its address."""
@@ -140,22 +145,34 @@ class SiteTests(SiteCase):
         self.assertEqual((west.told, west.others[-1]), (['a came', 'gone', 'a came', 'no keepalive'],
                                                         'another one is connected'))
 
-    async def test_eight_strangers(self) -> None:
-        """Of those who do not greet eight stay, for five seconds each, and none keeps the other site out."""
+    async def test_silent_strangers(self) -> None:
+        """Of those who do not greet 64 stay, for five seconds each, and none keeps the other site out."""
         west = await self.listens()
         clock = asyncio.get_running_loop().time
         began = clock()
         lines = list[tuple[asyncio.StreamReader, asyncio.StreamWriter]]()
-        for _ in range(4):              # (five come at once: more might find no place in the queue of those who come)
+        for _ in range(16):             # (five come at once: more might find no place in the queue of those who come)
             lines += await asyncio.gather(*(self.connected() for _ in range(5)))
         reads = [asyncio.create_task(reader.read()) for reader, _ in lines]
-        await self.until(lambda: sum(each.done() for each in reads) >= 12)
+        await self.until(lambda: sum(each.done() for each in reads) >= 16)
         self.assertLess(clock() - began, 4.5)
-        self.assertEqual(sum(each.done() for each in reads), 12)
+        self.assertEqual(sum(each.done() for each in reads), 16)
         self.end('east')
         await self.until(lambda: west.told)
         await self.until(lambda: all(each.done() for each in reads))
         self.assertLess(clock() - began, 7.5)
+
+    async def test_a_slow_handshake(self) -> None:
+        """The site is back while strangers from a hundred addresses come, before it has greeted."""
+        west, (_, its) = await self.listens(), self.end('east')
+        await self.until(lambda: west.told)
+        its.cancel()
+        await self.until(lambda: west.told[-1] == 'gone')
+        _, back = await self.connected()
+        for n in range(1, 101):
+            await self.connected(local_addr=(f'127.0.1.{n}', 0))
+        back.write(encode_message(Greeting('east', None)))
+        await self.until(lambda: west.told[-1] == 'east came')
 
     async def test_strangers_who_come_again(self) -> None:
         """Those of another address, who are there at once when they are closed, keep the other site out neither at its

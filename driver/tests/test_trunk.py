@@ -196,7 +196,7 @@ class OperatorTests(unittest.TestCase):
             follower, _ = connect(b'events\n', b'following\n\n')
             silent = [connect()[0] for _ in range(100)]
             self.assertIn('circuits are', world.ask('seize 31'))
-            self.assertEqual(silent[0].recv(1), b'')
+            self.assertTrue(silent[0].makefile('rb').read().startswith(b'closed: '))
             heard(follower, b'"command"')
             os.unlink(world.path('ctl'))
             support.until(lambda: os.path.exists(world.path('ctl')))
@@ -292,7 +292,7 @@ class FilterTests(unittest.TestCase):
     def test_the_program_dies_inside_a_multiframe(self) -> None:
         """The exchange keeps the alignment of frames and multiframes."""
         for options in (), ('--align',):
-            world = FilteredWorld(*options, within={'service.decisions.WITHIN': 0.0})
+            world = FilteredWorld(*options, within={'holder.decisions.WITHIN': 0.0})
             self.addCleanup(world.__exit__)
             call(aligned(world), 1)
             for count in 0, 77, 500:

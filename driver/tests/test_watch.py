@@ -2,6 +2,7 @@
 from __future__ import annotations
 
 import asyncio
+import json
 import logging
 import os
 import unittest
@@ -11,19 +12,24 @@ from unittest import mock
 
 from . import limits, support
 from .test_reports import BEGIN, counts, row
-from e1gw.calls import CallsNote
+from e1gw.call_names import CallNames
+from e1gw.calls import CallLog, CallsNote
 from e1gw.clock import ClockFinding
-from e1gw.events import Burst, CallsCleared, Event, FlowChanged, Flows, RateChanged, Slip, Stalled, WatchEnded
+from e1gw.events import (Burst, CallsCleared, Event, FlowChanged, Flows, RateChanged, ReadEvents, Slip, Stalled,
+                         WatchEnded)
 from e1gw.lines import Role, State
-from e1gw.service import decisions, status, trunk, watch
+from e1gw.resyncs import Resyncs
+from e1gw.service import decisions, events, status, trunk, watch
 from e1gw.service.commands import MOST_HELD, ControlPeer
+from e1gw.service.connection import ProgramConnection
 from e1gw.service.journal import NOTICE, LineFormatter
 from e1gw.service.missed import MissedReports
-from e1gw.service.pages import MOST_VISITORS, WebServer
+from e1gw.service.pages import MOST_VISITORS, TrunkPages, WebServer
 from e1gw.session import OCTETS_A_SECOND, Command, command_record
 
 
-FACTS: dict[str, Any] = {'since': 0.0, 'fault': '', 'version': '', 'carried': {}, 'pair': {}, 'session': None}
+FACTS: dict[str, Any] = {'since': 0.0, 'fault': '', 'version': '', 'senders': '', 'log_losses': 0, 'carried': {},
+                         'pair': {}, 'session': None}
 
 
 class TrunkWatchCase(support.LoopCase):
@@ -66,6 +72,25 @@ class WatchEdgeTests(TrunkWatchCase):
             await asyncio.sleep(0)
             self.assertEqual([record[:2] for record in self.given], given)
             self.assertEqual(found._values()['renewed'], len(given))
+
+    async def test_who_fails_when_told(self) -> None:
+        """It is reported where that was, the program is not blamed, and all others are told."""
+        change = '\n'.join([row(3, 'seized', '00 10'), 'command 3 1 0', counts(3, 1), 'alarms 1 0 0 0', ''])
+        for kind, what in ((CallLog, 'took'), (CallNames, 'look'), (ReadEvents, 'take'), (TrunkPages, 'changed'),
+                           (ProgramConnection, 'told'), (Resyncs, 'counted')):
+            with self.subTest(what), mock.patch.object(kind, what, side_effect=KeyError('odd')):
+                found = self.watched()
+                found.drains, follower = mock.Mock(), mock.Mock()
+                setattr(found.status, 'tell', found.tell)
+                setattr(found._server, 'followers', lambda: [follower])
+                found._lines.begin(0)
+                found._lines.take('\n'.join([*BEGIN, 'now', '']).encode())
+                with self.assertLogs('e1gw.service', 'DEBUG') as logs:
+                    found._lines.take(change.encode())
+                told = [json.loads(call.args[0])['event'] for call in follower.tell.mock_calls]
+                self.assertEqual(told, ['state', 'lost', 'alarm'])
+                self.assertIn("the watch of the trunk goes on: KeyError: 'odd' (", ''.join(logs.output))
+                self.assertTrue(any(each.exc_info for each in logs.records))
 
     async def test_refused_datagrams_restart_their_call(self) -> None:
         """By what the program tells of them."""
@@ -157,13 +182,23 @@ class WatchEdgeTests(TrunkWatchCase):
                 await found._listen('control')
         self.assertEqual([each.close.call_count for each in servers], [1, 0])
 
-    async def test_what_has_ended_is_told_once(self) -> None:
+    async def test_what_has_ended_and_goes_on(self) -> None:
         found = self.watched()
-        with mock.patch.object(found, 'tell') as tell:
-            for _ in range(2):
-                found.end_beside('json', 'no room')
+        with mock.patch.object(found, 'tell') as tell, self.assertLogs(watch.__name__) as logs:
+            for why in 'no room', None:
+                found.stands_beside('json', why)
+                self.assertEqual(found._values()['ended'], {'json': why, 'calls': None, 'session': None})
         tell.assert_called_once_with(WatchEnded('json', 'no room'))
-        self.assertEqual(found._values()['ended'], {'json': 'no room', 'calls': None, 'session': None})
+        self.assertEqual([each.getMessage() for each in logs.records], ['json: written again'])
+
+    async def test_lines_that_are_not_written_are_noted(self) -> None:
+        """Up to a thousand, the first ones."""
+        with mock.patch.object(events, 'append_line', side_effect=OSError(28, 'full')):
+            found = self.watched()
+            for number in range(1002):
+                found._put_call(f'{number}')
+            await self.until(lambda: found.ended['calls'])
+            self.assertEqual(found.status.waiting(), [f'{number}' for number in range(1000)])
 
     async def test_stalls(self) -> None:
         """They are counted; octets that are counted anew, by another machine, are no stall."""

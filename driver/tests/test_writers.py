@@ -1,6 +1,7 @@
 """Files of lines: places that cannot be written to, files that are moved away and full ones."""
 from __future__ import annotations
 
+import errno
 import os
 import threading
 from unittest import mock
@@ -9,7 +10,7 @@ from . import support
 from e1gw.calls import FIELDS, KEPT, MOST_OCTETS
 from e1gw.service import events
 from e1gw.service.events import EventFile
-from e1gw.writers import write_all
+from e1gw.writers import put_file, write_all
 
 
 class LineFileTests(support.FolderCase):
@@ -17,7 +18,7 @@ class LineFileTests(support.FolderCase):
         super().setUp()
         self.fifo = self.path('fifo')
         os.mkfifo(self.fifo)
-        self.ended: list[str] = []
+        self.ended: list[str | None] = []
 
     def test_a_fifo_that_somebody_reads_in_time(self) -> None:
         file = EventFile('json', self.fifo, lambda what, why: self.ended.append(why))
@@ -40,6 +41,13 @@ class LineFileTests(support.FolderCase):
         thread.join()
         os.close(writes)
 
+    def test_what_is_put_up_to_the_disk(self) -> None:
+        """It is there before it takes the place of what was."""
+        with mock.patch.multiple(os, fsync=(calls := mock.Mock()).fsync, replace=calls.replace):
+            put_file(self.path('state'), b'x')
+            put_file(self.path('state'), b'x', is_synced=True)
+        self.assertEqual([name for name, *_ in calls.mock_calls], ['replace', 'fsync', 'replace'])
+
     def test_a_place_that_cannot_be_had(self) -> None:
         for path, why in ((f'{self.fifo}/none', 'Not a directory'), ('/dev/full', 'No space left on device')):
             with self.subTest(path):
@@ -50,9 +58,72 @@ class LineFileTests(support.FolderCase):
                 self.assertEqual(self.ended, [f'{why}: {path}'])
                 file.close()
 
+    def test_a_disk_that_is_full_for_a_while(self) -> None:
+        """A line waits until it is written, whole and once; at the end it is tried once more."""
+        path, writes, is_full = self.path('calls'), os.write, False
+        ended, tried = list[str | None](), threading.Semaphore(0)
+
+        def write(file: int, octets: bytes) -> int:
+            """A full disk has room for a part of a line."""
+            if not is_full or octets == b'line 2\n':
+                return writes(file, octets[:3] if is_full else octets)
+            tried.release()
+            raise OSError(errno.ENOSPC, 'No space left on device')
+        with mock.patch.object(os, 'write', write), mock.patch.object(events, 'AGAIN', 0.01):
+            file = EventFile('calls', path, lambda name, why: ended.append(why), 'head')
+            file.put('line 1')
+            support.until(lambda: not file.waiting)
+            is_full = True
+            file.put('line 2')
+            file.put('line 3')
+            for _ in range(3):
+                tried.acquire()
+            support.until(lambda: support.text_of(path) == 'head\nline 1\n')
+            self.assertEqual(([*file.waiting], ended), (['line 2', 'line 3'], [f'No space left on device: {path}']))
+            is_full = False
+            support.until(lambda: not file.waiting)
+            self.assertEqual(support.text_of(path), 'head\nline 1\nline 2\nline 3\n')
+            self.assertEqual(ended[1:], [None])
+        with mock.patch.object(os, 'write', write):
+            is_full = True
+            file.put('line 4')
+            support.until(lambda: ended[2:])
+            file.close()
+        self.assertEqual(([*file.waiting], file._thread.is_alive()), (['line 4'], False))
+
+    def test_room_at_the_end(self) -> None:
+        """What has failed is tried once more."""
+        os.mkdir(path := self.path('calls'))
+        file = EventFile('calls', path, lambda what, why: self.ended.append(why), 'head')
+        file.put('line')
+        support.until(lambda: self.ended)
+        os.rmdir(path)
+        file.close()
+        self.assertEqual(support.text_of(path), 'head\nline\n')
+
+    def test_a_stream(self) -> None:
+        """One that is open already, as standard output; it stays so."""
+        reads, writes = os.pipe()
+        with open(reads, 'rb') as taken, open(writes, 'w', encoding='utf-8') as stream:
+            file = EventFile('json', stream, lambda what, why: self.ended.append(why))
+            file.put('line 1')
+            file.put('line 2')
+            self.assertEqual(taken.read(14), b'line 1\nline 2\n')
+            file.close()
+            self.assertEqual((stream.closed, self.ended), (False, []))
+
+    def test_one_that_takes_too_little(self) -> None:
+        """What there is no room for is not kept."""
+        with mock.patch.object(events, 'MOST_WAITING', 3):
+            file = EventFile('json', '/dev/full', lambda what, why: self.ended.append(why))
+            for number in range(5):
+                file.put(f'{number}')
+            self.assertEqual([*file.waiting], ['0', '1', '2'])
+            file.close()
+
     def test_a_file_that_is_moved_away(self) -> None:
         """Lines went on into it, or into one that nobody could read any more."""
-        ended: list[str] = []
+        ended: list[str | None] = []
         file = EventFile('calls', self.path('calls'), lambda name, why: ended.append(why), 'head')
         for number in range(3):
             file.put(f'line {number}')

@@ -4,8 +4,11 @@ from __future__ import annotations
 import random
 import socket
 import unittest
+from typing import Iterator
+from unittest import mock
 
 import paths    # noqa: F401 (makes e1gw known)
+from . import loaded
 from dahdi_far import Multiframes, with_slot_0, without_slot_0
 from dahdi_talk import HEAD, OCTETS, Comparison, Way, compare
 from e1gw.exchange import Exchange, is_multiframe
@@ -40,6 +43,20 @@ class ComparisonTests(unittest.TestCase):
 
     def test_missing_packets(self) -> None:
         self.assertEqual(self.compared(self.sent[:4 * OCTETS], [0, 1, 4, 5]).missing, 2)
+
+
+class CountTests(unittest.TestCase):
+    def test_a_time_that_has_ended(self) -> None:
+        """What has passed until then counts; what was not reached has failed."""
+        dahdi = loaded('dahdi')
+
+        def boot(*_: object) -> Iterator[str]:
+            yield 'passed one: 3 of 3'
+            raise dahdi.CannotBuild('not within 3 s')
+        with mock.patch.multiple(dahdi, boot=boot, machine_files=mock.Mock()), mock.patch('builtins.print') as told:
+            asked = dahdi.parser().parse_args(['--seconds', '3'])
+            self.assertEqual(dahdi.tried(asked, ['one', 'two', 'three'], {}), (1, 2))
+        self.assertIn(mock.call('dahdi: not within 3 s'), told.mock_calls)
 
 
 class MultiframeTests(unittest.TestCase):

@@ -33,9 +33,11 @@ import time
 from dataclasses import dataclass, field
 from typing import TYPE_CHECKING
 
+from ..events import WatchEnded
 from ..metrics import circuit_table
 from ..session import Codec, Command, circuit_of, circuits_of, codec_record
 from .decisions import who_goes
+from .events import json_line
 
 if TYPE_CHECKING:
     from .watch import TrunkWatch
@@ -43,6 +45,7 @@ if TYPE_CHECKING:
 MOST_LINE = 4096            # octets of a line
 MOST_CLIENTS = 64
 MOST_HELD = 256 << 10       # octets that wait for a client; one that takes less is closed
+FULL = f'another client has come, and {MOST_CLIENTS} are the most'
 
 COMMANDS = {command.word: command for command in Command}
 CODECS = {'pcma': Codec.G711, 'pcmu': Codec.G711} | {codec.word('A'): codec for codec in Codec}
@@ -57,6 +60,7 @@ class ControlPeer:
     """One who is connected to the control socket."""
 
     writer: asyncio.StreamWriter
+    holds: bool = False         # calls are cleared when he is gone
     follows: bool = False
     last: float = field(default_factory=time.monotonic)
 
@@ -66,6 +70,14 @@ class ControlPeer:
             self.writer.write(f'{line}\n'.encode())
             if self.writer.transport.get_write_buffer_size() > MOST_HELD:
                 self.writer.transport.abort()
+
+    def turn_away(self) -> None:
+        """Closes the connection for another client, and tells why, if that goes at once."""
+        self.tell(json_line(WatchEnded('control', FULL)) if self.follows else f'closed: {FULL}')
+        if self.writer.transport.get_write_buffer_size():
+            self.writer.transport.abort()
+        else:
+            self.writer.transport.close()
 
 
 class CommandServer:
@@ -83,10 +95,10 @@ class CommandServer:
         if len(self._peers) >= MOST_CLIENTS:
             out = who_goes(self._peers)
             self._peers.discard(out)
-            out.writer.transport.abort()
+            out.turn_away()
         self._peers.add(peer := ControlPeer(writer))
         with contextlib.suppress(OSError, ValueError, asyncio.LimitOverrunError):
-            while line := await reader.readline():
+            while (line := await reader.readline()).endswith(b'\n'):
                 peer.last = time.monotonic()
                 self._trunk.disconnects.said(peer, peer.last)
                 if words := line.decode(errors='replace').split():
@@ -113,7 +125,9 @@ class CommandServer:
             case ['events']:
                 return 'following'
             case ['on-loss', *rest]:
-                return self._trunk.disconnects.asked(peer, rest, peer.last)
+                answer = self._trunk.disconnects.asked(peer, rest, peer.last)
+                peer.holds = self._trunk.disconnects.holds(peer)
+                return answer
             case ['help']:
                 return (__doc__ or '').partition('\n\n')[2].rstrip('\n')
             case ['reload'] | ['reload', 'force']:

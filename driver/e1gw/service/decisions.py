@@ -6,10 +6,8 @@ from enum import Enum
 from math import inf
 from typing import Iterable, Protocol, TypeVar
 
-DEATHS, WITHIN = 5, 2.0                 # programs that died, within so many seconds: the next one waits
-FIRST_PAUSE, MOST_PAUSE = 0.5, 10.0     # seconds that it waits, at first and at most
-TRIED, MOST_DEATHS = 60.0, 2            # seconds in which a new version is tried, and deaths that it may not have then
-MOST_ENDED = 3                          # calls that a reload may end without force
+from ..holder.decisions import DEATHS, MOST_DEATHS, Deaths as Deaths, Trial as Trial
+
 QUIET = 1.0                             # seconds after which octets of the trunk are missed
 ROW = 1.0                               # seconds between two failures in a row
 
@@ -20,6 +18,7 @@ class Wish(Enum):
     NONE = ''
     RELOAD = 'reload'
     RENEW = 'a socket, a port or the log is to be had again'
+    OPTIONS = 'it has other options'
     DEMOTE = 'the other machine carries the trunk'
     END = 'the end is asked for'
 
@@ -33,6 +32,7 @@ class ProgramFault(Enum):
     LOG_IN_USE = 'another program has the log'
     LOG_LOST = 'the log has nothing that can be loaded'
     NO_ROOM = 'the log has no room'
+    LOG_WRITE = 'the log takes no writes'
 
 
 class Act(Enum):
@@ -41,40 +41,11 @@ class Act(Enum):
     START = 'another one starts'
     GO_BACK = 'one of the version before starts'
     NEW_LOG = 'one starts on a new log'
-    TAKE_LOG = 'the one that has the log ends, and another one starts'
+    TAKE_LOG = 'the one that has the log ends, or keeps it, and another one starts'
+    MOVE_LOG = 'one starts on a copy of the log in memory'
     REOPEN = 'the trunk is opened again'
     STAND_BY = 'the other machine carries the trunk'
     FINISH = 'the service ends'
-
-
-@dataclass(frozen=True)
-class Deaths:
-    """Programs that died shortly one after another, and how long the next one waits; and how many of the last ones
-    crashed before they carried the trunk."""
-
-    times: tuple[float, ...] = ()
-    pause: float = 0.0
-    crashes: int = 0
-
-    def with_one(self, now: float, is_crash: bool) -> Deaths:
-        times = (*self.times, now)[-DEATHS:]
-        is_often = len(times) == DEATHS and now - times[0] <= max(WITHIN, DEATHS * self.pause)
-        pause = min(MOST_PAUSE, max(FIRST_PAUSE, 2 * self.pause)) if is_often else 0.0
-        return Deaths(times, pause, self.crashes + 1 if is_crash else 0)
-
-
-@dataclass(frozen=True)
-class Trial:
-    """The version of now is tried, behind another one that may come back."""
-
-    until: float = inf
-    deaths: int = 0
-
-    def is_up(self, now: float) -> Trial:
-        return replace(self, until=min(self.until, now + TRIED))
-
-    def with_death(self) -> Trial:
-        return replace(self, deaths=self.deaths + 1)
 
 
 @dataclass(frozen=True)
@@ -126,7 +97,8 @@ def _never_up(end: ProgramEnd) -> NextStep:
     if end.fault is ProgramFault.LOG_LOST:
         return NextStep(Act.NEW_LOG, end.deaths, end.trial)
     if end.fault is ProgramFault.LOG_IN_USE:
-        return NextStep(Act.TAKE_LOG, end.deaths, end.trial)
+        deaths = end.deaths.with_one(end.now, False)
+        return NextStep(Act.TAKE_LOG, deaths, end.trial, deaths.pause)
     if end.trial:
         return NextStep(Act.GO_BACK, end.deaths)
     if end.wish is Wish.DEMOTE:
@@ -134,6 +106,8 @@ def _never_up(end: ProgramEnd) -> NextStep:
     if end.is_first:
         return NextStep(Act.FINISH, end.deaths, status=1)
     step = _died(end)
+    if end.fault is ProgramFault.LOG_WRITE:
+        return replace(step, act=Act.MOVE_LOG)
     if step.deaths.crashes < DEATHS:
         return step
     # of a log with which each one crashes none is to be had
@@ -195,32 +169,6 @@ def takeover_of(found: Found) -> Takeover:
     return Takeover.START
 
 
-# ---- a reload ----
-
-@dataclass(frozen=True)
-class ReloadEffects:
-    """Circuits: in a call now; those that begin as new; those that had a port, and those that have one then."""
-
-    calls: frozenset[int]
-    new: frozenset[int]
-    ports: frozenset[int]
-    ports_then: frozenset[int]
-
-    @property
-    def ended(self) -> frozenset[int]:
-        """Whose calls end."""
-        return self.new & self.calls
-
-    @property
-    def mute(self) -> frozenset[int]:
-        """Whose calls lose their ports."""
-        return (self.calls & self.ports) - self.ports_then - self.new
-
-    def is_refused(self, force: bool) -> bool:
-        """Whether it ends too many calls."""
-        return len(self.ended | self.mute) > MOST_ENDED and not force
-
-
 # ---- octets that do not come ----
 
 class FlowChange(Enum):
@@ -249,8 +197,10 @@ class Flow:
 # ---- clients of the control socket ----
 
 class Client(Protocol):
-    """One who is connected: whether he follows events, and when he has said something last."""
+    """One who is connected: whether calls are cleared when he is gone, whether he follows events, and when he has said
+    something last."""
 
+    holds: bool
     follows: bool
     last: float
 
@@ -259,5 +209,6 @@ C = TypeVar('C', bound=Client)
 
 
 def who_goes(clients: Iterable[C]) -> C:
-    """Who gives way to one more: of those who do not follow events the one idle for longest; of all if all do."""
-    return min(clients, key=lambda each: (each.follows, each.last))
+    """Who gives way to one more: the one idle for longest, of those who follow no events and hold no calls if there are
+    any, else of those who hold none."""
+    return min(clients, key=lambda each: (each.holds, each.follows, each.last))

@@ -5,19 +5,18 @@ import json
 import logging
 import logging.handlers
 import os
-import queue
-import sys
 import threading
 import time
 from collections import deque
-from contextlib import suppress
+from dataclasses import dataclass
 from typing import Any, Callable, TextIO
 
 from ..calls import KEPT, MOST_OCTETS
 from ..events import Event, Level, Report
-from ..writers import open_to_append
+from ..writers import append_line, open_to_append, write_all
 from .journal import MOST_WAITING, NOTICE
 
+AGAIN = 60.0                # seconds between two tries to write
 FLUSH = 2.0                 # seconds at the end for what is not written yet
 
 logger = logging.getLogger(__name__)
@@ -25,74 +24,112 @@ logger = logging.getLogger(__name__)
 
 class LineFile(logging.handlers.RotatingFileHandler):
     """A file that is appended to: ten files of 10 MiB are kept, each with its head. A new one has the mode 640; one
-    that somebody has moved or removed is followed by another one."""
+    that somebody has moved or removed is followed by another one. One that is opened again is not waited for."""
 
-    def __init__(self, path: str, head: str = '') -> None:
-        self._head = head
+    def __init__(self, path: str, head: str, is_again: bool) -> None:
+        self._head, self._is_again = head, is_again
         super().__init__(path, maxBytes=MOST_OCTETS, backupCount=KEPT)
 
     def _open(self) -> Any:
-        stream = open(open_to_append(self.baseFilename), 'a', encoding='utf-8')
+        stream = open(open_to_append(self.baseFilename, not self._is_again), 'a', encoding='utf-8')
         if self._head and os.fstat(stream.fileno()).st_size == 0:
-            stream.write(f'{self._head}\n')
-            stream.flush()
+            append_line(stream.fileno(), self._head)
         return stream
 
-    def emit(self, record: logging.LogRecord) -> None:
+    def append(self, line: str) -> None:
+        """Appends a line, or nothing of it. OSError if it cannot be."""
         its = os.fstat(self.stream.fileno())
         if not (os.path.exists(self.baseFilename) and os.path.samestat(os.stat(self.baseFilename), its)):
             self.stream.close()
             self.stream = self._open()
-        super().emit(record)
+        if self.shouldRollover(logging.makeLogRecord({'msg': line})):
+            self.doRollover()
+        append_line(self.stream.fileno(), line)
+
+
+@dataclass(frozen=True)
+class LineStream:
+    """A stream that is open already."""
+
+    stream: TextIO
+
+    def append(self, line: str) -> None:
+        """Writes a line. OSError if it cannot be."""
+        write_all(self.stream.fileno(), f'{line}\n'.encode())
+
+    def close(self) -> None:
+        """It stays open."""
 
 
 class EventFile:
-    """A file, or a stream, of lines, opened and written by a thread of its own: nothing waits for it. If it fails it
-    ends, and `ended(name, why)` is called once, in any thread."""
+    """A file, or a stream, of lines, opened and written by a thread of its own: nothing waits for it. A line waits
+    until it is written: what has failed is tried again each minute. `stands(name, why)` is called in any thread with
+    why it fails, and with None once it goes on."""
 
-    def __init__(self, name: str, file: TextIO | str, ended: Callable[[str, str], None], head: str = '') -> None:
-        self._name, self._file, self._ended, self._head, self._has_ended = name, file, ended, head, False
-        self._lines = queue.Queue[str | None](MOST_WAITING)
+    def __init__(self, name: str, file: TextIO | str, stands: Callable[[str, str | None], None],
+                 head: str = '') -> None:
+        self._name, self._file, self._stands, self._head = name, file, stands, head
+        self._why, self._opened = None, None    # type: str | None, LineFile | LineStream | None
         self.waiting = deque[str]()             # lines that may not be written yet
+        self._changed, self._is_closing = threading.Condition(), False
         self._thread = threading.Thread(target=self._write, daemon=True)
         self._thread.start()
 
     def _write(self) -> None:
-        try:
-            handler: logging.Handler
-            if isinstance(self._file, str):
-                handler = LineFile(self._file, self._head)
-            else:
-                handler = logging.StreamHandler(self._file)
-            setattr(handler, 'handleError', self._failed)
-            while not self._has_ended and (line := self._lines.get()) is not None:
-                handler.handle(logging.makeLogRecord({'msg': line}))
+        self._has_written()         # (it is opened at once, and says so if it can't be)
+        is_last = False
+        while self._waits(lambda: self.waiting) and self.waiting:
+            if self._has_written(self.waiting[0]):
                 self.waiting.popleft()
-            handler.close()
-        except OSError:
-            self._failed()
+            elif is_last:
+                return
+            else:
+                is_last = self._waits(lambda: False, AGAIN)
 
-    def _failed(self, *_: object) -> None:
-        fault = sys.exc_info()[1]
-        self._end(getattr(fault, 'strerror', None) or str(fault))
+    def _waits(self, holds: Callable[[], object], seconds: float | None = None) -> bool:
+        """Waits until something holds or it is closed, so long at most. Returns whether either is so."""
+        with self._changed:
+            return bool(self._changed.wait_for(lambda: holds() or self._is_closing, seconds))
 
-    def _end(self, why: str) -> None:
-        if not self._has_ended:
-            self._has_ended = True
-            self._ended(self._name, f'{why}: {self._file}' if isinstance(self._file, str) else why)
+    def _has_written(self, *lines: str) -> bool:
+        """Writes a line, or none. A file that has failed is opened again."""
+        try:
+            puts = self._opened = self._opened or self._open()
+            for line in lines:
+                puts.append(line)
+            self._tell(None)
+            return True
+        except OSError as fault:
+            self._tell(fault.strerror or str(fault))
+            if self._opened:
+                self._opened.close()
+            self._opened = None
+            return False
+
+    def _open(self) -> LineFile | LineStream:
+        is_again = self._why is not None
+        return LineFile(self._file, self._head, is_again) if isinstance(self._file, str) else LineStream(self._file)
+
+    def _tell(self, why: str | None) -> None:
+        """Tells why it fails, once, or that it goes on."""
+        before, self._why = self._why, why
+        if bool(why) is not bool(before):
+            self._stands(self._name, f'{why}: {self._file}' if why and isinstance(self._file, str) else why)
 
     def put(self, line: str) -> None:
-        if not self._has_ended:
-            try:
+        """Has a line written. (One for which there is no room is not kept.)"""
+        with self._changed:
+            if has_room := len(self.waiting) < MOST_WAITING:
                 self.waiting.append(line)
-                self._lines.put_nowait(line)
-            except queue.Full:
-                self._end('it takes too little')
+                self._changed.notify()
+        if not has_room:
+            self._tell('it takes too little')
 
     def close(self) -> None:
-        """Waits until all is written, FLUSH at most."""
-        with suppress(queue.Full):
-            self._lines.put_nowait(None)
+        """Waits until all is written, FLUSH at most; what has failed is tried once more."""
+        with self._changed:
+            self._is_closing = True
+            self._changed.notify()
         self._thread.join(FLUSH)
 
 

@@ -16,7 +16,7 @@ from typing import Any, Callable
 from ..faults import words_of_fault
 from ..lines import law_of, read_config, tables_of
 from .drains import KeptDrains
-from .log_folder import STATE_ROOM, FolderReader, LogBegun, LogFiles, LogPiece
+from ..log_folder import STATE_ROOM, FolderReader, LogBegun, LogFiles, LogPiece
 from .program import TrunkProgram
 from .reader import LogReader
 

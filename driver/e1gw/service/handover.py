@@ -21,12 +21,12 @@ from math import inf
 from typing import Collection, Mapping, NoReturn
 
 from ..__main__ import CAUGHT
-from ..programs import SENDERS
-from .decisions import Found, Takeover, takeover_of
+from ..faults import words_of_fault
+from .decisions import Found, Takeover, Wish, takeover_of
 from .lifecycle import GRACE, TrunkCarrier, TrunkWants, load_stored
-from .log_folder import LogFiles, LogPair, holder_of
-from .note import NoteFiles, ServiceNote, is_of, note_in
-from .program import ProgramPlaces, TrunkProgram, config_in, connected, end_left
+from ..log_folder import HELD, FolderHold, LogFiles, LogPair, holder_of, process_words
+from .note import NoteFiles, ServiceNote, note_in
+from .program import ProgramPlaces, TrunkProgram, config_in, connected, end_left, is_on, is_started_with, program_on
 from .satop_trunk import trunk_of
 from .sockets import NAME as SOCKETS
 from .version import ProgramVersion, VersionRefused, version_left, version_of_now
@@ -36,6 +36,14 @@ FIRST, APART = 3, 100       # the first descriptor that is given, and where they
 REPLACED, NUMBERS = 'E1GW_REPLACED', 'E1GW_NUMBERS'      # of a service that becomes another one
 
 logger = logging.getLogger(__name__)
+
+
+class CannotBegin(Exception):
+    """Why a trunk cannot be carried; `status` is that of the command."""
+
+    def __init__(self, why: str, status: int) -> None:
+        super().__init__(why)
+        self.status = status
 
 
 class Notifier:
@@ -83,8 +91,18 @@ class Handover:
 
     def __init__(self, folder: str, notifier: Notifier, held: Mapping[str, int]) -> None:
         """`held` are the descriptors that were given to this one, which systemd has still."""
-        self._note, self._notifier = NoteFiles(folder), notifier
+        self._note, self._notifier, self._hold = NoteFiles(folder), notifier, FolderHold()
         self._held, self._files = {name: os.fstat(file).st_ino for name, file in held.items()}, dict[str, int]()
+
+    def hold(self, folder: str) -> None:
+        """Holds the folder of the trunk for this service alone. CannotBegin if another one has it: a unit waits."""
+        if pid := self._hold.take(folder):
+            raise CannotBegin(f'{process_words(pid)} carries this trunk; another one wants a --name of its own',
+                              1 if self._notifier.has_manager else 2)
+
+    def close(self) -> None:
+        """Lets the folder go."""
+        self._hold.close()
 
     def put(self, note: ServiceNote, files: Mapping[str, int]) -> None:
         """This is what the next one has to know and to have. What was not taken is tried again at the next call."""
@@ -145,21 +163,7 @@ def given_files() -> dict[str, int]:
     return files
 
 
-def note_of(folder: str, opens: tuple[str | None, ...]) -> ServiceNote | None:
-    """What the service before this one has noted last of the same trunk; None if there was none, or it is there."""
-    note = note_in(NoteFiles(folder).read())
-    return note if note and is_of(note, opens, os.getpid()) else None
-
-
 # ---- how a service begins ----
-
-class CannotBegin(Exception):
-    """Why a trunk cannot be carried; `status` is that of the command."""
-
-    def __init__(self, why: str, status: int) -> None:
-        super().__init__(why)
-        self.status = status
-
 
 @dataclass(frozen=True)
 class Left:
@@ -169,29 +173,36 @@ class Left:
     files: Mapping[str, int]
     pid: int
     log: LogPair | None
+    held: LogFiles | None = None
 
     @property
     def is_anything(self) -> bool:
         return bool(self.note or self.pid or self.log)
 
 
-def left_by(places: ProgramPlaces, opens: tuple[str | None, ...], files: Mapping[str, int]) -> Left:
-    """CannotBegin if a service of this trunk is there, or a program that nobody sees from here has its log."""
-    pid = holder_of(places.log)
+def left_by(places: ProgramPlaces, files: Mapping[str, int]) -> Left:
+    """CannotBegin if a program that nobody sees from here has its log."""
+    pid = holder_of(places.log) if os.path.exists(places.lock) else program_on(places.log)
     if pid < 0 or pid and not os.path.exists(f'/proc/{pid}'):
-        raise CannotBegin(f'{places.log}: the log is in use by a process that is not seen from here', 2)
-    return Left(note_of(places.folder, opens), files, pid, last_of(places))
+        raise CannotBegin(f'{places.log}: the log is in use by a process that is not seen from here', 1)
+    pid = pid if is_on(pid, places.log) else 0      # (who else has its lock is no program)
+    log = log_left(places, {name: file for name, file in files.items() if name.startswith(HELD)})
+    others = {name: file for name, file in files.items() if not name.startswith(HELD)}
+    return Left(note_in(NoteFiles(places.folder).read()), others, pid, log.last() if log else None, log)
 
 
-def last_of(places: ProgramPlaces) -> LogPair | None:
-    """What the log of a program has that could be loaded, if there is one."""
+def log_left(places: ProgramPlaces, held: Mapping[str, int]) -> LogFiles | None:
+    """The log of the program, if there is one: in its folder, or as it was held if that was removed."""
+    found = list[LogFiles]()
     with suppress(OSError):
-        files = LogFiles(places.log)
-        try:
-            return files.last()
-        finally:
+        found.append(LogFiles(places.log))
+    with suppress(KeyError):
+        found.append(LogFiles.held(held))
+    newest = max(found, key=lambda files: last.turn if (last := files.last()) else -1, default=None)
+    for files in found:
+        if files is not newest:
             files.close()
-    return None
+    return newest
 
 
 async def carrier_of(wants: TrunkWants, places: ProgramPlaces, left: Left, handover: Handover,
@@ -200,15 +211,16 @@ async def carrier_of(wants: TrunkWants, places: ProgramPlaces, left: Left, hando
     note = left.note
     sockets = {name: file for name, file in left.files.items() if name.startswith(SOCKETS)}
     its = {name: file for name, file in left.files.items() if name not in sockets}
+    if note and note.opens != wants.opens:
+        await close_line(its, handover)
     trunk = trunk_of(wants.line, places, its, note.trunk if note else None)
     is_active = note.is_active if note else not has_pair
     how = takeover_of(Found(left.pid > 0, trunk.is_open(), is_active))
     version = await version_for(wants, places, left, how)
     if not left.is_anything:
         check_sockets(wants)
-        logger.info('%s', SENDERS[version.senders])
     if how is not Takeover.ADOPT:       # (only now: a program that carries the trunk ends for none that is refused)
-        await end_left(places, GRACE)
+        await end_left(places, left.pid, GRACE)
     carrier = TrunkCarrier(wants, version, trunk, places, handover, notifier)
     carrier.sockets.take_up(sockets)
     if left.is_anything:
@@ -219,7 +231,17 @@ async def carrier_of(wants: TrunkWants, places: ProgramPlaces, left: Left, hando
         carrier.program = TrunkProgram.adopted(version, places, left.pid)
         carrier.program.begun = note.begun if note else 0
         carrier.sockets.adopts(version, note.lacking if note else ())
+        if not is_started_with(left.pid, wants.words):
+            carrier.want(Wish.OPTIONS)
     return carrier
+
+
+async def close_line(files: dict[str, int], handover: Handover) -> None:
+    """Closes a trunk of other options, here and at systemd: a device may be open once only."""
+    names = [*files]
+    while files:
+        os.close(files.popitem()[1])
+    await handover.lets_go(names)
 
 
 def takes_up(carrier: TrunkCarrier, left: Left) -> None:
@@ -241,21 +263,21 @@ def silence_of(log: str) -> float:
 
 async def version_for(wants: TrunkWants, places: ProgramPlaces, left: Left, how: Takeover) -> ProgramVersion:
     """That of the program that goes on; else that of now. If this is refused, that of the program before, if it is
-    known: calls go on."""
+    known: calls go on. OSError if a file is away."""
     config, note = config_in(places), left.note
 
     def before() -> ProgramVersion:
-        return version_left(wants.program, config, note.senders if note else wants.senders or 'any',
+        return version_left(wants.program, config, note.senders if note else wants.senders,
                             note.program if note else '', wants.wait, left.pid)
     if how is Takeover.ADOPT and config:
         return before()
     try:
         return await version_of_now(wants.program, wants.config, wants.senders, wants.wait,
                                     is_urgent=bool(config and left.log))
-    except VersionRefused as fault:
+    except (VersionRefused, OSError) as fault:
         if not (config and left.log):
             raise
-        logger.error('%s: the configuration of the program before goes on', fault)
+        logger.error('%s: the configuration of the program before goes on', words_of_fault(fault))
         return before()
 
 

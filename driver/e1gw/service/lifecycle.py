@@ -16,20 +16,19 @@ from math import inf
 from typing import TYPE_CHECKING, Callable
 
 from ..calls import CallsNote
-from ..events import TrunkLost
+from ..events import LogLost, TrunkLost
 from ..explain import config_words, gateway_words
 from ..faults import words_of_fault
 from ..writers import put_file
 from .decisions import Act, Deaths, Failures, NextStep, ProgramEnd, ProgramFault, Wish, after_end
 from .drains import KeptDrains
 from .journal import NOTICE
-from .log_folder import LogPair, LogWriter
+from ..log_folder import LogPair, LogWriter, holder_of, process_words
 from .note import ServiceNote
-from .process import start_of
-from .program import ProgramPlaces, TrunkProgram, config_in, end_left
+from .program import ProgramPlaces, TrunkProgram, config_in, end_left, is_on
 from .reader import LogReader, ReadingNote
 from .sockets import CircuitSockets
-from .trunk import LineOptions, TrunkFiles, again, either, every
+from .trunk import LineOptions, TrunkFiles, again, either, every, goes_on
 from .version import ProgramVersion, VersionHistory
 
 if TYPE_CHECKING:
@@ -43,7 +42,6 @@ OLD = 1.0                   # seconds for which speech may wait in sockets that 
 TICK = 0.24                 # seconds between two looks while nothing happens
 NOTED = 1.0                 # seconds between two notes for the next service, while no call changes
 MEMORY = '/dev/shm'         # where the folder of a trunk is by default, and if its own cannot be made again
-APART = 60.0                # seconds between two programs that follow for a socket or a log that is gone
 LOST, ANEW = ', what it had in hand is lost: 2048 octets (8 ms) at most', '; all calls begin anew'
 
 logger = logging.getLogger(__name__)
@@ -56,7 +54,7 @@ class TrunkWants:
 
     program: str
     config: str
-    senders: str | None
+    senders: str
     line: LineOptions
     folder: str
     opens: tuple[str | None, ...]
@@ -88,14 +86,16 @@ class TrunkCarrier:
         self.is_loaded = False                  # the log has begun with a state that was stored
         self.read = ReadingNote()               # what was noted of the reading of the log before
         self.why, self.lost = 'begins', ''      # in words, of the next program
-        self._gone: LogPair | None = None       # what a log had that was taken away
+        self.gone: LogPair | None = None        # what a log had that was taken away
         self.status: int | None = None
         self.was_up = self.has_carried = False  # a program was up; one was since this machine is to carry the trunk
         self.ends, self.wake, self.sockets = asyncio.Event(), asyncio.Event(), CircuitSockets()
         self._handover, self.notifier = handover, notifier
         self._noted = -inf, trunk.note()        # when it was noted last what the next service has to know, and this
         self.silent, self._due = time.monotonic(), 0.0
-        self._deaths, self._totals, self.drains = Deaths(), Counter[str](), KeptDrains(wants.drains)
+        self._deaths, self._renewals = Deaths(), Deaths()
+        self.log_losses = 0                     # programs of this service whose log took no write
+        self._totals, self.drains = Counter[str](), KeptDrains(wants.drains)
         trunk.place = lambda: self.reader.octets
 
     # ---- from the beginning to the end ----
@@ -130,38 +130,21 @@ class TrunkCarrier:
 
     async def _start(self) -> TrunkProgram:
         """Starts a program. (At once behind that it has the log: the next service finds it there.)"""
-        self._make_folder()
-        self.trunk.follows()
-        await self.reader.copied()
+        await make_folder(self, self._handover)
+        with goes_on('the report of the trunk'):
+            self.trunk.follows()
+            await self.reader.copied()
         await open_sockets(self, self._handover)
         self.note()
         self.program = program = TrunkProgram.started(
             self.versions.now, self.places, self.trunk.both,
             ['--senders', self.versions.now.senders, *self.wants.words], self.sockets)
         program.begun = self.reader.octets
-        if self.wish in (Wish.RELOAD, Wish.RENEW):      # (this is the one that was wanted)
+        if self.wish in (Wish.RELOAD, Wish.RENEW, Wish.OPTIONS):        # (this is the one that was wanted)
             self.wish = Wish.NONE
         self.reader.follows(self.lost == LOST)
         self.note()
         return program
-
-    def _make_folder(self) -> None:
-        """The folder of the trunk with what its program needs; if it was taken away, with the log that it had."""
-        try:
-            self.places.make()
-        except OSError as fault:
-            logger.error('the folder of the sockets is gone, and cannot be made again: %s', words_of_fault(fault))
-            self.places = ProgramPlaces(tempfile.mkdtemp(prefix='e1gw-', dir=MEMORY))
-        if not self.reader.has_log(self.places.log):
-            self._gone = self._gone or self.reader.take_out()
-            if self._gone:
-                renew_log(self.places.log, self._gone)
-                self._gone = None
-        config = self.versions.now.config_octets()
-        if config_in(self.places) not in (b'', config):
-            self.reader.first = self.reader.octets
-        with suppress(OSError):             # (a folder that is full: then it is the one before)
-            put_file(self.places.config, config, 0o600)
 
     def _goes_on(self, program: TrunkProgram) -> None:
         """A program is up."""
@@ -200,7 +183,8 @@ class TrunkCarrier:
         self.versions.look(now)
         self._pass_on(program)
         if now >= self._due and program.lacks() or self.sockets.look(program.version, now, not self.versions.before):
-            self._due = now + APART     # (another program has them, once a minute at most)
+            self._renewals = self._renewals.with_one(now, False)
+            self._due = now + self._renewals.pause      # (soon: if both processes died now, calls would end)
             self.want(Wish.RENEW)
         if now >= self._noted[0] + NOTED or self.trunk.note() != self._noted[1]:
             self.note()
@@ -213,9 +197,10 @@ class TrunkCarrier:
         else:
             words, hangs = f'does not begin within {RELOADED if self.versions.before else START:g} s', True
             await program.process.kill()
-        self.reader.look()
-        self._pass_on(program)
-        self._totals += program.process.totals()
+        with goes_on('the report of the trunk'):
+            self.reader.look()
+            self._pass_on(program)
+            self._totals += program.process.totals()
         end, failure = self._end_of(program, hangs), self.trunk.failure()
         is_asked = end.wish is not Wish.NONE and end.is_well
         self.why, self.lost = str(end.wish.value) if is_asked else f'the program {words}', \
@@ -238,6 +223,10 @@ class TrunkCarrier:
     async def _do(self, step: NextStep, end: ProgramEnd, failure: str, words: str) -> None:
         """Does what was decided."""
         self._deaths = step.deaths
+        if end.fault is ProgramFault.LOG_WRITE:
+            self.log_losses += 1
+            with goes_on('the report of the log'):
+                self.trunk.tell(LogLost())
         if step.trial:
             self.versions.trial = step.trial
         if step.act is Act.FINISH:
@@ -254,14 +243,16 @@ class TrunkCarrier:
         elif step.act is Act.GO_BACK:
             self._go_back(f'the program {words}')
         elif step.act is Act.TAKE_LOG:
-            logger.warning('%s: that one ends', self.why)
-            await end_left(self.places, GRACE)
+            await take_log(self)
+        elif step.act is Act.MOVE_LOG:
+            self.places = places_in_memory()
+            logger.error('%s: the log goes on in %s', self.why, self.places.folder)
         elif step.act is Act.NEW_LOG:
             logger.error('%s: the log is put aside, and a new one begins', self.why)
             put_aside(self.places.log)
             self.lost = ANEW
             self.reader.begins_anew()
-        elif step.pause:
+        if step.pause:
             logger.error('%s: the next one begins in %g s', self.why, step.pause)
             await either(step.pause, self.ends)
         if step.act is not Act.START:       # (which notes it next: calls wait)
@@ -301,7 +292,6 @@ class TrunkCarrier:
         logger.error('reload: refused, the version before comes back: %s', words)
         self.versions.go_back(words).close()
         self.why = 'the version before comes back'
-        self.notifier.tell('READY=1')
 
     def end(self, why: str) -> None:
         """The end is asked for."""
@@ -315,14 +305,17 @@ class TrunkCarrier:
 
     def note(self) -> None:
         """Notes what the next service has to know and to have if this one ends; nothing of a trunk that has ended."""
-        if self.status is not None:
-            return
+        if self.status is None:
+            with goes_on('the note for the next service'):
+                self._put_note()
+
+    def _put_note(self) -> None:
         reader, version, self._noted = self.reader, self.version(), (time.monotonic(), self.trunk.note())
         begun = self.program.begun if self.program else reader.octets
         self._handover.put(ServiceNote(
-            self.wants.opens, os.getpid(), start_of(os.getpid()), version.senders, version.name,
-            self.pair is None or self.pair.is_active, self.was_up, begun, reader.noted(), (*self.sockets.lacking,),
-            self._noted[1], reader.recording_note(), self.calls()), {**self.trunk.files, **self.sockets.files})
+            self.wants.opens, os.getpid(), version.senders, version.name, self.pair is None or self.pair.is_active,
+            self.was_up, begun, reader.noted(), (*self.sockets.lacking,), self._noted[1], reader.recording_note(),
+            self.calls()), {**self.trunk.files, **self.sockets.files, **reader.files})
 
 
 def is_given_up(carrier: TrunkCarrier, failures: Failures) -> bool:
@@ -338,6 +331,28 @@ async def give_up(carrier: TrunkCarrier) -> None:
     if carrier.program:
         await carrier.program.end_within(GRACE)
     carrier.finish(carrier.ending, 1)
+
+
+async def make_folder(carrier: TrunkCarrier, handover: Handover) -> None:
+    """The folder of the trunk with what its program needs; if it was taken away, with the log that it had."""
+    try:
+        carrier.places.make()
+        handover.hold(carrier.places.folder)
+    except OSError as fault:
+        logger.error('the folder of the sockets is gone, and cannot be made again: %s', words_of_fault(fault))
+        carrier.places = places_in_memory()
+    if not carrier.reader.has_log(carrier.places.log):
+        names = [*carrier.reader.files]
+        carrier.gone = carrier.gone or carrier.reader.take_out()
+        if carrier.gone:
+            await handover.lets_go(names)       # (who holds them holds the room)
+            renew_log(carrier.places.log, carrier.gone)
+            carrier.gone = None
+    config = carrier.versions.now.config_octets()
+    if config_in(carrier.places) not in (b'', config):
+        carrier.reader.first = carrier.reader.octets
+    with suppress(OSError):             # (a folder that is full: then it is the one before)
+        put_file(carrier.places.config, config, 0o600)
 
 
 async def open_sockets(carrier: TrunkCarrier, handover: Handover) -> None:
@@ -399,8 +414,23 @@ def renew_log(folder: str, pair: LogPair) -> None:
         raise
 
 
+async def take_log(carrier: TrunkCarrier) -> None:
+    """Has the program end that has the log. If another process has locked it the next program has a copy."""
+    log, pid = carrier.places.log, holder_of(carrier.places.log)
+    is_program = is_on(pid, log)
+    logger.warning('%s: %s %s', carrier.why, process_words(pid), 'ends' if is_program else 'has locked it')
+    await end_left(carrier.places, pid, GRACE)
+    if pid > 0 and not is_program:
+        put_aside(log)
+
+
+def places_in_memory() -> ProgramPlaces:
+    """A folder for a trunk whose own takes no files."""
+    return ProgramPlaces(tempfile.mkdtemp(prefix='e1gw-', dir=MEMORY))
+
+
 def put_aside(folder: str) -> None:
-    """A log that has nothing which can be loaded gives way to a new one."""
+    """A log that no program can have gives way to another one."""
     aside = f'{folder}.damaged'
     shutil.rmtree(aside, ignore_errors=True)
     os.rename(folder, aside)

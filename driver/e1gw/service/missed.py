@@ -10,7 +10,7 @@ import tempfile
 import time
 from dataclasses import dataclass
 
-from .log_folder import LogPair
+from ..log_folder import LogPair
 from .program import SOON, connected
 from .version import ProgramVersion
 

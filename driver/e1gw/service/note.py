@@ -13,8 +13,7 @@ from typing import Any, Union, get_args, get_origin, get_type_hints
 
 from ..calls import CallsNote
 from ..writers import write_at
-from .log_folder import HEAD_LEN, Head, head_of
-from .process import start_of
+from ..log_folder import HEAD_LEN, Head, head_of
 from .reader import ReadingNote
 from .recordings import RecordingNote
 from .trunk import TrunkNote
@@ -26,11 +25,10 @@ ROOM = 64 << 10             # octets that each of them has from the first note o
 
 @dataclass(frozen=True)
 class ServiceNote:
-    """What is noted. `opens` says which trunk it is, `pid` and `started` which service this was."""
+    """What is noted. `opens` says what was opened, `pid` which service this was."""
 
     opens: tuple[str | None, ...]
     pid: int
-    started: int
     senders: str                # of the program of now, and what it says as its version
     program: str
     is_active: bool             # this machine is to carry the trunk
@@ -90,11 +88,6 @@ def note_in(octets: bytes) -> ServiceNote | None:
             note: ServiceNote = typed(ServiceNote, plain)
             return note
     return None
-
-
-def is_of(note: ServiceNote, opens: tuple[str | None, ...], pid: int) -> bool:
-    """Whether a note is of this trunk, and of a service that is no more, or has become this process."""
-    return note.opens == opens and (note.pid == pid or start_of(note.pid) != note.started)
 
 
 def typed(kind: Any, plain: Any) -> Any:

@@ -4,7 +4,6 @@ from __future__ import annotations
 import argparse
 import os
 import shlex
-import zlib
 from dataclasses import replace
 from typing import Callable
 
@@ -14,7 +13,7 @@ from ..clearing import on_loss_of
 from ..dahdi import FRAMES_A_MS, MOST_BUFFERS, MOST_FRAMES, Blocks
 from ..faults import checked, named, number
 from ..lines import SEIZURE_WAIT
-from ..programs import SENDERS, proved_program_of
+from ..programs import HOST, SENDERS, proved_program_of
 from ..recording_ring import seconds_of
 from ..trunks import Stream, host_and_port, open_tcp, open_unix
 from .lifecycle import MEMORY, TrunkWants
@@ -50,8 +49,8 @@ def add_options(words: argparse.ArgumentParser) -> None:
 def add_program(words: argparse.ArgumentParser) -> None:
     """Those of the program that carries the trunk."""
     words.add_argument('--program', metavar='E1GW', help='the program [default: that of this repository, or e1gw]')
-    words.add_argument('--senders', choices=tuple(SENDERS), help='whose datagrams are received, e1gw(1) '
-                       '[default: host if each peer_host is an address, else any]')
+    words.add_argument('--senders', choices=tuple(SENDERS), default=HOST,
+                       help=f'whose datagrams are received, e1gw(1) [default: {HOST}]')
     words.add_argument('--repeat', type=number(0, 8), default=0, metavar='N',
                        help='sends each datagram again behind the N-th after it, 0 to 8 [default: 0, never]')
     words.add_argument('--seizure-wait', type=number(200, 8000), default=SEIZURE_WAIT, metavar='MS',
@@ -120,15 +119,15 @@ def name_of(asked: argparse.Namespace) -> str:
 
 
 def opens_of(asked: argparse.Namespace) -> tuple[str | None, ...]:
-    """Which trunk it is: the same for a service that is started again."""
-    paths = [each and os.path.abspath(each) for each in (asked.input, asked.out, asked.unix, asked.program_control)]
-    return *paths, asked.tcp, asked.satop, *(name for name in ('align', 'crc4', 'clear') if getattr(asked, name))
+    """What is opened, and how: the descriptors of a service before this one are of it if that has opened the same."""
+    paths = [each and os.path.abspath(each) for each in (asked.input, asked.out, asked.unix)]
+    return *paths, asked.tcp, asked.satop, 'clear' if asked.clear else None
 
 
 def folder_of(asked: argparse.Namespace) -> str:
-    """The folder of this trunk, the same for each start."""
+    """The folder of this trunk: the same for each start, whatever else its options say."""
     within = asked.folder or os.environ.get('RUNTIME_DIRECTORY', '').partition(':')[0] or MEMORY
-    return os.path.join(within, f'{name_of(asked)}-{os.getuid()}-{zlib.crc32(repr([*opens_of(asked)]).encode()):08x}')
+    return os.path.join(os.path.realpath(within), f'{name_of(asked)}-{os.getuid()}')
 
 
 def recording_of(asked: argparse.Namespace) -> RecordingWants | None:

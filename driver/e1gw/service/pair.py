@@ -183,7 +183,7 @@ async def open_pair(asked: argparse.Namespace, carrier: TrunkCarrier, note: Serv
     except OSError as fault:
         words = f'cannot listen: {words_of_fault(fault, f"--feed {host}:{port}")}'
         if not note:
-            raise CannotBegin(words, 2) from None
+            raise CannotBegin(words, 1) from None
         logger.error('%s', words)
     standby = TrunkStandby(other, host, files, lambda: carrier.versions.now, carrier.places.folder,
                            lambda event: carrier.trunk.tell(event))

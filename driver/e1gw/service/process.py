@@ -13,7 +13,7 @@ from contextlib import suppress
 from typing import Callable, Iterable, Sequence
 
 from ..crc4 import COUNTS
-from .memory import PAGE, give_back, given_back, in_memory, octets_in, words_file
+from ..memory import PAGE, give_back, given_back, in_memory, octets_in, words_file
 from .trunk import beat
 
 MOST_SAID = 1 << 20         # octets that are heard at once
@@ -60,10 +60,12 @@ class Child:
             signal.pidfd_send_signal(self._file, 0)
         # (0: proc(5) hides the processes of another name space)
         is_it = self._file >= 0 and start_of(pid) in (self.started, 0)
-        if is_it:
+        if not is_it:
+            self._is_over(UNKNOWN)      # (its number may be that of another one, also of another child)
+        else:
             asyncio.get_running_loop().add_reader(self._file, self._end)
-        if not is_it or select.select([self._file], [], [], 0)[0]:
-            self._end()
+            if select.select([self._file], [], [], 0)[0]:
+                self._end()
         self._look()
 
     @classmethod
@@ -126,9 +128,12 @@ class Child:
             found = os.waitid(os.P_PIDFD, self._file, os.WEXITED | os.WNOHANG)
             if found is None:
                 return
-            self.status = found.si_status if found.si_code == os.CLD_EXITED else -found.si_status
+            self._is_over(found.si_status if found.si_code == os.CLD_EXITED else -found.si_status)
         except OSError:
-            self.status = UNKNOWN
+            self._is_over(UNKNOWN)
+
+    def _is_over(self, status: int) -> None:
+        self.status = status
         if self._file >= 0:
             asyncio.get_running_loop().remove_reader(self._file)
             os.close(self._file)

@@ -8,13 +8,14 @@ import re
 import signal
 import socket
 import stat
+import struct
 from contextlib import suppress
 from dataclasses import dataclass
 from typing import Sequence
 
 from .decisions import ProgramFault
-from .log_folder import LOCK, holder_of
-from .memory import octets_in, reserve, words_file
+from ..log_folder import LOCK
+from ..memory import octets_in, reserve, words_file
 from .process import Child
 from .sockets import CircuitSockets
 from .version import ProgramVersion
@@ -23,11 +24,13 @@ from .version import ProgramVersion
 NO_RECORD = bytes(4)
 SOON = 0.001                # seconds between two tries to connect to a program that begins
 MOST_PATH = 107             # octets of the path of a socket
+CREDENTIALS = struct.Struct('3i')       # of a peer: process, user, group
 WORDS = 64 << 10            # octets for which there is room in a file of what a process says
 # By what the first line has with which it ends.
 FAULTS = ((r'^fault [56] ', ProgramFault.TRUNK), (r'^config ', ProgramFault.CONFIG),
           (r'\blog\b.* in use by', ProgramFault.LOG_IN_USE),
-          (r'\blog\b.* has no state|^state \d', ProgramFault.LOG_LOST), (r'\blog\b.* wants', ProgramFault.NO_ROOM))
+          (r'\blog\b.* has no state|^state \d', ProgramFault.LOG_LOST), (r'\blog\b.* wants', ProgramFault.NO_ROOM),
+          (r'^cannot (open|write) the log\b', ProgramFault.LOG_WRITE))
 
 
 @dataclass(frozen=True)
@@ -46,6 +49,10 @@ class ProgramPlaces:
     @property
     def log(self) -> str:
         return os.path.join(self.folder, 'log')
+
+    @property
+    def lock(self) -> str:
+        return os.path.join(self.log, LOCK)
 
     @property
     def control(self) -> str:
@@ -95,6 +102,12 @@ class ProgramPlaces:
             os.close(file)
         return held_pipe()
 
+    def left_end(self) -> int:
+        """An end of the FIFO of a program that is there; -1 if it has none that is known here."""
+        with suppress(OSError):
+            return os.open(self.end, os.O_WRONLY | os.O_NONBLOCK | os.O_CLOEXEC)    # (which somebody has to read)
+        return -1
+
 
 class TrunkProgram:
     """The program that carries the trunk."""
@@ -125,7 +138,7 @@ class TrunkProgram:
     @classmethod
     def adopted(cls, version: ProgramVersion, places: ProgramPlaces, pid: int) -> TrunkProgram:
         """The one that a service before this one has started."""
-        return cls(version, places, Child(pid, said=places.said('program', False)), places.opened_end(), True)
+        return cls(version, places, Child(pid, said=places.said('program', False)), places.left_end(), True)
 
     async def comes_up(self, seconds: float) -> bool:
         """Waits until it carries the trunk, so long at most."""
@@ -137,8 +150,11 @@ class TrunkProgram:
         return self.is_up
 
     async def _answers(self) -> bool:
-        """Whether it closes a connection that gives no record, and not the one before that, as it does at its end."""
+        """Whether it closes a connection that gives no record, and not the one before that, as it does at its end. (One
+        of before may listen there still.)"""
         with suppress(OSError), connected(self.places.control) as hello, connected(self.places.control) as probe:
+            if {listener_of(hello), listener_of(probe)} != {self.process.pid}:
+                return False
             probe.send(NO_RECORD)
             with suppress(ConnectionError):
                 await asyncio.get_running_loop().sock_recv(probe, 1)
@@ -170,7 +186,7 @@ class TrunkProgram:
     def lacks(self) -> bool:
         """Whether its socket or its log is gone, so that another one is to follow."""
         return not all(os.path.lexists(path) for path in (
-            self.places.control, self.places.tell, os.path.join(self.places.log, LOCK)))
+            self.places.control, self.places.tell, self.places.lock))
 
     def close(self) -> None:
         """Gives back all that is held of it."""
@@ -180,15 +196,45 @@ class TrunkProgram:
             self._end = -1
 
 
-async def end_left(places: ProgramPlaces, seconds: float) -> None:
-    """Has the program end that holds the log, if there is one, which a service before this one has left."""
-    if (pid := holder_of(places.log)) > 0:
-        end = places.opened_end()
-        process = Child(pid)
-        with suppress(OSError):
+async def end_left(places: ProgramPlaces, pid: int, seconds: float) -> None:
+    """Has the program end that a service before this one has left, if there is one."""
+    if is_on(pid, places.log):
+        process, end = Child(pid), places.left_end()
+        try:
             os.write(end, b'\n')
+            os.close(end)
+        except OSError:
+            process.signal(signal.SIGKILL)
         await process.end_within(seconds)
-        os.close(end)
+
+
+def program_on(log: str) -> int:
+    """The number of the program of this user that was started on a log, whatever has become of its files; 0 if there
+    is none."""
+    for pid in map(int, filter(str.isdecimal, os.listdir('/proc'))):
+        with suppress(OSError):
+            if os.stat(f'/proc/{pid}').st_uid == os.getuid() and is_on(pid, log):
+                return pid
+    return 0
+
+
+def is_on(pid: int, log: str) -> bool:
+    """Whether a process is a program that was started on a log."""
+    words = words_of(pid)
+    return 'trunk' in words and '--log' in words and words[words.index('--log') + 1] == log
+
+
+def words_of(pid: int) -> list[str]:
+    """The command line of a process; nothing if it is not seen."""
+    with suppress(OSError), open(f'/proc/{pid}/cmdline', 'rb') as file:
+        return file.read().decode(errors='replace').split('\0')[:-1]
+    return []
+
+
+def is_started_with(pid: int, words: Sequence[str]) -> bool:
+    """Whether a program was started with these words, so far as that is seen."""
+    its = words_of(pid)
+    return '--senders' not in its or its[its.index('--senders') + 2:] == [*words]
 
 
 def drain(file: int) -> None:
@@ -218,6 +264,12 @@ def connected(path: str) -> socket.socket:
         line.close()
         raise
     return line
+
+
+def listener_of(line: socket.socket) -> int:
+    """The number of the process that listens at the other end of a Unix socket."""
+    pid: int = CREDENTIALS.unpack(line.getsockopt(socket.SOL_SOCKET, socket.SO_PEERCRED, CREDENTIALS.size))[0]
+    return pid
 
 
 def config_in(places: ProgramPlaces) -> bytes:

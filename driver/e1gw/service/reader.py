@@ -14,9 +14,9 @@ from ..clock import TICK, Clock, ClockFinding
 from ..faults import words_of_fault
 from ..session import OCTETS_A_SECOND, whole_records
 from .journal import NOTICE
-from .log_folder import FolderReader, LogBegun, LogFiles, LogNews, LogPair, LogPiece, LogState
+from ..log_folder import FolderReader, LogBegun, LogFiles, LogNews, LogPair, LogPiece, LogState
 from .recordings import FileBegin, RecordingNote, RecordingWants, TrunkRecording, has_room
-from .trunk import every
+from .trunk import every, goes_on
 
 AGAIN = 60.0                # seconds between two looks whether a ring that has ended can be written again
 MOST_LOST = 0.008           # seconds of the trunk that a program had in hand
@@ -72,11 +72,13 @@ class LogReader:
 
     # ---- the log ----
 
-    def take_up(self, read: ReadingNote, left: RecordingNote | None) -> None:
-        """Begins, where the service before this one was, and with the recording that it has left if it made the same
-        and the log has what that lacks."""
+    def take_up(self, read: ReadingNote, left: RecordingNote | None, files: LogFiles | None = None) -> None:
+        """Begins, where the service before this one was, with the log that it has left, and with its recording if that
+        was of the same and the log has what it lacks."""
         self._place, self.octets, self._written = read.place, read.octets, read.written
         self.first, self.starts = read.first, read.starts
+        if files:
+            self._files, self._reader = files, FolderReader(files, self._place)
         self._found = self._pairs()
         if not (wants := self._wants):
             return
@@ -132,7 +134,8 @@ class LogReader:
 
     def take_out(self) -> LogPair | None:
         """The same, and gives the room of its files back. What is read next is in other files."""
-        self.look()
+        with goes_on('the reading of the log'):
+            self.look()
         last = self.last()
         self._close()
         return last
@@ -172,6 +175,11 @@ class LogReader:
         self.has_missed, self._missed = False, 0
 
     # ---- for the service that comes after this one ----
+
+    @property
+    def files(self) -> dict[str, int]:
+        """The descriptors of the log: it can be read when its folder is gone, too."""
+        return self._files.files if self._files else {}
 
     def noted(self) -> ReadingNote:
         return ReadingNote(self._place, self.octets, self.first, self.starts, self._written)

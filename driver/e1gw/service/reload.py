@@ -10,9 +10,10 @@ from typing import Iterable
 
 from ..faults import words_of_fault
 from ..session import CIRCUITS
-from .decisions import ReloadEffects, Wish
+from .decisions import Wish
 from .lifecycle import TrunkCarrier, why_of
-from .log_folder import LogPair
+from ..log_folder import LogPair
+from ..trial import ReloadEffects
 from .handover import Handover, Notifier
 from .version import ProgramVersion, VersionRefused, version_of_now
 
@@ -47,6 +48,7 @@ class ReloadRequests:
             return self._refuse(words_of_fault(fault))
         finally:
             self._is_busy = False
+            self._notifier.tell('READY=1')      # (whatever came of it: systemctl reload waits for that)
 
     async def _try(self, force: bool) -> tuple[str, frozenset[int]]:
         """Has a program of the version of now follow; lines say which calls that ends. And all circuits in a call."""
@@ -93,7 +95,6 @@ class ReloadRequests:
     def _refuse(self, words: str) -> str:
         words = why_of(words, self._carrier.wants.config)
         logger.error('reload: refused, the trunk goes on as it was: %s', words)
-        self._notifier.tell('READY=1')
         return f'reload: refused, the trunk goes on as it was: {words}'
 
     async def replace(self) -> None:

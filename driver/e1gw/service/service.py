@@ -4,8 +4,8 @@ The program carries the octets by itself, and logs all that it takes in memory. 
 log. This process may be killed: the program goes on, and the next start takes it up.
 
 Signals: SIGHUP reload; SIGUSR2 another process in place of this one; SIGTERM, SIGINT end.
-Statuses: 0 ended as asked, or with the trunk's input; 1 the trunk or the program failed; 2 the command line or the
-configuration.
+Statuses: 0 ended as asked, or with the trunk's input; 1 what may be tried again: the trunk, the program or a file; 2
+the command line or the configuration.
 """
 from __future__ import annotations
 
@@ -17,7 +17,8 @@ import shutil
 import signal
 import stat
 import sys
-from typing import NoReturn
+from contextlib import closing
+from typing import Mapping, NoReturn
 
 from ..__main__ import CAUGHT, ENDS
 from ..explain import config_words
@@ -65,7 +66,7 @@ async def opened_watch(asked: argparse.Namespace, carrier: TrunkCarrier, request
     except (OSError, CannotListen, KeyError) as fault:
         words = f'cannot listen: {words_of_fault(fault)}'
         if not goes_on:
-            raise CannotBegin(words, 2) from None
+            raise CannotBegin(words, 1 if isinstance(fault, OSError) else 2) from None
         logger.error('%s', words)
     return watch
 
@@ -107,15 +108,22 @@ async def serve(asked: argparse.Namespace, wants: TrunkWants) -> int:
     """Until the end; returns the status."""
     files, notifier = given_files(), Notifier()
     make_own(wants.folder)
+    with closing(Handover(wants.folder, notifier, files)) as handover:
+        handover.hold(wants.folder)
+        return await carry(asked, wants, files, handover, notifier)
+
+
+async def carry(asked: argparse.Namespace, wants: TrunkWants, files: Mapping[str, int], handover: Handover,
+                notifier: Notifier) -> int:
+    """Carries the trunk, in a folder that is held."""
     places = ProgramPlaces(wants.folder)
-    handover = Handover(wants.folder, notifier, files)
-    left = left_by(places, wants.opens, files)
+    left = left_by(places, files)
     if not left.is_anything:            # (else they come once it has all)
         signal.pthread_sigmask(signal.SIG_UNBLOCK, ENDS)
     carrier = await carrier_of(wants, places, left, handover, notifier, bool(feeding_of(asked)))
     carrier.reader = reader_of(asked, carrier)
     carrier.reader.is_loaded = carrier.is_loaded
-    carrier.reader.take_up(carrier.read, left.note.recording if left.note else None)
+    carrier.reader.take_up(carrier.read, left.note.recording if left.note else None, left.held)
     carrier.pair = await open_pair(asked, carrier, left.note)
     carrier.reader.rests = carrier.pair is not None and not carrier.pair.is_active
     requests = ReloadRequests(carrier, handover, notifier)
@@ -164,9 +172,9 @@ def status_of(words: list[str], loop: asyncio.AbstractEventLoop) -> int:
     except ServiceFailed:
         logger.error('gives up: a program that is there goes on, and the next %s takes it up', NAME)
         return 1
-    except OSError as fault:
+    except OSError as fault:            # (a file that is away may come back)
         logger.error('%s', words_of_fault(fault))
-    return 2
+        return 1
 
 
 def main(words: list[str] | None = None) -> NoReturn:

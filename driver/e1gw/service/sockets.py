@@ -14,7 +14,7 @@ from typing import Any, Collection, Iterator, Mapping
 
 from ..explain import bound
 from ..lines import config_text, tables_of
-from .memory import in_memory
+from ..memory import in_memory
 from .version import ProgramVersion, is_address
 
 NAME = 'rtp-'               # how the names of their descriptors begin

@@ -20,7 +20,7 @@ from ..session import CIRCUITS, MULTIFRAME, OCTETS_A_SECOND, trunk_record, whole
 from ..tls import context_of
 from .feed import (BACK, CARRIES, DRAINS, END, FRESH, GO, LENGTH, MARK, MOST_HEAD, MOST_PIECE, NOTHING, PATIENCE,
                    PIECE, STATE, TAKES, YOURS, FeedHead, FeedRefused, configured, head_of)
-from .log_folder import RECORDS_ROOM, STATE_ROOM, LogFiles, LogPair, LogWriter, NoRoom
+from ..log_folder import RECORDS_ROOM, STATE_ROOM, LogFiles, LogPair, LogWriter, NoRoom
 from .version import ProgramVersion
 
 AGAIN, MOST_AGAIN = 0.1, 1.0            # seconds between two tries to be fed

@@ -27,7 +27,7 @@ from .lifecycle import TrunkCarrier
 from .program import ProgramPlaces, connected
 from .missed import MissedReports, told_again
 from .reload import ReloadRequests
-from .trunk import beat
+from .trunk import beat, guarded
 
 AGAIN = 0.1                 # seconds between two tries to connect
 REST, SHORT_REST = 0.08, 0.01       # between two reads of reports; the latter if somebody follows events
@@ -35,6 +35,7 @@ ANSWERS, PATIENCE = 5, 0.4  # of a program where it is; seconds for them while i
 MOST_GREETING = 256         # octets, which come at once, in which a program tells where it is
 FIRST = 2.0                 # seconds before it is reported that the program was never there
 BOTH = 'reports', 'control'         # the sockets of the program at which this service is a client
+WATCH = 'the watch of the trunk'
 
 logger = logging.getLogger(__name__)
 
@@ -63,10 +64,12 @@ class OperatedTrunk:
         return self._carrier.version().config_path()
 
     def facts(self) -> dict[str, Any]:
-        """Since when it is open, why it is not or not recorded, its version and its pair, as plain values."""
-        carrier, pair = self._carrier, self._carrier.pair
-        return carrier.trunk.facts() | {'version': carrier.version().name, 'pair': pair.facts() if pair else {},
-                                        'session': carrier.reader.why()}
+        """Since when it is open, why it is not or not recorded, its version, whom it hears and its pair, as plain
+        values."""
+        carrier, pair, version = self._carrier, self._carrier.pair, self._carrier.version()
+        return carrier.trunk.facts() | {'version': version.name, 'senders': version.senders,
+                                        'log_losses': carrier.log_losses,
+                                        'pair': pair.facts() if pair else {}, 'session': carrier.reader.why()}
 
     def flow(self) -> dict[str, Any]:
         """Gaps and the rate of its octets."""
@@ -163,7 +166,8 @@ class TrunkStatus:
                  put: Callable[[str], None]) -> None:
         self._trunk, self.tell = trunk, tell
         tables = read_config(trunk.config_path())
-        self.lines = TrunkState(tables, self._tells, counts, time.monotonic, self._told_all)
+        self.lines = TrunkState(tables, guarded(self._tells, WATCH), counts, time.monotonic,
+                                guarded(self._told_all, WATCH))
         self.calls = CallLog(name, self.lines.lines, counts, put, self._day)
         self.is_followed: Callable[[], bool] = lambda: False
         self.start = time.monotonic()

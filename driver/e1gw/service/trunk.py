@@ -14,7 +14,7 @@ import traceback
 from contextlib import contextmanager, suppress
 from dataclasses import dataclass
 from math import inf
-from typing import Any, Awaitable, Callable, Coroutine, Iterator, Sequence
+from typing import Any, Awaitable, Callable, Coroutine, Iterator, ParamSpec, Sequence
 
 from ..crc4 import Crc4, Crc4Note, counts_in
 from ..events import Event, Tell, TrunkOpened
@@ -29,6 +29,7 @@ QUICK = 1.0                 # seconds: what ends within them is begun again late
 PAUSE, MOST_PAUSE = 0.25, 1.0           # seconds up to then, at first and at most
 AGAIN = 0.1                 # seconds before what has failed is begun again
 LINE = 'line-in', 'line-out'            # descriptors of a device or a socket
+P = ParamSpec('P')
 
 logger = logging.getLogger(__name__)
 
@@ -293,10 +294,8 @@ def every(seconds: float, work: Callable[[], object], what: str) -> Iterator[Non
 
     def does() -> None:
         nonlocal timer
-        try:
+        with goes_on(what):
             work()
-        except Exception as fault:      # pylint: disable=broad-exception-caught
-            has_failed(what, fault)
         timer = loop.call_at(beat(seconds), does)
     timer = loop.call_at(beat(seconds), does)
     try:
@@ -327,6 +326,23 @@ async def again(work: Callable[[], Awaitable[None]], what: str,
             failures = failures.with_one(time.monotonic())
             await asyncio.sleep(AGAIN)
     return False
+
+
+@contextmanager
+def goes_on(what: str) -> Iterator[None]:
+    """What fails within is reported, and is in nobody's way."""
+    try:
+        yield
+    except Exception as fault:      # pylint: disable=broad-exception-caught
+        has_failed(what, fault)
+
+
+def guarded(work: Callable[P, object], what: str) -> Callable[P, None]:
+    """The same work, whose failure is reported, and nothing else ends for it."""
+    def does(*words: P.args, **more: P.kwargs) -> None:
+        with goes_on(what):
+            work(*words, **more)
+    return does
 
 
 def has_failed(what: str, fault: Exception) -> None:

@@ -4,6 +4,7 @@ from __future__ import annotations
 
 import asyncio
 import ipaddress
+import logging
 import os
 import re
 import socket
@@ -15,16 +16,18 @@ from functools import cached_property
 from typing import Any, Iterable, Sequence
 
 from ..lines import IN_CALL, SEIZURE_WAIT, config_text, no_peers, read_config, tables_of, wait_words
-from ..programs import version_of
+from ..programs import SENDERS, version_of
 from .decisions import Trial
-from .log_folder import LogPair
-from .memory import in_memory, octets_in
+from ..log_folder import LogPair
+from ..memory import in_memory, octets_in
 from .process import Child, ran
 
 MOST_OCTETS = 65_536        # of a configuration
 CHECK = 10.0                # seconds for the program to check it
 LOOK_UP, URGENT = 10.0, 1.0     # seconds for all names to be looked up; .. while calls wait for their program
 NEW = re.compile(r'circuit (\d+) begins as new')
+
+logger = logging.getLogger(__name__)
 
 
 class VersionRefused(Exception):
@@ -112,16 +115,15 @@ class ProgramVersion:
         os.close(self.config)
 
 
-async def version_of_now(program: str, config: str, senders: str | None, wait: int, is_urgent: bool = False
+async def version_of_now(program: str, config: str, senders: str, wait: int, is_urgent: bool = False
                          ) -> ProgramVersion:
     """The program and the configuration of now, tried. VersionRefused says why they will not do."""
     octets = await asyncio.to_thread(_read, config)
-    file = os.open(program, os.O_RDONLY)
-    held = [file]
+    held = [opened_file(program)]
     try:
         held.append(in_memory(octets))
         name = await asyncio.to_thread(version_of, program)
-        version = ProgramVersion(program, held[0], held[1], senders or 'any', name, wait)
+        version = ProgramVersion(program, held[0], held[1], senders, name, wait)
         await version.check()           # (before any Python reads it)
         tables = tomllib.loads(octets.decode())
         addresses = await look_up(tables, URGENT if is_urgent else LOOK_UP)
@@ -132,7 +134,7 @@ async def version_of_now(program: str, config: str, senders: str | None, wait: i
             os.ftruncate(version.config, 0)
             os.pwrite(version.config, config_text(tables).encode(), 0)
             await version.check()
-        return replace(version, senders=senders or ('any' if addresses else 'host'), was_tried=True)
+        return replace(version, was_tried=True)
     except BaseException as fault:
         for each in held:
             os.close(each)
@@ -141,12 +143,18 @@ async def version_of_now(program: str, config: str, senders: str | None, wait: i
         raise
 
 
-def _read(path: str) -> bytes:
-    """The octets of a configuration. What is no file (a FIFO, say) or is too long is refused."""
+def opened_file(path: str) -> int:
+    """OSError, which names it, if it is not there, or no file (a folder, a FIFO)."""
     file = os.open(path, os.O_RDONLY | os.O_NONBLOCK | os.O_CLOEXEC)
-    with open(file, 'rb') as opened:
-        if not stat.S_ISREG(os.fstat(file).st_mode):
-            raise VersionRefused(f'{path} is no file')
+    if stat.S_ISREG(os.fstat(file).st_mode):
+        return file
+    os.close(file)
+    raise OSError(0, f'{path} is no file')
+
+
+def _read(path: str) -> bytes:
+    """The octets of a configuration. One that is too long is refused."""
+    with open(opened_file(path), 'rb') as opened:
         octets = opened.read(MOST_OCTETS + 1)
     if len(octets) > MOST_OCTETS:
         raise VersionRefused(f'the configuration has more than {MOST_OCTETS} octets')
@@ -194,7 +202,7 @@ def version_left(program: str, config: bytes, senders: str, name: str, wait: int
     try:
         for path in (f'/proc/{pid}/exe', program):
             with suppress(OSError):
-                held.append(os.open(path, os.O_RDONLY | os.O_CLOEXEC))
+                held.append(opened_file(path))
                 break
         else:
             raise FileNotFoundError(program)
@@ -215,6 +223,7 @@ class VersionHistory:
         self.trial: Trial | None = None         # of the version of now, if there is one before
         self.settled, self.refused = asyncio.Event(), ''    # whether one carries the trunk, and why not the last one
         self.silent = 0.0                       # for how many seconds no program did before it
+        self._senders = ''                      # whose datagrams are received, as it was said last
 
     def renew(self, version: ProgramVersion) -> None:
         """This one is to follow."""
@@ -227,6 +236,9 @@ class VersionHistory:
         """A program of the version of now carries the trunk, which was silent for so many seconds."""
         self.trial, self.silent = self.trial and self.trial.is_up(now), silent
         self.settled.set()
+        if self.now.senders != self._senders:
+            self._senders = self.now.senders
+            logger.info('%s', SENDERS[self._senders])
 
     def look(self, now: float) -> None:
         """To be called now and then: a trial ends."""

@@ -4,12 +4,14 @@ from __future__ import annotations
 
 import asyncio
 import contextlib
+import logging
 import os
 import socket
 import sys
 import time
 from collections import Counter, deque
 from dataclasses import dataclass, field, replace
+from itertools import islice
 from typing import Any
 
 from ..calls import FIELDS, CallsNote, has_line
@@ -26,13 +28,17 @@ from .commands import MOST_LINE, CannotListen, CommandServer, unix_listener
 from .connection import NoAnswer, ProgramConnection
 from .drains import DrainWatch
 from .events import EventFile, json_line, tell_journal
+from .journal import NOTICE
 from .page import PageNotes
 from .pages import TrunkPages, WebServer
-from .status import OperatedTrunk, TrunkStatus
-from .trunk import Tasks, again, every
+from .status import WATCH, OperatedTrunk, TrunkStatus
+from .trunk import Tasks, again, every, guarded, has_failed
 
 TICK = 0.24                 # seconds between two looks
 BESIDE = 'json', 'calls'    # what may end without the calls
+NOTED = 1000                # lines of calls that are not written yet, which a note has
+
+logger = logging.getLogger(__name__)
 
 
 @dataclass(kw_only=True)
@@ -60,19 +66,19 @@ class TrunkWatch:
         self.wants, self.trunk, self._loop = wants, trunk, asyncio.get_running_loop()
         self.ended: dict[str, str | None] = dict.fromkeys(BESIDE)
         self._restarts = Resyncs(self.restart, self.tell)
-        self._counts = DatagramCounts(self._restarts.counted)
+        self._counts = DatagramCounts(guarded(self._restarts.counted, WATCH))
         self.status = TrunkStatus(trunk, wants.name, self.tell, self._counts, self._put_call)
         self._lines = self.status.lines
         self._program = ProgramConnection(lambda: trunk.places().control, self.status.stands, self.status.hurry,
                                           lambda: str(trunk.facts()['fault']))
-        self._lines.commanded = self._program.told
+        self._lines.commanded = guarded(self._program.told, WATCH)
         self._events, self._ended_calls = ReadEvents(), deque[str](maxlen=LAST)
         self.pages = TrunkPages(self._values, self.status.take_now, list(self._lines.lines.values()),
                                 PageNotes(self._events.last, self._ended_calls, wants.kept))
         self._server = CommandServer(self)
         self.drains = DrainWatch(trunk.drains(), self._lines, self.give, self.tell)
         self.status.is_followed = lambda: bool(self._server.followers() or self.drains.kept.now.left())
-        self.status.waiting = lambda: [*self._calls.waiting] if self._calls else []
+        self.status.waiting = lambda: [*islice(self._calls.waiting, NOTED)] if self._calls else []
         self.disconnects = DisconnectWatch(on_loss_of(wants.on_loss), self.clear_all)
         self._outages = OutageWatch(wants.dark, self.clear_all)
         self._done, self._resyncs = Counter[tuple[str, str]](), 0
@@ -144,13 +150,25 @@ class TrunkWatch:
     # ---- reports ----
 
     def tell(self, event: Event) -> None:
-        """Tells a change to the journal and to all who follow."""
+        """Tells a change to the journal and to all who follow. One that fails takes it from no other."""
         if isinstance(event, LineChanged):
-            event = replace(event, call=self.status.calls.took(event) or None)
+            event = replace(event, call=self._call_of(event))
             self._loop.call_soon(self.drains.look)
-        tell_journal(event)
+        for hears in tell_journal, self._show, self._tell_followers:
+            guarded(hears, WATCH)(event)
+
+    def _call_of(self, event: LineChanged) -> str | None:
+        try:
+            return self.status.calls.took(event) or None
+        except Exception as fault:      # pylint: disable=broad-exception-caught
+            has_failed(WATCH, fault)
+            return None
+
+    def _show(self, event: Event) -> None:
         self._events.take(event, time.time())
         self.pages.changed()
+
+    def _tell_followers(self, event: Event) -> None:
         text = json_line(event, place=self.trunk.place())
         for peer in self._server.followers():
             peer.tell(text)
@@ -165,15 +183,17 @@ class TrunkWatch:
         self.tell(Slip(seconds) if finding.what == 'gap' else Burst(seconds))
         self._restarts.want(self._lines.open_circuits(), f'{finding.what} of {seconds} s')
 
-    def _note(self, what: str, why: str) -> None:
-        """From any thread: something other than the calls has ended."""
-        self._loop.call_soon_threadsafe(self.end_beside, what, why)
+    def _note(self, what: str, why: str | None) -> None:
+        """From any thread: something other than the calls has ended, or goes on."""
+        self._loop.call_soon_threadsafe(self.stands_beside, what, why)
 
-    def end_beside(self, what: str, why: str) -> None:
-        """Something other than the calls has ended; they go on."""
-        if self.ended.get(what) is None:
-            self.ended[what] = why
+    def stands_beside(self, what: str, why: str | None) -> None:
+        """Why something other than the calls has ended, or that it goes on; they go on."""
+        self.ended[what] = why
+        if why:
             self.tell(WatchEnded(what, why))
+        else:
+            logger.log(NOTICE, '%s: written again', what)
 
     def _values(self) -> dict[str, Any]:
         """All that is known, as plain values."""
@@ -181,6 +201,7 @@ class TrunkWatch:
         fault = facts['fault'] or None
         status = self.status.values() | {
             'name': self.wants.name, 'version': facts['version'], 'time': round(now, 3), 'fault': fault,
+            'senders': facts['senders'], 'log_losses': facts['log_losses'],
             'uptime': 0.0 if fault else round(now - facts['since'], 3),
             'calls': [line._asdict() for line in self.status.calls.going()],
             'calls_file': self.wants.calls and os.path.abspath(self.wants.calls),
@@ -223,10 +244,10 @@ class TrunkWatch:
 
     async def run(self) -> None:
         """Watches, until it is cancelled. Whatever fails is begun again."""
-        what, works = 'the watch of the trunk', (self.status.follow, self._program.run)
+        works = self.status.follow, self._program.run
         try:
-            with every(TICK, self._look, what):
-                await asyncio.gather(*(again(work, what) for work in works))
+            with every(TICK, self._look, WATCH):
+                await asyncio.gather(*(again(work, WATCH) for work in works))
         finally:
             self._close()
 

@@ -14,7 +14,7 @@ from contextlib import ExitStack, closing, suppress
 from enum import Enum
 
 from ..exchange import SEIZED, Exchange
-from ..service.log_folder import LogFiles
+from ..log_folder import LogFiles
 from ..session import MULTIFRAME, Codec, Command, Kind, command_record, records_in, whole_records
 from .datagrams import BITS, PACKET, SECONDS, bound, packets, payload_of
 from .ports import free_ports

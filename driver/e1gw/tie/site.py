@@ -19,7 +19,7 @@ ALIVE = 0.5                 # seconds between two keepalives
 GONE = 2.0                  # seconds without one after which the connection is given up
 AGAIN = 0.25                # seconds until a connection is retried
 HANDSHAKE = 5.0             # seconds for a connection until it has greeted
-STRANGERS = 8               # connections that have not greeted, and those that the system queues
+STRANGERS = 64              # connections that have not greeted, and those that the system queues
 MOST_WAITING = 1 << 20      # octets not yet taken by the other site
 MINUTE, MOST_REASONS = 60.0, 10     # seconds in which a reason for no connection is reported once, and how many are
 T = TypeVar('T')
@@ -54,9 +54,10 @@ class Reasons:
         return True
 
 
-def one_too_many(strangers: Mapping[T, str]) -> T | None:
-    """Which stranger is closed for another one, if there are too many: the oldest of the address that has most."""
-    crowd = Counter(strangers.values())
+def one_too_many(strangers: Mapping[T, str], known: str) -> T | None:
+    """Which stranger is closed for another one, if there are too many: the oldest of the address that has most, but of
+    the known one only where there is no other."""
+    crowd = Counter(strangers.values()) | {known: 0}
     return max(strangers, key=lambda each: crowd[strangers[each]]) if len(strangers) >= STRANGERS else None
 
 
@@ -68,7 +69,7 @@ class Site:
         self.place, self.listens, self.context, self.name = place, listens, context, name
         self._tie, self._tell = tie, tie.tell
         self._writer: asyncio.StreamWriter | None = None    # the present connection
-        self._run = ''                                      # the program at its other end
+        self._run = self._address = ''                      # the program at its other end; the address of the last one
         self._strangers: dict[asyncio.Task[Any], str] = {}  # the address of each, the oldest first
         self._reasons = Reasons()
 
@@ -111,14 +112,14 @@ class Site:
             await asyncio.sleep(AGAIN)
 
     async def _came(self, reader: asyncio.StreamReader, writer: asyncio.StreamWriter) -> None:
-        """A connection that comes. For one too many the oldest of the address that has most is closed."""
+        """A connection that comes; another one is closed if it is one too many."""
         task = asyncio.current_task()
         assert task
-        if last := one_too_many(self._strangers):
+        if last := one_too_many(self._strangers, self._address):
             last.cancel()
             del self._strangers[last]
             self.turned_away('too many connections that have not greeted')
-        self._strangers[task] = (writer.get_extra_info('peername') or ('',))[0]
+        self._strangers[task] = address_of(writer)
         try:
             await self._hold(reader, writer)
         except asyncio.CancelledError:
@@ -172,7 +173,7 @@ class Site:
                 raise SiteRefused('another one is connected')
             self._writer.transport.abort()
             self._gone('closed')
-        self._writer, self._run, self._reasons = writer, greeting.run, Reasons()
+        self._writer, self._run, self._address, self._reasons = writer, greeting.run, address_of(writer), Reasons()
         self._tie.came(greeting)
         self._sign(writer)
 
@@ -185,6 +186,10 @@ class Site:
         if self._writer is writer:
             self.send(None)
             asyncio.get_running_loop().call_later(ALIVE, self._sign, writer)
+
+
+def address_of(writer: asyncio.StreamWriter) -> str:
+    return str((writer.get_extra_info('peername') or ('',))[0])
 
 
 async def read_one(reader: asyncio.StreamReader) -> Message:
