@@ -183,7 +183,9 @@ class PictureCommandTests(FolderCase):
         done = subprocess.run([COMMAND, '--program', program(), '--config', self.config, self.given], stdout=writes,
                               stderr=subprocess.PIPE, check=False)
         os.close(writes)
-        self.assertEqual((done.returncode, done.stderr), (1, b''))
+        # (a slow machine is told how far it is)
+        said = [line for line in done.stderr.splitlines() if not line.endswith(b'of the trunk read; it goes on')]
+        self.assertEqual((done.returncode, said), (1, []))
 
     def test_octets_where_a_session_is_wanted(self) -> None:
         """The page says it, with the command that makes a session of them; the status is 1."""
