@@ -16,6 +16,7 @@ from . import support
 from .holders import HolderCase
 from .support import SECONDS
 from .world import words_of
+from e1gw.holder_state import TrunkPlaces
 
 
 class HolderDeathTests(HolderCase):
@@ -144,6 +145,24 @@ class HolderDeathTests(HolderCase):
         self.assertTrue(os.path.isdir(f'{self.places.log}.damaged'))
         self.keeper.terminate()
         self.keeper.wait(SECONDS)
+
+    def test_a_folder_that_takes_no_writes(self) -> None:
+        """The next program goes on with the log in memory."""
+        name = f'scene{os.getpid()}'
+        self.places, other = (TrunkPlaces(os.path.join(within, f'{name}-{os.getuid()}')) for within in (
+            self.memory, os.path.dirname(support.launcher('hold'))))     # (tests/start)
+        self.control = self.places.control
+        refuses = f'case "$*" in *" {self.places.log} "*) echo cannot open the log of the trunk >&2; exit 1;; esac'
+        program = self.scripted(f'if test -e {self.path("full")}; then {refuses}; fi')
+        self.options += ['--name', name, '--program', program]
+        self.begins()
+        self.write('full', '')
+        os.kill(self.program, signal.SIGKILL)
+        self.awaits(f'the folder of the trunk is {other.folder} from now on')
+        self.goes_on_all()
+        self.assertTrue(os.path.exists(f'{other.log}/lock'))
+        self.as_uncut()
+        self.ends()
 
     def test_an_orphan(self) -> None:
         """A program that stands still as its holder is killed is killed by the next one."""

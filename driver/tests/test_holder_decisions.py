@@ -33,7 +33,7 @@ class AfterAnEndTests(unittest.TestCase):
             decided = after_end(end)
             self.assertEqual(decided.act, self.wanted(end), end)
             is_asked = end.is_well and end.reason is not EndReason.NONE and end.was_up
-            is_death = decided.act is NextAct.START and not is_asked
+            is_death = decided.act is NextAct.MOVE_LOG or decided.act is NextAct.START and not is_asked
             self.assertEqual(decided.pause, FIRST_PAUSE if is_death else 0.0, end)
             is_counted = is_death and (end.was_up or end.fault is not EndFault.LOG_IN_USE) or \
                 decided.act is NextAct.GO_BACK and end.was_up or \
@@ -52,6 +52,7 @@ class AfterAnEndTests(unittest.TestCase):
             (not end.was_up and end.is_first and not end.reopens, NextAct.FINISH),
             (end.was_up and is_asked, NextAct.START),
             (end.was_up and end.is_line_over, NextAct.REOPEN if end.reopens else NextAct.FINISH),
+            (not end.was_up and end.fault is EndFault.LOG_WRITE, NextAct.MOVE_LOG),
             (last_chance, NextAct.GO_BACK), (not end.was_up and end.is_crash, NextAct.NEW_LOG), (True, NextAct.START))
         return next(act for holds, act in rules if holds)
 

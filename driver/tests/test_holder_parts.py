@@ -349,7 +349,9 @@ class WordsTests(unittest.TestCase):
                              (['fault 1 BadKind'], EndFault.NONE),
                              (['e1gw: the log of the trunk is in use by process 5'], EndFault.LOG_IN_USE),
                              (['x', 'the log of the trunk has no state that can be loaded'], EndFault.LOG_LOST),
-                             (['state 3 Sum at 5'], EndFault.LOG_LOST)):
+                             (['state 3 Sum at 5'], EndFault.LOG_LOST),
+                             (['cannot write the log of the trunk'], EndFault.LOG_WRITE),
+                             (['cannot open the log of the trunk'], EndFault.LOG_WRITE)):
             self.assertIs(fault_in(lines), fault, lines)
         self.assertEqual([taken(each) for each in (['octets 12', 'x'], ['x octets 12'], list[str]())], [12, None, None])
         self.assertEqual(end_words(-9, ['x']), 'ended by signal 9 (SIGKILL)')

@@ -30,6 +30,7 @@ class EndFault(Enum):
     TRUNK = 'the trunk cannot be read or written'
     LOG_IN_USE = 'another process has the log'
     LOG_LOST = 'the log has nothing that can be loaded'
+    LOG_WRITE = 'the log takes no writes'
 
 
 class NextAct(Enum):
@@ -38,6 +39,7 @@ class NextAct(Enum):
     START = 'another one starts'
     GO_BACK = 'one of the version before starts'
     NEW_LOG = 'one starts on a new log'
+    MOVE_LOG = 'one starts on a copy of the log in memory'
     REOPEN = 'the line is opened again'
     RELEASE = 'the line is closed until it is to be taken'
     FINISH = 'the holder ends'
@@ -129,6 +131,8 @@ def _never_up(end: EndOfProgram) -> Decision:
     if end.is_first and not end.reopens:
         return Decision(NextAct.FINISH, end.deaths, status=1)
     step = _died(end)
+    if end.fault is EndFault.LOG_WRITE:
+        return replace(step, act=NextAct.MOVE_LOG)
     if step.deaths.crashes >= DEATHS:
         # of a log with which each one crashes none is to be had
         return replace(step, act=NextAct.NEW_LOG, deaths=replace(step.deaths, crashes=0), pause=0.0)

@@ -10,6 +10,7 @@ from .job import Job
 from .journal import Severity, say
 from .log import is_there, put_aside
 from .program import CRASHES, HeldProgram, end_words, fault_in, taken
+from .starting import move_folder
 
 if TYPE_CHECKING:
     from .holder import Holder
@@ -82,6 +83,8 @@ def do(holder: Holder, decided: Decision, words: str, now: float) -> None:
             holder.log.close()
             put_aside(f'{holder.folder}/log')
             holder.lost = ANEW
+        case NextAct.MOVE_LOG:
+            move_folder(holder, holder.why)
         case _ if decided.pause:
             say(Severity.ERROR, f'{holder.why}: the next one begins in {decided.pause:g} s')
     if decided.act is not NextAct.START or decided.pause:     # (else the next one does it: calls wait)

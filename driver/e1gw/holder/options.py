@@ -27,7 +27,7 @@ If it ends, the program ends with it, and the next one goes on with all calls.
   --blocks FRAMES,N     of a DAHDI card: frames of a block, and how many it holds each way [default: 16,16]
   --align               octets of the trunk may begin at any bit
   --crc4                CRC-4: it is sent, and counted each second in what comes
-  --senders WHOSE       whose datagrams are received, e1gw(1): any, host or peer [default: host]
+  --senders WHOSE       whose datagrams are received, e1gw(1): any, first, host or peer [default: host]
   --repeat N            sends each datagram again behind the N-th after it, 0 to 8 [default: 0, never]
   --seizure-wait MS     a seizure that is not acknowledged is released then, 200 to 8000 [default: 200]
   --state FILE          the state is saved there at the end, and loaded at the start if it is there
@@ -41,7 +41,7 @@ configuration, or another one holds the trunk.
 TEXTS = ('config', 'name', 'program', 'folder', 'in', 'out', 'unix', 'tcp', 'satop', 'blocks', 'senders', 'repeat',
          'seizure-wait', 'state', 'watch')
 FLAGS = 'reopen', 'clear', 'align', 'crc4', 'standby'
-SENDERS = 'any', 'host', 'peer'
+SENDERS = 'any', 'first', 'host', 'peer'
 SATOP = ('size', 'jitter', 'rtp', 'fill', 'clock')      # options of e1gw satop
 SATOP_DEFAULTS = {'size': '256'}
 

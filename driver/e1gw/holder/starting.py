@@ -20,6 +20,7 @@ from .program import HeldProgram, ProgramWants
 if TYPE_CHECKING:
     from .holder import Holder
 
+NO_WRITES = errno.EROFS, errno.EACCES, errno.EPERM      # a disk has failed
 START, RELOADED = 10.0, 1.0     # seconds to carry the trunk; for a new version, that has one before it
 OLD = 1.0                   # seconds for which speech may wait in sockets that no program reads
 LEFT, SOON = 0.2, 0.002     # seconds for a program that nobody holds to end; between two looks
@@ -59,12 +60,19 @@ def make_folder(holder: Holder) -> None:
         if not os.access(log, os.W_OK):
             raise OSError(errno.EROFS, os.strerror(errno.EROFS), log)
     except OSError as fault:
-        other = os.path.join(MEMORY, os.path.basename(holder.options.folder))
-        if fault.errno not in (errno.EROFS, errno.EACCES, errno.EPERM) or holder.folder == other:
+        if fault.errno not in NO_WRITES or not move_folder(holder, words_of_fault(fault)):
             raise
-        say(Severity.ERROR, f'{words_of_fault(fault)}: the folder of the trunk is {other} from now on')
-        os.makedirs(f'{other}/log', 0o700, exist_ok=True)
-        holder.folder = other
+
+
+def move_folder(holder: Holder, why: str) -> bool:
+    """Another folder, in memory, unless it is that already: whether it has changed."""
+    other = os.path.join(MEMORY, os.path.basename(holder.options.folder))
+    if holder.folder == other:
+        return False
+    say(Severity.ERROR, f'{why}: the folder of the trunk is {other} from now on')
+    os.makedirs(f'{other}/log', 0o700, exist_ok=True)
+    holder.folder = other
+    return True
 
 
 def waits_for_log(holder: Holder, now: float) -> bool:
