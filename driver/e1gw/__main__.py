@@ -10,7 +10,7 @@ from typing import Any, NoReturn
 
 # The module that has main(), by the command's name without e1gw-.
 COMMANDS = {
-    'call': 'tools.call', 'config': 'config', 'ctl': 'ctl', 'exchange': 'tools.exchange', 'explain': 'explain',
+    'call': 'tools.call', 'config': 'config', 'ctl': 'ctl', 'exchange': 'tools.exchange',
     'pcap': 'tools.pcap', 'picture': 'picture.main', 'records': 'tools.records', 'tie': 'tie.main',
     'trunk': 'service.service'}
 # Those that are not offered yet: they have no page, and no program.

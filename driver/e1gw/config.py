@@ -3,20 +3,27 @@
   e1gw-config [--trunk N] [VALUES]                     prints a configuration of thirty circuits
   e1gw-config --write NAME [--trunk N] [VALUES]        writes NAME.toml and NAME.options
   e1gw-config --write NAME --tie OTHER [VALUES]        writes those of both ends of a tie
-  e1gw-config --check FILE..                           prints faults of files, and ports that two have
+  e1gw-config --check FILE.. [--no-sockets]            prints faults of files, and ports that two have
 
-Trunk N of a machine has the ports from 24002 + 100 (N - 1) on and the metrics at 9100 + N, so trunks never clash.
+Trunk N of a machine has the ports from 24002 + 100 (N - 1) on and the metrics at 9100 + N. --write takes the first
+trunk whose ports no other file of the folder names and nobody has bound.
 
-The status is 0 if everything was written or nothing was found, else 2."""
+--check prints the line of `e1gw check`, the key, its line in the file and the allowed values, or opens each socket of
+`e1gw serve`, closes it again, and prints the first that fails. (A running trunk has its own ports in use.)
+
+The status is 0 if everything was written or nothing was found, 1 for a socket, else 2."""
 from __future__ import annotations
 
 import argparse
 import os
+import random
+import socket
 import sys
+from collections.abc import Iterator, Mapping
 from dataclasses import dataclass, replace
-from typing import Any
 
-from .explain import CODECS, ConfigFault, check, config_words, read_octets
+from .config_faults import CODECS, ConfigFault, check, read_octets, refusal_of, socket_faults
+from .config_ports import EXAMPLE, NamedPorts, addresses_of, is_bound, trunks_in
 from .faults import number, words_of_fault
 from .lines import no_peers
 from .session import CIRCUITS
@@ -41,14 +48,25 @@ prefill = {prefill}
 local_port = {local_port}
 peer_host = "{peer}"
 peer_port = {peer_port}
-'''
+{numbers}'''
+NUMBERS = 'ssrc = {}\nsequence = {}\n'
 OPTIONS = '''# Options of e1gw-trunk(1) for the trunk {name}.
 TRUNK="{device} --http 127.0.0.1:{http} --session {folder} --keep 1h --calls {folder}/calls.csv --json {folder}/events"
 '''
 
 
+Numbers = Mapping[int, tuple[int, int]]     # by circuit: its SSRC and its first sequence number
+
+
 class CannotWrite(Exception):
     """Why no configuration is written."""
+
+
+def random_numbers() -> Numbers:
+    """An SSRC and a first sequence number of each circuit (RFC 3550, 5.1 and 8.1); no two have the same SSRC."""
+    source = random.SystemRandom()
+    return {circuit: (ssrc, source.randrange(1 << 16))
+            for circuit, ssrc in zip(CIRCUITS, source.sample(range(1 << 32), len(CIRCUITS)))}
 
 
 @dataclass(frozen=True)
@@ -66,11 +84,18 @@ class Plan:
     peer: str
     first_local: int
     first_peer: int
+    numbers: Numbers            # empty: those of e1gw.toml(5)
 
-    def other_end(self, trunk: int) -> Plan:
-        """The plan of the other end: hosts, ports and the seizing end are swapped."""
-        return replace(self, trunk=trunk, role=ROLES[self.role][1], host=self.peer, peer=self.host,
-                       first_local=self.first_peer, first_peer=self.first_local)
+    def other_end(self) -> Plan:
+        """The plan of the other end: hosts, ports and the seizing end are swapped. (Two trunks of one machine have each
+        a port for metrics.)"""
+        return replace(self, trunk=self.trunk + (self.host == self.peer), role=ROLES[self.role][1], host=self.peer,
+                       peer=self.host, first_local=self.first_peer, first_peer=self.first_local,
+                       numbers=random_numbers() if self.numbers else {})
+
+    def ports(self) -> list[int]:
+        """The ports at this end."""
+        return [self.first_local + 2 * n for n in range(len(CIRCUITS))]
 
     def circuit(self, circuit: int) -> str:
         """The table of a circuit."""
@@ -78,7 +103,8 @@ class Plan:
         return CIRCUIT.format(
             circuit=circuit, role='outgoing' if circuit % 2 in ROLES[self.role][0] else 'incoming', codec=self.codec,
             payload='' if self.payload is None else f'\npayload = {self.payload}', ptime=self.ptime, peer=self.peer,
-            prefill=self.prefill, local_port=self.first_local + step, peer_port=self.first_peer + step)
+            prefill=self.prefill, local_port=self.first_local + step, peer_port=self.first_peer + step,
+            numbers=NUMBERS.format(*self.numbers[circuit]) if self.numbers else '')
 
 
 def text_of(plan: Plan) -> str:
@@ -98,14 +124,49 @@ def options_text(name: str, trunk: int, device: str) -> str:
                           folder=f'/var/lib/e1gw/{name}')
 
 
-def plan_of(asked: argparse.Namespace) -> Plan:
-    """The plan of a command line."""
-    first = asked.first_local or FIRST + APART * (asked.trunk - 1)
+def plan_of(asked: argparse.Namespace, trunk: int) -> Plan:
+    """The plan of a command line for a trunk of the machine."""
+    first = asked.first_local or FIRST + APART * (trunk - 1)
     codec = asked.codec or ('pcma' if asked.law == 'A' else 'pcmu')
     payload = asked.payload if asked.payload is not None or not codec.startswith('g726') else 96
     first_peer = asked.first_peer or (first + SAME_HOST if asked.peer == asked.host else first)
-    return Plan(asked.trunk, asked.law, codec, payload, asked.ptime, asked.prefill, asked.role, asked.host, asked.peer,
-                first, first_peer)
+    return Plan(trunk, asked.law, codec, payload, asked.ptime, asked.prefill, asked.role, asked.host, asked.peer,
+                first, first_peer, {} if asked.plain else random_numbers())
+
+
+# ---- a trunk with free ports ----
+
+def ends_of(asked: argparse.Namespace, trunk: int) -> list[tuple[str, Plan]]:
+    """The names and plans that are to be written: of this end, and of the other end of a tie."""
+    plan = plan_of(asked, trunk)
+    return [(asked.write, plan), *[(asked.tie, plan.other_end())] * bool(asked.tie)]
+
+
+def taken_ports(plan: Plan, is_asked: bool, others: NamedPorts, own: NamedPorts) -> Iterator[int]:
+    """Ports of a plan that another file names, or somebody has bound who is not of the files that are written over.
+    Ports that were asked for are not looked at."""
+    http = METRICS + plan.trunk
+    if http in others.http or http not in own.http and is_bound('127.0.0.1', http, socket.SOCK_STREAM):
+        yield http
+    for port in [] if is_asked else plan.ports():
+        if port in others.rtp or port not in own.rtp and is_bound(plan.host, port):
+            yield port
+
+
+def free_trunk(asked: argparse.Namespace) -> int:
+    """The first trunk of the machine whose ports are free; files that are written over keep theirs."""
+    names = {asked.write, asked.tie}
+    own = NamedPorts.of(asked.folder, trunks_in(asked.folder) & names, '')
+    others = NamedPorts.of(asked.folder, trunks_in(asked.folder) - names, asked.host)
+
+    def is_free(trunk: int) -> bool:
+        are_asked = asked.first_local, asked.first_peer
+        return not any(next(taken_ports(plan, bool(is_asked), others, own), 0)
+                       for (_, plan), is_asked in zip(ends_of(asked, trunk), are_asked))
+    trunks = sorted(range(1, TRUNKS + 1), key=lambda trunk: METRICS + trunk not in own.http)
+    if found := next(filter(is_free, trunks), 0):
+        return found
+    raise CannotWrite(f'no trunk of 1 to {TRUNKS} has free ports; --trunk takes one as it is')
 
 
 # ---- what is written ----
@@ -117,12 +178,9 @@ def write_new(path: str, text: str, over: bool) -> None:
     print(path)
 
 
-def write_all(asked: argparse.Namespace, plan: Plan) -> None:
+def write_all(asked: argparse.Namespace) -> None:
     """Writes the two files of a trunk, and those of the other end of a tie."""
-    ends = [(asked.write, plan)]
-    if asked.tie:
-        # (two trunks of one machine have each a port for metrics)
-        ends.append((asked.tie, plan.other_end(plan.trunk + (plan.host == plan.peer))))
+    ends = ends_of(asked, asked.trunk or free_trunk(asked))
     texts = [(name, text_of(each), options_text(name, each.trunk, asked.device)) for name, each in ends]
     there = [path for name, _ in ends for ending in ('toml', 'options')
              if os.path.exists(path := os.path.join(asked.folder, f'{name}.{ending}'))]
@@ -136,16 +194,6 @@ def write_all(asked: argparse.Namespace, plan: Plan) -> None:
 
 # ---- what is checked ----
 
-EXAMPLE = 'example.toml'
-
-
-def addresses_of(table: dict[str, Any]) -> dict[tuple[str, int], int]:
-    """The address and port of each circuit that has them."""
-    host = table.get('host', '127.0.0.1')
-    return {(host, circuit['local_port']): circuit['number'] for circuit in table.get('circuit', [])
-            if 'local_port' in circuit}
-
-
 def clash_words(path: str, other: str, clashes: list[tuple[int, str, int]]) -> str:
     """The words for circuits of a file whose address and port another file has."""
     circuit, address, far = clashes[0]
@@ -155,34 +203,47 @@ def clash_words(path: str, other: str, clashes: list[tuple[int, str, int]]) -> s
             f'e1gw-config --trunk N gives each trunk its own')
 
 
-def no_peers_words(path: str) -> str:
-    """What e1gw-trunk refuses of a configuration, and e1gw does not."""
+def found_in(path: str) -> str | None:
+    """What is wrong with a configuration: the line of e1gw, and why; or what e1gw-trunk refuses and e1gw does not."""
+    if found := refusal_of(path):
+        return '\n  '.join(found)
     why = no_peers(check(read_octets(path)))
-    return f'{path}: {why}' if why else ''
+    return f'{path}: {why}' if why else None
 
 
-def check_files(paths: list[str]) -> bool:
-    """Prints what is wrong with each file, and which ports two have in common; returns whether nothing is. Ports of the
-    package's example.toml are free, because no unit has that name."""
-    good, taken = True, dict[tuple[str, int], tuple[str, int]]()
+def clashes_of(paths: list[str]) -> Iterator[str]:
+    """Which ports two files have in common."""
+    taken = dict[tuple[str, int], tuple[str, int]]()
     for path in paths:
-        if why := config_words(path) or no_peers_words(path):
-            print(why)
-            good = False
-            continue
-        if os.path.basename(path) == EXAMPLE and len(paths) > 1:
-            continue
         clashes: dict[str, list[tuple[int, str, int]]] = {}
         for (host, port), circuit in addresses_of(check(read_octets(path))).items():
             other, far = taken.setdefault((host, port), (path, circuit))
             if other != path:
                 clashes.setdefault(other, []).append((circuit, f'{host}:{port}', far))
         for other, found in clashes.items():
-            print(clash_words(path, other, found))
-            good = False
-    if good:
-        print(f'{len(paths)} configurations have no fault')
-    return good
+            yield clash_words(path, other, found)
+
+
+def open_sockets(paths: list[str]) -> int:
+    """Opens the sockets of each file, and prints the first of each that cannot be opened. Returns the status."""
+    tables, status = {path: check(read_octets(path)) for path in paths}, 0
+    for path, table in tables.items():
+        if found := next(socket_faults(table), None):
+            print(f'socket {found[0]}\n  {path}: {found[1]}')
+            status = 1
+    if not status:
+        print(f'{sum(len(addresses_of(table)) for table in tables.values())} sockets can be opened')
+    return status
+
+
+def check_files(paths: list[str], is_socket_asked: bool) -> int:
+    """Prints what is wrong with each file, which ports two have in common, and which sockets cannot be opened; returns
+    the status."""
+    its = [path for path in paths if os.path.basename(path) != f'{EXAMPLE}.toml' or len(paths) == 1]
+    faults = [*filter(None, map(found_in, paths))] or [*clashes_of(its)]
+    print(*faults or ['the configuration has no fault' if len(paths) == 1 else
+                      f'{len(paths)} configurations have no fault'], sep='\n')
+    return 2 if faults else open_sockets(its) if is_socket_asked else 0
 
 
 # ---- the command line ----
@@ -191,6 +252,7 @@ def parser() -> argparse.ArgumentParser:
     words = argparse.ArgumentParser(prog='e1gw-config', description=__doc__, usage=argparse.SUPPRESS,
                                     formatter_class=argparse.RawDescriptionHelpFormatter)
     words.add_argument('--check', nargs='+', metavar='FILE', help='checks configurations and finds ports used twice')
+    words.add_argument('--no-sockets', action='store_true', help='with --check, opens no socket')
     words.add_argument('--write', metavar='NAME', help='writes NAME.toml and NAME.options')
     words.add_argument('--tie', metavar='OTHER', help='with --write, the other end of a tie: OTHER.toml, OTHER.options')
     words.add_argument('--folder', default='.', help='the folder for the files [default: this one]')
@@ -198,8 +260,11 @@ def parser() -> argparse.ArgumentParser:
     words.add_argument('--device', default='--unix /run/card/NAME', metavar='OPTIONS',
                        help='what e1gw-trunk(1) is to open, in .options [default: --unix /run/card/NAME]')
     values = words.add_argument_group('values')
-    values.add_argument('--trunk', type=number(1, TRUNKS), default=1, metavar='N',
-                        help=f'which trunk of the machine, 1 to {TRUNKS}: its ports [default: 1]')
+    values.add_argument('--trunk', type=number(1, TRUNKS), metavar='N',
+                        help=f'which trunk of the machine, 1 to {TRUNKS}: its ports '
+                             '[default: with --write the first whose ports are free, else 1]')
+    values.add_argument('--plain', action='store_true',
+                        help='the SSRC is the circuit\'s number, and packets are numbered from 0 [default: at random]')
     values.add_argument('--law', choices=('A', 'mu'), default='A', help='the law of the trunk [default: A]')
     values.add_argument('--codec', choices=CODECS, help='[default: G.711 of the law]')
     values.add_argument('--payload', type=number(0, 127), metavar='TYPE', help='[default: 96 for G.726]')
@@ -219,14 +284,13 @@ def parser() -> argparse.ArgumentParser:
 
 def run(asked: argparse.Namespace) -> int:
     if asked.check:
-        return 0 if check_files(asked.check) else 2
+        return check_files(asked.check, not asked.no_sockets)
     if asked.tie and (not asked.write or asked.tie == asked.write):
         raise CannotWrite('--tie needs --write and another name')
-    plan = plan_of(asked)
     if asked.write:
-        write_all(asked, plan)
+        write_all(asked)
     else:
-        print(text_of(plan), end='')
+        print(text_of(plan_of(asked, asked.trunk or 1)), end='')
     return 0
 
 

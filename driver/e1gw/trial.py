@@ -16,7 +16,7 @@ from contextlib import closing
 from dataclasses import dataclass
 from typing import Any, Callable, Iterable, Mapping, Sequence
 
-from .explain import config_words
+from .config_faults import config_words
 from .fault_words import words_of_fault
 from .holder.log import remove
 from .holder.version import Tried, tried_in

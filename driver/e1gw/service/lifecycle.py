@@ -17,7 +17,7 @@ from typing import TYPE_CHECKING, Callable
 
 from ..calls import CallsNote
 from ..events import LogLost, TrunkLost
-from ..explain import config_words, gateway_words
+from ..config_faults import config_words, gateway_words
 from ..faults import words_of_fault
 from ..writers import put_file
 from .decisions import Act, Deaths, Failures, NextStep, ProgramEnd, ProgramFault, Wish, after_end

@@ -21,7 +21,7 @@ from contextlib import closing
 from typing import Mapping, NoReturn
 
 from ..__main__ import CAUGHT, ENDS
-from ..explain import config_words
+from ..config_faults import config_words
 from ..faults import Parser, options_words, words_of_fault
 from ..writers import hold_descriptors
 from .commands import CannotListen

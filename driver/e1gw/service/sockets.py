@@ -12,7 +12,7 @@ from dataclasses import replace
 from math import inf
 from typing import Any, Collection, Iterator, Mapping
 
-from ..explain import bound
+from ..config_faults import bound
 from ..lines import config_text, tables_of
 from ..memory import in_memory
 from .version import ProgramVersion, is_address

@@ -1,19 +1,10 @@
-"""Explains why e1gw refuses a configuration, or cannot open a circuit's socket.
+"""The first fault of a configuration, with its key, line and allowed values, and of the sockets that it asks for.
 
-  e1gw-explain FILE                 prints e1gw's line, the key, its line in FILE, and the allowed values
-  e1gw-explain --no-sockets FILE    checks only the configuration
-
-The checks are those of e1gw.toml(5), in its order, so the fault is that of `e1gw check`. If there is none, each socket
-that `e1gw serve` would open is opened and closed again, in the order of the circuits, and the first failure is printed
-with its cause. (If that e1gw is running, its own ports are in use.)
-
-The status is 0 if nothing was found, 1 for a socket, and 2 for the configuration."""
+The checks are those of e1gw.toml(5), in its order, so the fault is that of `e1gw check`."""
 from __future__ import annotations
 
-import argparse
 import errno
 import math
-import os
 import re
 import socket
 import tomllib
@@ -284,17 +275,23 @@ def words_of(fault: ConfigFault, path: str, octets: bytes) -> str:
     return f'{path}:{line}: {fault.text}' if line else f'{path}: {fault.text}'
 
 
-def config_words(path: str) -> str | None:
-    """Why a configuration is refused, in words; None if nothing is found."""
+def refusal_of(path: str) -> tuple[str, str] | None:
+    """The line with which e1gw refuses a configuration, and why in words; None if nothing is found."""
     octets = b''
     try:
         octets = read_octets(path)
         check(octets)
     except ConfigFault as fault:
-        return words_of(fault, path, octets)
+        return f'config {KINDS[fault.kind]} {fault.kind} at {fault.place}', words_of(fault, path, octets)
     except OSError as fault:
-        return f'{path}: {fault.strerror or fault}'
+        return 'cannot read the configuration', f'{path}: {fault.strerror or fault}'
     return None
+
+
+def config_words(path: str) -> str | None:
+    """Why a configuration is refused, in words; None if nothing is found."""
+    found = refusal_of(path)
+    return found[1] if found else None
 
 
 def gateway_words(line: str, path: str) -> str | None:
@@ -305,40 +302,3 @@ def gateway_words(line: str, path: str) -> str | None:
     with suppress(ConfigFault, OSError):
         why = dict(socket_faults(check(read_octets(path)))).get(int(found[1]))
     return why or 'its port is free now, or its peer cannot be reached'
-
-
-def explain() -> int:
-    """Explains the configuration that the command line names, and returns the status."""
-    asked = argparse.ArgumentParser(prog='e1gw-explain', description=__doc__, usage=argparse.SUPPRESS,
-                                    formatter_class=argparse.RawDescriptionHelpFormatter)
-    asked.add_argument('--no-sockets', action='store_true')
-    asked.add_argument('file')
-    given = asked.parse_args()
-    octets = b''
-    try:
-        octets = read_octets(given.file)
-        table = check(octets)
-    except OSError as error:
-        print(f'cannot read the configuration\n  {given.file}: {error.strerror or error}')
-        return 2
-    except ConfigFault as fault:
-        print(f'config {KINDS[fault.kind]} {fault.kind} at {fault.place}\n  {words_of(fault, given.file, octets)}')
-        return 2
-    print('the configuration has no fault')
-    if given.no_sockets:
-        return 0
-    if found := next(socket_faults(table), None):
-        print(f'socket {found[0]}\n  {found[1]}')
-        return 1
-    print(f'{sum("local_port" in circuit for circuit in table.get("circuit", []))} sockets can be opened')
-    return 0
-
-
-def main() -> int:
-    try:
-        return explain()
-    except BrokenPipeError:
-        os.dup2(os.open(os.devnull, os.O_WRONLY), 1)
-        return 0
-    except KeyboardInterrupt:
-        return 130

@@ -1,13 +1,15 @@
-"""tools/explain: the faults of e1gw.toml(5), each at its key and line."""
-import os
+"""e1gw-config --check: the faults of e1gw.toml(5), each at its key and line, and those of sockets."""
+from __future__ import annotations
+
+import contextlib
+import io
 import resource
 import socket
-import subprocess
-import sys
+from unittest import mock
 
-from . import FolderCase, TOP
+from . import support
+from e1gw.config import main
 
-EXPLAIN = os.path.join(TOP, 'tools', 'explain')
 ONE = 'law = "A"\n[[circuit]]\nnumber = 1\n'
 
 # what is said of a text: the first line, the line in the file, and words of the explanation
@@ -34,30 +36,37 @@ FAULTS = [
 ]
 
 
-class Explained(FolderCase):
-    def explained(self, text: str, *words: str) -> tuple[int, list[str]]:
+class CheckCase(support.FolderCase):
+    def checked(self, *words: str) -> tuple[object, list[str]]:
+        """The status of e1gw-config --check, and the lines that it prints."""
+        with contextlib.redirect_stdout(io.StringIO()) as out, self.assertRaises(SystemExit) as ended, \
+                mock.patch('sys.argv', ['e1gw-config', '--check', *words]):
+            main()
+        return ended.exception.code, out.getvalue().splitlines()
+
+    def checked_text(self, text: str, *words: str) -> tuple[object, list[str]]:
+        """The same of a file with a text."""
         self.write('trunk.toml', text)
-        path = os.path.join(self.top, 'trunk.toml')
-        ran = subprocess.run([sys.executable, '-B', EXPLAIN, *words, path], capture_output=True, text=True)
-        self.assertEqual(ran.stderr, '')
-        return ran.returncode, ran.stdout.replace(path, 'FILE').splitlines()
+        status, lines = self.checked(path := self.path('trunk.toml'), *words)
+        return status, [line.replace(path, 'FILE') for line in lines]
 
 
-class Faults(Explained):
+class FaultTests(CheckCase):
     def test_faults(self) -> None:
         for text, told, line, words in FAULTS:
             with self.subTest(text[:60]):
-                status, lines = self.explained(text)
+                status, lines = self.checked_text(text)
                 self.assertEqual((status, lines[0]), (2, told))
                 self.assertTrue(lines[1].startswith(f'  FILE:{line}: ' if line else '  FILE: '), lines[1])
                 self.assertIn(words, lines[1])
 
     def test_no_fault(self) -> None:
-        self.assertEqual(self.explained('\ufeff' + ONE, '--no-sockets'), (0, ['the configuration has no fault']))
+        self.assertEqual(self.checked_text('\ufeff' + ONE, '--no-sockets'), (0, ['the configuration has no fault']))
 
     def test_no_file(self) -> None:
-        ran = subprocess.run([sys.executable, '-B', EXPLAIN, '/'], capture_output=True, text=True)
-        self.assertEqual((ran.returncode, ran.stdout.split('\n')[0]), (2, 'cannot read the configuration'))
+        status, lines = self.checked('/')
+        self.assertEqual((status, lines[0]), (2, 'cannot read the configuration'))
+        self.assertTrue(lines[1].startswith('  /: '), lines)
 
 
 def dotted(parts: int) -> str:
@@ -90,36 +99,40 @@ HOSTILE = [
 ]
 
 
-class Hostile(Explained):
+class HostileTests(CheckCase):
     def test_in_words_and_soon(self) -> None:
         """Each takes well below a second of processor where little else runs, and never the minute of a square."""
         for text, told, words in HOSTILE:
             with self.subTest(text[:40]):
-                before = resource.getrusage(resource.RUSAGE_CHILDREN)
-                status, lines = self.explained(text, '--no-sockets')
-                after = resource.getrusage(resource.RUSAGE_CHILDREN)
+                before = resource.getrusage(resource.RUSAGE_SELF)
+                status, lines = self.checked_text(text, '--no-sockets')
+                after = resource.getrusage(resource.RUSAGE_SELF)
                 self.assertEqual((status, lines[0], len(lines)), (2, told, 2))
                 self.assertIn(words, lines[1])
                 self.assertLess(len(lines[1]), 400)
                 self.assertLess(after.ru_utime + after.ru_stime - before.ru_utime - before.ru_stime, 5)
 
 
-class Sockets(Explained):
+class SocketTests(CheckCase):
     def test_a_port_in_use(self) -> None:
+        """The status is 1, of several files each is named, and --no-sockets opens none."""
         with socket.socket(socket.AF_INET, socket.SOCK_DGRAM) as held:
             held.bind(('127.0.0.1', 0))
-            status, lines = self.explained(ONE + f'local_port = {held.getsockname()[1]}\npeer_port = 9')
-        self.assertEqual((status, lines[1]), (1, 'socket 1'))
-        self.assertIn('in use', lines[2])
+            text = ONE + f'local_port = {held.getsockname()[1]}\npeer_port = 9'
+            status, lines = self.checked_text(text)
+            self.assertEqual((status, lines[:2]), (1, ['the configuration has no fault', 'socket 1']))
+            self.assertRegex(lines[2], r'^  FILE: port \d+ is in use')
+            self.assertEqual(self.checked_text(text, '--no-sockets'), (0, lines[:1]))
+            other = self.write('other.toml', ONE)
+            self.assertEqual(self.checked_text(text, other)[1], ['2 configurations have no fault', *lines[1:]])
+        self.assertEqual(self.checked_text(text), (0, [lines[0], '1 sockets can be opened']))
 
-    def test_a_host_of_another_machine(self) -> None:
-        text = 'host = "192.0.2.1"\n' + ONE + 'local_port = 24002\npeer_port = 9'
-        self.assertIn('not an address of this machine', self.explained(text)[1][2])
-
-    def test_two_families(self) -> None:
-        text = ONE + 'local_port = 24002\npeer_port = 9\npeer_host = "::1"'
-        self.assertIn('different address families', self.explained(text)[1][2])
-
-    def test_a_name_without_an_address(self) -> None:
-        text = ONE + 'local_port = 24002\npeer_port = 9\npeer_host = "nobody.invalid"'
-        self.assertIn('has no address', self.explained(text)[1][2])
+    def test_sockets_that_cannot_be_opened(self) -> None:
+        ports = 'local_port = 24002\npeer_port = 9'
+        for text, words in (('host = "192.0.2.1"\n' + ONE + ports, 'not an address of this machine'),
+                            (f'{ONE}{ports}\npeer_host = "::1"', 'different address families'),
+                            (f'{ONE}{ports}\npeer_host = "nobody.invalid"', 'has no address')):
+            with self.subTest(words):
+                status, lines = self.checked_text(text)
+                self.assertEqual((status, lines[1]), (1, 'socket 1'))
+                self.assertIn(words, lines[2])
