@@ -14,10 +14,11 @@ from .picture_made import (CAPTURED, TROUBLES, MadeSession, PictureSender, captu
                            page_of, read_session, recorded, rtp)
 from .support import TOP, FolderCase, run, text_of
 
-from e1gw.picture.facts import MOST, RANK, Facts, Row, Spans
+from e1gw.picture.facts import MOST, RANK, Facts, Row, Spans, Wire
 from e1gw.picture.findings import findings
 from e1gw.picture.page import MOST as MOST_OCTETS
 from e1gw.picture.page import draw
+from e1gw.picture.sound import HeardSamples
 from e1gw.picture.svg import Scale, Sheet, apart, clock, duration, runs
 from e1gw.session_clock import Break
 from e1gw.session import OCTETS_A_SECOND, Codec, Kind, codec_record, records_in, trunk_record
@@ -54,6 +55,25 @@ class FactsTests(unittest.TestCase):
             with self.subTest(came=came):
                 self.assertEqual((row.cell.lost, row.cell.counts['repetitions'], row.cell.discarded()),
                                  (lost, repeated, refused))
+
+    def test_a_session_begins_without_a_fault(self) -> None:
+        """In the first 20 ms a line is in fault because nothing was received; longer, or later, it is one."""
+        for place, spans in ((5119, [(0, 'idle')]), (5120, [(0, 'fault'), (5120, 'idle')])):
+            row = Row(3)
+            row.state(place, 'idle')
+            self.assertEqual(row.states.items, spans)
+            row.state(9000, 'fault')
+            self.assertEqual(row.states.items, [*spans, (9000, 'fault')])
+
+    def test_no_circuit_tells_the_law_alone(self) -> None:
+        """A sender of the other law whom the exchange sends back, beside a circuit that reads like the trunk's law, and
+        without it."""
+        for own, found in ((40, ['came other']), (0, ['came other', 'slot other'])):
+            facts = Facts({1: Row(1), 2: Row(2)})
+            for circuit, way, seen in ((1, 'came', HeardSamples(40, other=40)), (1, 'slot', HeardSamples(40, other=40)),
+                                       (2, 'slot', HeardSamples(40, own=own))):
+                facts.hear(circuit, 0, way, seen)
+            self.assertEqual([each.kind for each in findings(facts) if each.kind.endswith(' other')], found)
 
     def test_columns_are_few_and_lose_nothing(self) -> None:
         facts = Facts()
@@ -213,6 +233,29 @@ class PicturePageTests(unittest.TestCase):
             times = re.findall(rf'<text x="([\d.]+)" y="\d+" class="tick" text-anchor="(\w+)">{last}<', text)
             self.assertEqual(times, [('1139.0', 'end')] * 2)
 
+    def key_of(self, page: str) -> list[str]:
+        """The words of a page's key."""
+        key = page.partition('<div class="key">')[2].partition('</div>')[0]
+        return [' '.join(words.split()) for words in re.findall(r'</svg>([^<]+)</span>', key)]
+
+    def test_the_key_has_what_occurs(self) -> None:
+        """States, lanes, marks of a capture and commands, in the order of the drawing; nothing of a page without."""
+        facts, second = Facts({3: Row(3)}), OCTETS_A_SECOND
+        self.assertEqual(self.key_of(draw(facts, 'x', [3])), ['fault'])
+        for place, state in ((3000, 'idle'), (second, 'seized'), (second + 9000, 'acked')):
+            facts.rows[3].state(place, state)
+        facts.command(3, second, 'seize')
+        facts.turn(2 * second)
+        facts.rows[3].cell.sent = 50
+        facts.turn(5 * second)
+        self.assertEqual(self.key_of(draw(facts, 'x')), [
+            'idle', 'seized', 'acknowledged', 'packets sent (upper line)', 'open, and nothing comes (middle)',
+            'command done'])
+        facts.rows[3].wire = Wire(places=[3 * second])
+        facts.command(3, 4 * second, 'seize', 'not idle')
+        self.assertEqual(self.key_of(draw(facts, 'x'))[-3:], [
+            'did not arrive (upper)', 'command done', 'command refused'])
+
     def test_words_are_escaped(self) -> None:
         text = draw(Facts(), '<b>&"')
         self.assertNotIn('<b>&"', text)
@@ -221,6 +264,9 @@ class PicturePageTests(unittest.TestCase):
     def test_nothing_at_all(self) -> None:
         words = self.checked(draw(read_session('law = "A"\n', b''), 'e1gw'))
         self.assertIn('No datagrams came', words)
+
+    def test_no_fault_is_good(self) -> None:
+        self.assertIn('<h2>Findings</h2><p class="fine">No fault found.</p>', draw(Facts(), 'x'))
 
     def test_times_stand_apart(self) -> None:
         """Where slips bring round times together, some have no text: by 5 pixels of a character, at least."""

@@ -79,7 +79,7 @@ class MidCallPictureTests(RingCase):
     def facts(self, path: str) -> Facts:
         """What is gathered of a session."""
         options = argparse.Namespace(capture=None, begin=None, last=None)
-        begun, note = begin(path, None, self.config, self.program, None)
+        begun, note = begin(path, None, self.config, self.program)
         self.assertEqual(note, '')
         facts, word = gathered(options, begun)
         self.assertEqual(word, '')

@@ -73,7 +73,7 @@ class PictureCommandTests(FolderCase):
         self.assertEqual((said, '20 received, 0 discarded' in page), ('', True))
         page_of('--config', self.config, '-o', self.path('page.html'), self.given)
         self.assertEqual(text_of(self.path('page.html')), page)
-        for words, found in ((['--title', 'A <b>'], '<h1>A &lt;b&gt;</h1>'),
+        for words, found in ((['--circuits', '3'], '<h1>e1gw: a session</h1>'),
                              (['--begin', '2023-11-14T22:13:20Z'], '2023-11-14 22:13:20 UTC'),
                              (['--begin', str(BEGIN)], '2023-11-14 22:13:20 UTC'),
                              (['--circuits', '4-6'], '0 sent, 0 received, 0 discarded')):

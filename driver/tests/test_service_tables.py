@@ -102,7 +102,7 @@ class OptionTests(unittest.TestCase):
         self.assertEqual(watched_of(self.asked(words + more), 'p'), WatchWants(
             name='east', control='c', control_mode=0o600, control_group='g', http=('127.0.0.1', 80), json='-',
             calls='l', dark=3.0, on_loss=['clear', '5'],
-            picture=['--last', '60.0s', '--title', 'east', '--refresh', '10', '--program', 'p', f'{HERE}/s'],
+            picture=['--last', '60.0s', '--program', 'p', f'{HERE}/s'],
             kept=f' {HERE}/s --calls {HERE}/l'))
 
 

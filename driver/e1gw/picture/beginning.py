@@ -27,7 +27,6 @@ class Begun:
     session: RecordedSession
     config: str
     program: str
-    wait: int
     replay: Replay
     place: int = 0
 
@@ -38,19 +37,18 @@ def replaying(program: str | None) -> str:
     return program_of(program, '--unproved')
 
 
-def started(session: RecordedSession, config: str, program: str | None, wait: int | None, state: str = '') -> Begun:
+def started(session: RecordedSession, config: str, program: str | None, state: str = '') -> Begun:
     """A session with a new gateway, or with the one of a state."""
-    path, wait, place = replaying(program), wait or session.wait, session.place % MULTIFRAME if state else 0
-    return Begun(session, config, path, wait, Replay(path, config, state, wait), place)
+    path, place = replaying(program), session.place % MULTIFRAME if state else 0
+    return Begun(session, config, path, Replay(path, config, state, session.wait), place)
 
 
-def from_state(session: RecordedSession, config: str, program: str | None,
-               wait: int | None) -> tuple[Begun | None, str]:
+def from_state(session: RecordedSession, config: str, program: str | None) -> tuple[Begun | None, str]:
     """A session that begins in the middle, with the state next to it; or why that is not used: the program refuses it,
     or begins a circuit as new since it was configured otherwise."""
     if not session.state:
         return None, f'{os.path.basename(session.files[0])} has no state next to it'
-    begun = started(session, config, program, wait, session.state)
+    begun = started(session, config, program, session.state)
     why = begun.replay.said()
     if not why:
         return begun, ''
@@ -59,8 +57,7 @@ def from_state(session: RecordedSession, config: str, program: str | None,
     return None, f'{session.state} is not used ({why})'
 
 
-def begin(path: str, last: int | None, config: str | None, program: str | None,
-          wait: int | None) -> tuple[Begun, str]:
+def begin(path: str, last: int | None, config: str | None, program: str | None) -> tuple[Begun, str]:
     """A session by its path, and a note about its beginning. The last octets of a ring may be enough. If the gateway is
     not known where the session begins, it is a new one."""
     notes, asked, session = list[str](), '', RecordedSession([path])
@@ -71,12 +68,12 @@ def begin(path: str, last: int | None, config: str | None, program: str | None,
                 open(session.files[0], 'rb').close()    # a path that is wrong has no configuration either
             raise InputError(NO_CONFIG)
         if not session.middle:
-            return started(session, asked, program, wait), '; '.join(notes)
-        begun, why = from_state(session, asked, program, wait)
+            return started(session, asked, program), '; '.join(notes)
+        begun, why = from_state(session, asked, program)
         if begun:
             return begun, '; '.join(notes)
         notes += [why] * (why not in notes)
-    return started(session, asked, program, wait), '; '.join([*notes, MIDDLE])
+    return started(session, asked, program), '; '.join([*notes, MIDDLE])
 
 
 def begin_at(session: RecordedSession, place: int, circuit: int, config: str, program: str | None,
@@ -107,7 +104,7 @@ def begin_at(session: RecordedSession, place: int, circuit: int, config: str, pr
                 if not others.fullmatch(said):
                     raise InputError(f'{session.state or session.files[0]} is not used ({said}); --config names the '
                                      'file of that time')
-        return started(session.cut(at), config, program, None, saved), (piece for piece, _ in pieces)
+        return started(session.cut(at), config, program, saved), (piece for piece, _ in pieces)
 
 
 def _of_circuit(circuit: int, octets: Iterable[bytes]) -> Iterator[tuple[bytes, int]]:

@@ -224,7 +224,7 @@ def _astray(sheet: Sheet, row: Row, scale: Scale, y: float) -> None:
                     for first, last, state in row.states.between(scale.start, scale.end) if state in OPEN),
                    'nothing astray', f'circuit {row.number}: goes to another address than the peer\'s come from')
     crosses = sorted({int(scale.x(place) / 8) * 8 for place in row.wire.places if scale.start <= place <= scale.end})
-    sheet.path((f'M{x - 2} {y - 1:g}l4 4m0 -4l-4 4' for x in crosses), 'c-refused',
+    sheet.path((f'M{x - 2} {y - 1:g}l4 4m0 -4l-4 4' for x in crosses), 'c-refused undelivered',
                f'circuit {row.number}: {", ".join(row.wire.answers)}')
 
 

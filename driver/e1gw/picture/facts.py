@@ -25,6 +25,7 @@ WINDOW = 3200               # samples in the playout
 NOT_OPEN = 20
 # Refusals of a datagram of the call's stream, whose timestamp shows how early it was.
 TIMED = (13, 14, 15, 16)
+BEGUN = SECOND // 50        # until then a line is in fault because nothing of its signal was received yet
 BITS = {'g726-16': 2, 'g726-24': 3, 'g726-32': 4, 'g726-40': 5}
 # If several states are in one column, the first of these is shown.
 RANK = ('fault', 'blocked', 'releasing', 'seized', 'clearedback', 'answered', 'acked', 'idle')
@@ -281,7 +282,10 @@ class Row:
         was = self.states.value
         if state == was:
             return
-        self.states.put(place, state)
+        if place < BEGUN and len(self.states.items) == 1 and was == 'fault':
+            self.states = Spans(state, RANK)
+        else:
+            self.states.put(place, state)
         if (state in OPEN) != (was in OPEN):
             self.stream = CallStream()
         if state == 'seized' or self.role == 'incoming' and (was, state) == ('idle', 'acked'):

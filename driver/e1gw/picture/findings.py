@@ -191,8 +191,9 @@ def _missing(row: Row, whole: Cell) -> Iterator[Anomaly]:
         yield Anomaly('lost', row.number, f'{whole.lost} datagrams are missing by their sequence numbers, of {every}')
 
 
-def _speech(row: Row, whole: Cell, opened: int, law: str) -> Iterator[Anomaly]:
-    """No datagrams, silence, speech in another law, or in another order of words."""
+def _speech(row: Row, whole: Cell, opened: int, law: str, is_law_right: bool) -> Iterator[Anomaly]:
+    """No datagrams, silence, speech in another law, or in another order of words. That the law of the trunk is wrong no
+    circuit tells alone: the exchange may send back what came."""
     if opened > SECOND // 2 and whole.arrived() == whole.refused.get(NOT_OPEN, [0])[0]:
         sent = f': {whole.sent} datagrams were sent to {row.peer}, and none came back' if whole.sent and row.peer else (
             ', and no datagram came')
@@ -211,7 +212,7 @@ def _speech(row: Row, whole: Cell, opened: int, law: str) -> Iterator[Anomaly]:
     for way, words in (('came', f'the datagrams received read like {NAMES[OTHER[law]]}, not like {NAMES[law]}'),
                        ('slot', f'the time slot reads like {NAMES[OTHER[law]]}, not like {NAMES[law]}'),
                        ('order', 'the G.726 received is packed as in AAL2 (ITU-T I.366.2), not as in RFC 3551')):
-        if (seen := whole.heard.get(way)) and seen.is_other():
+        if (seen := whole.heard.get(way)) and seen.is_other() and not (way == 'slot' and is_law_right):
             yield Anomaly(f'{way} other', row.number, f'{words}, in {seen.other} of {seen.own + seen.other} looks that '
                           'tell: harsh noise')
 
@@ -295,9 +296,11 @@ def findings(facts: Facts) -> list[Anomaly]:
     parts = {n: points(row, facts.width) for n, row in facts.rows.items()}
     found = {n: [step for part in each for step in steps(part)] for n, each in parts.items()}
     out = [*_alarms(facts, scale), *_trunk(facts, scale), *_steps(facts, scale, found)]
+    wholes = {n: row.count() for n, row in facts.rows.items()}
+    is_law_right = any('slot' in whole.heard and whole.heard['slot'].is_own() for whole in wholes.values())
     for n, row in facts.rows.items():
-        whole, clocks = row.count(), list(_clock(row, parts[n], found[n]))
-        out += [*_speech(row, whole, facts.open_for(row), facts.law), *_way(row, whole), *clocks,
+        whole, clocks = wholes[n], list(_clock(row, parts[n], found[n]))
+        out += [*_speech(row, whole, facts.open_for(row), facts.law, is_law_right), *_way(row, whole), *clocks,
                 *_refused(row, whole, scale), *_missing(row, whole),
                 *_jitter(row, whole, parts[n], bool(clocks or found[n])), *_lines(row, whole)]
     return out

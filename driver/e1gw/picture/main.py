@@ -7,7 +7,7 @@ import sys
 import time
 from collections.abc import Callable, Iterator
 
-from ..faults import checked, number
+from ..faults import checked
 from ..session_clock import second_of
 from ..session_files import InputError, RecordedSession
 from ..lines import read_config, with_wait
@@ -57,11 +57,6 @@ def parser() -> argparse.ArgumentParser:
         'a list of circuits, 1 to 30, such as 1,2,7 or 3-9'))
     words.add_argument('--begin', type=checked(second_of, 'a time such as 2026-11-23T07:30:00Z'), metavar='TIME',
                        help='when the session began, in UTC')
-    words.add_argument('--seizure-wait', type=number(200, 8000), metavar='MS',
-                       help='as of the gateway [default: that of the kept session, or 200]')
-    words.add_argument('--refresh', type=number(1, 3600), metavar='SECONDS',
-                       help='the page is loaded again after SECONDS [default: never]')
-    words.add_argument('--title', metavar='WORDS', help='the title of the page')
     words.add_argument('--program', metavar='E1GW', help='the program [default: that of this repository, or e1gw]')
     return words
 
@@ -102,7 +97,7 @@ class Progress:
 def facts_of(begun: Begun, last: int | None = None) -> Facts:
     """The facts known of a session before it is read."""
     session, place = begun.session, begun.place
-    facts = Facts(rows_of(with_wait(read_config(begun.config), begun.wait)), last)
+    facts = Facts(rows_of(with_wait(read_config(begun.config), begun.session.wait)), last)
     facts.slips = session.slips and [(place + at, seconds) for at, seconds in session.slips]
     facts.breaks = [each.behind(place) for each in session.breaks]
     facts.begin = None if session.begin is None else session.begin - place / OCTETS_A_SECOND
@@ -143,15 +138,15 @@ def failure_of(word: str, session: RecordedSession) -> str:
 
 def drawn(options: argparse.Namespace) -> tuple[str, bool]:
     """The page asked for, and whether its session is complete."""
-    begun, middle = begin(options.session, options.last, options.config, options.program, options.seizure_wait)
+    begun, middle = begin(options.session, options.last, options.config, options.program)
     facts, word = gathered(options, begun)
     failure = failure_of(word, begun.session)
     name = os.path.basename(os.path.normpath(options.session))
-    title = options.title or f'e1gw: {name if name != "-" else "a session"}'
+    title = f'e1gw: {name if name != "-" else "a session"}'
     notes = [*[f'{failure or word}; what was before it is drawn'] * bool(word), *[middle] * bool(middle)]
     for note in notes:
         print(f'e1gw-picture: {note}', file=sys.stderr)
-    return draw(facts, title, options.circuits, options.refresh, notes), not failure
+    return draw(facts, title, options.circuits, notes), not failure
 
 
 def main() -> int:

@@ -22,9 +22,11 @@ LISTED = 400                # rows of a table
 FEW = 6                     # anomalies that are printed with their causes
 PARTS, EACH = 24, 5         # of a call, at most, and seconds of each, at most if there are fewer
 MINOR = ('silent came', 'silent slot', 'blocked', 'command', 'unacknowledged', 'fault', 'none', 'port')
+FINE = '<p class="fine">No fault found.</p>'
 ARROW = ' \N{RIGHTWARDS ARROW} '
 with open(os.path.join(os.path.dirname(__file__), 'page.html'), encoding='utf-8') as template:
     PAGE = string.Template(template.read())
+KEY = re.compile(r'<span data-of="([\w -]+)">.*?</span>\n', re.DOTALL)     # an entry of the key, and what it is of
 
 
 def escape(words: object) -> str:
@@ -83,7 +85,7 @@ def found_list(found: list[Anomaly], shown: set[int]) -> str:
         groups.setdefault((each.kind, each.bad(), not each.circuit and each.seen), []).append(each)
     items = [found_item(group, shown)
              for group in sorted(groups.values(), key=lambda group: (not group[0].bad(), group[0].circuit > 0))]
-    return f'<ul class="found{" many" * (len(items) > FEW)}">{"".join(items)}</ul>' if items else '<p>Nothing.</p>'
+    return f'<ul class="found{" many" * (len(items) > FEW)}">{"".join(items)}</ul>' if items else FINE
 
 
 class PicturePage:
@@ -208,29 +210,29 @@ class PicturePage:
                 + table('Commands', ('circuit', 'at', 'command', 'answer'), commands)
                 + table('The states of the circuits', ('circuit', 'from', 'to', 'for', 'state'), states))
 
-    def drawn(self, refresh: int | None) -> str:
-        facts = self.facts
+    def drawn(self) -> str:
+        facts, parts = self.facts, self.parts()
+        circuits = charts.circuits(facts, self.rows, self.scale, self.seen)
         quiet = f'<p class="note">Nothing but idle: circuits {circuit_words(self.quiet)}.</p>' if self.quiet else ''
-        return PAGE.substitute(
+        page = PAGE.substitute(
             title=escape(self.title), summary=self.summary(), found=self.found, quiet=quiet, counts=self.counts(),
-            refresh=f'<meta http-equiv="refresh" content="{refresh}">' if refresh else '',
             notes=''.join(f'<p><b>{escape(note)}</b></p>' for note in self.notes),
-            trunk=charts.trunk(facts, self.scale), wire=' wire' * any(row.wire for row in self.rows),
-            circuits=charts.circuits(facts, self.rows, self.scale, self.seen), playouts=self.playouts(),
-            tables=self.tables(), sound=self.player(), parts=self.parts())
+            trunk=charts.trunk(facts, self.scale), circuits=circuits, playouts=self.playouts(), tables=self.tables(),
+            sound=self.player(), parts=parts)
+        return KEY.sub(lambda entry: entry[0] * (f'class="{entry[1]}"' in circuits + parts), page)
 
 
-def draw(facts: Facts, title: str, circuits: list[int] | None = None, refresh: int | None = None,
-         notes: Iterable[str] = (), sound: str = '') -> str:
+def draw(facts: Facts, title: str, circuits: list[int] | None = None, notes: Iterable[str] = (), sound: str = ''
+         ) -> str:
     """The page of facts, below 2 MB: detail is dropped if it would be longer. `sound` is that of a call, a file beside
     it."""
     page = PicturePage(facts, title, circuits, notes, sound)
-    text = page.drawn(refresh)
+    text = page.drawn()
     for coarse in (2, 4, 8, 16, 32):
         if len(text.encode()) <= MOST:
             break
         page.scale.coarse = coarse
         page.even.clear()
         del page.troubled[32 // coarse:]
-        text = page.drawn(refresh)
+        text = page.drawn()
     return text

@@ -70,6 +70,10 @@ class HeardSamples:
         """Whether each sample had one octet only, and there are many."""
         return self.looks >= SILENT and self.silent == self.looks
 
+    def is_own(self) -> bool:
+        """Whether it is the circuit's own: clear samples are many, and nearly all agree."""
+        return self.own >= OFTEN and self.own >= MOSTLY * (self.own + self.other)
+
     def is_other(self) -> bool:
         """Whether it is the other one: clear samples are many, and nearly all agree."""
         return self.other >= OFTEN and self.other >= MOSTLY * (self.own + self.other)

@@ -152,7 +152,7 @@ def kept_of(asked: argparse.Namespace) -> str | None:
 
 def watched_of(asked: argparse.Namespace, program: str) -> WatchWants:
     """What an operator wants to have of it, drawn by this program."""
-    picture = ['--last', f'{asked.picture}s', '--title', name_of(asked), '--refresh', '10', '--program', program,
+    picture = ['--last', f'{asked.picture}s', '--program', program,
                os.path.abspath(asked.session)] if asked.picture else []
     return WatchWants(name=name_of(asked), picture=picture, kept=kept_of(asked), **{
         each: getattr(asked, each) for each in (*WATCHED, 'control_mode', 'control_group', 'dark', 'on_loss')})
