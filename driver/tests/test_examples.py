@@ -2,13 +2,18 @@
 and the exchange of a trunk."""
 from __future__ import annotations
 
+import asyncio
 import math
 import os
 import re
 import socket
 import sys
+import unittest
 from contextlib import ExitStack, suppress
+from importlib.machinery import SourceFileLoader
 from subprocess import PIPE, Popen
+from types import ModuleType
+from typing import Any
 from unittest import mock
 
 from . import support, world
@@ -68,6 +73,120 @@ def pairs(line: socket.socket) -> dict[int, int]:
     octets = support.read_from(line, 512)
     line.sendall(b'\xD5' * 512)
     return {n: octets[32 * n + 16] >> 6 for n in range(1, 16)}
+
+
+def loaded_front_end() -> Any:
+    """The front end as a module."""
+    loader = SourceFileLoader('front_end', FRONT_END)
+    module = sys.modules['front_end'] = ModuleType('front_end')
+    loader.exec_module(module)
+    return module
+
+
+class PlayedTrunk:
+    """A control socket that does what it is asked, and a socket that keeps what is sent."""
+
+    def __init__(self) -> None:
+        self.asked, self.said, self.refused = list[str](), list[str](), set[str]()
+
+    async def ask(self, command: str) -> list[str]:
+        self.asked.append(command)
+        return [f'{command}: {"not idle" if command in self.refused else "done"}']
+
+    def sendto(self, octets: bytes, _to: tuple[str, int]) -> None:
+        if octets[:1].isalpha():
+            self.said.append(octets.decode().split('\r\n')[0])
+
+    def get_extra_info(self, _name: str) -> tuple[str, int]:
+        return '127.0.0.1', 4000
+
+
+class PlayedFrontEndTests(unittest.IsolatedAsyncioTestCase):
+    """A front end of two circuits, by a clock that the test moves."""
+
+    def setUp(self) -> None:
+        self.now, self.trunk, module = 100.0, PlayedTrunk(), loaded_front_end()
+        config = {'law': 'A', 'circuit': [{'number': n, 'local_port': n, 'peer_port': n + 1} for n in (1, 2)]}
+        self.end = module.FrontEnd(config, ('127.0.0.1', 5060), self.trunk, lambda: self.now)
+        self.end.line = self.trunk
+        self.end.near = self.end.far = {1: self.trunk, 2: self.trunk}
+
+    async def sends(self, method: str, call: str = 'a') -> None:
+        """A message comes, and all that follows of it is done."""
+        body = OFFER.format(port=4002, payload=8) * (method == 'INVITE')
+        self.end.received(f'{method} sip:1@127.0.0.1 SIP/2.0\r\nFrom: <sip:a@127.0.0.1>;tag=a\r\n'
+                          f'To: <sip:1@127.0.0.1>\r\nCall-ID: {call}\r\nCSeq: 1 {method}\r\n\r\n{body}'.encode(),
+                          ('127.0.0.1', 5070))
+        await self.done()
+
+    async def done(self) -> None:
+        while self.end.tasks:
+            await asyncio.gather(*self.end.tasks)
+
+    async def is_up(self, call: str = 'a', circuit: int = 1) -> None:
+        """A call is made and answered."""
+        await self.sends('INVITE', call)
+        for state in ('seized', 'acked', 'answered'):
+            self.end.changed(circuit, state)
+        self.assertEqual(self.trunk.said[-1], 'SIP/2.0 200 OK')
+
+    async def test_the_codec_of_the_answer(self) -> None:
+        """It is set before the seizure, and again only if it was changed since; a circuit that does not take it gets no
+        call."""
+        await self.is_up()
+        await self.sends('BYE')
+        self.end.changed(1, 'idle')
+        await self.sends('INVITE', 'b')
+        self.assertEqual(self.trunk.asked, ['codec 1 pcma 8', 'seize 1', 'clear 1', 'seize 1'])
+        self.end.changed(1, 'idle')
+        self.end.told({'event': 'codec', 'circuit': 1, 'codec': 'g726-32', 'payload': 96})
+        await self.done()
+        self.trunk.asked.clear()
+        self.trunk.refused = {'codec 1 pcma 8'}
+        await self.sends('INVITE', 'c')
+        self.assertEqual(self.trunk.asked, ['codec 1 pcma 8', 'codec 2 pcma 8', 'seize 2'])
+
+    async def test_a_call_without_rtp_ends(self) -> None:
+        """After 30 s from the answer, or from the last packet; its peer gets a BYE, and the circuit another call."""
+        await self.is_up()
+        self.now += 29.9
+        self.end.to_circuit(1, b'\x80', ('127.0.0.1', 4002))
+        self.now += 29.9
+        self.end.end_silent()
+        self.assertEqual(self.trunk.asked[-1], 'seize 1')
+        self.now += 0.1
+        self.end.end_silent()
+        await self.done()
+        self.assertEqual((self.trunk.asked[-1], self.trunk.said[-1]), ('clear 1', 'BYE sip:127.0.0.1 SIP/2.0'))
+        self.end.changed(1, 'releasing')
+        self.end.changed(1, 'idle')
+        self.end.end_silent()
+        self.assertEqual(self.trunk.said[-1], 'BYE sip:127.0.0.1 SIP/2.0')
+        await self.is_up('b')
+        self.assertEqual(self.trunk.said.count('BYE sip:127.0.0.1 SIP/2.0'), 1)
+
+    async def test_calls_whose_bye_never_comes(self) -> None:
+        """Both circuits are in such a call: a third one is refused, and has one once they are silent for 30 s. A call
+        that is not answered yet may be silent."""
+        await self.is_up()
+        await self.sends('INVITE', 'b')
+        self.end.changed(2, 'acked')
+        await self.sends('INVITE', 'c')
+        self.assertEqual(self.trunk.said[-1], 'SIP/2.0 503 Service Unavailable')
+        self.now += 30.0
+        self.end.end_silent()
+        await self.done()
+        self.assertEqual([line for line in self.trunk.asked if line.startswith('clear')], ['clear 1'])
+        self.end.changed(1, 'idle')
+        await self.is_up('d')
+        await self.sends('BYE')             # (which comes after all, of a call that has ended)
+        self.assertEqual(self.trunk.said[-1], 'SIP/2.0 481 Call Does Not Exist')
+        self.assertEqual(self.end.circuits[1].invite.head('Call-ID'), 'd')
+
+    async def test_it_looks_each_second(self) -> None:
+        self.end.end_silent = mock.Mock(side_effect=EOFError)
+        with mock.patch.object(sys.modules['front_end'], 'EACH', 0.0), self.assertRaises(EOFError):
+            await self.end.look()
 
 
 class SipFrontEndTests(support.FolderCase):
