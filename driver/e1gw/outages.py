@@ -1,4 +1,4 @@
-"""Outages of a trunk by its events (--json of e1gw-trunk(1)): when, at which octets, and which calls were up."""
+"""Outages of a trunk by its events (--json of e1gw-trunk(1)): when, and which calls were up."""
 from __future__ import annotations
 
 import json
@@ -8,6 +8,7 @@ from typing import Any, Iterable, Iterator, Mapping
 
 from .calls import moment
 from .lines import IN_CALL, circuit_words
+from .session import OCTETS_A_SECOND
 from .session_clock import OUTAGE
 
 NO_OCTETS, SLIP = 'no octets', 'slip'
@@ -15,30 +16,34 @@ NO_OCTETS, SLIP = 'no octets', 'slip'
 KINDS = {('alarm', 'frame'): 'LFA', ('alarm', 'multiframe'): 'slot 16', ('remote alarm', 'frame'): 'RAI',
          ('remote alarm', 'multiframe'): 'slot 16 there', ('card', 'RED'): 'LOS or LFA', ('card', 'BLUE'): 'AIS',
          ('card', 'YELLOW'): 'RAI'}
+STARTS = {KINDS['alarm', 'frame'], KINDS['alarm', 'multiframe']}
 STOPS = {'stalled': True, 'trunk lost': True, 'flows': False, 'trunk': False}       # octets do not come, or again
 NAMES = tuple(f'"event": "{name}"' for name in {'state', 'gap', *STOPS, *(name for name, _ in KINDS)})
+ALIGNED = OCTETS_A_SECOND // 50     # octets of a trunk until which its alignment at a start is no outage
 SOON = 5.0                  # seconds behind NO_OCTETS within which it is measured how many are missing
-FIELDS = 'trunk', 'kind', 'from', 'to', 'seconds', 'first_octet', 'last_octet', 'circuits', 'calls'
+FIELDS = 'trunk', 'kind', 'from', 'to', 'seconds', 'circuits', 'calls'
 
 
 @dataclass
 class TrunkOutage:
-    """One outage: seconds since 1970 and octets of the trunk, and by circuit the calls that were up. It goes on where
-    its end is none."""
+    """One outage: seconds since 1970, at its end also the place on the trunk, and by circuit the calls that were up. It
+    goes on where its end is none."""
 
     kind: str
     begin: float
-    first: int
     end: float = inf
     last: int | None = None
     calls: dict[int, set[str]] = field(default_factory=dict)
 
     def fields(self, trunk: str) -> tuple[str, ...]:
         """What is told of it, by FIELDS."""
-        told = ('', '', '') if self.last is None else (
-            moment(self.end), f'{self.end - self.begin:.3f}', str(self.last))
-        return (trunk, self.kind, moment(self.begin), *told[:2], str(self.first), told[2], circuit_words(self.calls),
+        told = ('', '') if self.last is None else (moment(self.end), f'{self.end - self.begin:.3f}')
+        return (trunk, self.kind, moment(self.begin), *told, circuit_words(self.calls),
                 ' '.join(sorted(call for its in self.calls.values() for call in its)))
+
+    def is_start(self) -> bool:
+        """Whether it is the alignment of a trunk that has just begun."""
+        return self.kind in STARTS and self.last is not None and self.last <= ALIGNED
 
 
 def outages_of(events: Iterable[Mapping[str, Any]]) -> list[TrunkOutage]:
@@ -56,18 +61,18 @@ def outages_of(events: Iterable[Mapping[str, Any]]) -> list[TrunkOutage]:
             its = next((each for each in reversed(found) if not is_slip and each.kind == NO_OCTETS
                         and each.last is not None and time - each.end < SOON), None)
             if not its:
-                found.append(its := TrunkOutage(SLIP if is_slip else NO_OCTETS, begin, place))
+                found.append(its := TrunkOutage(SLIP if is_slip else NO_OCTETS, begin))
             its.begin, its.end, its.last = begin, time, place
             its.calls |= {n: its.calls.get(n, set()) | {call} for n, call in calls.items()}
         elif kind and STOPS.get(name, event.get('on')):
             if kind not in going:
-                found.append(going.setdefault(kind, TrunkOutage(kind, time - event.get('seconds', 0.0), place)))
+                found.append(going.setdefault(kind, TrunkOutage(kind, time - event.get('seconds', 0.0))))
         elif kind and kind in going:
             its = going.pop(kind)
             its.end, its.last = time, place
         for its in going.values():
             its.calls |= {n: its.calls.get(n, set()) | {call} for n, call in calls.items()}
-    return found
+    return [each for each in found if not each.is_start()]
 
 
 def events_in(lines: Iterable[str], until: float) -> Iterator[dict[str, Any]]:

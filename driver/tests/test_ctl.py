@@ -254,13 +254,13 @@ class CtlAnswerTests(support.FolderCase):
         self.write('events', json.dumps({'time': 1.8e9, 'event': 'gap', 'seconds': 0.25, 'place': 7}) + '\n')
         self.trunks['west'].answers['status json'] = json.dumps({'events_file': self.path('events')}) + '\n\n'
         self.assertEqual(self.ctl('west', 'outages', '--csv', '--since', '2027-01-15')[1], [
-            ','.join(FIELDS_OF_OUTAGES), 'west,slip,2027-01-15T07:59:59.750Z,2027-01-15T08:00:00.000Z,0.250,7,7,,'])
+            ','.join(FIELDS_OF_OUTAGES), 'west,slip,2027-01-15T07:59:59.750Z,2027-01-15T08:00:00.000Z,0.250,,'])
         self.assertEqual(self.ctl('west', 'outages')[1][1].split(), [
-            'west', 'slip', '2027-01-15T07:59:59.750Z', '2027-01-15T08:00:00.000Z', '0.250', '7', '7'])
+            'west', 'slip', '2027-01-15T07:59:59.750Z', '2027-01-15T08:00:00.000Z', '0.250'])
         self.assertEqual(len(self.ctl('west', 'outages', '--until', '2027-01-15')[1]), 1)
         page = '\n'.join(self.ctl('west', 'outages', '--page')[1])
         self.assertEqual(re.findall('<td>([^<]*)</td>', page), [
-            'west', 'slip', '2027-01-15T07:59:59.750Z', '2027-01-15T08:00:00.000Z', '0.250', '7', '7', '', ''])
+            'west', 'slip', '2027-01-15T07:59:59.750Z', '2027-01-15T08:00:00.000Z', '0.250', '', ''])
         self.assertEqual(len(re.findall('<th>', page)), len(FIELDS_OF_OUTAGES))
         self.trunks['east'].answers['status json'] = '{"events_file": null}\n\n'
         self.assertEqual(self.ctl('--all', 'outages')[:2][0], 1)

@@ -33,10 +33,20 @@ class OutageTests(unittest.TestCase):
         found = outages(SEIZED, LFA[0], ended, AWAY[0], other, *AWAY[1:], LFA[1],
                         event(130.0, 'gap', 90_000, seconds=0.25))
         self.assertEqual([each.fields('west')[1:] for each in found], [
-            ('LFA', '1970-01-01T00:01:50.000Z', '1970-01-01T00:02:01.000Z', '11.000', '1000', '20000', '3-4',
-             'a-3-1 a-4-1'),
-            (NO_OCTETS, '1970-01-01T00:01:51.250Z', '1970-01-01T00:02:00.500Z', '9.250', '1500', '9000', '4', 'a-4-1'),
-            (SLIP, '1970-01-01T00:02:09.750Z', '1970-01-01T00:02:10.000Z', '0.250', '90000', '90000', '4', 'a-4-1')])
+            ('LFA', '1970-01-01T00:01:50.000Z', '1970-01-01T00:02:01.000Z', '11.000', '3-4', 'a-3-1 a-4-1'),
+            (NO_OCTETS, '1970-01-01T00:01:51.250Z', '1970-01-01T00:02:00.500Z', '9.250', '4', 'a-4-1'),
+            (SLIP, '1970-01-01T00:02:09.750Z', '1970-01-01T00:02:10.000Z', '0.250', '4', 'a-4-1')])
+
+    def test_a_start_is_none(self) -> None:
+        """The trunk finds its frames and multiframes within its first 20 ms; later, or longer, that is an outage."""
+        for place, kinds in ((5120, []), (5121, ['slot 16'])):
+            found = outages(event(1.0, 'alarm', 0, what='multiframe', on=True),
+                            event(1.02, 'alarm', place, what='multiframe', on=False))
+            self.assertEqual([each.kind for each in found], kinds)
+        begun = event(1.0, 'alarm', 0, what='frame', on=True)
+        self.assertEqual(len(outages(begun)), 1)
+        self.assertEqual(len(outages(event(1.0, 'remote alarm', 0, what='frame', on=True),
+                                     event(1.02, 'remote alarm', 5000, what='frame', on=False))), 1)
 
     def test_kinds(self) -> None:
         """Each alarm is of its own kind, and goes on until it is over; a device that is lost gives no octets."""

@@ -300,7 +300,7 @@ class WebTests(unittest.TestCase):
                 return page if '1 answered' in page else None
             return None
         page = support.until(drawn, 1.0)                # what is kept may be late
-        self.assertEqual(('</html>' in page, 'west' in page), (True, True))
+        self.assertEqual(('</html>' in page, '<h1>e1gw: ring</h1>' in page), (True, True))
         call(self.world, 2)
 
     def test_visitors_that_are_slow_or_mad(self) -> None:
