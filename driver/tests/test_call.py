@@ -2,20 +2,26 @@
 from __future__ import annotations
 
 import csv
+import io
 import os
 import re
 import shutil
 import unittest
+from functools import partial
+from ipaddress import ip_address
+from unittest import mock
 
 from . import support
-from .picture_made import GATEWAY, PROGRESS, MadeSession, PictureSender, packets
+from .picture_made import GATEWAY, PEER, PROGRESS, MadeSession, PictureSender, packets
 from .properties import PropertyCase
 from .test_picture_beginning import BEGIN, RingCase
 from e1gw.calls import FIELDS, CallLine, csv_line, moment
 from e1gw.packets import datagrams
-from e1gw.session import OCTETS_A_SECOND, Command, Kind, records_in
+from e1gw.picture.facts import Facts
+from e1gw.session import OCTETS_A_SECOND, Command, Kind, datagram_record, records_in
 from e1gw.session_clock import Break, FileNote, SessionClock, breaks_of
-from e1gw.tools.call import EndedCall, begin_of
+from e1gw.tools.call import CallCut, CircuitSide, EndedCall, begin_of
+from e1gw.tools.pcap import Announcements, Timed, checksum, configured_ends, packet, packets_of, write_capture
 
 COMMAND = os.path.join(support.TOP, 'tools', 'call')
 FRAME = 32
@@ -110,6 +116,54 @@ class RingCallTests(RingCase):
                                                          circuit: {'prefill': 480}}))
             said = self.taken('1f-4-1', status)
             self.assertRegex(said, 'circuit 4 begins as new.*--config names' if status else '^$')
+
+
+class CallCutTests(unittest.TestCase):
+    """What is written of a call: its speech, and the ends of its packets."""
+
+    def test_silence_where_octets_are_missing(self) -> None:
+        """Both directions of 1.5 s of the trunk, an outage of 2 s, and a slip of 0.25 at which the clock was set. One
+        direction ends early."""
+        given, answered = (CircuitSide(3, 0, went, 'A') for went in (False, True))
+        given.speech, answered.speech = bytearray(b'\1' * 16_000), bytearray(b'\2' * 15_000)
+        facts = Facts()
+        facts.breaks = [Break(OCTETS_A_SECOND, 2.0, 2.0), Break(OCTETS_A_SECOND * 3 // 2, 3600.0, 0.25)]
+        call, reading = EndedCall('1f-3-1', 'west', 3, 0.5, 2.0), mock.Mock(facts=facts, given=given, answered=answered)
+        speech = CallCut(call, reading, OCTETS_A_SECOND // 2, 2 * OCTETS_A_SECOND, {})._speech()
+        self.assertEqual(bytes(speech), b'\1\2' * 4000 + b'\xd5\xd5' * 16_000 + b'\1\2' * 4000 + b'\xd5\xd5' * 2000
+                         + b'\1\2' * 3000 + b'\1\xd5' * 1000)
+
+    def test_addresses_and_ports(self) -> None:
+        """Those of the configuration; for names and any address those for examples (RFC 5737, RFC 3849)."""
+        for host, peer, ends in (
+                ('192.0.2.10', '198.51.100.20', ('192.0.2.10', '198.51.100.20')),
+                ('0.0.0.0', 'pbx.example', ('192.0.2.1', '192.0.2.2')), ('::1', 'pbx.example', ('::1', '2001:db8::2')),
+                ('::', '2001:db8::9', ('2001:db8::1', '2001:db8::9'))):
+            table = {'number': 3, 'local_port': 24006, 'peer_host': peer, 'peer_port': 34006}
+            found = (its := partial(configured_ends, {'host': host, 'circuit': [table]}))(3)
+            here, there = (ip_address(each).packed for each in ends)
+            self.assertEqual(found, ((here, 24006), (there, 34006)))
+            self.assertEqual(configured_ends({'circuit': [table]}, 4), ((GATEWAY, 5008), (PEER, 5008)))
+            datagram, file = b'\x80\x60' + bytes(10) + b'speech!', io.BytesIO()
+            (record,) = records_in(datagram_record(3, datagram))
+            write_capture(packets_of([Timed(n, record, went) for n, went in enumerate((True, False))], 3,
+                                     Announcements('A', {3: ('g726-32', 96)}, its)), file)
+            told, went, came = datagrams(io.BytesIO(file.getvalue()))
+            self.assertEqual([(each.source_host, each.target, each.body) for each in (went, came)],
+                             [(here, 34006, datagram), (there, 24006, datagram)])
+            version = 4 if len(here) == 4 else 6
+            self.assertTrue(told.body.decode(errors='replace').endswith(
+                f'\r\nc=IN IP{version} {ends[0]}\r\nt=0 0\r\nm=audio 24006 RTP/AVP 0 8 96\r\n'
+                'a=rtpmap:96 G726-32/8000\r\n'
+                f'm=audio 34006 RTP/AVP 0 8 96\r\nc=IN IP{version} {ends[1]}\r\na=rtpmap:96 G726-32/8000\r\n'))
+
+    def test_checksums(self) -> None:
+        """RFC 1071, section 3: the sum of its example is ddf2. One over IPv6 with its pseudo-header is nothing."""
+        self.assertEqual(checksum(bytes.fromhex('0001f203f4f5f6f7')), 0xFFFF - 0xDDF2)
+        hosts = [ip_address(each).packed for each in ('::1', '2001:db8::9')]
+        octets = packet((hosts[0], 24006), (hosts[1], 34006), b'odd')
+        self.assertEqual((octets[4:7], octets[8:40]), (bytes([0, 11, 17]), b''.join(hosts)))
+        self.assertEqual(checksum(b''.join(hosts) + bytes([0, 0, 0, 11, 0, 0, 0, 17]) + octets[40:]), 0)
 
 
 class EndedCallTests(unittest.TestCase):

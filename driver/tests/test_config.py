@@ -144,8 +144,9 @@ class FreePortTests(ConfigCase):
         self.made('--write', 'west')
         self.assertEqual(self.ports('west'), (24202, 9103))
         self.bound |= {24202, 9103}
-        self.assertEqual(self.made('--write', 'west', '--over')[0], 0)
-        self.assertEqual(self.ports('west'), (24202, 9103))
+        for self.bound in self.bound, set():            # (it keeps them where earlier ones are free by now)
+            self.assertEqual(self.made('--write', 'west', '--over')[0], 0)
+            self.assertEqual(self.ports('west'), (24202, 9103))
 
     def test_no_trunk_left(self) -> None:
         self.bound = {9100 + trunk for trunk in range(1, 65)}

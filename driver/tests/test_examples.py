@@ -153,6 +153,7 @@ class PlayedFrontEndTests(unittest.IsolatedAsyncioTestCase):
         self.end.to_circuit(1, b'\x80', ('127.0.0.1', 4002))
         self.now += 29.9
         self.end.end_silent()
+        await self.done()
         self.assertEqual(self.trunk.asked[-1], 'seize 1')
         self.now += 0.1
         self.end.end_silent()

@@ -256,6 +256,13 @@ class PicturePageTests(unittest.TestCase):
         self.assertEqual(self.key_of(draw(facts, 'x'))[-3:], [
             'did not arrive (upper)', 'command done', 'command refused'])
 
+    def test_the_sound_has_outages(self) -> None:
+        """Four seconds of the trunk and two that are missing are six of the call's sound."""
+        facts = Facts({3: Row(3)})
+        facts.breaks = [Break(OCTETS_A_SECOND, 2.0, 2.0)]
+        facts.turn(4 * OCTETS_A_SECOND)
+        self.assertIn('src="x.wav#t=0,6"', draw(facts, 'x', [3], sound='x.wav'))
+
     def test_words_are_escaped(self) -> None:
         text = draw(Facts(), '<b>&"')
         self.assertNotIn('<b>&"', text)

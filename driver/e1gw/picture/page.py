@@ -169,7 +169,8 @@ class PicturePage:
         words = f'{scale.words(first)}, {duration(last - first)}: {cell.sent} sent, {cell.admitted} received'
         words += f'; discarded: {charts.refusals(cell)}' * bool(cell.refused)
         played = ''.join(charts.PlayoutChart(row, facts, scale, seen[row.number]).drawn() for row in self.rows)
-        begin, end = ((place - facts.start) / SECOND for place in (first, last))
+        begin, end = ((place - facts.start) / SECOND + self.scale.clock.lost(facts.start, place)
+                      for place in (first, last))
         return (f'<details><summary>{escape(words)}</summary><audio controls preload="none" '
                 f'src="{self.sound}#t={begin:g},{end:g}"></audio><div class="wide end">'
                 f'{charts.circuits(facts, self.rows, scale, seen)}{played}</div></details>')

@@ -20,24 +20,26 @@ import glob
 import os
 import sys
 from collections import deque
-from collections.abc import Callable, Iterable, Iterator
+from collections.abc import Callable, Iterable, Iterator, Mapping
 from dataclasses import dataclass
-from typing import NamedTuple
+from functools import partial
+from typing import Any, NamedTuple
 
 from ..calls import CallLine, csv_line, moment, read_calls
 from ..faults import words_of_fault
 from ..frames import FrameSearch
-from ..lines import IN_CALL
+from ..lines import IN_CALL, read_config
 from ..picture.beginning import Begun, begin_at
 from ..picture.facts import SECOND, Facts
 from ..picture.main import Progress, facts_of
 from ..picture.page import draw
 from ..picture.reading import SessionReading
 from ..picture.svg import duration
-from ..session import FRAME, BadSession, Kind, Record, records_for, records_in, refusal_of
-from ..session_clock import SessionClock, second_of
+from ..session import (FRAME, SAMPLES_A_SECOND, BadSession, Kind, Record, records_for, records_in,
+                       refusal_of)
+from ..session_clock import Break, SessionClock, second_of
 from ..session_files import InputError, RecordedSession, kept_between
-from .pcap import Announcements, PlacedRecords, Timed, packets_of, write_capture
+from .pcap import Announcements, PlacedRecords, Timed, configured_ends, packets_of, write_capture
 from .records import write_wave
 
 NAME = os.path.basename(sys.argv[0])    # in the package e1gw-call
@@ -201,6 +203,7 @@ class CallCut:
     reading: CallReading
     first: int
     last: int
+    tables: Mapping[str, Any]       # the configuration
 
     @property
     def clock(self) -> SessionClock:
@@ -216,7 +219,7 @@ class CallCut:
             with open(paths[0], 'wb') as file:
                 write_wave(self._speech(), facts.law, file, 2)
             with open(paths[1], 'wb') as file:
-                codecs = Announcements(facts.law, {circuit: self.reading.codec})
+                codecs = Announcements(facts.law, {circuit: self.reading.codec}, partial(configured_ends, self.tables))
                 write_capture(packets_of(self._timed(), circuit, codecs), file)
             with open(paths[2], 'w', encoding='utf-8') as text:
                 text.writelines(f'{line}\n' for line in self._signals())
@@ -228,11 +231,17 @@ class CallCut:
         return paths
 
     def _speech(self) -> bytearray:
-        """An octet of what the trunk said and one of what it was sent by turns."""
-        count = (self.last - self.first) // FRAME
-        both = bytearray(2 * count)
-        for n, side in enumerate((self.reading.given, self.reading.answered)):
-            both[n::2] = side.heard(self.first, count)
+        """An octet of what the trunk said and one of what it was sent by turns, with silence where octets of the trunk
+        are missing: so a time of the day has the same place in each call."""
+        both, at, silence = bytearray(), self.first, SILENCE[self.reading.facts.law]
+        for each in (*self.clock.breaks, Break(self.last, 0.0, 0.0)):
+            if self.first < each.place <= self.last:
+                count = (each.place - at) // FRAME
+                piece = bytearray(2 * count)
+                for n, side in enumerate((self.reading.given, self.reading.answered)):
+                    piece[n::2] = side.heard(at, count)
+                both += piece + silence * (2 * round(each.lost * SAMPLES_A_SECOND))
+                at += count * FRAME
         return both
 
     def _timed(self) -> list[Timed]:
@@ -273,7 +282,7 @@ def cut_of(call: EndedCall, session: RecordedSession, config: str, program: str 
     if facts.place < end - AROUND:
         notes.append(f'its end is not kept: {call.end - its.second(facts.place):.1f} s are missing')
     facts.forget(max(facts.start, first - AROUND))
-    return CallCut(call, reading, facts.start, facts.place), notes
+    return CallCut(call, reading, facts.start, facts.place, read_config(config)), notes
 
 
 # ---- the command ----

@@ -28,7 +28,8 @@ import struct
 import sys
 from contextlib import suppress
 from dataclasses import replace
-from typing import BinaryIO, Iterable, Iterator, NamedTuple
+from ipaddress import ip_address
+from typing import Any, BinaryIO, Callable, Iterable, Iterator, Mapping, NamedTuple
 
 from ..faults import checked, words_of_fault
 from ..lines import law_of, lines_of, read_config
@@ -41,7 +42,9 @@ from ..session_files import InputError, kept
 NAME = os.path.basename(sys.argv[0])    # in the package e1gw-pcap
 GATEWAY, PEER = bytes([192, 0, 2, 1]), bytes([192, 0, 2, 2])  # RFC 5737, addresses for examples
 PORTS = {circuit: 5000 + 2 * circuit for circuit in CIRCUITS}
-ANNOUNCED = bytes([224, 2, 127, 254]), 9875     # where SAP sends to (RFC 2974, 3)
+NEUTRAL = tuple(ip_address(f'2001:db8::{n}').packed for n in (1, 2))     # the same of IPv6 (RFC 3849)
+# Where SAP sends to (RFC 2974, 3), in IPv4 and, at the link, in IPv6.
+ANNOUNCED = {4: (bytes([224, 2, 127, 254]), 9875), 16: (ip_address('ff02::2:7ffe').packed, 9875)}
 MOST = 65507  # the most octets that a UDP packet over IPv4 carries
 MOST_HELD = 1000  # D records between two of the trunk; if there are more, there is no trunk
 PLAIN_IP = 101  # LINKTYPE_RAW
@@ -89,6 +92,37 @@ class StampTimes:
         return self.last.get(record.circuit, 0.0)
 
 
+class PcapEnds(NamedTuple):
+    """The addresses and ports of a circuit's two ends."""
+    gateway: tuple[bytes, int]
+    peer: tuple[bytes, int]
+
+
+def example_ends(circuit: int) -> PcapEnds:
+    """Ends at addresses for examples."""
+    return PcapEnds((GATEWAY, PORTS[circuit]), (PEER, PORTS[circuit]))
+
+
+def address_of(host: str) -> bytes:
+    """The octets of an address; none of a name, and of any address."""
+    with suppress(ValueError):
+        return b'' if ip_address(host).is_unspecified else ip_address(host).packed
+    return b''
+
+
+def configured_ends(tables: Mapping[str, Any], circuit: int) -> PcapEnds:
+    """The ends that a configuration gives a circuit. For a host that is a name, or any address, there is one for
+    examples, and for a circuit without ports both are."""
+    own = [each for each in tables.get('circuit', []) if each['number'] == circuit]
+    table: Mapping[str, Any] = own[0] if own else {}
+    if 'local_port' not in table:
+        return example_ends(circuit)
+    here = address_of(tables.get('host', '127.0.0.1'))
+    there = address_of(table.get('peer_host', '127.0.0.1'))
+    near, far = NEUTRAL if len(here or there) == 16 else (GATEWAY, PEER)
+    return PcapEnds((here or near, table['local_port']), (there or far, table['peer_port']))
+
+
 class Timed(NamedTuple):
     """A D or K record, when it was, and whether the gateway wrote it."""
     time: float
@@ -129,9 +163,10 @@ def timed(octets: Iterable[bytes], clock: SessionClock, went: bool) -> Iterator[
 class Announcements:
     """Tells of each circuit's port and codec before its first packet, and again behind a change."""
 
-    def __init__(self, law: str, codecs: dict[int, tuple[str, int]]) -> None:
+    def __init__(self, law: str, codecs: dict[int, tuple[str, int]],
+                 ends: Callable[[int], PcapEnds] = example_ends) -> None:
         """`codecs` has codec and payload type of each circuit, if they are known."""
-        self._law, self._codecs = law, codecs
+        self._law, self._codecs, self.ends = law, codecs, ends
         self._told = dict[int, bytes]()
         self._unknown = set[tuple[int, int]]()
 
@@ -147,21 +182,29 @@ class Announcements:
             self._unknown.add((circuit, kind))
             hint = '' if self._codecs else '; --config names the configuration'
             print(f'{NAME}: circuit {circuit}: the codec of payload type {kind} is unknown{hint}', file=sys.stderr)
-        told = announcement(circuit, codec, payload)
+        ends = self.ends(circuit)
+        told = announcement(circuit, codec, payload, ends)
         if told == self._told.get(circuit):
             return b''
         self._told[circuit] = told
-        return packet(GATEWAY, *ANNOUNCED, told)
+        return packet((ends.gateway[0], ANNOUNCED[4][1]), ANNOUNCED[len(ends.gateway[0])], told)
 
 
-def announcement(circuit: int, codec: str, payload: int) -> bytes:
-    """What is announced of a circuit: SDP (RFC 8866), with the names of RFC 3551, in SAP (RFC 2974). The types 0 and 8
-    have their codecs without a word."""
-    known = codec and payload > 95
-    text = '\r\n'.join(['v=0', f'o=- {circuit} 0 IN IP4 192.0.2.1', f's=circuit {circuit}', 'c=IN IP4 192.0.2.1',
-                        't=0 0', f'm=audio {PORTS[circuit]} RTP/AVP 0 8{f" {payload}" * bool(known)}',
-                        *[f'a=rtpmap:{payload} {codec.upper()}/8000'] * bool(known), ''])
-    return struct.pack('>BBH4s', 0x20, 0, circuit, GATEWAY) + b'application/sdp\0' + text.encode()
+def announcement(circuit: int, codec: str, payload: int, ends: PcapEnds) -> bytes:
+    """What is announced of a circuit: SDP (RFC 8866), with the names of RFC 3551, in SAP (RFC 2974), of each port to
+    which packets go. The types 0 and 8 have their codecs without a word."""
+    known, host = codec and payload > 95, ends.gateway[0]
+    lines = ['v=0', f'o=- {circuit} 0 {sdp_address(host)}', f's=circuit {circuit}', f'c={sdp_address(host)}', 't=0 0']
+    for address, port in dict.fromkeys((ends.gateway, ends.peer)) if ends.peer[1] != ends.gateway[1] else [ends[0]]:
+        lines += [f'm=audio {port} RTP/AVP 0 8{f" {payload}" * bool(known)}',
+                  *[f'c={sdp_address(address)}'] * (address != host),
+                  *[f'a=rtpmap:{payload} {codec.upper()}/8000'] * bool(known)]
+    flags = 0x20 if len(host) == 4 else 0x30        # version 1, and A for IPv6
+    return struct.pack('>BBH', flags, 0, circuit) + host + b'application/sdp\0' + '\r\n'.join([*lines, '']).encode()
+
+
+def sdp_address(host: bytes) -> str:
+    return f'IN IP{4 if len(host) == 4 else 6} {ip_address(host)}'
 
 
 def packets_of(streams: Iterable[Timed], asked: int | None, codecs: Announcements) -> Iterator[tuple[float, bytes]]:
@@ -178,20 +221,30 @@ def packets_of(streams: Iterable[Timed], asked: int | None, codecs: Announcement
             if told := codecs.before(record):
                 yield time, told
             again[went].is_one(record.circuit, record.body)
-            ends = (GATEWAY, PEER) if went else (PEER, GATEWAY)
-            yield time, packet(*ends, PORTS[record.circuit], record.body)
+            here, there = codecs.ends(record.circuit)
+            yield time, packet(here, there, record.body) if went else packet(there, here, record.body)
     for each in again.values():
         each.tell()
 
 
-def packet(source: bytes, target: bytes, port: int, body: bytes) -> bytes:
-    """A UDP packet over IPv4 (RFC 768, RFC 791), with no checksum of UDP."""
-    udp = struct.pack('>HHHH', port, port, 8 + len(body), 0)
-    ip = struct.pack('>BBHHHBBH4s4s', 0x45, 0, 28 + len(body), 0, 0, 64, UDP, 0, source, target)
-    total = sum(struct.unpack('>10H', ip))
-    total = (total & 0xFFFF) + (total >> 16)
-    total = (total & 0xFFFF) + (total >> 16)
-    return ip[:10] + struct.pack('>H', 0xFFFF - total) + ip[12:] + udp + body
+def packet(source: tuple[bytes, int], target: tuple[bytes, int], body: bytes) -> bytes:
+    """A UDP packet over IPv4 (RFC 768, RFC 791), with no checksum of UDP, or over IPv6 (RFC 8200), where it needs one.
+    """
+    length, hosts = 8 + len(body), source[0] + target[0]
+    udp = struct.pack('>HHHH', source[1], target[1], length, 0) + body
+    if len(source[0]) == 16:
+        total = checksum(hosts + struct.pack('>II', length, UDP) + udp) or 0xFFFF
+        return struct.pack('>IHBB', 6 << 28, length, UDP, 64) + hosts + udp[:6] + struct.pack('>H', total) + body
+    ip = struct.pack('>BBHHHBBH', 0x45, 0, 20 + length, 0, 0, 64, UDP, 0) + hosts
+    return ip[:10] + struct.pack('>H', checksum(ip)) + ip[12:] + udp
+
+
+def checksum(octets: bytes) -> int:
+    """That of the Internet (RFC 1071)."""
+    total: int = sum(struct.unpack(f'>{len(octets) // 2 + len(octets) % 2}H', octets + bytes(len(octets) % 2)))
+    while total > 0xFFFF:
+        total = (total & 0xFFFF) + (total >> 16)
+    return 0xFFFF - total
 
 
 def write_capture(packets: Iterable[tuple[float, bytes]], sink: BinaryIO) -> None:
@@ -224,7 +277,7 @@ def write_records(source: BinaryIO, asked: int | None, sink: BinaryIO) -> None:
     every = passed = 0
     for every, each in enumerate(packets(source), 1):
         circuit = asked or circuits.get(each.target) if each and not each.answer else None
-        if each and each.target == ANNOUNCED[1]:
+        if each and each.target == ANNOUNCED[4][1]:
             continue
         if each and circuit:
             again.is_one(circuit, each.body)
