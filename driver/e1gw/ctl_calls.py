@@ -11,7 +11,7 @@ from typing import Any, Iterable, Iterator, Mapping
 from .calls import CallLine, csv_line, files_of, read_calls
 from .ctl_all import each_status
 from .outages import FIELDS, outages_in
-from .service.page import outages_page
+from .watcher.page import outages_page
 from .session_clock import second_of
 
 LAST = 20                   # calls that have ended, if nothing else is asked for

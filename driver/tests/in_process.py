@@ -16,7 +16,7 @@ from . import support
 from .manager import Manager
 from .world import words_of
 from e1gw.service import lifecycle, service
-from e1gw.service.journal import NOTICE, TOP
+from e1gw.watcher.journal import NOTICE, TOP
 from e1gw.service.options import wants_of
 from e1gw.testing.service import ask
 

@@ -9,6 +9,7 @@ import contextlib
 import glob
 import json
 import os
+import pkgutil
 import random
 import re
 import signal
@@ -23,8 +24,10 @@ from .support import SECONDS, octets_in
 from .world import trunk_command, words_of
 from e1gw.exchange import ACKNOWLEDGED, ANSWERED, SEIZED
 from e1gw.log_folder import HELD, RECORDS, STATES
-from e1gw.service.note import NoteFiles, ServiceNote, note_in
+from e1gw import watcher
+from e1gw.service.note import ServiceNote, note_in
 from e1gw.service.sockets import name_of
+from e1gw.watcher.note import NoteFiles
 from e1gw.session import (FRAME, MULTIFRAME, Codec, Command, Kind, Packet, codec_record, command_record, packet_of,
                           records_in, trunk_record)
 from e1gw.testing.ports import free_ports
@@ -215,7 +218,12 @@ class KeeperCase(support.FolderCase):
 
     def within(self, **of_modules: Any) -> dict[str, str]:
         """The environment in which these limits of the service hold: lifecycle_START=0.5 is lifecycle.START."""
-        return limits.around({f'service.{name.replace("_", ".", 1)}': value for name, value in of_modules.items()})
+        shows = {each.name for each in pkgutil.iter_modules(watcher.__path__)} - {'decisions', 'note', 'trunk'}
+        found = {}
+        for name, value in of_modules.items():
+            module, _, limit = name.partition('_')
+            found[f'{"watcher" if module in shows else "service"}.{module}.{limit}'] = value
+        return limits.around(found)
 
     def dies(self, number: int = signal.SIGKILL) -> None:
         """The program is sent a signal when it has answered all, and another one goes on behind that."""

@@ -13,7 +13,7 @@ from typing import Any, Mapping
 GIVEN = 'E1GW_LIMITS'
 LONG = 900.0                # seconds
 # Where the follower tells of each command an answer waits for that. (A follower that comes meanwhile may not.)
-TELLS = {'service.connection.PATIENCE': LONG}
+TELLS = {'watcher.connection.PATIENCE': LONG}
 # Octets come when a test gives them, and by no clock: a flow that is never steady has no gap, behind which calls are
 # restarted. (A test that had taken ten seconds longer than its trunk found one.) Nor is a version tried for a minute.
 # Files of a ring are of a second there, and of each program: more of them are kept than of hours. What draws and what
@@ -21,22 +21,22 @@ TELLS = {'service.connection.PATIENCE': LONG}
 STARTED: dict[str, Any] = {
     'clock.STEADY': 0.0, 'holder.decisions.TRIED': LONG, 'holder.decisions.MOST_LINE_PAUSE': 0.01,
     'recording_ring.MOST_OWN': 1000,
-    **dict.fromkeys(('service.pages.put_behind', 'service.recordings.put_behind'), lambda *_: None)}
+    **dict.fromkeys(('watcher.pages.put_behind', 'watcher.recordings.put_behind'), lambda *_: None)}
 LIMITS: dict[str, Any] = {
     'service.lifecycle.START': LONG, 'service.lifecycle.GRACE': LONG, 'service.lifecycle.RELOADED': LONG,
     'service.lifecycle.OLD': LONG,
-    'service.version.CHECK': LONG, 'service.version.LOOK_UP': LONG, 'service.version.URGENT': LONG,
-    'service.status.FIRST': LONG,
-    'service.decisions.QUIET': LONG, 'service.pages.DRAWN': LONG,
-    'service.reload.PATIENCE': LONG, 'service.missed.PATIENCE': LONG,
-    'service.feed.PATIENCE': LONG, 'service.standby.PATIENCE': LONG, 'service.pair.PATIENCE': LONG,
-    'service.feed.FRESH': LONG, 'service.standby.FRESH': LONG, 'service.pair.FRESH': LONG,
-    'service.standby.MOST_AGE': LONG, 'service.recordings.FLUSH': LONG, 'service.satop_trunk.GRACE': LONG,
-    'service.connection.NEXT': LONG, 'service.trunk.MOST_PAUSE': 0.01, 'service.pages.SECONDS': LONG,
-    'service.pages.EVERY': 0.0,
+    'service.version.CHECK': LONG, 'watcher.replay.CHECK': LONG,
+    'service.version.LOOK_UP': LONG, 'service.version.URGENT': LONG, 'watcher.status.FIRST': LONG,
+    'watcher.decisions.QUIET': LONG, 'watcher.pages.DRAWN': LONG,
+    'service.reload.PATIENCE': LONG, 'watcher.missed.PATIENCE': LONG,
+    'watcher.feed.PATIENCE': LONG, 'watcher.standby.PATIENCE': LONG, 'service.pair.PATIENCE': LONG,
+    'watcher.feed.FRESH': LONG, 'watcher.standby.FRESH': LONG, 'service.pair.FRESH': LONG,
+    'watcher.standby.MOST_AGE': LONG, 'watcher.recordings.FLUSH': LONG, 'service.satop_trunk.GRACE': LONG,
+    'watcher.connection.NEXT': LONG, 'service.trunk.MOST_PAUSE': 0.01, 'watcher.pages.SECONDS': LONG,
+    'watcher.pages.EVERY': 0.0,
     'programs.PATIENCE': LONG, 'writers.OPENS': LONG,
     'service.pair.GRACE': LONG, 'service.service.GRACE': LONG, 'service.handover.GRACE': LONG,
-    'service.events.FLUSH': LONG, 'service.journal.FLUSH': LONG, 'service.drains.PATIENCE': LONG,
+    'watcher.events.FLUSH': LONG, 'watcher.journal.FLUSH': LONG, 'watcher.drains.PATIENCE': LONG,
     # (A process that gets what others leave gets next to nothing on a loaded machine.)
     'priority.put_last': lambda process: None}
 USUAL: dict[str, Any] = {}        # what they are where no test is

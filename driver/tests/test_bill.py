@@ -23,9 +23,10 @@ from e1gw.counts import DatagramCounts
 from e1gw.events import Event, LineChanged
 from e1gw.lines import IN_CALL, Role, State
 from e1gw.log_folder import LogPair, LogWriter
-from e1gw.service import reader as readers, status as statuses
-from e1gw.service.reader import ReadingNote
-from e1gw.service.status import OperatedTrunk, TrunkStatus
+from e1gw.service.operated import OperatedTrunk
+from e1gw.watcher import reader as readers, status as statuses, trunk as trunks
+from e1gw.watcher.reader import ReadingNote
+from e1gw.watcher.status import TrunkStatus
 from e1gw.session import CIRCUITS, MULTIFRAME, Command, trunk_record
 from e1gw.writers import put_file
 
@@ -401,7 +402,7 @@ class BillTests(PropertyCase):
             trunk.writes()
             put_file(path, octets)
         for module, name, its in ((statuses, 'time', clock), (readers, 'time', clock), (call_names, 'put_file', puts),
-                                  (statuses, 'told_again', trunk.told_again),
+                                  (trunks, 'told_again', trunk.told_again),
                                   (statuses, 'read_config', lambda path: self.session.tables)):
             held.enter_context(mock.patch.object(module, name, its))
         trunk.serves()

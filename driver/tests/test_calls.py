@@ -18,7 +18,7 @@ from e1gw.counts import REASONS, CircuitCounts, DatagramCounts, ToldCounts
 from e1gw.events import LineChanged
 from e1gw.exchange import IDLE, SEIZED
 from e1gw.lines import IN_CALL, Line, Role, State
-from e1gw.service.missed import MissedReports
+from e1gw.watcher.missed import MissedReports
 from e1gw.session import MULTIFRAME, OCTETS_A_SECOND
 
 FAR = 0.005                 # seconds, of a line's times, which have milliseconds

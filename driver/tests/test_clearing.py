@@ -9,7 +9,7 @@ from unittest import mock
 
 from .properties import PropertyCase
 from e1gw.clearing import DisconnectPolicy, DisconnectWatch, OutageWatch, on_loss_of
-from e1gw.service.commands import CommandServer
+from e1gw.watcher.commands import CommandServer
 
 LOOK = 0.125                # seconds between two looks
 

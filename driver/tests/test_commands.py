@@ -16,7 +16,7 @@ from .support import ran
 from e1gw import ctl
 from e1gw.__main__ import COMMANDS
 from e1gw.picture import main as picture
-from e1gw.service import commands as control
+from e1gw.watcher import commands as control
 from e1gw.service import service
 from e1gw.tie import main as tie
 

@@ -40,11 +40,11 @@ class CtlWordTests(unittest.TestCase):
     def test_limits(self) -> None:
         """A command has longer than it may take: of a reload its program is asked, its names are looked up, and it is
         checked twice, on the log, and twice for the calls of now, before a program follows."""
-        last = {name.removeprefix('service.'): limit for name, limit in limits.USUAL.items()}
-        self.assertGreater(ctl_all.LIMITS['reload'], last['programs.PATIENCE'] + last['version.LOOK_UP'] +
-                           5 * last['version.CHECK'] + last['reload.PATIENCE'])
+        last = limits.USUAL
+        self.assertGreater(ctl_all.LIMITS['reload'], last['programs.PATIENCE'] + last['service.version.LOOK_UP'] +
+                           5 * last['watcher.replay.CHECK'] + last['service.reload.PATIENCE'])
         for word in 'promote', 'demote', 'move':
-            self.assertGreater(ctl_all.LIMITS[word], last['pair.PATIENCE'] + last['feed.PATIENCE'])
+            self.assertGreater(ctl_all.LIMITS[word], last['service.pair.PATIENCE'] + last['watcher.feed.PATIENCE'])
 
     def test_paths(self) -> None:
         """The name of a trunk, unless it has a / or is that of a socket here."""

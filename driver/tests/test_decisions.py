@@ -10,9 +10,10 @@ from typing import Iterator
 
 from . import support
 from e1gw.holder.decisions import (DEATHS, FIRST_PAUSE, MOST_DEATHS, MOST_PAUSE, TRIED, WITHIN, Deaths, Trial)
-from e1gw.service.decisions import (QUIET, Act, Failures, Flow, FlowChange, Found, NextStep, ProgramEnd, ProgramFault,
-                                    Takeover, Wish, after_end, takeover_of, who_goes)
+from e1gw.service.decisions import (Act, Found, NextStep, ProgramEnd, ProgramFault, Takeover, Wish, after_end,
+                                    takeover_of)
 from e1gw.trial import MOST_ENDED, ReloadEffects
+from e1gw.watcher.decisions import QUIET, Failures, Flow, FlowChange, who_goes
 
 OFTEN = Deaths((1.0, 1.1, 1.2, 1.3), 0.0, DEATHS - 1)       # one more at 1.4 waits; a crash is one too many
 

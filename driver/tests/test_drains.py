@@ -22,7 +22,7 @@ from e1gw.ctl_all import TrunkLine
 from e1gw.exchange import IDLE, SEIZED
 from e1gw.lines import IN_CALL, Line, Role, State
 from e1gw.metrics import exposition
-from e1gw.service.drains import BY_OPERATOR, DrainWatch, Drains, KeptDrains
+from e1gw.watcher.drains import BY_OPERATOR, DrainWatch, Drains, KeptDrains
 from e1gw.session import Command
 
 ROLES = {1: Role.OUTGOING, 2: Role.INCOMING, 3: Role.INCOMING}
@@ -237,7 +237,7 @@ class KeptTests(support.FolderCase, unittest.IsolatedAsyncioTestCase):
             await kept.put(Drains())
         self.assertTrue(synced.called, 'a crash of the machine empties the file')
         for octets in (b'', b'7', b'{"1": 2}', b'[1', b'[31, "a"]', b'\xff'):
-            with mock.patch('e1gw.service.drains.logger'):
+            with mock.patch('e1gw.watcher.drains.logger'):
                 self.assertEqual(KeptDrains(self.write('bad', octets)).now.circuits, {}, octets)
         self.assertRegex(await KeptDrains(self.path('none/drains')).put(Drains()), 'none/drains.*: No such file')
 

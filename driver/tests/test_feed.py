@@ -21,18 +21,18 @@ from unittest import mock
 from . import support
 from .logs import WrittenLog
 from e1gw.events import Event, Fed, NotFed, RoleGiven
-from e1gw.service import standby
+from e1gw.watcher import standby
 from e1gw.service.decisions import Wish
-from e1gw.service.drains import Drains, KeptDrains
-from e1gw.service.feed import BACK, CARRIES, LENGTH, MARK, MOST_PIECE, PIECE, STATE, TAKES, FeedServer
+from e1gw.watcher.drains import Drains, KeptDrains
+from e1gw.watcher.feed import BACK, CARRIES, LENGTH, MARK, MOST_PIECE, PIECE, STATE, TAKES, FeedServer
 from e1gw.service.handover import CannotBegin
 from e1gw.service.lifecycle import GRACE
 from e1gw.log_folder import STATE_ROOM, LogPair
-from e1gw.service.missed import passed
+from e1gw.watcher.missed import passed
 from e1gw.service.pair import TrunkPair, open_pair
 from e1gw.service.program import TrunkProgram
-from e1gw.service.reader import LogReader
-from e1gw.service.standby import NO_CERTIFICATE, NO_TRUNK, FedLog, TrunkStandby
+from e1gw.watcher.reader import LogReader
+from e1gw.watcher.standby import NO_CERTIFICATE, NO_TRUNK, FedLog, TrunkStandby
 from e1gw.session import MULTIFRAME, OCTETS_A_SECOND, trunk_record
 from e1gw.tls import context_of
 
@@ -157,12 +157,12 @@ class FeedTests(support.LoopCase):
         its = self.stands_by(law='mu')
         await self.until(lambda: its.why)
         self.assertEqual(its.why, 'its law is A, and here it is mu')
-        with self.assertLogs('e1gw.service.standby') as said:
+        with self.assertLogs('e1gw.watcher.standby') as said:
             its = self.stands_by(support.config_text({1: {'ptime': 30}, 3: {}}))
             await self.until(lambda: its.fed)
         self.assertIn('the calls of circuits 1, 2, 3 will not go on here', said.records[0].getMessage())
         setattr(self.feed, '_peer', '127.0.0.9')
-        with self.assertLogs('e1gw.service.feed') as told:
+        with self.assertLogs('e1gw.watcher.feed') as told:
             its = self.stands_by()
             await self.until(lambda: its.why)
         self.assertEqual((its.why, its.fed), (NO_TRUNK, None))
@@ -173,7 +173,7 @@ class FeedTests(support.LoopCase):
         """He is dropped once he is too far behind. Who comes again is given another state."""
         reader, writer = await asyncio.open_connection(*self.place)
         await reader.readline()
-        with self.assertLogs('e1gw.service.feed', 'WARNING') as told:
+        with self.assertLogs('e1gw.watcher.feed', 'WARNING') as told:
             while not told.records:
                 for _ in range(500):
                     self.log.multiframe()
@@ -229,7 +229,7 @@ class FeedTests(support.LoopCase):
         ours, theirs = self.certificate('ours'), self.certificate('theirs')
         setattr(self.feed, '_context', context_of(ours, True))
         await self.fed(self.stands_by(tls=ours))
-        with self.assertLogs('e1gw.service.feed') as told:
+        with self.assertLogs('e1gw.watcher.feed') as told:
             for files, words in (theirs, 'certificate verify failed'), ([*theirs[:2], ours[2]], NO_CERTIFICATE):
                 its = self.stands_by(tls=files)
                 await self.until(lambda: its.why)

@@ -20,8 +20,8 @@ from .keepers import CIRCUITS, KeeperCase, RestartedKeeperCase
 from .test_trunk import catches
 from .world import LAUNCHER
 from e1gw.service import trunk
-from e1gw.service.commands import MOST_CLIENTS
-from e1gw.service.pages import MOST_READERS, MOST_VISITORS
+from e1gw.watcher.commands import MOST_CLIENTS
+from e1gw.watcher.pages import MOST_READERS, MOST_VISITORS
 from e1gw.service.handover import CannotBegin
 from e1gw.log_folder import RECORDS_ROOM, LogFiles
 from e1gw.service.service import make_own

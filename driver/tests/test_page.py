@@ -25,11 +25,11 @@ from e1gw.events import (AlarmChanged, CardAlarm, CardAlarmChanged, Connected, C
                          SlotsChanged, Stalled, TrunkLost, TrunkOpened)
 from e1gw.lines import Alignment, Line, Role, State
 from e1gw.metrics import NOT_OPEN
-from e1gw.service import pages
-from e1gw.service.options import kept_of
-from e1gw.service.page import (POLICY, circuit_row, ended_row, length, message_of, page_of, trunk_row,
+from e1gw.watcher import pages
+from e1gw.watcher.options import kept_of
+from e1gw.watcher.page import (POLICY, circuit_row, ended_row, length, message_of, page_of, trunk_row,
                                trunks_page)
-from e1gw.service.pages import EventReaders, PageRequest
+from e1gw.watcher.pages import EventReaders, PageRequest
 from e1gw.testing.ports import free_port
 from e1gw.udp_tables import sockets_of
 
@@ -239,7 +239,7 @@ class WebPartTests(unittest.IsolatedAsyncioTestCase):
         time.monotonic = lambda: now[0]
         its = pages.TrunkPages(lambda: {'circuits': [], 'takes': takes.call_count}, takes, [], mock.Mock())
         rest = mock.AsyncMock(side_effect=lambda seconds: now.append(now.pop() + seconds))
-        with mock.patch.multiple(pages, time=time, EVERY=0.25), mock.patch('e1gw.service.pages.asyncio.sleep', rest):
+        with mock.patch.multiple(pages, time=time, EVERY=0.25), mock.patch('e1gw.watcher.pages.asyncio.sleep', rest):
             for is_told, count in (False, 1), (False, 1), (True, 4):
                 if is_told:
                     its.changed()
@@ -265,7 +265,7 @@ class WebPartTests(unittest.IsolatedAsyncioTestCase):
             await drawn.wait()
             return 0, '', b'<html></html>\n'
         with (mock.patch.multiple(pages, WAITED=0.01, put_behind=mock.Mock(), ran=ran),
-              mock.patch('e1gw.service.process.Child.start', lambda _, words, *files: mock.Mock(words=words))):
+              mock.patch('e1gw.watcher.process.Child.start', lambda _, words, *files: mock.Mock(words=words))):
             page = pages.SlowPage(lambda: pages.picture_of(['--last', '60s', 'ring']))
             for _ in range(3):
                 self.assertIn(b'is being made', await page.fresh())

@@ -27,7 +27,7 @@ from e1gw import satop
 from e1gw.events import Event, TrunkLost
 from e1gw.satop import SatopCondition, counts_of
 from e1gw.service import satop_trunk, trunk
-from e1gw.service.process import start_of
+from e1gw.watcher.process import start_of
 from e1gw.service.satop_trunk import BROKEN, ONES, SatopTrunk
 from e1gw.service.trunk import LineOptions, SatopNote, waiting
 from e1gw.session import OCTETS_A_SECOND

@@ -27,17 +27,20 @@ from e1gw.holder.decisions import TRIED
 from e1gw.lines import Alignment
 from e1gw.log_folder import LogPair
 from e1gw.memory import in_memory
-from e1gw.service import connection, events, lifecycle, reload, trunk
-from e1gw.service.commands import unix_listener
-from e1gw.service.connection import NoAnswer, ProgramConnection
+from e1gw.service import lifecycle, reload, trunk
+from e1gw.watcher import connection, events, tasks
+from e1gw.watcher.commands import unix_listener
+from e1gw.watcher.connection import NoAnswer, ProgramConnection
 from e1gw.service.decisions import Deaths, Wish
-from e1gw.service.journal import MOST, LineLimit
-from e1gw.service.handover import Handover, Left, Notifier, given_files, takes_up
+from e1gw.watcher.journal import MOST, LineLimit
+from e1gw.service.handover import Handover, Left, given_files, takes_up
 from e1gw.service.lifecycle import TrunkCarrier, point
-from e1gw.service.note import NoteFiles, ServiceNote, note_in
+from e1gw.service.note import ServiceNote, note_in
+from e1gw.watcher.note import NoteFiles
+from e1gw.watcher.notifier import Notifier
 from e1gw.service.program import ProgramPlaces
-from e1gw.service.reader import ReadingNote
-from e1gw.service.recordings import RecordingNote
+from e1gw.watcher.reader import ReadingNote
+from e1gw.watcher.recordings import RecordingNote
 from e1gw.service.reload import outcome
 from e1gw.service.sockets import CircuitSockets
 from e1gw.service.trunk import SatopNote
@@ -486,8 +489,8 @@ class TrunkEndTests(support.LoopCase):
         async def work() -> None:
             if fault := faults.pop(0):
                 raise fault
-        with mock.patch.object(trunk, 'AGAIN', 0.0), self.assertLogs('e1gw.service.trunk') as told:
-            await trunk.again(work, 'the work')
+        with mock.patch.object(tasks, 'AGAIN', 0.0), self.assertLogs('e1gw.watcher.tasks') as told:
+            await tasks.again(work, 'the work')
         self.assertRegex(told.records[0].getMessage(),
                          r'^the work goes on: ValueError: odd \(test_service_parts.py:\d+ in work\)$')
 
@@ -495,14 +498,14 @@ class TrunkEndTests(support.LoopCase):
         """The same for all, and none within a quarter of them."""
         for now, beat in (10.0, 10.08), (10.03, 10.32), (10.08, 10.32):
             with mock.patch.object(asyncio.get_running_loop(), 'time', lambda: now):
-                self.assertAlmostEqual(trunk.beat(0.24), beat)
+                self.assertAlmostEqual(tasks.beat(0.24), beat)
 
     async def test_either(self) -> None:
         """One event is enough, or the time; what has waited for them waits no more."""
         one, other = asyncio.Event(), asyncio.Event()
-        await trunk.either(0.0, one, other)
+        await tasks.either(0.0, one, other)
         other.set()
-        await trunk.either(SECONDS, one, other)
+        await tasks.either(SECONDS, one, other)
         await asyncio.sleep(0)
         self.assertEqual(asyncio.all_tasks(), {asyncio.current_task()})
 

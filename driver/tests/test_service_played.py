@@ -22,14 +22,15 @@ from e1gw import writers
 from e1gw.holder import decisions
 from e1gw.log_folder import LogFiles, LogPair, LogWriter
 from e1gw.service import handover, lifecycle, service, version
-from e1gw.service.commands import MOST_CLIENTS
+from e1gw.watcher.commands import MOST_CLIENTS
 from e1gw.service.decisions import Takeover, Wish
 from e1gw.service.handover import CannotBegin, Left, version_for
 from e1gw.service.lifecycle import TrunkCarrier
-from e1gw.service.note import NoteFiles, note_in
+from e1gw.service.note import note_in
 from e1gw.service.options import wants_of
 from e1gw.service.program import ProgramPlaces
-from e1gw.service.reader import LogReader
+from e1gw.watcher.note import NoteFiles
+from e1gw.watcher.reader import LogReader
 from e1gw.service.version import ProgramVersion, version_left, version_of_now
 from e1gw.testing.ports import free_port, free_ports
 

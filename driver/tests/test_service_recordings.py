@@ -20,10 +20,11 @@ from .support import SECONDS
 from .test_reports import BEGIN, row
 from e1gw.clock import TICK, ClockFinding
 from e1gw.counts import DatagramCounts
-from e1gw.service import reader, recordings, status
+from e1gw.service.operated import OperatedTrunk
+from e1gw.watcher import reader, recordings, status
 from e1gw.log_folder import RECORDS, LogState
-from e1gw.service.reader import LogReader, ReadingNote
-from e1gw.service.recordings import RecordingNote, RecordingWants, TrunkRecording
+from e1gw.watcher.reader import LogReader, ReadingNote
+from e1gw.watcher.recordings import RecordingNote, RecordingWants, TrunkRecording
 from e1gw.session import MULTIFRAME, OCTETS_A_SECOND
 
 
@@ -112,7 +113,7 @@ class RecordingTests(support.LoopCase):
         """It ends, is told once, and takes no more."""
         os.mkfifo(path := self.path('kept'))
         with closing(os.fdopen(os.open(path, os.O_RDWR), 'rb', buffering=0)), \
-                mock.patch.object(recordings, 'MOST_BEHIND', 99), self.assertLogs('e1gw.service') as told:
+                mock.patch.object(recordings, 'MOST_BEHIND', 99), self.assertLogs('e1gw.watcher') as told:
             its = self.recording(path, None)
             self.assertEqual(its.note(7), RecordingNote(path, None, '', (), '', 7, 0, 0, 0))
             with mock.patch.object(its, '_write'):
@@ -178,13 +179,13 @@ class LogReaderTests(support.LoopCase):
                 note, self.reader = self.reader.noted(), self.reads()
                 self.reader.take_up(note, None)
             self.written(at := at + self.goes_on() / OCTETS_A_SECOND)
-            with self.assertLogs('e1gw.service.reader', 'WARNING'):
+            with self.assertLogs('e1gw.watcher.reader', 'WARNING'):
                 await self.reader.copied()
             self.assertEqual(self.reader.octets, self.log.octets)
         before, place = self.log.octets, self.log.place
         octets = self.goes_on()
         self.written(at + 1e6)
-        with self.assertLogs('e1gw.service.reader', 'WARNING'):
+        with self.assertLogs('e1gw.watcher.reader', 'WARNING'):
             await self.reader.copied()
         records = 501           # that the log still has, whose octets are counted
         self.assertEqual(self.reader.octets, before + octets + (self.log.place - place - octets) - 4 * records)
@@ -209,7 +210,7 @@ class LogReaderTests(support.LoopCase):
         for _ in range(5):
             self.go(0.2, looks=False)
             self.log.turns()
-        with self.assertLogs('e1gw.service.reader', 'WARNING'):
+        with self.assertLogs('e1gw.watcher.reader', 'WARNING'):
             self.go(0.2)
         self.assertTrue(self.reader.has_missed)
         self.reader.count_on(self.log.octets - self.reader.octets)
@@ -222,7 +223,7 @@ class LogReaderTests(support.LoopCase):
         carrier = mock.Mock(reader=self.reader, pair=None, **{
             'places.tell': tell, 'version.return_value.config_path.return_value': config, 'program.begun': 0,
             'trunk.facts.return_value': {}})
-        trunk = status.OperatedTrunk(carrier, mock.Mock())
+        trunk = OperatedTrunk(carrier, mock.Mock())
         setattr(trunk, 'missed', mock.AsyncMock(return_value=None))
         with support.listening(tell) as listener, mock.patch.object(status, 'PATIENCE', 0.01, create=True), \
                 mock.patch.object(status, 'REST', 0.001):
@@ -250,7 +251,7 @@ class LogReaderTests(support.LoopCase):
         self.log.multiframe()
         told = 5 * MULTIFRAME
         self.reader.told = lambda: told
-        with self.assertLogs('e1gw.service.reader', 'WARNING'):
+        with self.assertLogs('e1gw.watcher.reader', 'WARNING'):
             self.reader.look()
         self.assertEqual(self.reader.octets, told)
         self.log.multiframe()
@@ -268,7 +269,7 @@ class LogReaderTests(support.LoopCase):
             writer.write(next(tells))
             writer.close()
         await asyncio.start_unix_server(came, self.path('tell'))
-        its = status.OperatedTrunk(mock.Mock(reader=self.reader, program=mock.Mock(begun=500), **{
+        its = OperatedTrunk(mock.Mock(reader=self.reader, program=mock.Mock(begun=500), **{
             'places.tell': self.path('tell')}), mock.Mock())
         await its.know_place()
         await its.know_place()              # (nothing is missed any more)

@@ -15,13 +15,14 @@ from .support import SECONDS
 from e1gw.service import program
 from e1gw.service.decisions import ProgramFault
 from e1gw.memory import give_back, given_back, in_memory, reserve, words_file
-from e1gw.service.options import folder_of, opens_of, recording_of, wants_of, watched_of
-from e1gw.service.process import UNKNOWN, Child, ran, signal_words, start_of
+from e1gw.service.options import opens_of, wants_of
+from e1gw.watcher.options import folder_of, recording_of, watched_of
+from e1gw.watcher.process import UNKNOWN, Child, ran, signal_words, start_of
 from e1gw.service.program import MOST_PATH, WORDS, ProgramPlaces, TrunkProgram
-from e1gw.service.recordings import RecordingWants
+from e1gw.watcher.recordings import RecordingWants
 from e1gw.service.service import parser
 from e1gw.service.version import ProgramVersion, is_address, with_addresses
-from e1gw.service.watch import WatchWants
+from e1gw.watcher.watch import WatchWants
 
 HERE = os.path.abspath('.')
 PLAIN: dict[str, Any] = {'control': None, 'tell': None, 'state': None, 'words': [], 'wait': 200, 'totals': False,
@@ -93,8 +94,8 @@ class OptionTests(unittest.TestCase):
 
     def test_what_is_kept_and_seen(self) -> None:
         words = '--unix u --session s --keep 1h --name east --seizure-wait 300'
-        self.assertIsNone(recording_of(self.asked('--unix u')))
-        self.assertEqual(recording_of(self.asked(words)),
+        self.assertIsNone(recording_of(self.asked('--unix u'), 200))
+        self.assertEqual(recording_of(self.asked(words), 300),
                          RecordingWants(f'{HERE}/s', 3600, 'east', f'{HERE}/west.toml', 300))
         self.assertEqual(watched_of(self.asked('--unix u'), 'p'), WatchWants(name='west'))
         more = ' --http 127.0.0.1:80 --picture 60 --control c --control-mode 600 --control-group g --json - ' \

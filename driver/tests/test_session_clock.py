@@ -12,7 +12,7 @@ from . import support
 from .logs import WrittenLog
 from e1gw import session_clock
 from e1gw.clock import TICK, ClockFinding
-from e1gw.service import reader, recordings
+from e1gw.watcher import reader, recordings
 from e1gw.session import MULTIFRAME, OCTETS_A_SECOND
 from e1gw.session_clock import FileNote, SessionClock
 from e1gw.session_files import kept

@@ -19,8 +19,8 @@ from .keepers import CIRCUITS, KeeperCase
 from .logs import LogCopy
 from .support import SECONDS
 from .world import children, trunk_command, words_of
-from e1gw.service.feed import TICK
-from e1gw.service.standby import IN_TIME
+from e1gw.watcher.feed import TICK
+from e1gw.watcher.standby import IN_TIME
 from e1gw.session import MULTIFRAME, OCTETS_A_SECOND, packet_of
 from e1gw.testing.ports import free_port
 from e1gw.testing.service import answer_of, ask

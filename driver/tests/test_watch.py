@@ -19,12 +19,13 @@ from e1gw.events import (Burst, CallsCleared, Event, FlowChanged, Flows, RateCha
                          WatchEnded)
 from e1gw.lines import Role, State
 from e1gw.resyncs import Resyncs
-from e1gw.service import decisions, events, status, trunk, watch
-from e1gw.service.commands import MOST_HELD, ControlPeer
-from e1gw.service.connection import ProgramConnection
-from e1gw.service.journal import NOTICE, LineFormatter
-from e1gw.service.missed import MissedReports
-from e1gw.service.pages import MOST_VISITORS, TrunkPages, WebServer
+from e1gw.service import trunk
+from e1gw.watcher import decisions, events, status, watch
+from e1gw.watcher.commands import MOST_HELD, ControlPeer
+from e1gw.watcher.connection import ProgramConnection
+from e1gw.watcher.journal import NOTICE, LineFormatter
+from e1gw.watcher.missed import MissedReports
+from e1gw.watcher.pages import MOST_VISITORS, TrunkPages, WebServer
 from e1gw.session import OCTETS_A_SECOND, Command, command_record
 
 
@@ -85,7 +86,7 @@ class WatchEdgeTests(TrunkWatchCase):
                 setattr(found._server, 'followers', lambda: [follower])
                 found._lines.begin(0)
                 found._lines.take('\n'.join([*BEGIN, 'now', '']).encode())
-                with self.assertLogs('e1gw.service', 'DEBUG') as logs:
+                with self.assertLogs('e1gw.watcher', 'DEBUG') as logs:
                     found._lines.take(change.encode())
                 told = [json.loads(call.args[0])['event'] for call in follower.tell.mock_calls]
                 self.assertEqual(told, ['state', 'lost', 'alarm'])

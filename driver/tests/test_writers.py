@@ -8,8 +8,8 @@ from unittest import mock
 
 from . import support
 from e1gw.calls import FIELDS, KEPT, MOST_OCTETS
-from e1gw.service import events
-from e1gw.service.events import EventFile
+from e1gw.watcher import events
+from e1gw.watcher.events import EventFile
 from e1gw.writers import put_file, write_all
 
 

@@ -10,7 +10,7 @@ from typing import Any
 
 from ..dahdi import Alarm, CardEvent, DahdiChannel, is_channel
 from ..events import CardAlarm, CardAlarmChanged, Tell
-from .journal import NOTICE
+from ..watcher.journal import NOTICE
 
 LOOK = 1.0                  # seconds between two looks at counts, and at alarms that are no events
 MOST_EVENTS = 128           # that are taken at once

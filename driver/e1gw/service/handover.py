@@ -4,14 +4,12 @@ program has the log and may go on. systemd keeps the descriptors of the trunk an
 is good to know."""
 from __future__ import annotations
 
-import array
 import asyncio
 import fcntl
 import json
 import logging
 import os
 import signal
-import socket
 import stat
 import sys
 import time
@@ -25,8 +23,11 @@ from ..faults import words_of_fault
 from .decisions import Found, Takeover, Wish, takeover_of
 from .lifecycle import GRACE, TrunkCarrier, TrunkWants, load_stored
 from ..log_folder import HELD, FolderHold, LogFiles, LogPair, holder_of, process_words
-from .note import NoteFiles, ServiceNote, note_in
-from .program import ProgramPlaces, TrunkProgram, config_in, connected, end_left, is_on, is_started_with, program_on
+from ..watcher.connection import connected
+from ..watcher.note import NoteFiles
+from ..watcher.notifier import Notifier
+from .note import ServiceNote, note_in
+from .program import ProgramPlaces, TrunkProgram, config_in, end_left, is_on, is_started_with, program_on
 from .satop_trunk import trunk_of
 from .sockets import NAME as SOCKETS
 from .version import ProgramVersion, VersionRefused, version_left, version_of_now
@@ -44,46 +45,6 @@ class CannotBegin(Exception):
     def __init__(self, why: str, status: int) -> None:
         super().__init__(why)
         self.status = status
-
-
-class Notifier:
-    """Tells systemd the state of the service, if systemd listens (sd_notify(3)). Nothing here waits."""
-
-    def __init__(self) -> None:
-        self._path = os.environ.get('NOTIFY_SOCKET', '').replace('@', '\0', 1)
-        self._line = socket.socket(socket.AF_UNIX, socket.SOCK_DGRAM)
-        self._line.setblocking(False)
-
-    @property
-    def has_manager(self) -> bool:
-        """Whether systemd listens, which begins another service if this one fails."""
-        return bool(self._path)
-
-    def tell(self, *lines: str, file: int = -1) -> bool:
-        """Whether it was taken."""
-        if not self._path:
-            return True
-        try:
-            with suppress(FileNotFoundError, ConnectionRefusedError):
-                rights = [(socket.SOL_SOCKET, socket.SCM_RIGHTS, array.array('i', [file]))] if file >= 0 else []
-                self._line.sendmsg(['\n'.join(lines).encode()], rights, 0, self._path)
-            return True
-        except OSError:
-            return False
-
-    async def give(self, *lines: str, file: int = -1) -> None:
-        """Tells it once there is room: systemd lets a few wait."""
-        while not self.tell(*lines, file=file):
-            await asyncio.sleep(SOON)
-
-    async def heard(self) -> None:
-        """Waits until systemd has taken all that it was told (sd_notify_barrier(3))."""
-        near, far = socket.socketpair()
-        with near:
-            near.setblocking(False)
-            with far:
-                await self.give('BARRIER=1', file=far.fileno())
-            await asyncio.get_running_loop().sock_recv(near, 1)     # (its end)
 
 
 class Handover:

@@ -20,20 +20,23 @@ from ..events import LogLost, TrunkLost
 from ..config_faults import config_words, gateway_words
 from ..faults import words_of_fault
 from ..writers import put_file
-from .decisions import Act, Deaths, Failures, NextStep, ProgramEnd, ProgramFault, Wish, after_end
-from .drains import KeptDrains
-from .journal import NOTICE
+from .decisions import Act, Deaths, NextStep, ProgramEnd, ProgramFault, Wish, after_end
+from ..watcher.decisions import Failures
+from ..watcher.drains import KeptDrains
+from ..watcher.journal import NOTICE
 from ..log_folder import LogPair, LogWriter, holder_of, process_words
 from .note import ServiceNote
 from .program import ProgramPlaces, TrunkProgram, config_in, end_left, is_on
-from .reader import LogReader, ReadingNote
+from ..watcher.reader import LogReader, ReadingNote
 from .sockets import CircuitSockets
-from .trunk import LineOptions, TrunkFiles, again, either, every, goes_on
+from .trunk import LineOptions, TrunkFiles
+from ..watcher.tasks import again, either, every, goes_on
 from .version import ProgramVersion, VersionHistory
 
 if TYPE_CHECKING:
     from .pair import TrunkPair
-    from .handover import Handover, Notifier
+    from ..watcher.notifier import Notifier
+    from .handover import Handover
 
 START, RELOADED = 10.0, 1.0     # seconds for a program to carry the trunk; for a new version, that has one before it
 GRACE = 5.0                 # seconds for a program to end in order
@@ -198,7 +201,7 @@ class TrunkCarrier:
             words, hangs = f'does not begin within {RELOADED if self.versions.before else START:g} s', True
             await program.process.kill()
         with goes_on('the report of the trunk'):
-            self.reader.look()
+            self.reader.read()
             self._pass_on(program)
             self._totals += program.process.totals()
         end, failure = self._end_of(program, hangs), self.trunk.failure()

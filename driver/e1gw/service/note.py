@@ -2,25 +2,17 @@
 needed for a call to go on."""
 from __future__ import annotations
 
-import dataclasses
 import json
-import os
-import types
-import zlib
 from contextlib import suppress
 from dataclasses import dataclass
-from typing import Any, Union, get_args, get_origin, get_type_hints
 
 from ..calls import CallsNote
-from ..writers import write_at
-from ..log_folder import HEAD_LEN, Head, head_of
-from .reader import ReadingNote
-from .recordings import RecordingNote
+from ..watcher.note import typed
+from ..watcher.reader import ReadingNote
+from ..watcher.recordings import RecordingNote
 from .trunk import TrunkNote
 
 VERSION = 1
-NOTES = 'note.0', 'note.1'  # the files of the note, in the folder of the service
-ROOM = 64 << 10             # octets that each of them has from the first note on
 
 
 @dataclass(frozen=True)
@@ -44,42 +36,6 @@ class ServiceNote:
         return json.dumps({'version': VERSION, **vars(self)}, default=vars).encode() + b'\n'
 
 
-class NoteFiles:
-    """The files of the note, written in turn, each behind a head as a file of a log has it. So neither a full folder
-    nor a death in the midst of a write takes away what was noted."""
-
-    def __init__(self, folder: str) -> None:
-        self._paths = [os.path.join(folder, name) for name in NOTES]
-        self._turn, self._text = max(map(self._read, (0, 1)))[0], b''
-
-    def _read(self, number: int) -> tuple[int, bytes]:
-        """The turn in which a file was written, and its octets; none if it is not whole."""
-        with suppress(OSError), open(self._paths[number], 'rb') as file:
-            head = head_of(octets := file.read())
-            text = octets[HEAD_LEN:HEAD_LEN + head.length] if head else b''
-            if head and zlib.adler32(text) == head.sum:
-                return head.turn, text
-        return 0, b''
-
-    def read(self) -> bytes:
-        """What was noted last; nothing if there is no note."""
-        return max(map(self._read, (0, 1)))[1]
-
-    def put(self, text: bytes) -> None:
-        """Notes this, unless it is there. OSError if it does not go: then what was noted before is there."""
-        if text == self._text and all(map(os.path.exists, self._paths)):
-            return
-        turn = self._turn + 1
-        file = os.open(self._paths[turn % 2], os.O_WRONLY | os.O_CREAT | os.O_CLOEXEC, 0o600)
-        try:
-            os.posix_fallocate(file, 0, max(ROOM, HEAD_LEN + len(text)))
-            write_at(file, text, HEAD_LEN)
-            write_at(file, Head(turn, len(text), zlib.adler32(text)).spell(), 0)
-        finally:
-            os.close(file)
-        self._turn, self._text = turn, text
-
-
 def note_in(octets: bytes) -> ServiceNote | None:
     """The note that octets are; None if they are none of this version."""
     with suppress(ValueError, TypeError, KeyError, AttributeError):
@@ -88,21 +44,3 @@ def note_in(octets: bytes) -> ServiceNote | None:
             note: ServiceNote = typed(ServiceNote, plain)
             return note
     return None
-
-
-def typed(kind: Any, plain: Any) -> Any:
-    """A value of a type, of what JSON has in its place. TypeError or KeyError if it has another one."""
-    if dataclasses.is_dataclass(kind):
-        hints = get_type_hints(kind)
-        return kind(**{field.name: typed(hints[field.name], plain[field.name]) for field in dataclasses.fields(kind)})
-    origin, of = get_origin(kind), get_args(kind)
-    if origin in (Union, types.UnionType):
-        return None if plain is None and type(None) in of else typed(of[0], plain)
-    if origin is tuple:
-        each = [of[0]] * len(plain) if of[1:] == (...,) else of
-        return tuple(typed(its, value) for its, value in zip(each, plain, strict=True))
-    if origin is dict:
-        return {int(key) if of[0] is int else typed(of[0], key): typed(of[1], value) for key, value in plain.items()}
-    if type(plain) is not kind and not (kind is float and type(plain) is int):
-        raise TypeError(f'{plain!r} is no {kind}')
-    return plain

@@ -3,7 +3,6 @@ from __future__ import annotations
 
 import argparse
 import os
-import shlex
 from dataclasses import replace
 from typing import Callable
 
@@ -11,20 +10,15 @@ from .. import satop
 from ..card_opening import open_device
 from ..clearing import on_loss_of
 from ..dahdi import FRAMES_A_MS, MOST_BUFFERS, MOST_FRAMES, Blocks
-from ..faults import checked, named, number
+from ..faults import named, number
 from ..lines import SEIZURE_WAIT
 from ..programs import HOST, SENDERS, proved_program_of
-from ..recording_ring import seconds_of
 from ..trunks import Stream, host_and_port, open_tcp, open_unix
+from ..watcher.options import add_kept, add_pair, add_reports, feeding_of, folder_of, recording_of
 from .lifecycle import MEMORY, TrunkWants
-from .pair import add_pair, feeding_of
 from .program import MOST_PATH
-from .recordings import RecordingWants
 from .trunk import LineOptions
-from .watch import WatchWants
 
-WATCHED = 'control', 'http', 'json', 'calls'      # what an operator may have of a trunk
-KEPT = '/var/lib/e1gw'      # where e1gw-call looks by itself
 LONGEST_NAME = 'program'    # of a socket in the folder
 BLOCK, BUFFERS = 16, 16     # of a DAHDI card: frames of a block, and how many there are
 
@@ -80,82 +74,12 @@ def add_trunk(words: argparse._ArgumentGroup) -> None:
                        help='CRC-4: it is sent, and counted each second in what comes')
 
 
-def add_reports(words: argparse._ArgumentGroup) -> None:
-    """Those of control and of reports."""
-    words.add_argument('--control', metavar='PATH', help='a Unix socket for commands, e1gw-ctl(1)')
-    words.add_argument('--control-mode', type=lambda text: int(text, 8), default=0o660, metavar='MODE',
-                       help='its mode, in octal [default: 660]')
-    words.add_argument('--control-group', metavar='GROUP', help='its group')
-    words.add_argument('--on-loss', nargs='+', default=['keep'], metavar='WORD',
-                       help='keep, clear SECONDS, or block SECONDS: what is done with the calls when the last '
-                       'control client that asked for it is gone [default: keep]')
-    words.add_argument('--http', type=checked(host_and_port), metavar='HOST:PORT',
-                       help='serves a page (/; /trunks), /table, /metrics (Prometheus), /status (JSON)')
-    words.add_argument('--json', metavar='FILE', help='a line of JSON for each change; - is standard output')
-    words.add_argument('--picture', type=number(10, 3600, float), metavar='SECONDS',
-                       help='/picture shows the last seconds, 10 to 3600, of what --keep has; wants both')
-
-
-def add_kept(words: argparse._ArgumentGroup) -> None:
-    """Those of what is kept of the trunk, and of calls."""
-    words.add_argument('--session', metavar='FILE', help='keeps all that the program takes, for e1gw replay and check')
-    words.add_argument('--keep', type=checked(seconds_of), metavar='TIME',
-                       help='--session is a folder for the last 30m, 1h, 2d, in files of a twelfth of that')
-    words.add_argument('--gap', type=number(20, 10_000), default=100, metavar='MS',
-                       help='lost octets of MS milliseconds restart the playout of open calls [default: 100]')
-    words.add_argument('--calls', metavar='FILE', help='a line of CSV for each call; ten files of 10 MiB are kept')
-    words.add_argument('--dark', type=number(0, 86_400, float), metavar='SECONDS',
-                       help='clears the calls of a trunk that has been in alarm for so long [default: never]')
-
-
 # ---- what they ask for ----
-
-def name_of(asked: argparse.Namespace) -> str:
-    """ValueError if no file or page could have it."""
-    name = str(asked.name or os.path.splitext(os.path.basename(asked.config))[0])
-    if '/' in name or not name.isprintable():
-        raise ValueError(f'--name {name!r} is no name: it has a / or what cannot be printed')
-    return name
-
 
 def opens_of(asked: argparse.Namespace) -> tuple[str | None, ...]:
     """What is opened, and how: the descriptors of a service before this one are of it if that has opened the same."""
     paths = [each and os.path.abspath(each) for each in (asked.input, asked.out, asked.unix)]
     return *paths, asked.tcp, asked.satop, 'clear' if asked.clear else None
-
-
-def folder_of(asked: argparse.Namespace) -> str:
-    """The folder of this trunk: the same for each start, whatever else its options say."""
-    within = asked.folder or os.environ.get('RUNTIME_DIRECTORY', '').partition(':')[0] or MEMORY
-    return os.path.join(os.path.realpath(within), f'{name_of(asked)}-{os.getuid()}')
-
-
-def recording_of(asked: argparse.Namespace) -> RecordingWants | None:
-    """What is kept of the trunk. ValueError if that cannot be."""
-    if asked.keep and not asked.session:
-        raise ValueError('--keep wants --session')
-    if asked.picture and not (asked.http and asked.keep):
-        raise ValueError('--picture wants --http, and --session with --keep')
-    return RecordingWants(os.path.abspath(asked.session), asked.keep, name_of(asked), os.path.abspath(asked.config),
-                          asked.seizure_wait) if asked.session else None
-
-
-def kept_of(asked: argparse.Namespace) -> str | None:
-    """The words by which e1gw-call finds a call behind its id; None if calls are not kept."""
-    if not (asked.keep and asked.calls):
-        return None
-    folder, calls = os.path.abspath(asked.session), os.path.abspath(asked.calls)
-    is_usual = calls == os.path.join(folder, 'calls.csv')
-    return f' {shlex.quote(folder)}' * (not is_usual or os.path.dirname(folder) != KEPT) \
-        + f' --calls {shlex.quote(calls)}' * (not is_usual)
-
-
-def watched_of(asked: argparse.Namespace, program: str) -> WatchWants:
-    """What an operator wants to have of it, drawn by this program."""
-    picture = ['--last', f'{asked.picture}s', '--program', program,
-               os.path.abspath(asked.session)] if asked.picture else []
-    return WatchWants(name=name_of(asked), picture=picture, kept=kept_of(asked), **{
-        each: getattr(asked, each) for each in (*WATCHED, 'control_mode', 'control_group', 'dark', 'on_loss')})
 
 
 def line_of(asked: argparse.Namespace) -> LineOptions:
@@ -199,7 +123,7 @@ def satop_of(asked: argparse.Namespace) -> Callable[[], list[str]]:
 def wants_of(asked: argparse.Namespace) -> TrunkWants:
     """What is wanted. ValueError if it is not one trunk, or a path is too long."""
     line, folder = line_of(asked), folder_of(asked)
-    recording_of(asked)
+    recording_of(asked, asked.seizure_wait)
     feeding_of(asked)
     on_loss_of(asked.on_loss)
     for path in filter(None, (os.path.join(folder, LONGEST_NAME), asked.program_control, asked.tell)):

@@ -7,33 +7,24 @@ import asyncio
 import logging
 import shutil
 import time
-from ipaddress import ip_address
 from typing import Any
 
 from ..events import RoleGiven
 from ..faults import words_of_fault
-from ..tls import add_tls, context_of, is_exposed
-from ..trunks import host_and_port
-from .feed import FRESH, FeedServer
+from ..tls import context_of
+from ..watcher.options import feeding_of
+from ..watcher.feed import FRESH, FeedServer
 from .decisions import Wish
 from .lifecycle import ANEW, GRACE, TICK, TrunkCarrier
 from .handover import CannotBegin
 from .note import ServiceNote
-from .standby import FedLog, TrunkStandby
-from .trunk import Tasks, either
+from ..watcher.standby import FedLog, TrunkStandby
+from ..watcher.tasks import Tasks, either
 
 PATIENCE = 30.0             # seconds for a promotion or its reverse
 NOT_TAKEN = 'the standby did not take the trunk, and this machine carries it again'
 
 logger = logging.getLogger(__name__)
-
-
-def add_pair(words: argparse._ArgumentGroup) -> None:
-    """The options of a trunk that two machines have."""
-    words.add_argument('--feed', metavar='ADDRESS:PORT', help='where the other machine is fed the log of the trunk')
-    words.add_argument('--standby', metavar='ADDRESS:PORT', help='--feed of the other machine: this one begins as the '
-                       'standby, fed from there, until e1gw-ctl NAME promote')
-    add_tls(words.add_mutually_exclusive_group(), 'machine')
 
 
 class TrunkPair:
@@ -79,7 +70,7 @@ class TrunkPair:
         carrier.sockets.close()
         carrier.trunk.fault = 'standby'
         await self.feed.finish(GRACE)
-        carrier.reader.look()
+        carrier.reader.read()
         has_carried, carrier.has_carried = carrier.has_carried, False
         if has_carried and (last := carrier.reader.last()):
             own = FedLog(carrier.places.folder, last.place, carrier.reader.octets_at(last), carrier.trunk.zero)
@@ -154,19 +145,6 @@ class TrunkPair:
     def _carries(self) -> bool:
         its = self._carrier.program
         return bool(its and its.is_up and not its.process.over.is_set())
-
-
-def feeding_of(asked: argparse.Namespace) -> list[tuple[str, int]]:
-    """Where this machine feeds the other one, and where it is fed; nothing if there is none. ValueError if it cannot
-    be."""
-    texts = [text for text in (asked.feed, asked.standby) if text]
-    places = [(str(ip_address(host)), port) for host, port in map(host_and_port, texts)]
-    if len(places) == 1:
-        raise ValueError('--feed and --standby want each other')
-    if places and is_exposed(places[0][0], asked):
-        raise ValueError(f'{places[0][0]} is not a loopback address, and the feed has the speech of all calls: give '
-                         '--tls, or --insecure within a tunnel')
-    return places
 
 
 async def open_pair(asked: argparse.Namespace, carrier: TrunkCarrier, note: ServiceNote | None) -> TrunkPair | None:

@@ -16,7 +16,8 @@ from typing import Sequence
 from .decisions import ProgramFault
 from ..log_folder import LOCK
 from ..memory import octets_in, reserve, words_file
-from .process import Child
+from ..watcher.connection import connected
+from ..watcher.process import Child
 from .sockets import CircuitSockets
 from .version import ProgramVersion
 
@@ -252,18 +253,6 @@ def held_pipe() -> int:
     finally:
         for end in ends:
             os.close(end)
-
-
-def connected(path: str) -> socket.socket:
-    """A connection to a Unix socket, on which nothing waits."""
-    line = socket.socket(socket.AF_UNIX)
-    line.setblocking(False)
-    try:
-        line.connect(path)
-    except OSError:
-        line.close()
-        raise
-    return line
 
 
 def listener_of(line: socket.socket) -> int:

@@ -14,7 +14,8 @@ from .decisions import Wish
 from .lifecycle import TrunkCarrier, why_of
 from ..log_folder import LogPair
 from ..trial import ReloadEffects
-from .handover import Handover, Notifier
+from ..watcher.notifier import Notifier
+from .handover import Handover
 from .version import ProgramVersion, VersionRefused, version_of_now
 
 PATIENCE = 30.0             # seconds for the one program to end and the other one to carry the trunk
@@ -104,7 +105,7 @@ class ReloadRequests:
         is_busy = self._is_busy or carrier.wish is not Wish.NONE or carrier.ending
         if is_busy or not (stands_by and not program or program and program.is_up):
             return logger.warning('not replaced: no program carries the trunk, or another one is to follow')
-        carrier.reader.look()
+        carrier.reader.read()
         carrier.note()
         self._handover.become_next()
 

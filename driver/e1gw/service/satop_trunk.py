@@ -16,9 +16,10 @@ from ..events import SatopChanged, TrunkLost
 from ..satop import CONDITIONS, SatopCondition, can_send, counts_of
 from ..session import MULTIFRAME
 from ..udp_tables import has_socket
-from .process import UNKNOWN, Child
+from ..watcher.process import UNKNOWN, Child
 from .program import ProgramPlaces
-from .trunk import LineOptions, Pause, SatopNote, TrunkFiles, TrunkNote, again, every, waiting
+from .trunk import LineOptions, Pause, SatopNote, TrunkFiles, TrunkNote, waiting
+from ..watcher.tasks import again, every
 
 LOOK, SOON = 0.24, 0.01     # seconds between two looks at what the process says, and at what it lacked
 GRACE = 1.0                 # seconds for the process to send what it was given last

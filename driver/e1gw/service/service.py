@@ -24,20 +24,22 @@ from ..__main__ import CAUGHT, ENDS
 from ..config_faults import config_words
 from ..faults import Parser, options_words, words_of_fault
 from ..writers import hold_descriptors
-from .commands import CannotListen
-from .journal import TOP, ServiceJournal
+from ..watcher.commands import CannotListen
+from ..watcher.journal import TOP, ServiceJournal
 from .lifecycle import GRACE, ServiceFailed, TrunkCarrier, TrunkWants, store
 from .note import ServiceNote
-from .options import add_options, recording_of, wants_of, watched_of
-from .pair import feeding_of, open_pair
+from ..watcher.options import feeding_of, recording_of, watched_of
+from .options import add_options, wants_of
+from .pair import open_pair
 from .program import ProgramPlaces
-from .reader import LogReader
-from .handover import CannotBegin, Handover, Notifier, carrier_of, given_files, left_by
+from ..watcher.reader import LogReader
+from .handover import CannotBegin, Handover, carrier_of, given_files, left_by
 from .reload import ReloadRequests
-from .status import OperatedTrunk
-from .trunk import Tasks, every
+from .operated import OperatedTrunk
+from ..watcher.tasks import Tasks, every
 from .version import NotYet, VersionRefused
-from .watch import TrunkWatch
+from ..watcher.notifier import Notifier
+from ..watcher.watch import TrunkWatch
 
 NAME = 'e1gw-trunk'
 SIGN = 0.24                 # seconds between two signs that this process does not stand still
@@ -73,7 +75,7 @@ async def opened_watch(asked: argparse.Namespace, carrier: TrunkCarrier, request
 
 def reader_of(asked: argparse.Namespace, carrier: TrunkCarrier) -> LogReader:
     """Reads what the programs of a trunk log."""
-    return LogReader(carrier.places.log, asked.gap / 1000, recording_of(asked), carrier.note,
+    return LogReader(carrier.places.log, asked.gap / 1000, recording_of(asked, asked.seizure_wait), carrier.note,
                      lambda: carrier.version().config_octets())
 
 

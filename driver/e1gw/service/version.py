@@ -11,19 +11,18 @@ import socket
 import stat
 import tomllib
 from contextlib import suppress
-from dataclasses import dataclass, replace
+from dataclasses import replace
 from functools import cached_property
-from typing import Any, Iterable, Sequence
+from typing import Any
 
-from ..lines import IN_CALL, SEIZURE_WAIT, config_text, no_peers, read_config, tables_of, wait_words
+from ..lines import IN_CALL, config_text, no_peers, read_config, tables_of
 from ..programs import SENDERS, version_of
-from .decisions import Trial
 from ..log_folder import LogPair
-from ..memory import in_memory, octets_in
-from .process import Child, ran
+from ..memory import in_memory
+from ..watcher.replay import CHECK, ReplayVersion
+from .decisions import Trial
 
 MOST_OCTETS = 65_536        # of a configuration
-CHECK = 10.0                # seconds for the program to check it
 LOOK_UP, URGENT = 10.0, 1.0     # seconds for all names to be looked up; .. while calls wait for their program
 NEW = re.compile(r'circuit (\d+) begins as new')
 
@@ -42,25 +41,8 @@ class NotYet(VersionRefused):
     """Why a version will not do now, and may do later: a name server is away."""
 
 
-@dataclass(frozen=True)
-class ProgramVersion:
-    """A version. `file` is a descriptor of the program, `config` one of the configuration in memory, in which names
-    are addresses; `name` is what the program says, and `wait` the milliseconds after which it releases a seizure. One
-    that was tried is executed, whatever becomes of the rights of its file."""
-
-    program: str
-    file: int
-    config: int
-    senders: str
-    name: str = ''
-    wait: int = SEIZURE_WAIT
-    was_tried: bool = False
-
-    def config_path(self) -> str:
-        return f'/dev/fd/{self.config}'
-
-    def config_octets(self) -> bytes:
-        return octets_in(self.config)
+class ProgramVersion(ReplayVersion):
+    """A version that can be tried."""
 
     @cached_property
     def tables(self) -> dict[str, Any]:
@@ -70,31 +52,6 @@ class ProgramVersion:
     def ports(self) -> frozenset[int]:
         """The circuits that have one."""
         return frozenset(n for n, (_, table) in tables_of(self.tables).items() if 'local_port' in table)
-
-    def start(self, words: Sequence[str], reads: int, writes: int, passed: Iterable[int] = (), said: int = -1) -> Child:
-        """Starts a process of it: a subcommand, which reads its configuration, with further words."""
-        executable = f'/proc/self/fd/{self.file}'
-        with suppress(OSError):         # (by its path, as long as it is the same file)
-            if os.path.samestat(os.stat(self.program), os.fstat(self.file)):
-                executable = self.program
-        words = [self.program, words[0], '--config', self.config_path(), *wait_words(self.wait), *words[1:]]
-        if os.access(executable, os.X_OK) or not self.was_tried:
-            return Child.start(executable, words, reads, writes, [self.file, self.config, *passed], said)
-        copy = in_memory(octets_in(self.file))
-        try:
-            return Child.start(f'/proc/self/fd/{copy}', words, reads, writes, [copy, self.config, *passed], said)
-        finally:
-            os.close(copy)
-
-    async def run(self, words: Sequence[str], begun: LogPair | None) -> tuple[int | None, str, bytes]:
-        """Runs a process of it to its end, over the records behind a state if there is one."""
-        state = in_memory(begun.state if begun else b'')
-        words = [*words, '--load', f'/dev/fd/{state}'] if begun else words
-        try:
-            return await ran(lambda reads, writes: self.start(words, reads, writes, [state]),
-                             begun.records if begun else b'', CHECK)
-        finally:
-            os.close(state)
 
     async def check(self, begun: LogPair | None = None) -> tuple[frozenset[int], frozenset[int]]:
         """Has the program check the configuration, and whether it goes on from a log: the circuits that begin as new
@@ -109,10 +66,6 @@ class ProgramVersion:
         rows = [line.split() for line in listed.decode(errors='replace').splitlines()]
         return (frozenset(int(found[1]) for line in lines if (found := NEW.fullmatch(line))),
                 frozenset(int(row[0]) for row in rows if row[2:] and row[2] in IN_CALL))
-
-    def close(self) -> None:
-        os.close(self.file)
-        os.close(self.config)
 
 
 async def version_of_now(program: str, config: str, senders: str, wait: int, is_urgent: bool = False

@@ -11,9 +11,9 @@ from contextlib import suppress
 
 from ..events import Report
 from ..faults import Parser, checked, number, words_of_fault
-from ..service.commands import CannotListen
-from ..service.events import EventFile, json_line
-from ..service.handover import Notifier
+from ..watcher.commands import CannotListen
+from ..watcher.events import EventFile, json_line
+from ..watcher.notifier import Notifier
 from ..tls import add_tls, context_of, is_exposed
 from ..trunks import host_and_port
 from ..writers import hold_descriptors

@@ -9,8 +9,8 @@ from typing import Any
 
 from ..lines import IN_CALL
 from ..metrics import Family, family
-from ..service.commands import unix_listener
-from ..service.pages import StatusTexts, WebServer
+from ..watcher.commands import unix_listener
+from ..watcher.pages import StatusTexts, WebServer
 from .circuit import LinkState
 from .tie import Tie
 

@@ -8,7 +8,7 @@ from typing import TYPE_CHECKING, Any
 
 from ..faults import words_of_fault
 from ..lines import UNKNOWN
-from ..service.trunk import Tasks
+from ..watcher.tasks import Tasks
 from .events import TrunkGone, Warned
 
 if TYPE_CHECKING:

@@ -11,13 +11,12 @@ import struct
 import time
 from contextlib import closing, suppress
 from dataclasses import dataclass
-from typing import Any, Callable
+from typing import Any, Callable, Protocol
 
 from ..faults import words_of_fault
 from ..lines import law_of, read_config, tables_of
 from .drains import KeptDrains
 from ..log_folder import STATE_ROOM, FolderReader, LogBegun, LogFiles, LogPiece
-from .program import TrunkProgram
 from .reader import LogReader
 
 FORMAT, VERSION = 'e1gw_feed', 7
@@ -83,11 +82,50 @@ def head_of(line: bytes) -> FeedHead:
     raise FeedRefused('what comes there is no feed of e1gw-trunk')
 
 
+class ProgramProcess(Protocol):
+    """The process of a program. `over` is set once it has ended."""
+
+    @property
+    def pid(self) -> int: ...
+
+    @property
+    def over(self) -> asyncio.Event: ...
+
+
+class LogPlaces(Protocol):
+    """Where its log is."""
+
+    @property
+    def log(self) -> str: ...
+
+
+class FedVersion(Protocol):
+    """Its version."""
+
+    def config_path(self) -> str: ...
+
+
+class FedProgram(Protocol):
+    """A program whose log is fed."""
+
+    @property
+    def is_up(self) -> bool: ...
+
+    @property
+    def process(self) -> ProgramProcess: ...
+
+    @property
+    def places(self) -> LogPlaces: ...
+
+    @property
+    def version(self) -> FedVersion: ...
+
+
 class FeedServer:
     """Feeds the standby, which connects from one address, while there is a program that carries the trunk; over TLS if
     there is a context for that."""
 
-    def __init__(self, peer: str, program: Callable[[], TrunkProgram | None], reader: Callable[[], LogReader],
+    def __init__(self, peer: str, program: Callable[[], FedProgram | None], reader: Callable[[], LogReader],
                  zero: Callable[[], int], drains: KeptDrains, context: ssl.SSLContext | None = None) -> None:
         self._peer, self._program, self._reader, self._zero, self._context = peer, program, reader, zero, context
         self._drains, self._said_drains = drains, -1        # .. as it was said last
@@ -146,7 +184,7 @@ class FeedServer:
             if self._writer is writer:
                 self._writer, self._fresh = None, 0.0
 
-    async def _feed(self, program: TrunkProgram, reader: asyncio.StreamReader, writer: asyncio.StreamWriter) -> None:
+    async def _feed(self, program: FedProgram, reader: asyncio.StreamReader, writer: asyncio.StreamWriter) -> None:
         """Until the program has ended, and the standby has all and leaves. EOFError if it leaves before."""
         ends, leaves = (asyncio.ensure_future(each) for each in (program.process.over.wait(), self._hear(reader)))
         try:
@@ -164,9 +202,9 @@ class FeedServer:
             ends.cancel()
             leaves.cancel()
 
-    def _begin(self, program: TrunkProgram, files: LogFiles, writer: asyncio.StreamWriter) -> FolderReader:
+    def _begin(self, program: FedProgram, files: LogFiles, writer: asyncio.StreamWriter) -> FolderReader:
         """The head, and the newest state. What is behind that is read by what is returned."""
-        self._reader().look()       # (so it has read no more than what the pair has)
+        self._reader().read()       # (so it has read no more than what the pair has)
         if not (pair := files.last()):
             raise EOFError('there is no log yet')
         law, circuits = configured(program.version.config_path())

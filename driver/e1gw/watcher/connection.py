@@ -2,6 +2,7 @@
 from __future__ import annotations
 
 import asyncio
+import socket
 import time
 from collections import deque
 from contextlib import suppress
@@ -104,3 +105,15 @@ class ProgramConnection:
         for each in self._given:
             if each.record == record and not each.told.is_set():
                 return each.told.set()
+
+
+def connected(path: str) -> socket.socket:
+    """A connection to a Unix socket, on which nothing waits."""
+    line = socket.socket(socket.AF_UNIX)
+    line.setblocking(False)
+    try:
+        line.connect(path)
+    except OSError:
+        line.close()
+        raise
+    return line

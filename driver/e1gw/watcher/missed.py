@@ -11,8 +11,8 @@ import time
 from dataclasses import dataclass
 
 from ..log_folder import LogPair
-from .program import SOON, connected
-from .version import ProgramVersion
+from .connection import SOON, connected
+from .replay import ReplayVersion
 
 PATIENCE = 10.0             # seconds in which the log is read again
 PIECE = 4096                # octets that are written at once: the reports of them have room in the socket
@@ -53,7 +53,7 @@ class MissedReports:
         return b'\n'.join([*head, b'']), b''.join(state.values()), b'now\n' + self.text[at:max(at, end)]
 
 
-async def told_again(version: ProgramVersion, pairs: list[LogPair], folder: str) -> bytes:
+async def told_again(version: ReplayVersion, pairs: list[LogPair], folder: str) -> bytes:
     """What a replay of pairs, one behind the other, tells from the first state on. OSError if it does not."""
     gives, given = os.pipe()
     state, nothing = os.memfd_create('e1gw'), os.open(os.devnull, os.O_WRONLY)

@@ -19,7 +19,7 @@ from ..lines import IN_CALL, Line, Role, State, circuit_words
 from ..reports import TrunkState
 from ..session import CIRCUITS, Command, CommandRefusal
 from ..writers import put_file
-from .trunk import Tasks
+from .tasks import Tasks
 
 PATIENCE = 2.0              # seconds for a disk, and for what the program answers
 DONE, NOT_BLOCKED = 'done', CommandRefusal.NOT_BLOCKED.words

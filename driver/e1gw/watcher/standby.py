@@ -21,7 +21,7 @@ from ..tls import context_of
 from .feed import (BACK, CARRIES, DRAINS, END, FRESH, GO, LENGTH, MARK, MOST_HEAD, MOST_PIECE, NOTHING, PATIENCE,
                    PIECE, STATE, TAKES, YOURS, FeedHead, FeedRefused, configured, head_of)
 from ..log_folder import RECORDS_ROOM, STATE_ROOM, LogFiles, LogPair, LogWriter, NoRoom
-from .version import ProgramVersion
+from .replay import ReplayVersion
 
 AGAIN, MOST_AGAIN = 0.1, 1.0            # seconds between two tries to be fed
 SAYS = 0.05                 # seconds between two words of what it has
@@ -93,7 +93,7 @@ class FedLog:
         self.came += count * MULTIFRAME / OCTETS_A_SECOND
         return count * MULTIFRAME
 
-    async def fill(self, version: ProgramVersion) -> int:
+    async def fill(self, version: ReplayVersion) -> int:
         """Puts them into the log. Returns how many. OSError if there is no room for them."""
         count = self.ones()
         left = count // MULTIFRAME
@@ -106,7 +106,7 @@ class FedLog:
                 await self._shorten(version)
         return count
 
-    async def _shorten(self, version: ProgramVersion) -> None:
+    async def _shorten(self, version: ReplayVersion) -> None:
         """Another state, behind all records."""
         saved = os.path.join(self.folder, 'saved')
         status, said, _ = await version.run(['replay', '--save', saved], self.last())
@@ -145,7 +145,7 @@ class TrunkStandby:
     from which it connects; `version` gives the program and the configuration of now; `folder` is for its logs; `tell`
     reports who feeds it."""
 
-    def __init__(self, place: tuple[str, int], source: str, tls: Sequence[str], version: Callable[[], ProgramVersion],
+    def __init__(self, place: tuple[str, int], source: str, tls: Sequence[str], version: Callable[[], ReplayVersion],
                  folder: str, tell: Tell) -> None:
         self._place, self._source, self._tls, self._version, self._folder = place, source, tls, version, folder
         self._tell, self._by = tell, f'{place[0]}:{place[1]}'

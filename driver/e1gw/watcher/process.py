@@ -14,7 +14,7 @@ from typing import Callable, Iterable, Sequence
 
 from ..crc4 import COUNTS
 from ..memory import PAGE, give_back, given_back, in_memory, octets_in, words_file
-from .trunk import beat
+from .tasks import beat
 
 MOST_SAID = 1 << 20         # octets that are heard at once
 LOOK = 0.24                 # seconds between two looks whether a signal has stopped it

@@ -16,7 +16,7 @@ from ..session import OCTETS_A_SECOND, whole_records
 from .journal import NOTICE
 from ..log_folder import FolderReader, LogBegun, LogFiles, LogNews, LogPair, LogPiece, LogState
 from .recordings import FileBegin, RecordingNote, RecordingWants, TrunkRecording, has_room
-from .trunk import every, goes_on
+from .tasks import every, goes_on
 
 AGAIN = 60.0                # seconds between two looks whether a ring that has ended can be written again
 MOST_LOST = 0.008           # seconds of the trunk that a program had in hand
@@ -112,7 +112,7 @@ class LogReader:
     def pairs_since(self, octets: int) -> list[tuple[int, LogPair]]:
         """The pairs of the log that are needed from an octet of the trunk on, as far as it has them, each with the
         octet at its state."""
-        self.look()
+        self.read()
         its, self._found = {pair.turn: pair for pair in (*self._found, *self._pairs())}, []
         pairs = [its[turn] for turn in sorted(its)]
         gaps = [n for n, (pair, behind) in enumerate(zip(pairs, pairs[1:]), 1) if pair.end != behind.place]
@@ -135,7 +135,7 @@ class LogReader:
     def take_out(self) -> LogPair | None:
         """The same, and gives the room of its files back. What is read next is in other files."""
         with goes_on('the reading of the log'):
-            self.look()
+            self.read()
         last = self.last()
         self._close()
         return last
@@ -161,7 +161,7 @@ class LogReader:
         """Before a program starts, whose first state is written over the older pair: keeps that for what is to be told
         of it, and waits a moment until a recording has what is behind. (The one that could say what was not counted is
         no more.)"""
-        self.look()
+        self.read()
         self.count_on()
         self._found = [*self._found, *self._pairs()[:-1]][-MOST_FOUND:]
         self.starts = (*self.starts, (self.octets, time.time()))[-MOST_FOUND:]
@@ -200,24 +200,29 @@ class LogReader:
             await self._begin_again()
 
     def look(self) -> None:
-        """Reads what there is."""
+        """To be called each TICK, and by nobody else: reads what there is, and looks at the flow. (A look between two
+        of these would find octets that are late, or early.)"""
+        if self.read():
+            for finding in self.clock.look(time.monotonic()):
+                if finding.what == 'gap' and self._recording and self._begun is not None:
+                    self._recording.slip(self.octets, round(finding.value, 3))
+                self.found(finding)
+
+    def read(self) -> bool:
+        """Reads what there is; whether there is a log of this machine."""
         if self.rests or not (self._reader or self.has_log() and self._reader):
-            return
+            return False
         assert self._reader and self._files
         before, its = self.octets, self._reader.look()
         written = self._files.written(self._reader.number) if its else self._written
         for number, news in enumerate(its, 1):
             self._take(news, its[number:], written)
         self._written = written
-        now = time.monotonic()
         if self.octets > before:
-            self.clock.took(self.octets - before, now)
+            self.clock.took(self.octets - before, time.monotonic())
         if any(isinstance(news, LogBegun) for news in its):
             self.clock.missed()
-        for finding in self.clock.look(now):
-            if finding.what == 'gap' and self._recording and self._begun is not None:
-                self._recording.slip(self.octets, round(finding.value, 3))
-            self.found(finding)
+        return True
 
     def _take(self, news: LogNews, behind: Sequence[LogNews], written: float) -> None:
         if isinstance(news, LogPiece):
@@ -283,6 +288,6 @@ class LogReader:
 
     async def finish(self) -> None:
         """The trunk has ended: all is read and copied."""
-        self.look()
+        self.read()
         if self._recording:
             await asyncio.to_thread(self._recording.close)

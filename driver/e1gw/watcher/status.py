@@ -2,15 +2,12 @@
 from __future__ import annotations
 
 import asyncio
-import errno
 import logging
-import os
-import re
 import socket
 import time
 from contextlib import suppress
 from dataclasses import replace
-from typing import Any, Callable, Sequence
+from typing import Any, Callable
 
 from ..calls import CallLog, CallsNote
 from ..counts import DatagramCounts
@@ -18,151 +15,28 @@ from ..events import Connected, Disconnected, Flows, LineChanged, Placed, Stalle
 from ..faults import words_of_fault
 from ..lines import read_config, tables_of
 from ..call_names import CallNames, note_of
-from ..session import CIRCUITS, OCTETS_A_SECOND, whole_records
+from ..session import CIRCUITS, OCTETS_A_SECOND
 from ..reports import BadTelling, TrunkState
 from . import decisions
 from .decisions import Flow, FlowChange
-from .drains import KeptDrains
-from .lifecycle import TrunkCarrier
-from .program import ProgramPlaces, connected
-from .missed import MissedReports, told_again
-from .reload import ReloadRequests
-from .trunk import beat, guarded
+from .missed import MissedReports
+from .tasks import beat, guarded
+from .trunk import WatchedTrunk, place_told
 
 AGAIN = 0.1                 # seconds between two tries to connect
 REST, SHORT_REST = 0.08, 0.01       # between two reads of reports; the latter if somebody follows events
-ANSWERS, PATIENCE = 5, 0.4  # of a program where it is; seconds for them while it has told other things
-MOST_GREETING = 256         # octets, which come at once, in which a program tells where it is
+PATIENCE = 0.4              # seconds for a program to say where it is, while it has told other things
 FIRST = 2.0                 # seconds before it is reported that the program was never there
-BOTH = 'reports', 'control'         # the sockets of the program at which this service is a client
+BOTH = 'reports', 'control'         # the sockets of the program at which this process is a client
 WATCH = 'the watch of the trunk'
 
 logger = logging.getLogger(__name__)
 
 
-class OperatedTrunk:
-    """A trunk as an operator may see and change it."""
-
-    def __init__(self, carrier: TrunkCarrier, requests: ReloadRequests) -> None:
-        self._carrier, self._requests = carrier, requests
-
-    def places(self) -> ProgramPlaces:
-        """Where its program is found."""
-        return self._carrier.places
-
-    def drains(self) -> KeptDrains:
-        """The circuits that the operator has blocked."""
-        return self._carrier.drains
-
-    def stands_by(self) -> bool:
-        """Whether the other machine is to carry it."""
-        pair = self._carrier.pair
-        return pair is not None and not pair.is_active
-
-    def config_path(self) -> str:
-        """Of the configuration of the program of now."""
-        return self._carrier.version().config_path()
-
-    def facts(self) -> dict[str, Any]:
-        """Since when it is open, why it is not or not recorded, its version, whom it hears and its pair, as plain
-        values."""
-        carrier, pair, version = self._carrier, self._carrier.pair, self._carrier.version()
-        return carrier.trunk.facts() | {'version': version.name, 'senders': version.senders,
-                                        'log_losses': carrier.log_losses,
-                                        'pair': pair.facts() if pair else {}, 'session': carrier.reader.why()}
-
-    def flow(self) -> dict[str, Any]:
-        """Gaps and the rate of its octets."""
-        return self._carrier.reader.clock.status()
-
-    def outage(self) -> str | None:
-        """Why no seizure can reach the other end, if the card knows."""
-        return self._carrier.trunk.outage()
-
-    def place(self) -> int:
-        """Octets of the trunk up to now, of the other machine's for a standby."""
-        carrier = self._carrier
-        fed = None if carrier.program or not carrier.pair else carrier.pair.standby.fed
-        return fed.octets if fed else carrier.reader.octets
-
-    def session(self) -> str:
-        """Which program it is that tells. FileNotFoundError if there is none."""
-        program = self._carrier.program
-        if not (program and program.is_up):
-            raise FileNotFoundError(errno.ENOENT, os.strerror(errno.ENOENT))
-        return f'{program.process.pid}.{program.process.started}'
-
-    def begun(self) -> int:
-        """The octet of the trunk with which the program of now has begun."""
-        program = self._carrier.program
-        return program.begun if program else 0
-
-    async def know_place(self, seconds: float | None = None) -> None:
-        """Where a part of the log was not read, its reader counts on from where the program says that it is. Octets may
-        come between that word and a look, so the most of some answers is so. It is asked another time if it does not
-        say that within these seconds: it hangs, or no octets come."""
-        reader, missed = self._carrier.reader, 0
-        with suppress(TimeoutError):
-            async with asyncio.timeout(seconds):
-                for _ in range(ANSWERS if reader.has_missed else 0):
-                    with connected(self.places().tell) as line:
-                        place = self.begun() + await place_told(line)
-                    for _ in range(2):          # (one finds nothing while a head is written)
-                        reader.look()
-                    missed = max(missed, place - reader.octets)
-                reader.count_on(missed)
-
-    def starts(self) -> Sequence[tuple[int, float]]:
-        """The octets with which programs began, and the time of day."""
-        return self._carrier.reader.starts
-
-    async def missed(self, since: int) -> MissedReports | None:
-        """What happened behind an octet of the trunk, as far as the log of this machine and version reaches."""
-        carrier = self._carrier
-        since, is_new = max(since, carrier.reader.first), since <= carrier.reader.first
-        pairs = carrier.reader.pairs_since(since)
-        if not pairs:
-            return None
-        try:
-            text = await told_again(carrier.version(), [pair for _, pair in pairs], carrier.places.folder)
-        except OSError as fault:
-            logger.warning('what the calls did meanwhile is not known: %s', words_of_fault(fault))
-            return None
-        if not text:                # (no record has come)
-            return None
-        first = pairs[0][0]
-        last = first + sum(whole_records(pair.records)[1] for _, pair in pairs)
-        return MissedReports(since, is_new, first, last, text)
-
-    def ends(self) -> str:
-        asyncio.get_running_loop().call_later(0.01, self._carrier.end, 'quit')
-        return 'quit: done'
-
-    async def reload(self, force: bool) -> str:
-        return await self._requests.reload(force)
-
-    async def role(self, word: str) -> str:
-        pair = self._carrier.pair
-        return await pair.asked(word) if pair else f'{word}: there is no other machine (--feed, --standby)'
-
-
-async def place_told(line: socket.socket) -> int:
-    """At which octet of its session a program tells the state of now, which stays to be read; else OSError."""
-    loop, comes = asyncio.get_running_loop(), asyncio.Event()
-    loop.add_reader(line, comes.set)
-    try:
-        await comes.wait()
-    finally:
-        loop.remove_reader(line)
-    if found := re.search(rb'^at (\d+)\n', line.recv(MOST_GREETING, socket.MSG_PEEK), re.M):
-        return int(found[1])
-    raise OSError(0, 'it does not tell where it is')
-
-
 class TrunkStatus:
     """A trunk as its program tells it. `tell` is called with each change, and `put` given the line of each call."""
 
-    def __init__(self, trunk: OperatedTrunk, name: str, tell: Tell, counts: DatagramCounts,
+    def __init__(self, trunk: WatchedTrunk, name: str, tell: Tell, counts: DatagramCounts,
                  put: Callable[[str], None]) -> None:
         self._trunk, self.tell = trunk, tell
         tables = read_config(trunk.config_path())

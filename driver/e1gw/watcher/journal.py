@@ -13,7 +13,7 @@ MOST, MINUTE = 20, 60.0             # lines of a kind in a minute
 MOST_WAITING = 20_000               # lines that wait to be written; more are not kept
 NOTICE = 25                         # between INFO and WARNING
 LEVELS = {logging.ERROR: 3, logging.WARNING: 4, NOTICE: 5, logging.INFO: 6, logging.DEBUG: 7}       # of syslog
-TOP = 'e1gw.service'
+TOP = 'e1gw'
 FLUSH = 2.0                         # seconds at the end for what is not written yet
 
 

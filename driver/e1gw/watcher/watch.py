@@ -31,8 +31,9 @@ from .events import EventFile, json_line, tell_journal
 from .journal import NOTICE
 from .page import PageNotes
 from .pages import TrunkPages, WebServer
-from .status import WATCH, OperatedTrunk, TrunkStatus
-from .trunk import Tasks, again, every, guarded, has_failed
+from .status import WATCH, TrunkStatus
+from .tasks import Tasks, again, every, guarded, has_failed
+from .trunk import WatchedTrunk
 
 TICK = 0.24                 # seconds between two looks
 BESIDE = 'json', 'calls'    # what may end without the calls
@@ -62,7 +63,7 @@ class WatchWants:
 class TrunkWatch:
     """One trunk that is watched."""
 
-    def __init__(self, wants: WatchWants, trunk: OperatedTrunk) -> None:
+    def __init__(self, wants: WatchWants, trunk: WatchedTrunk) -> None:
         self.wants, self.trunk, self._loop = wants, trunk, asyncio.get_running_loop()
         self.ended: dict[str, str | None] = dict.fromkeys(BESIDE)
         self._restarts = Resyncs(self.restart, self.tell)

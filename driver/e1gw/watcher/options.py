@@ -1,0 +1,111 @@
+"""The options of who watches a trunk, and what they ask for."""
+from __future__ import annotations
+
+import argparse
+import os
+import shlex
+from ipaddress import ip_address
+
+from ..faults import checked, number
+from ..holder_state import MEMORY
+from ..recording_ring import seconds_of
+from ..tls import add_tls, is_exposed
+from ..trunks import host_and_port
+from .recordings import RecordingWants
+from .watch import WatchWants
+
+WATCHED = 'control', 'http', 'json', 'calls'      # what an operator may have of a trunk
+KEPT = '/var/lib/e1gw'      # where e1gw-call looks by itself
+
+
+def add_reports(words: argparse._ArgumentGroup) -> None:
+    """Those of control and of reports."""
+    words.add_argument('--control', metavar='PATH', help='a Unix socket for commands, e1gw-ctl(1)')
+    words.add_argument('--control-mode', type=lambda text: int(text, 8), default=0o660, metavar='MODE',
+                       help='its mode, in octal [default: 660]')
+    words.add_argument('--control-group', metavar='GROUP', help='its group')
+    words.add_argument('--on-loss', nargs='+', default=['keep'], metavar='WORD',
+                       help='keep, clear SECONDS, or block SECONDS: what is done with the calls when the last '
+                       'control client that asked for it is gone [default: keep]')
+    words.add_argument('--http', type=checked(host_and_port), metavar='HOST:PORT',
+                       help='serves a page (/; /trunks), /table, /metrics (Prometheus), /status (JSON)')
+    words.add_argument('--json', metavar='FILE', help='a line of JSON for each change; - is standard output')
+    words.add_argument('--picture', type=number(10, 3600, float), metavar='SECONDS',
+                       help='/picture shows the last seconds, 10 to 3600, of what --keep has; wants both')
+
+
+def add_kept(words: argparse._ArgumentGroup) -> None:
+    """Those of what is kept of the trunk, and of calls."""
+    words.add_argument('--session', metavar='FILE', help='keeps all that the program takes, for e1gw replay and check')
+    words.add_argument('--keep', type=checked(seconds_of), metavar='TIME',
+                       help='--session is a folder for the last 30m, 1h, 2d, in files of a twelfth of that')
+    words.add_argument('--gap', type=number(20, 10_000), default=100, metavar='MS',
+                       help='lost octets of MS milliseconds restart the playout of open calls [default: 100]')
+    words.add_argument('--calls', metavar='FILE', help='a line of CSV for each call; ten files of 10 MiB are kept')
+    words.add_argument('--dark', type=number(0, 86_400, float), metavar='SECONDS',
+                       help='clears the calls of a trunk that has been in alarm for so long [default: never]')
+
+
+def add_pair(words: argparse._ArgumentGroup) -> None:
+    """The options of a trunk that two machines have."""
+    words.add_argument('--feed', metavar='ADDRESS:PORT', help='where the other machine is fed the log of the trunk')
+    words.add_argument('--standby', metavar='ADDRESS:PORT', help='--feed of the other machine: this one begins as the '
+                       'standby, fed from there, until e1gw-ctl NAME promote')
+    add_tls(words.add_mutually_exclusive_group(), 'machine')
+
+
+# ---- what they ask for ----
+
+def name_of(asked: argparse.Namespace) -> str:
+    """ValueError if no file or page could have it."""
+    name = str(asked.name or os.path.splitext(os.path.basename(asked.config))[0])
+    if '/' in name or not name.isprintable():
+        raise ValueError(f'--name {name!r} is no name: it has a / or what cannot be printed')
+    return name
+
+
+def folder_of(asked: argparse.Namespace) -> str:
+    """The folder of this trunk: the same for each start, whatever else its options say."""
+    within = asked.folder or os.environ.get('RUNTIME_DIRECTORY', '').partition(':')[0] or MEMORY
+    return os.path.join(os.path.realpath(within), f'{name_of(asked)}-{os.getuid()}')
+
+
+def recording_of(asked: argparse.Namespace, wait: int) -> RecordingWants | None:
+    """What is kept of the trunk. ValueError if that cannot be."""
+    if asked.keep and not asked.session:
+        raise ValueError('--keep wants --session')
+    if asked.picture and not (asked.http and asked.keep):
+        raise ValueError('--picture wants --http, and --session with --keep')
+    return RecordingWants(os.path.abspath(asked.session), asked.keep, name_of(asked), os.path.abspath(asked.config),
+                          wait) if asked.session else None
+
+
+def kept_of(asked: argparse.Namespace) -> str | None:
+    """The words by which e1gw-call finds a call behind its id; None if calls are not kept."""
+    if not (asked.keep and asked.calls):
+        return None
+    folder, calls = os.path.abspath(asked.session), os.path.abspath(asked.calls)
+    is_usual = calls == os.path.join(folder, 'calls.csv')
+    return f' {shlex.quote(folder)}' * (not is_usual or os.path.dirname(folder) != KEPT) \
+        + f' --calls {shlex.quote(calls)}' * (not is_usual)
+
+
+def watched_of(asked: argparse.Namespace, program: str) -> WatchWants:
+    """What an operator wants to have of it, drawn by this program."""
+    picture = ['--last', f'{asked.picture}s', '--program', program,
+               os.path.abspath(asked.session)] if asked.picture else []
+    return WatchWants(name=name_of(asked), picture=picture, kept=kept_of(asked), **{
+        each: getattr(asked, each) for each in (*WATCHED, 'control_mode', 'control_group', 'dark', 'on_loss')})
+
+
+def feeding_of(asked: argparse.Namespace) -> list[tuple[str, int]]:
+    """Where this machine feeds the other one, and where it is fed; nothing if there is none. ValueError if it cannot
+    be."""
+    texts = [text for text in (asked.feed, asked.standby) if text]
+    places = [(str(ip_address(host)), port) for host, port in map(host_and_port, texts)]
+    if len(places) == 1:
+        raise ValueError('--feed and --standby want each other')
+    if places and is_exposed(places[0][0], asked):
+        raise ValueError(f'{places[0][0]} is not a loopback address, and the feed has the speech of all calls: give '
+                         '--tls, or --insecure within a tunnel')
+    return places

@@ -1,0 +1,99 @@
+"""Works of a loop: done at each beat, begun again when they fail, held until they are done. One that fails is reported,
+and nothing else ends for it."""
+from __future__ import annotations
+
+import asyncio
+import logging
+import os
+import time
+import traceback
+from contextlib import contextmanager
+from typing import Any, Awaitable, Callable, Coroutine, Iterator, ParamSpec
+
+from .decisions import Failures
+
+AGAIN = 0.1                 # seconds before what has failed is begun again
+P = ParamSpec('P')
+
+logger = logging.getLogger(__name__)
+
+
+async def either(seconds: float | None, *events: asyncio.Event) -> None:
+    """Waits until one of these events is set, so long at most if that is said."""
+    waits = [asyncio.ensure_future(event.wait()) for event in events]
+    await asyncio.wait(waits, timeout=seconds, return_when=asyncio.FIRST_COMPLETED)
+    for each in waits:
+        each.cancel()
+
+
+def beat(seconds: float) -> float:
+    """The next moment that is a multiple of these seconds, a quarter of them from now at least, by the clock of the
+    loop. What waits for such moments side by side wakes this process once."""
+    return (asyncio.get_running_loop().time() / seconds + 1.25) // 1 * seconds
+
+
+@contextmanager
+def every(seconds: float, work: Callable[[], object], what: str) -> Iterator[None]:
+    """Does a work at each beat meanwhile. One that has failed is reported, and done again at the next."""
+    loop = asyncio.get_running_loop()
+    timer: asyncio.Handle
+
+    def does() -> None:
+        nonlocal timer
+        with goes_on(what):
+            work()
+        timer = loop.call_at(beat(seconds), does)
+    timer = loop.call_at(beat(seconds), does)
+    try:
+        yield
+    finally:
+        timer.cancel()
+
+
+class Tasks(set[asyncio.Task[Any]]):
+    """Tasks that are held until they are done."""
+
+    def begin(self, work: Coroutine[Any, Any, Any]) -> None:
+        self.add(task := asyncio.create_task(work))
+        task.add_done_callback(self.discard)
+
+
+async def again(work: Callable[[], Awaitable[None]], what: str,
+                is_given_up: Callable[[Failures], bool] = lambda failures: False) -> bool:
+    """Does a work, and begins it again each time that it fails, reported with the place, to --debug with all of it,
+    until it is given up. Returns whether it was done."""
+    failures = Failures()
+    while not is_given_up(failures):
+        try:
+            await work()
+            return True
+        except Exception as fault:      # pylint: disable=broad-exception-caught
+            has_failed(what, fault)
+            failures = failures.with_one(time.monotonic())
+            await asyncio.sleep(AGAIN)
+    return False
+
+
+@contextmanager
+def goes_on(what: str) -> Iterator[None]:
+    """What fails within is reported, and is in nobody's way."""
+    try:
+        yield
+    except Exception as fault:      # pylint: disable=broad-exception-caught
+        has_failed(what, fault)
+
+
+def guarded(work: Callable[P, object], what: str) -> Callable[P, None]:
+    """The same work, whose failure is reported, and nothing else ends for it."""
+    def does(*words: P.args, **more: P.kwargs) -> None:
+        with goes_on(what):
+            work(*words, **more)
+    return does
+
+
+def has_failed(what: str, fault: Exception) -> None:
+    """Reports a failure of a work that goes on."""
+    at = traceback.extract_tb(fault.__traceback__)[-1]
+    logger.error('%s goes on: %s: %s (%s:%s in %s)', what, type(fault).__name__, fault,
+                 os.path.basename(at.filename), at.lineno, at.name, extra={'kind': 'fault'})
+    logger.debug('%s', what, exc_info=True)
