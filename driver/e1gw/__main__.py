@@ -14,7 +14,7 @@ COMMANDS = {
     'pcap': 'tools.pcap', 'picture': 'picture.main', 'records': 'tools.records', 'tie': 'tie.main',
     'trunk': 'service.service'}
 # Those that are not offered yet: they have no page, and no program.
-NOT_OFFERED = {'hold': 'holder.main'}
+NOT_OFFERED = {'hold': 'holder.main', 'watch': 'watcher.main'}
 # The service catches these signals. As it begins they wait until it knows what the service before it has left: they
 # would end it, in systemd's view in order, and nobody would look after a program that goes on. Where nothing is left
 # the ENDS end it at once.

@@ -4,7 +4,7 @@ from __future__ import annotations
 from collections import deque
 from dataclasses import dataclass, fields
 from enum import Enum, StrEnum
-from typing import Callable, ClassVar, Mapping, NamedTuple
+from typing import Callable, ClassVar, Iterable, Mapping, NamedTuple
 
 from .lines import Alignment, Role, State, circuit_words
 
@@ -427,6 +427,15 @@ class ReadEvents:
             self._alarms.setdefault(alarm[0], read)
         elif alarm:
             self._alarms.pop(alarm[0], None)
+
+    def standing(self) -> dict[str, ReadEvent]:
+        """The alarms that stand, by what they are."""
+        return self._alarms
+
+    def go_on(self, last: Iterable[ReadEvent], alarms: Mapping[str, ReadEvent]) -> None:
+        """Goes on with those that another process has had."""
+        self.last.extend(last)
+        self._alarms |= alarms
 
     def alarms(self) -> list[dict[str, object]]:
         """As plain values."""

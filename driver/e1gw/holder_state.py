@@ -17,7 +17,8 @@ class HolderState:
     """`program` is the number of the process that carries the trunk, 0 without one, and `started` when that was started
     (field 22 of /proc/PID/stat); it goes on from its log for the reason `why`, `since` that time of day, and if
     `octets_lost` the one before it may have had some in hand. The line is `open` since `opened`, or has a `fault`.
-    `lacking` are circuits without a port. A `trial` is of a version that may go back."""
+    `lacking` are circuits without a port. A `trial` is of a version that may go back. `words` are options of each
+    program, and `state` is the file of --state."""
 
     interface: int
     version: str
@@ -36,6 +37,8 @@ class HolderState:
     trial: bool
     role: str
     trunk: str
+    words: tuple[str, ...]
+    state: str
 
     def spell(self) -> bytes:
         return json.dumps(vars(self)).encode() + b'\n'
@@ -48,15 +51,15 @@ def state_in(octets: bytes) -> HolderState:
     if plain.get('interface') != INTERFACE:
         return other_interface(plain.get('interface'))
     try:
-        return HolderState(**{each.name: plain[each.name] for each in fields(HolderState) if each.name != 'lacking'},
-                           lacking=tuple(plain['lacking']))
+        its = {each.name: plain[each.name] for each in fields(HolderState)}
+        return HolderState(**{name: tuple(value) if isinstance(value, list) else value for name, value in its.items()})
     except (KeyError, TypeError) as fault:
         raise ValueError(f'no state of a holder: {fault}') from None
 
 
 def other_interface(number: object) -> HolderState:
     return HolderState(number if isinstance(number, int) else 0, '', 0, 0, 0, 0.0, '', False, False, 0.0, '', (), '',
-                       '', False, ACTIVE, '')
+                       '', False, ACTIVE, '', (), '')
 
 
 @dataclass(frozen=True)

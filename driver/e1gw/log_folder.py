@@ -118,6 +118,10 @@ class LogFiles:
         """When the records of a pair were written last, by the time of day."""
         return os.fstat(self._files[RECORDS[number]]).st_mtime
 
+    def begun(self, number: int) -> float:
+        """When the state of a pair was written."""
+        return os.fstat(self._files[STATES[number]]).st_mtime
+
     def head(self, name: str) -> Head | None:
         """The head of a file, if it is whole."""
         return head_of(os.pread(self._files[name], HEAD_LEN, 0))
@@ -363,6 +367,13 @@ def holder_of(folder: str) -> int:
         return locked_by(file) or (int(text) if text.isdigit() else -1)
     finally:
         os.close(file)
+
+
+def logged_by(folder: str) -> int:
+    """The number of the program that has a log, or had it last; 0 if that is not known. (Nothing is locked here.)"""
+    with suppress(OSError, ValueError), open(os.path.join(folder, LOCK), 'rb') as file:
+        return int(file.readline(32))
+    return 0
 
 
 def process_words(pid: int) -> str:

@@ -56,7 +56,7 @@ class FeedTests(support.LoopCase):
         reader = LogReader(self.path('log'), 0.1, None, lambda: None, bytes)
         self.drains = KeptDrains(self.path('drains'))
         reader.told = lambda: self.log.octets
-        self.addCleanup(reader._close)
+        self.addCleanup(reader.log.close)
         self.config = self.write('here.toml', support.config_text({1: {}, 2: {'local_port': 5000}}))
         self.program = SimpleNamespace(
             is_up=True, places=SimpleNamespace(log=self.path('log')), process=SimpleNamespace(over=self.over, pid=77),

@@ -22,6 +22,7 @@ from e1gw import writers
 from e1gw.holder import decisions
 from e1gw.log_folder import LogFiles, LogPair, LogWriter
 from e1gw.service import handover, lifecycle, service, version
+from e1gw.watcher import replay
 from e1gw.watcher.commands import MOST_CLIENTS
 from e1gw.service.decisions import Takeover, Wish
 from e1gw.service.handover import CannotBegin, Left, version_for
@@ -154,7 +155,7 @@ class PlayedEndTests(ServiceCase):
         self.begins()
         await self.says('carries')
         self.plays(hangs='check')
-        with mock.patch.object(version, 'CHECK', 0.1):
+        with mock.patch.object(replay, 'CHECK', 0.1):
             self.assertEqual(await self.ask('reload'), 'reload: refused, the trunk goes on as it was: the program '
                              'does not check the configuration within 0.1 s')
         await self.ends()

@@ -1,6 +1,8 @@
 """What follows a program that has ended, and the end of all."""
 from __future__ import annotations
 
+import os
+from contextlib import suppress
 from math import inf
 from typing import TYPE_CHECKING
 
@@ -115,9 +117,17 @@ def finish(holder: Holder, why: str, status: int) -> None:
     holder.store.forget()
     holder.door.close()
     if not is_kept:
-        import shutil
         for folder in {holder.folder, holder.options.folder}:
-            shutil.rmtree(folder, ignore_errors=True)
+            remove_whole(folder)
+
+
+def remove_whole(folder: str) -> None:
+    """Removes a folder, in which others may write in this moment: by its name nobody finds it any more."""
+    import shutil
+    with suppress(OSError):
+        os.rename(folder, gone := f'{folder}.ended')
+        folder = gone
+    shutil.rmtree(folder, ignore_errors=True)
 
 
 def save(holder: Holder) -> bool:

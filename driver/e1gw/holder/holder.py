@@ -260,7 +260,8 @@ class Holder:
             INTERFACE, VERSION, os.getpid(), pid, start_of(pid) if pid else 0, self.since, self.why,
             bool(self.lost), bool(line.files), line.since, line.fault, (*sorted(self.sockets.lacking),),
             its.name if its else '', its.senders if its else '', self.versions.before is not None,
-            ACTIVE if self.is_active else STANDBY, self.options.line.trunk)
+            ACTIVE if self.is_active else STANDBY, self.options.line.trunk,
+            self.options.words, self.options.state)
         try:
             put_file(f'{self.folder}/holder', state.spell(), 0o640)
         except OSError as fault:

@@ -66,7 +66,7 @@ class OperatedTrunk(WatchedTrunk):
         program = self._carrier.program
         return program.begun if program else 0
 
-    def ends(self) -> str:
+    async def ends(self) -> str:
         asyncio.get_running_loop().call_later(0.01, self._carrier.end, 'quit')
         return 'quit: done'
 

@@ -137,7 +137,7 @@ class CommandServer:
             case ['drain', _] | ['drain', _, 'now'] | ['undrain', _]:
                 return await self._obey_drain(*words)
             case ['quit']:
-                return self._trunk.trunk.ends()
+                return await self._trunk.trunk.ends()
             case [name, *rest] if name in COMMANDS or name == 'codec':
                 return await self._obey_circuit(name, rest)
         return (f'{words[0][:40]}: no such command; there are {", ".join(COMMANDS)}, drain, undrain, codec, status, '

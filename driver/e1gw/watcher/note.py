@@ -1,4 +1,5 @@
-"""The files of a note: typed JSON, which a next one goes on with. None of it is needed for a call to go on."""
+"""What a process notes for the next one: typed JSON in files, of one version. None of it is needed for a call to go
+on."""
 from __future__ import annotations
 
 import dataclasses

@@ -18,6 +18,19 @@ WATCHED = 'control', 'http', 'json', 'calls'      # what an operator may have of
 KEPT = '/var/lib/e1gw'      # where e1gw-call looks by itself
 
 
+def add_options(words: argparse.ArgumentParser) -> None:
+    """Those of e1gw-watch."""
+    words.add_argument('--config', metavar='FILE', required=True, help='the configuration, e1gw.toml(5)')
+    words.add_argument('--name', help='the name of the trunk in metrics and files [default: that of FILE]')
+    words.add_argument('--program', metavar='E1GW', help='the program, for replays [default: that of this repository, '
+                       'or e1gw]')
+    words.add_argument('--folder', metavar='DIR', help=f'where the folder of the trunk is [default: RUNTIME_DIRECTORY, '
+                       f'or {MEMORY}]')
+    add_reports(words.add_argument_group('control and reports'))
+    add_kept(words.add_argument_group('sessions and calls'))
+    add_pair(words.add_argument_group('two machines'))
+
+
 def add_reports(words: argparse._ArgumentGroup) -> None:
     """Those of control and of reports."""
     words.add_argument('--control', metavar='PATH', help='a Unix socket for commands, e1gw-ctl(1)')

@@ -6,7 +6,6 @@ import asyncio
 import logging
 import os
 import time
-from contextlib import suppress
 from dataclasses import dataclass, replace
 from typing import Callable, Sequence
 
@@ -14,7 +13,8 @@ from ..clock import TICK, Clock, ClockFinding
 from ..faults import words_of_fault
 from ..session import OCTETS_A_SECOND, whole_records
 from .journal import NOTICE
-from ..log_folder import FolderReader, LogBegun, LogFiles, LogNews, LogPair, LogPiece, LogState
+from ..log_folder import LogBegun, LogFiles, LogNews, LogPair, LogPiece, LogState
+from .open_log import OpenLog
 from .recordings import FileBegin, RecordingNote, RecordingWants, TrunkRecording, has_room
 from .tasks import every, goes_on
 
@@ -54,17 +54,15 @@ class LogReader:
         self.clock = Clock(time.monotonic(), gap)
         self.found: Callable[[ClockFinding], None] = lambda finding: None
         self.told: Callable[[], int] = lambda: 0
+        self.turned: Callable[[], None] = lambda: None      # called at each state that is read
         self.octets = 0                         # of the trunk, up to now
         self.has_missed = False                 # .. too few, since a part of the log was not read: so many, by its time
         self._missed = 0
         self.rests = False                      # the other machine carries the trunk
         self.is_loaded = False                  # the log has begun with a state that was kept elsewhere
         self.first, self.starts = 0, ReadingNote().starts       # (see there)
-        self._folder, self._wants, self._note, self._config = folder, wants, note, config
-        self._files: LogFiles | None = None
-        self._reader: FolderReader | None = None
-        self._place = -1                        # of the log, up to where it was read
-        self._written = 0.0                     # when that was written
+        self.log, self._wants, self._note, self._config = OpenLog(folder), wants, note, config
+        self._written = 0.0                     # when that was written up to which it was read
         self._recording: TrunkRecording | None = None
         self._begun: int | None = None          # the octet of the trunk with which the file of now begins, if any
         self._lost, self._is_cut = 0.0, False
@@ -75,45 +73,36 @@ class LogReader:
     def take_up(self, read: ReadingNote, left: RecordingNote | None, files: LogFiles | None = None) -> None:
         """Begins, where the service before this one was, with the log that it has left, and with its recording if that
         was of the same and the log has what it lacks."""
-        self._place, self.octets, self._written = read.place, read.octets, read.written
+        self.log.place, self.octets, self._written = read.place, read.octets, read.written
         self.first, self.starts = read.first, read.starts
         if files:
-            self._files, self._reader = files, FolderReader(files, self._place)
-        self._found = self._pairs()
+            self.log.goes_on(files)
+        self._found = self.log.pairs()
         if not (wants := self._wants):
             return
         left = left if left and (left.session, left.keep) == (wants.session, wants.keep) else None
         self._recording = TrunkRecording(wants, self._note, left)
-        if left and left.path and any(state.place <= left.place for state in self._states()):   # (it has all behind it)
-            self._begun, self._place, self.octets = left.begun, left.place, left.octets
+        if left and left.path and any(state.place <= left.place for state in self.log.states()):    # (all behind it)
+            self._begun, self.log.place, self.octets = left.begun, left.place, left.octets
             if left.keep and not os.path.exists(f'{left.path}.json'):       # (it had said no more than its name)
-                for state in self._states():
+                for state in self.log.states():
                     if state.place == left.place:
                         self._see_file(state, True)
-            self._close()
-
-    def _states(self) -> list[LogState]:
-        """Those that the log has now."""
-        return [*filter(None, map(self._files.state, (0, 1)))] if self.has_log() and self._files else []
+            self.log.close()
 
     def has_log(self, folder: str = '') -> bool:
         """Whether the folder, or another one from now on, has the log that is read; opens one that is there."""
-        self._folder = folder or self._folder
-        if not self._files:
-            with suppress(OSError):
-                self._files = LogFiles(self._folder)
-                self._reader = FolderReader(self._files, self._place)
-        return bool(self._files and self._files.are_in(self._folder))
+        return self.log.is_there(folder)
 
     def last(self) -> LogPair | None:
         """What the log has, also if it was taken away."""
-        return self._files.last() if self._files else None
+        return self.log.last()
 
     def pairs_since(self, octets: int) -> list[tuple[int, LogPair]]:
         """The pairs of the log that are needed from an octet of the trunk on, as far as it has them, each with the
         octet at its state."""
         self.read()
-        its, self._found = {pair.turn: pair for pair in (*self._found, *self._pairs())}, []
+        its, self._found = {pair.turn: pair for pair in (*self._found, *self.log.pairs())}, []
         pairs = [its[turn] for turn in sorted(its)]
         gaps = [n for n, (pair, behind) in enumerate(zip(pairs, pairs[1:]), 1) if pair.end != behind.place]
         del pairs[:max(gaps, default=0)]
@@ -121,34 +110,24 @@ class LogReader:
         first = max((n for n, at in enumerate(ats) if at <= octets), default=0)
         return [*zip(ats, pairs)][first:]
 
-    def _pairs(self) -> list[LogPair]:
-        """What the log has now, the older one first."""
-        found = filter(None, map(self._files.pair, (0, 1))) if self.has_log() and self._files else ()
-        return sorted(found, key=lambda pair: pair.turn)
-
     def octets_at(self, pair: LogPair, pairs: Sequence[LogPair] = ()) -> int:
         """The octet of the trunk at the state of a pair that was read behind the last look, by what was read behind it:
         of this one, or of all that there are."""
         records = b''.join(each.records for each in pairs or (pair,) if each.turn >= pair.turn)
-        return self.octets - whole_records(records[:max(0, self._place - pair.place)])[1]
+        return self.octets - whole_records(records[:max(0, self.log.place - pair.place)])[1]
 
     def take_out(self) -> LogPair | None:
         """The same, and gives the room of its files back. What is read next is in other files."""
         with goes_on('the reading of the log'):
             self.read()
         last = self.last()
-        self._close()
+        self.log.close()
         return last
-
-    def _close(self) -> None:
-        if self._files:
-            self._files.close()
-        self._files = self._reader = None
 
     def begins_anew(self, read: tuple[int, int] = (-1, 0), is_loaded: bool = False) -> None:
         """Another log begins, or goes on where another machine was."""
-        self._close()
-        (self._place, self.octets), self.is_loaded, self._begun, self.rests = read, is_loaded, None, False
+        self.log.close()
+        (self.log.place, self.octets), self.is_loaded, self._begun, self.rests = read, is_loaded, None, False
         self.first, self._found = self.octets, []
 
     def follows(self, lost: bool) -> None:
@@ -157,16 +136,21 @@ class LogReader:
         self._lost += MOST_LOST * lost
         self._is_cut = True
 
+    def has_lost(self, octets: int) -> None:
+        """The program before the one that has begun with this octet may have lost what it had in hand."""
+        if self._recording and self._begun is not None:
+            self._recording.slip(octets, MOST_LOST)
+
     async def copied(self) -> None:
         """Before a program starts, whose first state is written over the older pair: keeps that for what is to be told
         of it, and waits a moment until a recording has what is behind. (The one that could say what was not counted is
         no more.)"""
         self.read()
         self.count_on()
-        self._found = [*self._found, *self._pairs()[:-1]][-MOST_FOUND:]
+        self._found = [*self._found, *self.log.pairs()[:-1]][-MOST_FOUND:]
         self.starts = (*self.starts, (self.octets, time.time()))[-MOST_FOUND:]
-        if self._recording and self._reader:
-            await self._recording.has(self._reader.base, MOST_WAIT)
+        if self._recording and self.log.reader:
+            await self._recording.has(self.log.reader.base, MOST_WAIT)
 
     def count_on(self, missed: int | None = None) -> None:
         """So many octets of the trunk were not counted, or as many as its time had, if nobody can say it any more."""
@@ -179,10 +163,10 @@ class LogReader:
     @property
     def files(self) -> dict[str, int]:
         """The descriptors of the log: it can be read when its folder is gone, too."""
-        return self._files.files if self._files else {}
+        return self.log.files.files if self.log.files else {}
 
     def noted(self) -> ReadingNote:
-        return ReadingNote(self._place, self.octets, self.first, self.starts, self._written)
+        return ReadingNote(self.log.place, self.octets, self.first, self.starts, self._written)
 
     def recording_note(self) -> RecordingNote | None:
         recording = self._recording
@@ -210,11 +194,9 @@ class LogReader:
 
     def read(self) -> bool:
         """Reads what there is; whether there is a log of this machine."""
-        if self.rests or not (self._reader or self.has_log() and self._reader):
+        if self.rests or not (self.log.reader or self.has_log() and self.log.reader):
             return False
-        assert self._reader and self._files
-        before, its = self.octets, self._reader.look()
-        written = self._files.written(self._reader.number) if its else self._written
+        before, (its, written) = self.octets, self.log.news(self._written)
         for number, news in enumerate(its, 1):
             self._take(news, its[number:], written)
         self._written = written
@@ -227,13 +209,14 @@ class LogReader:
     def _take(self, news: LogNews, behind: Sequence[LogNews], written: float) -> None:
         if isinstance(news, LogPiece):
             self.octets += whole_records(news.octets)[1]
-            self._place = news.place + len(news.octets)
+            self.log.place = news.place + len(news.octets)
             if self._recording and self._begun is not None:
-                self._recording.put(news.octets, self._place, self.octets)
+                self._recording.put(news.octets, self.log.place, self.octets)
             return
         if isinstance(news, LogBegun):
             self._is_overtaken(news, octets_in(behind), written)
-        self._place = news.state.place
+        self.log.place = news.state.place
+        self.turned()
         self._see_file(news.state, isinstance(news, LogBegun), octets_in(behind))
 
     def _is_overtaken(self, news: LogBegun, behind: int, written: float) -> None:
@@ -246,7 +229,7 @@ class LogReader:
             passed += self.octets + self._missed
             self.octets = max(self.octets, self.told() - behind)
             self.has_missed, self._missed = True, max(0, passed - self.octets)
-        elif news.is_anew or self._place < 0 and not self.is_loaded:
+        elif news.is_anew or self.log.place < 0 and not self.is_loaded:
             self.octets, self.has_missed = max(0, self.told() - behind) * bool(news.state.place), news.state.place > 0
 
     def _see_file(self, state: LogState, is_break: bool, behind: int = 0) -> None:

@@ -6,14 +6,14 @@ import logging
 import socket
 import time
 from contextlib import suppress
-from dataclasses import replace
+from dataclasses import dataclass, replace
 from typing import Any, Callable
 
 from ..calls import CallLog, CallsNote
 from ..counts import DatagramCounts
 from ..events import Connected, Disconnected, Flows, LineChanged, Placed, Stalled, Tell
 from ..faults import words_of_fault
-from ..lines import read_config, tables_of
+from ..lines import Alignment, read_config, tables_of
 from ..call_names import CallNames, note_of
 from ..session import CIRCUITS, OCTETS_A_SECOND
 from ..reports import BadTelling, TrunkState
@@ -33,6 +33,18 @@ WATCH = 'the watch of the trunk'
 logger = logging.getLogger(__name__)
 
 
+@dataclass(frozen=True)
+class ToldNote:
+    """What was told beside the calls: whether there is a connection with the program, and since when; the alarms of
+    this end and of the other one; how often alignment was lost; how octets flow."""
+
+    stands: bool
+    since: float
+    alarms: tuple[bool, ...]
+    losses: tuple[int, ...]
+    flow: Flow
+
+
 class TrunkStatus:
     """A trunk as its program tells it. `tell` is called with each change, and `put` given the line of each call."""
 
@@ -49,6 +61,7 @@ class TrunkStatus:
         self._tables = tables_of(tables)
         self._connected = dict.fromkeys(BOTH, False)
         self._stands: bool | None = None        # whether it is connected with the program, as was told
+        self._stood: bool | None = None         # .. by the process before this one
         self._since = time.time()
         self._read = asyncio.Event()                    # reports are to be read at once
         self._line: socket.socket | None = None
@@ -136,8 +149,6 @@ class TrunkStatus:
             self.changed()
         self.calls.give()
 
-    # ---- connections ----
-
     def stands(self, what: str, on: bool, why: str = '') -> None:
         """Whether there is a connection to one of the program's sockets. At first it may be to come."""
         self._connected[what] = on
@@ -145,9 +156,10 @@ class TrunkStatus:
         if not has and self._stands is None and time.monotonic() < self.start + FIRST:
             return
         if has is not self._stands:
-            self._stands, self._since = has, time.time()
-            why = self._trunk.facts().get('fault') or why
-            self.tell(Connected('program') if has else Disconnected('program', why))
+            stood, self._stands, self._stood = self._stood, has, None
+            if stood is not has:
+                self._since, why = time.time(), self._trunk.facts().get('fault') or why
+                self.tell(Connected('program') if has else Disconnected('program', why))
 
     def teller(self) -> object:
         """The connection at which changes are told; None if there is none."""
@@ -167,7 +179,10 @@ class TrunkStatus:
                 session = self._trunk.session()
                 await self._trunk.know_place()
                 line.connect(self._trunk.places().tell)
-                await self.came(line, session, self._trunk.begun() + await place_told(line))
+                place = self._trunk.begun() + await place_told(line)
+                if self._trunk.session() != session:
+                    raise OSError(0, 'another program carries the trunk')
+                await self.came(line, session, place)
                 while self.takes(line, 1 << 16):
                     await self._more(line)
                     await self._trunk.know_place(PATIENCE)
@@ -232,6 +247,19 @@ class TrunkStatus:
         self._flow, self._line = replace(self._flow, moved=time.monotonic()), line
         self.lines.begin(self._trunk.begun())
 
+    def told(self) -> ToldNote:
+        """What this process has told beside the calls."""
+        lines, stands = self.lines, bool(self._stood if self._stands is None else self._stands)
+        return ToldNote(stands, self._since, (*lines.alarms.values(), *lines.remote.values()),
+                        (*lines.losses.values(),), self._flow)
+
+    def was_told(self, note: ToldNote) -> None:
+        """That is not told again."""
+        self._stood, self._since, self._flow = note.stands, note.since, note.flow
+        for its, told in zip((self.lines.alarms, self.lines.remote), (note.alarms[:2], note.alarms[2:])):
+            its.update(zip(Alignment, told))
+        self.lines.losses.update(zip(Alignment, note.losses))
+
     def calls_note(self) -> CallsNote | None:
         """What another service has to know of the calls."""
         return self.calls.note(self.lines.place, self._at, self.waiting()) if self._is_known else None
@@ -241,8 +269,6 @@ class TrunkStatus:
         self.naming.begin(self._session, self.lines.seizures, self.lines.lines, self._is_caught_up)
         self.stands('reports', True)
         self.calls.begun(self.naming.life)
-
-    # ---- octets ----
 
     def look_at_flow(self, now: float) -> None:
         """To be called a few times a second: whether octets of the trunk come."""

@@ -87,7 +87,7 @@ class WatchedTrunk(ABC):
         """The octet of the trunk with which the program of now has begun."""
 
     @abstractmethod
-    def ends(self) -> str:
+    async def ends(self) -> str:
         """The end is asked for."""
 
     @abstractmethod
@@ -127,8 +127,7 @@ class WatchedTrunk(ABC):
         """What happened behind an octet of the trunk, as far as the log of this machine and version reaches."""
         reader = self.reader
         since, is_new = max(since, reader.first), since <= reader.first
-        pairs = reader.pairs_since(since)
-        if not pairs:
+        if not (pairs := reader.pairs_since(since)):
             return None
         try:
             with self.version() as version:

@@ -18,8 +18,8 @@ from ..calls import FIELDS, CallsNote, has_line
 from ..clearing import DisconnectWatch, OutageWatch, on_loss_of
 from ..clock import ClockFinding
 from ..counts import DatagramCounts
-from ..events import (LAST, Burst, CallsCleared, CommandGiven, Event, LineChanged, RateChanged, ReadEvents, Slip,
-                      WatchEnded)
+from ..events import (LAST, Burst, CallsCleared, CommandGiven, Event, LineChanged, RateChanged, ReadEvent, ReadEvents,
+                      Slip, WatchEnded)
 from ..faults import named, words_of_refusal
 from ..lines import Role, State
 from ..resyncs import Resyncs
@@ -60,11 +60,22 @@ class WatchWants:
     kept: str | None = None
 
 
+@dataclass(frozen=True)
+class ShownNote:
+    """What pages show beside the status: the last events; alarms that stand, by what they are; the lines of the last
+    calls."""
+
+    last: tuple[tuple[str, float], ...]
+    alarms: tuple[tuple[str, str, float], ...]
+    ended: tuple[str, ...]
+
+
 class TrunkWatch:
     """One trunk that is watched."""
 
     def __init__(self, wants: WatchWants, trunk: WatchedTrunk) -> None:
         self.wants, self.trunk, self._loop = wants, trunk, asyncio.get_running_loop()
+        self._is_over = True                    # the trunk has ended, once this one does
         self.ended: dict[str, str | None] = dict.fromkeys(BESIDE)
         self._restarts = Resyncs(self.restart, self.tell)
         self._counts = DatagramCounts(guarded(self._restarts.counted, WATCH))
@@ -141,6 +152,18 @@ class TrunkWatch:
         for line in note.lines:
             if self._calls and self.wants.calls and not has_line(self.wants.calls, line):
                 self._calls.put(line)
+
+    def shown(self) -> ShownNote:
+        """What pages show beside the status."""
+        alarms = ((key, each.words, each.time) for key, each in self._events.standing().items())
+        last = ((each.words, each.time) for each in self._events.last)
+        return ShownNote((*last,), (*alarms,), (*self._ended_calls,))
+
+    def was_shown(self, note: ShownNote) -> None:
+        """Pages show it again."""
+        self._events.go_on((ReadEvent(*each) for each in note.last),
+                           {key: ReadEvent(words, at) for key, words, at in note.alarms})
+        self._ended_calls.extend(note.ended)
 
     def _put_call(self, line: str) -> None:
         if self.trunk.facts()['pair'].get('role') != 'standby':
@@ -264,8 +287,13 @@ class TrunkWatch:
         self.drains.look()
         self._outages.look(now, self.status.outage())
 
+    def goes_on(self) -> None:
+        """The trunk goes on behind the end of this one, and so do its calls."""
+        self._is_over = False
+
     def _close(self) -> None:
-        self.status.calls.finish()
+        if self._is_over:
+            self.status.calls.finish()
         for each in (self._json, self._calls):
             if each:
                 each.close()

@@ -1,0 +1,26 @@
+"""What a holder is asked, at FOLDER/hold: each request has an answer, if it is that there is none."""
+from __future__ import annotations
+
+import asyncio
+
+from ..faults import words_of_fault
+
+PATIENCE = 90.0             # seconds for a version to be tried, and for a program of it to carry the trunk
+
+
+async def asked(path: str, words: str, seconds: float | None = None) -> str:
+    """The answer of the holder to words."""
+    front, seconds = words.split()[0], PATIENCE if seconds is None else seconds
+    try:
+        async with asyncio.timeout(seconds):
+            reader, writer = await asyncio.open_unix_connection(path)
+            try:
+                writer.write(f'{words}\n'.encode())
+                answer = (await reader.readline()).decode(errors='replace').strip()
+            finally:
+                writer.close()
+    except TimeoutError:
+        return f'{front}: the holder does not answer within {seconds:g} s; it may still be done'
+    except OSError as fault:
+        return f'{front}: refused: there is no holder: {words_of_fault(fault, path)}'
+    return answer or f'{front}: the holder has ended before it has answered'

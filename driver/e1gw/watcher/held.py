@@ -1,0 +1,248 @@
+"""A trunk that a holder carries, as its watcher knows it: by what holder and program say, and by the log."""
+from __future__ import annotations
+
+import asyncio
+import errno
+import logging
+import os
+import re
+from contextlib import contextmanager, suppress
+from dataclasses import dataclass
+from typing import Any, Iterator
+
+from ..events import Event, LogLost, RoleGiven, Tell, TrunkLost, TrunkOpened
+from ..faults import words_of_fault
+from ..holder_state import INTERFACE, STANDBY, HolderState, TrunkPlaces, state_in
+from ..log_folder import logged_by
+from ..memory import in_memory
+from ..lines import SEIZURE_WAIT
+from .connection import connected
+from .door import asked
+from .drains import KeptDrains
+from .process import start_of
+from .reader import MOST_FOUND, LogReader
+from .replay import ReplayVersion
+from .said import LineNote, SaidLine
+from .trunk import WatchedTrunk, place_told
+
+LOG_LOST = re.compile(r'cannot (open|write) the log\b')     # as a program says why it ends
+
+logger = logging.getLogger(__name__)
+
+
+# ---- what a holder says ----
+
+def events_of(before: HolderState | None, now: HolderState, transport: dict[str, object]) -> list[Event]:
+    """What is told of a trunk whose holder has said another thing before, or nothing."""
+    told = list[Event]()
+    if before and before.role != now.role:
+        told.append(RoleGiven(now.role))
+    was_open = before is not None and before.open
+    is_another = now.open and not (before and was_open and before.opened == now.opened)
+    if before and was_open and (is_another or not now.open) and now.role == before.role:
+        told.append(TrunkLost(now.fault or now.why))
+    if before and now.why != before.why and LOG_LOST.search(now.why):
+        told.append(LogLost())
+    if is_another:
+        told.append(TrunkOpened(now.trunk, {'trunk': now.trunk, **transport}))
+    return told
+
+
+def fault_of(state: HolderState) -> str:
+    """Why there is no trunk, if that is known."""
+    if state.interface != INTERFACE:
+        return f'the holder has interface {state.interface}, and its watcher knows {INTERFACE}'
+    return 'standby' if state.role == STANDBY else state.fault
+
+
+def wait_of(words: tuple[str, ...]) -> int:
+    """After how many milliseconds a program releases a seizure, by its options."""
+    return int(words[words.index('--seizure-wait') + 1]) if '--seizure-wait' in words else SEIZURE_WAIT
+
+
+def nearest(found: list[int], octet: int) -> int:
+    """The octet with which a program has begun, of those that may be it. It is about `octet`, by what it has said."""
+    return min(found, key=lambda each: abs(each - octet), default=max(0, octet))
+
+
+@dataclass(frozen=True)
+class HeldNote:
+    """What the next watcher goes on with: what the holder said; which program it was that told, and the octet of the
+    trunk with which it has begun; what it has said; how often the log was lost."""
+
+    holder: HolderState | None
+    session: str
+    begun: int
+    line: LineNote
+    log_losses: int
+
+
+# ---- the trunk ----
+
+class HeldTrunk(WatchedTrunk):
+    """Such a trunk. `tell` reports what changes."""
+
+    def __init__(self, places: TrunkPlaces, state: HolderState, program: str, config: str, tell: Tell,
+                 note: HeldNote | None) -> None:
+        self._places, self._program, self._file, self._tell = places, program, config, tell
+        self.state, self._told = state, note.holder if note else None
+        self._octets = b''                      # of the file that says so
+        self._session, self._begun = (note.session, note.begun) if note else ('', 0)
+        self._log_losses = note.log_losses if note else 0
+        self._line = SaidLine(places.said, places.satop, state.words, note.line if note else None, tell)
+        self._drains = KeptDrains(f'{state.state}.drains' if state.state else os.path.join(places.folder, 'drains'))
+        self._pid = int(self._session.partition('.')[0] or 0)   # of the program that had the log at the last state
+        self._begins = list[int]()              # octets at states with which it may have begun
+        self._config = b''
+        self._lost = 0                          # the number of the program before which octets may have been lost
+        self._reader: LogReader
+
+    def reads(self, reader: LogReader) -> None:
+        """This is what reads its log."""
+        self._reader, reader.turned, self._config = reader, self._turned, self.config_octets()
+
+    # ---- looks ----
+
+    def look(self) -> None:
+        """A few times a second: what the holder says, and the program."""
+        with suppress(FileNotFoundError):
+            self._look_at_holder()
+        self._reader.log.follows(self._reader.read)
+        self._line.look()
+
+    def _look_at_holder(self) -> None:
+        with open(self._places.holder, 'rb') as file:
+            octets = file.read()
+        if octets != self._octets:
+            self.state, self._octets = state_in(octets), octets
+        state = self.state
+        if state.program == self._lost and state.octets_lost:
+            self._reader.has_lost(self._begins[0] if self._begins else self._begun)
+        self._lost = 0 if state.program == self._lost else self._lost
+        if state != self._told and state.interface == INTERFACE:
+            before, self._told = self._told, state
+            for event in events_of(before, state, self._line.status()):
+                self._log_losses += isinstance(event, LogLost)
+                if isinstance(event, TrunkLost):
+                    self._line.ended()
+                self._tell(event)
+
+    def _turned(self) -> None:
+        """A state was read in the log. The first one of another program is that with which it has begun."""
+        reader, pid = self._reader, logged_by(self._places.log)
+        if pid and pid != self._pid:
+            reader.follows(False)
+            reader.starts = (*reader.starts, (reader.octets, reader.log.state_written()))[-MOST_FOUND:]
+            self._pid, self._lost, self._begins = pid, pid, []
+            before, self._config = self._config, self.config_octets()
+            if before != self._config:
+                reader.first = reader.octets
+        if not self._session.startswith(f'{pid}.'):
+            self._begins.append(reader.octets)
+
+    async def know_place(self, seconds: float | None = None) -> None:
+        """And with which octet the program of now has begun: at a state of the log, by about what it says that it has
+        taken since."""
+        reader, session = self._reader, self._session if seconds else self.session()
+        if session != self._session:
+            with connected(self._places.tell) as line:
+                told = await place_told(line)
+            for _ in range(2):
+                reader.read()
+            if reader.has_missed and not self._session:
+                self._begun = 0                 # (it is the first one that this watcher knows)
+            else:
+                reader.count_on()
+                self._begun = nearest(self._begins, reader.octets - told)
+            self._session = session
+        await super().know_place(seconds)
+
+    # ---- what is known ----
+
+    @property
+    def reader(self) -> LogReader:
+        return self._reader
+
+    def places(self) -> TrunkPlaces:
+        return self._places
+
+    def drains(self) -> KeptDrains:
+        return self._drains
+
+    def stands_by(self) -> bool:
+        return self.state.role == STANDBY
+
+    def config_path(self) -> str:
+        return self._places.config if os.path.exists(self._places.config) else self._file
+
+    def config_octets(self) -> bytes:
+        """That of the program of now; nothing before the first one."""
+        with suppress(FileNotFoundError), open(self._places.config, 'rb') as file:
+            return file.read()
+        return b''
+
+    @contextmanager
+    def version(self) -> Iterator[ReplayVersion]:
+        path = f'/proc/{logged_by(self._places.log)}/exe'
+        file = os.open(path if os.path.exists(path) else self._program, os.O_RDONLY | os.O_CLOEXEC)
+        its = ReplayVersion(self._program, file, in_memory(self.config_octets()), self.state.senders,
+                            self.state.program_version, wait_of(self.state.words), was_tried=True)
+        try:
+            yield its
+        finally:
+            its.close()
+
+    def facts(self) -> dict[str, Any]:
+        state, line = self.state, self._line
+        return {'since': state.opened, 'fault': fault_of(state), 'version': state.program_version,
+                'senders': state.senders, 'log_losses': self._log_losses, 'pair': {}, 'session': self._reader.why(),
+                'carried': {'transport': {'trunk': state.trunk, **line.status()},
+                            'crc4': line.crc4 and line.crc4.status()}}
+
+    def outage(self) -> str | None:
+        return None
+
+    def place(self) -> int:
+        return self._reader.octets
+
+    def session(self) -> str:
+        pid = logged_by(self._places.log)
+        if not (pid and (started := start_of(pid))):
+            raise FileNotFoundError(errno.ENOENT, os.strerror(errno.ENOENT))
+        return f'{pid}.{started}'
+
+    def begun(self) -> int:
+        return self._begun
+
+    def noted(self) -> HeldNote:
+        return HeldNote(self._told, self._session, self._begun, self._line.noted(), self._log_losses)
+
+    # ---- what is asked ----
+
+    async def ends(self) -> str:
+        return await asked(self._places.hold, 'quit')
+
+    async def reload(self, force: bool) -> str:
+        return await asked(self._places.hold, 'reload force' if force else 'reload')
+
+    async def role(self, word: str) -> str:
+        return f'{word}: there is no other machine (--feed, --standby)'
+
+    def close(self) -> None:
+        self._line.close()
+
+
+async def state_of(places: TrunkPlaces, ending: asyncio.Event) -> HolderState | None:
+    """What a holder says, once there is one; None if the end is asked for before."""
+    said = ''
+    while not ending.is_set():
+        try:
+            with open(places.holder, 'rb') as file:
+                return state_in(file.read())
+        except (OSError, ValueError) as fault:
+            why = words_of_fault(fault)
+            if why != said and not isinstance(fault, FileNotFoundError):
+                logger.warning('%s; it is tried again', why)
+            said = why
+        await asyncio.sleep(0.1)
+    return None

@@ -1,0 +1,213 @@
+"""Watches a trunk that e1gw-trunk(1) holds, and shows it: status, events, metrics and pages, commands of e1gw-ctl(1),
+lines of calls, recordings, and what is done with calls by itself.
+
+It may end, be killed or be started again at any time: no call waits for it, and the next one goes on where it was.
+
+Signals: SIGTERM, SIGINT end.
+Statuses: 0 ended as asked, or with the trunk; 1 what may be tried again; 2 the command line, or another one watches
+the trunk.
+"""
+from __future__ import annotations
+
+import argparse
+import asyncio
+import logging
+import os
+import signal
+import sys
+from contextlib import suppress
+from typing import NoReturn
+
+from ..clearing import on_loss_of
+from ..faults import Parser, options_words, words_of_fault
+from ..holder_state import TrunkPlaces
+from ..lock import InUse, hold, is_at
+from ..programs import program_of
+from ..writers import hold_descriptors
+from .commands import CannotListen
+from .held import HeldTrunk, state_of, wait_of
+from .journal import ServiceJournal
+from .memo import WatchNote, drains_told, note_in
+from .note import NoteFiles
+from .notifier import Notifier
+from .options import add_options, feeding_of, folder_of, recording_of, watched_of
+from .reader import LogReader, ReadingNote
+from .tasks import either, every, goes_on
+from .watch import TrunkWatch
+
+NAME = 'e1gw-watch'
+LOOK, NOTED = 0.24, 1.0     # seconds between two looks at what the holder says, and between two notes
+GRACE = 5.0                 # seconds for what is written at the end
+
+logger = logging.getLogger(__name__)
+
+
+def parser() -> argparse.ArgumentParser:
+    """The options."""
+    words = Parser(NAME, description=__doc__, formatter_class=argparse.RawDescriptionHelpFormatter)
+    add_options(words)
+    return words
+
+
+class WatchLock:
+    """The lock of who watches a trunk: another one is refused, and told which process this is."""
+
+    def __init__(self, path: str) -> None:
+        self._path, self._file = path, -1
+
+    def take(self) -> bool:
+        """Takes it, also in a folder that was made again; whether it is had: there may be no folder. InUse says who has
+        it."""
+        if self._file >= 0 and is_at(self._file, self._path):
+            return True
+        try:
+            file = hold(self._path)
+        except OSError:
+            return False
+        if self._file >= 0:
+            os.close(self._file)
+        self._file = file
+        return True
+
+
+class Watcher:
+    """One trunk that is watched, to its end."""
+
+    def __init__(self, asked: argparse.Namespace, places: TrunkPlaces, lock: WatchLock, ending: asyncio.Event) -> None:
+        self._asked, self._places, self._lock, self._ending = asked, places, lock, ending
+        self.status = 0
+        self._is_over = False                   # the trunk has ended
+        self._trunk: HeldTrunk
+        self._watch: TrunkWatch
+        self._reader: LogReader
+        self._notes: NoteFiles
+
+    async def begin(self) -> bool:
+        """Begins, where the watcher before has left, once there is a holder; whether there is one."""
+        if not (state := await state_of(self._places, self._ending)):
+            return False
+        with suppress(FileExistsError):
+            os.mkdir(self._places.watch, 0o700)     # (and not the folder, which may be gone in this moment)
+        asked, note, program = self._asked, self._noted(), program_of(self._asked.program, '--built')
+        self._trunk = trunk = HeldTrunk(self._places, state, program, asked.config,
+                                        lambda event: watch.tell(event), note.held if note else None)
+        wants = recording_of(asked, wait_of(state.words))
+        self._reader = reader = LogReader(self._places.log, asked.gap / 1000, wants, self.note, trunk.config_octets)
+        trunk.reads(reader)
+        self._watch = watch = TrunkWatch(watched_of(asked, program), trunk)
+        if note:
+            self._take_up(note)
+        reader.take_up(note.read if note else ReadingNote(), note.recording if note else None)
+        watch.status.changed = self.note
+        reader.found, reader.told = watch.flowed, lambda: watch.status.lines.place
+        return True
+
+    def _noted(self) -> WatchNote | None:
+        """What the watcher before this one has noted."""
+        self._notes = NoteFiles(self._places.watch)
+        return note_in(self._notes.read())
+
+    def _take_up(self, note: WatchNote) -> None:
+        """What was told is not told again."""
+        watch = self._watch
+        watch.status.was_told(note.told)
+        watch.was_shown(note.shown)
+        if note.calls:
+            watch.take_up(note.calls)
+        kept = watch.drains.kept
+        kept.now = drains_told(kept.now, note.drains)
+
+    def note(self) -> None:
+        """Notes what the next watcher goes on with."""
+        with goes_on('the note for the next watcher'):
+            watch, reader = self._watch, self._reader
+            drains = {n: each.name for n, each in watch.drains.kept.now.circuits.items()}
+            self._notes.put(WatchNote(self._trunk.noted(), reader.noted(), watch.status.told(), watch.shown(), drains,
+                                      reader.recording_note(), watch.status.calls_note()).text())
+
+    def look(self) -> None:
+        """A few times a second."""
+        try:
+            self._lock.take()
+        except InUse as fault:
+            logger.error('process %s watches this trunk', fault)
+            self.status = 2
+            return self._ending.set()
+        if is_over(self._places):
+            self._is_over = True
+            logger.info('ends: the trunk has ended')
+            return self._ending.set()
+        self._trunk.look()
+
+    async def run(self) -> None:
+        """Until the end."""
+        await self._watch.open()
+        with every(LOOK, self.look, 'the look at the holder'), every(NOTED, self.note, 'the note'):
+            works = [asyncio.create_task(work) for work in (self._reader.run(), self._watch.run())]
+            await self._ending.wait()
+        if not self._is_over:
+            self._watch.goes_on()
+        for each in works:
+            each.cancel()
+        await asyncio.wait(works, timeout=GRACE)
+        await self._reader.finish()
+        if not self._is_over:
+            self.note()
+        self._trunk.close()
+
+
+def is_over(places: TrunkPlaces) -> bool:
+    """Whether a trunk has ended in order: its holder leaves nothing. (One that was killed leaves its lock.)"""
+    return not (os.path.exists(places.holder) or os.path.exists(f'{places.folder}.lock'))
+
+
+async def watch_trunk(asked: argparse.Namespace) -> int:
+    """Watches to the end; returns the status."""
+    places, ending = TrunkPlaces(folder_of(asked)), asyncio.Event()
+    lock, notifier = WatchLock(places.watch_lock), Notifier()
+    for number in (signal.SIGTERM, signal.SIGINT):
+        asyncio.get_running_loop().add_signal_handler(number, ending.set)
+    with every(LOOK, lambda: notifier.tell('WATCHDOG=1'), 'the sign of life'):
+        while not (lock.take() or ending.is_set()):
+            await either(LOOK, ending)
+        watcher = Watcher(asked, places, lock, ending)
+        if await watcher.begin():
+            notifier.tell('READY=1')
+            await watcher.run()
+        return watcher.status
+
+
+def status_of(words: list[str], loop: asyncio.AbstractEventLoop) -> int:
+    """Watches by a command line; what is wrong is said in one line."""
+    asked = parser().parse_args(words)
+    try:
+        recording_of(asked, 0)
+        feeding_of(asked)
+        on_loss_of(asked.on_loss)
+        folder_of(asked)
+    except ValueError as fault:
+        logger.error('%s; see %s --help%s', fault, NAME, options_words())
+        return 2
+    try:
+        return loop.run_until_complete(watch_trunk(asked))
+    except InUse as fault:
+        logger.error('process %s watches this trunk', fault)
+        return 2
+    except (CannotListen, KeyError) as fault:
+        logger.error('cannot listen: %s', words_of_fault(fault))
+        return 2
+    except OSError as fault:            # (what is away may come back)
+        logger.error('%s', words_of_fault(fault))
+        return 1
+
+
+def main(words: list[str] | None = None) -> NoReturn:
+    hold_descriptors()
+    journal, loop = ServiceJournal(NAME), asyncio.new_event_loop()
+    status = status_of(sys.argv[1:] if words is None else words, loop)
+    journal.close()
+    os._exit(status)
+
+
+if __name__ == '__main__':
+    main()

@@ -1,0 +1,51 @@
+"""What a watcher notes for the next one of its trunk, which goes on where it was: nothing is told twice, and nothing is
+missed that the log still has."""
+from __future__ import annotations
+
+import json
+from contextlib import suppress
+from dataclasses import dataclass
+
+from ..calls import CallsNote
+from .drains import Drain, Drains
+from .held import HeldNote
+from .note import typed
+from .reader import ReadingNote
+from .recordings import RecordingNote
+from .status import ToldNote
+from .watch import ShownNote
+
+VERSION = 1
+
+
+@dataclass(frozen=True)
+class WatchNote:
+    """What is noted; of each circuit that the operator has blocked, how far it is."""
+
+    held: HeldNote
+    read: ReadingNote
+    told: ToldNote
+    shown: ShownNote
+    drains: dict[int, str]
+    recording: RecordingNote | None
+    calls: CallsNote | None
+
+    def text(self) -> bytes:
+        return json.dumps({'version': VERSION, **vars(self)}, default=vars).encode() + b'\n'
+
+
+def note_in(octets: bytes) -> WatchNote | None:
+    """The note that octets are; None if they are none of this version."""
+    with suppress(ValueError, TypeError, KeyError, AttributeError):
+        plain = json.loads(octets)
+        if plain.pop('version') == VERSION:
+            note: WatchNote = typed(WatchNote, plain)
+            return note
+    return None
+
+
+def drains_told(now: Drains, told: dict[int, str]) -> Drains:
+    """The circuits that the operator has blocked, as far as was told."""
+    with suppress(KeyError):
+        return Drains({n: Drain[told[n]] if n in told else each for n, each in now.circuits.items()})
+    return now

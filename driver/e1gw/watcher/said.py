@@ -1,0 +1,139 @@
+"""What the program says, and `e1gw satop`: lines in files of the folder, a new one for each process."""
+from __future__ import annotations
+
+import logging
+import os
+from contextlib import suppress
+from dataclasses import dataclass
+from typing import Any, Iterator, Sequence
+
+from ..crc4 import Crc4, Crc4Note, counts_in
+from ..events import Event, SatopChanged, Tell
+from ..satop import CONDITIONS, SatopCondition, counts_of
+from ..slots import Slots, SlotsNote
+from .process import AT_END
+
+MOST_SAID = 1 << 20         # octets that are read at once
+
+logger = logging.getLogger(__name__)
+
+
+@dataclass(frozen=True)
+class SaidNote:
+    """Which file it is, and up to where it was read."""
+
+    inode: int = 0
+    place: int = 0
+
+
+class SaidFile:
+    """Such a file, which is read line by line."""
+
+    def __init__(self, path: str, note: SaidNote) -> None:
+        self._path, self.note, self._file = path, note, -1
+
+    def news(self) -> Iterator[str | None]:
+        """The whole lines that were said since; None where another process begins."""
+        yield from self._lines()
+        with suppress(FileNotFoundError):
+            if os.stat(self._path).st_ino != self.note.inode or self._file < 0:
+                yield from self._follow(os.open(self._path, os.O_RDONLY | os.O_CLOEXEC))
+
+    def _follow(self, file: int) -> Iterator[str | None]:
+        """Another file, or that of a watcher before this one."""
+        self.close()
+        self._file, inode = file, os.fstat(file).st_ino
+        if inode != self.note.inode:
+            self.note = SaidNote(inode)
+            yield None
+        yield from self._lines()
+
+    def _lines(self) -> Iterator[str]:
+        """Those of the file that is open. (One that had become too long was cut to nothing.)"""
+        if self._file < 0:
+            return
+        if os.fstat(self._file).st_size < self.note.place:
+            self.note = SaidNote(self.note.inode)
+        octets = os.pread(self._file, MOST_SAID, self.note.place)
+        octets = octets[:octets.rfind(b'\n') + 1]
+        self.note = SaidNote(self.note.inode, self.note.place + len(octets))
+        yield from filter(str.strip, octets.decode(errors='replace').splitlines())
+
+    def close(self) -> None:
+        if self._file >= 0:
+            os.close(self._file)
+        self._file = -1
+
+
+@dataclass(frozen=True)
+class LineNote:
+    """What the next watcher goes on with."""
+
+    program: SaidNote
+    satop: SaidNote
+    crc4: Crc4Note | None
+    slots: SlotsNote | None
+
+
+class SaidLine:
+    """What is known of the line by what was said: CRC-4, slot 16, packets of an emulated circuit. `words` are options
+    of the program."""
+
+    def __init__(self, said: str, satop: str, words: Sequence[str], note: LineNote | None, tell: Tell) -> None:
+        self._program = SaidFile(said, note.program if note else SaidNote())
+        self._satop = SaidFile(satop, note.satop if note else SaidNote())
+        self.crc4, self.slots = Crc4() if '--crc4' in words else None, Slots() if '--slots' in words else None
+        if note and note.crc4 and self.crc4:
+            self.crc4.take_up(note.crc4)
+        if note and note.slots and self.slots:
+            self.slots.take_up(note.slots)
+        self._counts, self._tell = dict[str, int](), tell
+        self._conditions = [(name, SatopCondition(count), words) for name, count, words in CONDITIONS]
+
+    def look(self) -> None:
+        """Takes what was said since."""
+        for line in self._program.news():
+            if line is not None:
+                self._take(line)
+            elif self.crc4:
+                self.crc4.follows()
+            elif self.slots:
+                self.slots.follows()
+        for counts in filter(None, (counts_of(line) for line in self._satop.news() if line)):
+            self._take_counts(counts)
+
+    def _take(self, line: str) -> None:
+        counts = counts_in(line) if self.crc4 else {}
+        events: Sequence[Event] = self.slots.take(line) if self.slots and not counts else ()
+        if self.crc4 and counts:
+            events = self.crc4.take(counts)
+        for event in events:
+            self._tell(event)
+        word, _, count = line.partition(' ')
+        if not (counts or events or word in AT_END and count.isdecimal()):
+            logger.info('program: %s', line)
+
+    def _take_counts(self, counts: dict[str, int]) -> None:
+        """What `e1gw satop` has counted."""
+        self._counts = counts
+        for _, condition, words in self._conditions:
+            if condition.changes(counts):
+                self._tell(SatopChanged(words, condition.on))
+
+    def ended(self) -> None:
+        """The line was closed."""
+        if self.crc4:
+            self.crc4.ended()
+
+    def status(self) -> dict[str, Any]:
+        """What the transport tells of itself, as plain values."""
+        conditions = {name: int(each.on) for name, each, _ in self._conditions} if self._counts else {}
+        return {**self._counts, **conditions, **(self.slots.status() if self.slots else {})}
+
+    def noted(self) -> LineNote:
+        return LineNote(self._program.note, self._satop.note, self.crc4.note() if self.crc4 else None,
+                        self.slots.note() if self.slots else None)
+
+    def close(self) -> None:
+        self._program.close()
+        self._satop.close()

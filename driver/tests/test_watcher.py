@@ -1,0 +1,281 @@
+"""A watcher beside a holder with thirty calls and the real program, in lock step: what it shows, what it takes, and
+that neither its death nor its faults are heard."""
+from __future__ import annotations
+
+import contextlib
+import csv
+import json
+import os
+import signal
+import subprocess
+import sys
+import time
+from typing import Any, Callable
+
+from . import limits, support
+from .holders import HolderCase
+from .keepers import KeeperCase
+from .support import SECONDS
+from e1gw.exchange import IDLE
+from e1gw.session import Command
+from e1gw.testing.service import ask
+
+
+class WatcherCase(HolderCase):
+    """Such a watcher. Its control socket is `ctl`."""
+
+    def setUp(self) -> None:
+        super().setUp()
+        self.watchers = list[subprocess.Popen[bytes]]()
+        self.addCleanup(self.end_watchers)
+
+    def end_watchers(self) -> None:
+        for each in self.watchers:
+            if each.poll() is None:
+                each.kill()
+                each.wait()
+
+    def shows(self) -> list[str]:
+        """What an operator has of the trunk."""
+        return ['--control', self.path('ctl'), '--json', self.path('events'), '--calls', self.path('calls.csv')]
+
+    def watcher_words(self) -> list[str]:
+        return [sys.executable, '-B', support.launcher('watch')]
+
+    def watches(self, *options: str, **within: Any) -> subprocess.Popen[bytes]:
+        """Starts a watcher."""
+        words = [*self.watcher_words(), '--config', self.config, '--folder', self.memory, '--program',
+                 support.program(), *self.shows(), *options]
+        with open(self.path('watched'), 'ab') as told:
+            self.watchers.append(process := subprocess.Popen(words, stderr=told, stdin=subprocess.DEVNULL, env={
+                **os.environ, **limits.around(limits.TELLS | within)}))
+        return process
+
+    def ask(self, words: str) -> str:
+        return ask(self.path('ctl'), words.encode())
+
+    def known(self, holds: Callable[[dict[str, Any]], object] = lambda status: True) -> dict[str, Any]:
+        """The status, once this holds of it. The program tells at the next octets."""
+        pause = 0.001
+        while True:
+            with contextlib.suppress(OSError, EOFError):
+                status: dict[str, Any] = json.loads(self.ask('status json'))
+                if status['program'] and holds(status):
+                    return status
+            self.step()
+            time.sleep(pause := min(2 * pause, 0.25))
+
+
+# Keys of a status that differ from one run to another; `waiting` is known to who has the line.
+APART = {'time', 'uptime', 'life', 'program_since', 'for', 'open', 'waiting', 'trunk', 'port', 'http', 'calls_file',
+         'events_file', 'clock', 'octets', 'jitter_ms', 'socket', 'datagrams', 'call', 'seized', 'answered'}
+
+
+def plain(value: Any) -> Any:
+    """A status, or an event, without what differs from one run to another."""
+    if isinstance(value, dict):
+        return {key: plain(each) for key, each in value.items() if key not in APART}
+    return [plain(each) for each in value] if isinstance(value, list) else value
+
+
+def events_in(path: str, *without: str) -> list[dict[str, Any]]:
+    """The events of a file, without some kinds."""
+    return [found for line in support.whole_lines(path) if (found := json.loads(line))['event'] not in without]
+
+
+class WatcherShowsTests(WatcherCase):
+    def session(self) -> None:
+        """Thirty calls, and the end of one."""
+        self.calls()
+        self.known(lambda status: {row['state'] for row in status['circuits']} == {'answered'})
+        self.assertEqual(self.ask('clear 2'), 'clear 2: done')
+        self.device.exchange.pairs[2] = IDLE
+        self.known(lambda status: status['circuits'][1]['state'] == 'idle')
+
+    def shown(self) -> tuple[dict[str, Any], list[Any]]:
+        """What is shown of it: status, and events but for when they came."""
+        return plain(self.known()), plain([{**each, 'place': 0} for each in events_in(self.path('events'))])
+
+    def test_as_the_service(self) -> None:
+        """Status and events are those that e1gw-trunk shows of the same session."""
+        KeeperCase.starts(self, *self.shows(), **limits.around(limits.TELLS))
+        self.session()
+        its = self.shown()
+        KeeperCase.ends(self)
+        calls = support.whole_lines(self.path('calls.csv'))
+        self.setUp()
+        self.starts_holder()
+        self.watches()
+        self.device.accept()
+        self.goes_on()
+        self.session()
+        mine = self.shown()
+        self.assertEqual(mine[0], its[0])
+        self.assertEqual(mine[1], its[1])
+        self.assertEqual(self.ask('quit'), 'quit: done')
+        self.assertEqual([self.keeper.wait(SECONDS), self.watchers[0].wait(SECONDS)], [0, 0])
+        self.assertEqual(len(support.whole_lines(self.path('calls.csv'))), len(calls))
+        self.assertEqual(os.listdir(self.memory), [])
+
+    def test_commands(self) -> None:
+        """They are done through it, and each has an answer."""
+        self.starts_holder()
+        self.watches()
+        self.device.accept()
+        self.goes_on()
+        self.step(40)
+        self.known(lambda status: {row['state'] for row in status['circuits']} == {'idle'})
+        self.assertEqual(self.ask('seize 2'), 'seize 2: done')
+        self.assertEqual(self.ask('drain 1'), 'drain 1: done')
+        self.known(lambda status: [row['state'] for row in status['circuits'][:2]] == ['blocked', 'seized'])
+        self.assertEqual(self.ask('undrain 1'), 'undrain 1: done')
+        self.assertEqual(self.ask('block 3'), 'block 3: done')
+        self.assertEqual(self.ask('unblock 3'), 'unblock 3: done')
+        self.assertEqual(self.ask('clear 2'), 'clear 2: done')
+        self.assertIn(' 2 outgoing', self.ask('status 2'))
+        self.assertEqual(self.ask('role'), 'role: there is no other machine (--feed, --standby)')
+        self.assertEqual(self.ask('reload'), 'reload: done')
+        self.goes_on()
+        self.write('trunk.toml', 'x = 1\n')
+        self.assertRegex(self.ask('reload'), '^reload: refused: the trunk goes on as it was: ')
+        self.known()
+        self.assertEqual(self.ask('quit'), 'quit: done')
+        self.assertEqual([self.keeper.wait(SECONDS), self.watchers[0].wait(SECONDS)], [0, 0])
+
+    def test_a_second_one(self) -> None:
+        """It refuses, and names the first."""
+        self.starts_holder()
+        first = self.watches()
+        support.until(lambda: os.path.exists(self.path('ctl')))
+        self.assertEqual(self.watches().wait(SECONDS), 2)
+        self.assertIn(f'process {first.pid} watches this trunk', support.text_of(self.path('watched')))
+        first.kill()
+        first.wait()
+        os.unlink(self.path('ctl'))
+        self.watches()
+        support.until(lambda: os.path.exists(self.path('ctl')))
+
+    def test_in_a_folder_that_is_made_again(self) -> None:
+        """A second one is refused there, too."""
+        self.starts_holder()
+        first = self.watches()
+        support.until(lambda: os.path.exists(self.places.watch_lock))
+        self.device.accept()
+        self.goes_on()
+        before = os.stat(self.places.watch_lock).st_ino
+        support.remove(self.places.folder)
+        self.awaits('is to be had again')
+        self.goes_on()
+        path = self.places.watch_lock
+        support.until(lambda: os.path.exists(path) and os.stat(path).st_ino != before)
+        self.assertEqual(self.watches().wait(SECONDS), 2)
+        self.assertIsNone(first.poll())
+
+
+# A watcher each of whose reads of the log fails while a file `fails` is there.
+FAILING = '''
+import errno, os, sys
+sys.path[:0] = [{driver!r}]
+from e1gw.watcher import main
+from tests import limits
+limits.put_given()
+real = os.pread
+def fails(file, *words):
+    if os.path.exists({path!r}) and '/log/' in os.readlink(f'/proc/self/fd/{{file}}'):
+        raise OSError(errno.EIO, os.strerror(errno.EIO))
+    return real(file, *words)
+os.pread = fails
+main.main()
+'''
+
+
+class WatcherUnheardTests(WatcherCase):
+    """Whatever becomes of the watcher, what is heard is what one uncut replay gives, and another program follows."""
+
+    def watcher_words(self) -> list[str]:
+        text = FAILING.format(driver=os.path.join(support.TOP, 'driver'), path=self.path('fails'))
+        return [sys.executable, '-B', self.write('failing', text)]
+
+    def dies(self, number: int = signal.SIGKILL) -> None:
+        os.kill(self.program, number)
+        self.goes_on_all()
+
+    def test_killed_and_stopped(self) -> None:
+        """A program dies behind each."""
+        self.begins()
+        first = self.watches()
+        self.known()
+        first.kill()
+        first.wait()
+        self.dies()
+        second = self.watches()
+        self.known()
+        with support.stopped(second.pid):
+            self.dies()
+            self.step(50)
+            self.dies()
+        self.known(lambda status: {row['state'] for row in status['circuits']} == {'answered'})
+        self.as_uncut()
+        self.ends()
+        self.assertEqual(second.wait(SECONDS), 0)
+
+    def test_each_read_of_the_log_fails(self) -> None:
+        """It is told once, and what the program tells is shown; once they do all is as it was."""
+        self.begins()
+        self.write('fails', '')
+        self.watches()
+        self.known(lambda status: {row['state'] for row in status['circuits']} == {'answered'})
+        self.dies()
+        self.known(lambda status: {row['state'] for row in status['circuits']} == {'answered'})
+        self.assertEqual(support.text_of(self.path('watched')).count('the log cannot be read'), 1)
+        os.unlink(self.path('fails'))
+        support.until(lambda: 'the log is read again' in support.text_of(self.path('watched')))
+        self.known()
+        self.dies()
+        self.as_uncut()
+        self.ends()
+        self.assertEqual(self.watchers[0].wait(SECONDS), 0)
+
+
+class WatcherAgainTests(WatcherCase):
+    def called(self) -> list[list[str]]:
+        """The lines of calls, without the head."""
+        with open(self.path('calls.csv'), encoding='utf-8', newline='') as file:
+            return [*csv.reader(file)][1:]
+
+    def test_nothing_twice_and_nothing_missed(self) -> None:
+        """Of calls that end while nobody watches, beside the deaths of a program."""
+        self.starts_holder()
+        first = self.watches()
+        self.device.accept()
+        self.goes_on()
+        self.calls()
+        self.known(lambda status: {row['state'] for row in status['circuits']} == {'answered'})
+        before = events_in(self.path('events'))
+        first.kill()
+        first.wait()
+        self.ends_call(2)
+        os.kill(self.program, signal.SIGKILL)
+        self.goes_on()
+        self.step(20)
+        self.ends_call(4)
+        self.watches()
+        status = self.known(lambda status: [row['state'] for row in status['circuits'][:4:2]] == ['answered'] * 2)
+        self.assertEqual([row['state'] for row in status['circuits'][1:4:2]], ['idle'] * 2)
+        self.assertEqual(self.ask('clear 6'), 'clear 6: done')
+        self.device.exchange.pairs[6] = IDLE
+        self.known(lambda status: status['circuits'][5]['state'] == 'idle')
+        self.assertEqual(sorted((row[1], row[6]) for row in self.called()),
+                         [(n, 'gateway') for n in ('2', '4', '6')])
+        after = events_in(self.path('events'), 'command')[len(before):]
+        self.assertEqual(sorted((each['circuit'], each['was'], each['state']) for each in after
+                                if each['event'] == 'state'),
+                         [(n, *each) for n in (2, 4, 6) for each in (('answered', 'releasing'), ('releasing', 'idle'))])
+        self.assertEqual([each['event'] for each in after if each['event'] != 'state'], [])
+        self.assertEqual(len({row[12] for row in self.called()}), 3)
+
+    def ends_call(self, circuit: int) -> None:
+        """A client of the program ends a call."""
+        self.commands(range(circuit, circuit + 1), Command.CLEAR)
+        self.device.exchange.pairs[circuit] = IDLE
+        self.step(40)
