@@ -19,9 +19,9 @@ from . import support
 from .support import FolderCase
 from .test_card import FakeChannel
 from e1gw import lock
-from e1gw.holder import log, starting
+from e1gw.holder import ending, log, starting
 from e1gw.holder.card import Card
-from e1gw.holder.decisions import EndFault
+from e1gw.holder.decisions import Deaths, Decision, EndFault, NextAct
 from e1gw.holder.files import in_memory
 from e1gw.holder.holder import Holder
 from e1gw.holder.line import HeldLine, has_ended
@@ -451,3 +451,33 @@ class TurnTests(unittest.TestCase):
         with mock.patch.multiple('e1gw.holder.holder', follow=ended, start=mock.DEFAULT) as its:
             Holder.turn(holder, 5.0)
         self.assertEqual((len(ended.mock_calls), len(its['start'].mock_calls)), (1, 1))
+
+
+class HolderAnswerTests(unittest.TestCase):
+    def test_where_no_program_follows(self) -> None:
+        """At once: of a line that is opened again who wants another program; of a trunk that is released whoever
+        waits."""
+        def reopens(holder: mock.Mock) -> None:
+            ending.do(holder, Decision(NextAct.REOPEN, Deaths()), 'the trunk has ended', 5.0)
+        for does, waits in (reopens, ['take']), (Holder.release, list[str]()):
+            holder = mock.Mock(spec=Holder, status=None)
+            for name in 'line', 'sockets', 'log':
+                setattr(holder, name, mock.Mock())
+            holder.settle = functools.partial(Holder.settle, holder)
+            asked = [mock.Mock(word=word) for word in ('reload', 'renew', 'take')]
+            holder.requests = [*asked]
+            does(holder)
+            self.assertEqual([each.word for each in holder.requests], waits)
+            self.assertEqual([len(each.refused.mock_calls) for each in asked], [1, 1, int(not waits)])
+
+
+class RemovedFolderTests(FolderCase):
+    def test_nobody_finds_it(self) -> None:
+        """Who writes there while it is removed does not make it again."""
+        os.makedirs(folder := self.path('trunk/log'))
+        found = list[bool]()
+        with mock.patch('shutil.rmtree', lambda *_, **__: found.append(os.path.exists(folder))):
+            ending.remove_whole(self.path('trunk'))
+        self.assertEqual(found, [False])
+        ending.remove_whole(self.path('trunk.ended'))
+        self.assertEqual(os.listdir(self.folder), [])

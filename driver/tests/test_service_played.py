@@ -155,7 +155,7 @@ class PlayedEndTests(ServiceCase):
         self.begins()
         await self.says('carries')
         self.plays(hangs='check')
-        with mock.patch.object(replay, 'CHECK', 0.1):
+        with mock.patch.object(replay, 'CHECK', 0.1), mock.patch.object(version, 'CHECK', 0.1):
             self.assertEqual(await self.ask('reload'), 'reload: refused, the trunk goes on as it was: the program '
                              'does not check the configuration within 0.1 s')
         await self.ends()
@@ -655,7 +655,7 @@ class PlayedTakeoverTests(ServiceCase):
         """It is told, and the next program starts all the same."""
         self.begins()
         await self.says('carries')
-        for owner, name in ((LogReader, 'look'), (LogReader, 'copied'), (LogReader, 'noted'),
+        for owner, name in ((LogReader, 'read'), (LogReader, 'copied'), (LogReader, 'noted'),
                             (TrunkCarrier, '_pass_on')):
             with self.subTest(name), mock.patch.object(owner, name, side_effect=OSError(5, 'Input/output error')):
                 self.records.clear()

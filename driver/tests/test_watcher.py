@@ -133,7 +133,7 @@ class WatcherShowsTests(WatcherCase):
         self.assertEqual(self.ask('unblock 3'), 'unblock 3: done')
         self.assertEqual(self.ask('clear 2'), 'clear 2: done')
         self.assertIn(' 2 outgoing', self.ask('status 2'))
-        self.assertEqual(self.ask('role'), 'role: there is no other machine (--feed, --standby)')
+        self.assertEqual(self.ask('role'), 'role: there is no other machine')
         self.assertEqual(self.ask('reload'), 'reload: done')
         self.goes_on()
         self.write('trunk.toml', 'x = 1\n')

@@ -77,6 +77,8 @@ def do(holder: Holder, decided: Decision, words: str, now: float) -> None:
             return holder.release()
         case NextAct.REOPEN:
             holder.why = words
+            for word in 'reload', 'renew':      # (the next program may be a long time to come)
+                holder.settle(word, words)
             holder.line.end(words, now)
         case NextAct.GO_BACK:
             go_back(holder)

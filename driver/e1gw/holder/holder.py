@@ -229,6 +229,8 @@ class Holder:
         self.keep()
         self.waits('it does not have the trunk')
         self.settle('release')
+        for word in 'reload', 'renew', 'take':
+            self.settle(word, 'the trunk was released')
 
     def settle(self, word: str, refused: str = '') -> None:
         """Answers those who have waited for this."""

@@ -226,7 +226,7 @@ class HeldTrunk(WatchedTrunk):
         return await asked(self._places.hold, 'reload force' if force else 'reload')
 
     async def role(self, word: str) -> str:
-        return f'{word}: there is no other machine (--feed, --standby)'
+        return f'{word}: there is no other machine'
 
     def close(self) -> None:
         self._line.close()

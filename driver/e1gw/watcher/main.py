@@ -30,7 +30,7 @@ from .journal import ServiceJournal
 from .memo import WatchNote, drains_told, note_in
 from .note import NoteFiles
 from .notifier import Notifier
-from .options import add_options, feeding_of, folder_of, recording_of, watched_of
+from .options import add_options, folder_of, recording_of, watched_of
 from .reader import LogReader, ReadingNote
 from .tasks import either, every, goes_on
 from .watch import TrunkWatch
@@ -182,7 +182,6 @@ def status_of(words: list[str], loop: asyncio.AbstractEventLoop) -> int:
     asked = parser().parse_args(words)
     try:
         recording_of(asked, 0)
-        feeding_of(asked)
         on_loss_of(asked.on_loss)
         folder_of(asked)
     except ValueError as fault:

@@ -28,7 +28,6 @@ def add_options(words: argparse.ArgumentParser) -> None:
                        f'or {MEMORY}]')
     add_reports(words.add_argument_group('control and reports'))
     add_kept(words.add_argument_group('sessions and calls'))
-    add_pair(words.add_argument_group('two machines'))
 
 
 def add_reports(words: argparse._ArgumentGroup) -> None:

@@ -1,0 +1,216 @@
+"""The parts of a watcher: what it makes of what a holder and a program say, what it notes, and what it asks."""
+from __future__ import annotations
+
+import asyncio
+import os
+import unittest
+from dataclasses import replace
+from unittest import mock
+
+from . import support
+from e1gw.events import Crc4Changed, Event, LogLost, RoleGiven, SatopChanged, TrunkLost, TrunkOpened
+from e1gw.calls import CallRecord, CallsNote
+from e1gw.crc4 import Crc4Note
+from e1gw.holder_state import ACTIVE, INTERFACE, STANDBY, HolderState, TrunkPlaces, other_interface, state_in
+from e1gw.lock import InUse
+from e1gw.log_folder import LogWriter, logged_by
+from e1gw.session import MULTIFRAME, trunk_record
+from e1gw.slots import SlotsNote
+from e1gw.watcher import door
+from e1gw.watcher.decisions import Flow
+from e1gw.watcher.drains import Drain, Drains
+from e1gw.watcher.held import HeldNote, events_of, fault_of, nearest, wait_of
+from e1gw.watcher.main import WatchLock, is_over, parser
+from e1gw.watcher.memo import WatchNote, drains_told, note_in
+from e1gw.watcher.reader import LogReader, ReadingNote
+from e1gw.watcher.recordings import RecordingNote
+from e1gw.watcher.said import LineNote, SaidFile, SaidLine, SaidNote
+from e1gw.watcher.status import ToldNote
+from e1gw.watcher.watch import ShownNote
+
+STATE = HolderState(INTERFACE, '0.1.0', 7, 8, 9, 5.0, 'begins', False, True, 4.0, '', (), '0.1.0', 'host', False,
+                    ACTIVE, '/dev/e1', ('--crc4', '--live', '--seizure-wait', '700'), '')
+OPENED = TrunkOpened('/dev/e1', {'trunk': '/dev/e1'})
+
+
+class HolderSaysTests(unittest.TestCase):
+    def test_events(self) -> None:
+        """Of each change, and of none twice."""
+        closed = replace(STATE, open=False, fault='the trunk has ended', program=0)
+        died = replace(STATE, program=18, why='the program ended by signal 9 (SIGKILL)')
+        lost = replace(STATE, why='the program says: cannot write the log: No space left')
+        cases: list[tuple[HolderState | None, HolderState, list[Event]]] = [
+            (None, STATE, [OPENED]), (STATE, STATE, []), (STATE, died, []), (None, closed, []),
+            (STATE, closed, [TrunkLost('the trunk has ended')]), (closed, STATE, [OPENED]),
+            (STATE, replace(STATE, opened=6.0, why='the trunk has ended'), [TrunkLost('the trunk has ended'), OPENED]),
+            (STATE, lost, [LogLost()]), (lost, replace(lost, since=9.0), []),
+            (STATE, replace(closed, role=STANDBY), [RoleGiven(STANDBY)])]
+        for before, now, told in cases:
+            self.assertEqual(events_of(before, now, {}), told)
+
+    def test_what_it_means(self) -> None:
+        self.assertEqual(state_in(STATE.spell()), STATE)
+        self.assertEqual([fault_of(each) for each in (
+            STATE, replace(STATE, fault='away'), replace(STATE, role=STANDBY), other_interface(9))],
+            ['', 'away', 'standby', f'the holder has interface 9, and its watcher knows {INTERFACE}'])
+        self.assertEqual([wait_of(STATE.words), wait_of(())], [700, 200])
+        self.assertEqual([nearest([0, 5000, 9000], 5512), nearest([], 512), nearest([], -512)], [5000, 512, 0])
+
+
+class WatchNoteTests(unittest.TestCase):
+    def test_all_of_it(self) -> None:
+        """It is read as it was noted; what is none, or of another version, is none."""
+        note = WatchNote(
+            HeldNote(STATE, '8.9', 512, LineNote(SaidNote(3, 4), SaidNote(), Crc4Note({'errored': 1}, None, {}),
+                                                 SlotsNote(False, 1, 2, 3)), 1),
+            ReadingNote(1, 2, 3, ((4, 5.0),), 6.0),
+            ToldNote(True, 1.0, (True, False) * 2, (1, 2), Flow(1, 2.0, 3.0, 4)),
+            ShownNote((('trunk open', 1.0),), (('alarm frame', 'LFA', 2.0),), ('a,b',)), {1: 'DRAINED'},
+            RecordingNote('s', 60, '', (('a', 1),), 'p', 1, 2, 3, 4),
+            CallsNote(1, 2.0, {1: ('idle', 3, 4.0)}, (CallRecord(1, 2.0, 3),), {1: {'sent': 5}}, ('line',)))
+        self.assertEqual(note_in(note.text()), note)
+        for octets in b'', b'{}', note.text().replace(b'"version": 1,', b'"version": 0,'), note.text()[:-9]:
+            self.assertIsNone(note_in(octets))
+
+    def test_drains(self) -> None:
+        """What was told of a circuit is not told again, nor of one that is no longer blocked."""
+        kept = Drains().taken((1, 2))
+        self.assertEqual(drains_told(kept, {1: 'DRAINED', 3: 'IDLE'}).circuits, {1: Drain.DRAINED, 2: Drain.TAKEN})
+        self.assertEqual(drains_told(kept, {1: 'x'}), kept)
+
+
+class SaidFileTests(support.FolderCase):
+    def test_lines(self) -> None:
+        """Whole ones, once each, also behind those of another watcher; None where another process begins."""
+        self.write('said', 'one\ntw')
+        its = SaidFile(self.path('said'), SaidNote())
+        self.assertEqual([[*its.news()], [*its.news()]], [[None, 'one'], []])
+        self.write('said', 'one\ntwo\n')
+        later = SaidFile(self.path('said'), its.note)
+        self.assertEqual([[*later.news()], [*its.news()]], [['two'], ['two']])
+        self.write('said', 'x\n')               # (it was cut, as too long)
+        self.assertEqual([*its.news()], ['x'])
+        self.write('new', 'three\n')
+        with open(self.path('said'), 'a', encoding='ascii') as file:
+            file.write('last\n')
+        os.replace(self.path('new'), self.path('said'))
+        self.assertEqual([*its.news()], ['last', None, 'three'])
+        os.unlink(self.path('said'))
+        self.assertEqual([*its.news()], [])
+        its.close()
+        later.close()
+
+    def test_of_the_line(self) -> None:
+        """CRC-4 and packets are counted and told; totals are not, and the rest is for the operator."""
+        live = 'live submultiframes {} errored 0 far_end_errored 0 multiframes_found 1 multiframes_lost 0 given_up 0\n'
+        self.write('said', live.format(500) + 'octets 512\nodd words\n')
+        self.write('satop', 'satop received=9 ticks=4\n')
+        told = list[Event]()
+        its = SaidLine(self.path('said'), self.path('satop'), STATE.words, None, told.append)
+        with self.assertLogs('e1gw.watcher.said') as logs:
+            its.look()
+        self.assertEqual([each.getMessage() for each in logs.records], ['program: odd words'])
+        self.assertEqual([type(each) for each in told], [Crc4Changed, SatopChanged])
+        assert its.crc4
+        self.assertEqual((its.crc4.counts['submultiframes'], its.status()['silent']), (500, 1))
+        later = SaidLine(self.path('said'), self.path('satop'), STATE.words, its.noted(), told.append)
+        later.look()
+        assert later.crc4
+        self.assertEqual((later.crc4.counts['submultiframes'], len(told)), (500, 2))
+        self.write('new', live.format(100))
+        os.replace(self.path('new'), self.path('said'))
+        later.look()                            # (another program counts from 0)
+        self.assertEqual(later.crc4.counts['submultiframes'], 600)
+        for each in its, later:
+            each.close()
+
+
+class WatchLockTests(support.FolderCase):
+    def test_lock(self) -> None:
+        """One has it; it is taken again in a folder that was made again, and waited for without one."""
+        path = self.path('run/watch.lock')
+        first, second = WatchLock(path), WatchLock(path)
+        self.assertFalse(first.take())
+        os.mkdir(self.path('run'))
+        self.assertTrue(first.take() and first.take())
+        with self.assertRaisesRegex(InUse, f'^{os.getpid()}$'):
+            second.take()
+        os.unlink(path)
+        self.assertTrue(first.take())
+        with self.assertRaises(InUse):
+            second.take()
+
+    def test_end_of_a_trunk(self) -> None:
+        """A holder that has ended leaves nothing; one that was killed leaves its lock, and one that lives its file."""
+        places = TrunkPlaces(self.path('run'))
+        self.assertTrue(is_over(places))
+        self.write('run.lock', '')
+        self.assertFalse(is_over(places))
+        os.unlink(self.path('run.lock'))
+        os.mkdir(self.path('run'))
+        self.write('run/holder', '')
+        self.assertFalse(is_over(places))
+
+    def test_options(self) -> None:
+        """A page of them: no more than 20."""
+        words = {word for each in parser()._actions for word in each.option_strings if word.startswith('--')}
+        self.assertLessEqual(len(words - {'--help'}), 20)
+
+
+class OpenLogTests(support.FolderCase):
+    def test_reads_that_fail(self) -> None:
+        """It is told once, and nothing of the log is missed, or read twice."""
+        writer = LogWriter(self.path('log'))
+        self.addCleanup(writer.close)
+        writer.begin(0, b'state', trunk_record(bytes(MULTIFRAME)))
+        reader = LogReader(self.path('log'), 0.1, None, lambda: None, lambda: b'')
+        self.addCleanup(reader.log.close)
+        reader.take_up(ReadingNote(), None)
+        reader.look()
+        writer.append(trunk_record(bytes(MULTIFRAME)))
+        with mock.patch('os.pread', side_effect=OSError(5, 'Input/output error')), \
+                self.assertLogs('e1gw.watcher.open_log') as told:
+            for _ in range(3):
+                reader.look()
+            self.assertEqual(reader.log.pairs(), [])
+        self.assertEqual([each.getMessage() for each in told.records],
+                         ['the log cannot be read: Input/output error; it is tried again'])
+        with self.assertLogs('e1gw.watcher.open_log') as told:
+            reader.look()
+            reader.look()
+        self.assertEqual([each.getMessage() for each in told.records], ['the log is read again'])
+        self.assertEqual(reader.octets, 2 * MULTIFRAME)
+
+    def test_who_has_it(self) -> None:
+        os.mkdir(self.path('log'))
+        self.assertEqual(logged_by(self.path('log')), 0)
+        for text, number in (('', 0), ('x', 0), ('123\n', 123)):
+            self.write('log/lock', text)
+            self.assertEqual(logged_by(self.path('log')), number)
+
+
+class HolderDoorTests(support.LoopCase):
+    async def answers(self, answer: bytes | None) -> str:
+        """What is made of an answer of a holder; of one that answers nothing with None."""
+        async def came(reader: asyncio.StreamReader, writer: asyncio.StreamWriter) -> None:
+            self.said = await reader.readline()
+            if answer is None:
+                await reader.read()
+            else:
+                writer.write(answer)
+            writer.close()
+        server = await asyncio.start_unix_server(came, self.path('hold'))
+        try:
+            return await door.asked(self.path('hold'), 'reload force', 0.1 if answer is None else None)
+        finally:
+            server.close()
+            os.unlink(self.path('hold'))
+
+    async def test_each_request_has_an_answer(self) -> None:
+        self.assertEqual(await self.answers(b'reload: done\n'), 'reload: done')
+        self.assertEqual(self.said, b'reload force\n')
+        self.assertEqual(await self.answers(b''), 'reload: the holder has ended before it has answered')
+        self.assertEqual(await self.answers(None),
+                         'reload: the holder does not answer within 0.1 s; it may still be done')
+        self.assertRegex(await door.asked(self.path('hold'), 'quit'),
+                         'quit: refused: there is no holder: .*No such file')
