@@ -6,18 +6,21 @@ import contextlib
 import csv
 import json
 import os
+import shlex
 import signal
 import subprocess
 import sys
 import time
+import urllib.request
 from typing import Any, Callable
 
 from . import limits, support
 from .holders import HolderCase
 from .keepers import KeeperCase
-from .support import SECONDS
+from .support import SECONDS, octets_in
 from e1gw.exchange import IDLE
 from e1gw.session import Command
+from e1gw.testing.ports import free_port
 from e1gw.testing.service import ask
 
 
@@ -105,7 +108,7 @@ class WatcherShowsTests(WatcherCase):
         calls = support.whole_lines(self.path('calls.csv'))
         self.setUp()
         self.starts_holder()
-        self.watches()
+        self.watches('--session', self.path('session'))
         self.device.accept()
         self.goes_on()
         self.session()
@@ -115,12 +118,14 @@ class WatcherShowsTests(WatcherCase):
         self.assertEqual(self.ask('quit'), 'quit: done')
         self.assertEqual([self.keeper.wait(SECONDS), self.watchers[0].wait(SECONDS)], [0, 0])
         self.assertEqual(len(support.whole_lines(self.path('calls.csv'))), len(calls))
+        self.assertEqual(octets_in(support.octets_of(self.path('session'))), octets_in(b''.join(self.given)))
         self.assertEqual(os.listdir(self.memory), [])
 
     def test_commands(self) -> None:
-        """They are done through it, and each has an answer."""
+        """They are done through it, and each has an answer; pages and metrics are served beside."""
         self.starts_holder()
-        self.watches()
+        port = free_port('127.0.0.1')
+        self.watches('--http', f'127.0.0.1:{port}')
         self.device.accept()
         self.goes_on()
         self.step(40)
@@ -133,6 +138,9 @@ class WatcherShowsTests(WatcherCase):
         self.assertEqual(self.ask('unblock 3'), 'unblock 3: done')
         self.assertEqual(self.ask('clear 2'), 'clear 2: done')
         self.assertIn(' 2 outgoing', self.ask('status 2'))
+        for path, words in ('metrics', 'e1gw_trunk_up{trunk="trunk"} 1\n'), ('table', 'trunk trunk, e1gw '):
+            with urllib.request.urlopen(f'http://127.0.0.1:{port}/{path}', timeout=SECONDS) as page:
+                self.assertIn(words, page.read().decode())
         self.assertEqual(self.ask('role'), 'role: there is no other machine')
         self.assertEqual(self.ask('reload'), 'reload: done')
         self.goes_on()
@@ -154,6 +162,18 @@ class WatcherShowsTests(WatcherCase):
         os.unlink(self.path('ctl'))
         self.watches()
         support.until(lambda: os.path.exists(self.path('ctl')))
+
+    def test_whose_holder_has_ended_at_once(self) -> None:
+        """It does not wait for another one."""
+        words = [*self.watcher_words(), '--config', self.config, '--folder', self.memory, '--program',
+                 support.program()]
+        with subprocess.Popen(['sh', '-c', f'{shlex.join(words)} & echo $!; exec sleep 900'], stdout=subprocess.PIPE,
+                              env={**os.environ, 'NOTIFY_SOCKET': self.manager.path}) as holder:
+            assert holder.stdout
+            watcher = int(holder.stdout.readline())
+            support.until(lambda: 'WATCHDOG=1' in self.manager.told())
+            holder.kill()
+        support.until(lambda: support.state_of(watcher) in ('', 'Z'))
 
     def test_in_a_folder_that_is_made_again(self) -> None:
         """A second one is refused there, too."""
@@ -273,6 +293,12 @@ class WatcherAgainTests(WatcherCase):
                          [(n, *each) for n in (2, 4, 6) for each in (('answered', 'releasing'), ('releasing', 'idle'))])
         self.assertEqual([each['event'] for each in after if each['event'] != 'state'], [])
         self.assertEqual(len({row[12] for row in self.called()}), 3)
+        told, lines = len(events_in(self.path('events'))), self.called()
+        self.watchers[-1].terminate()           # (its end is that of no call)
+        self.assertEqual(self.watchers[-1].wait(SECONDS), 0)
+        self.watches()
+        self.known()
+        self.assertEqual((len(events_in(self.path('events'))), self.called()), (told, lines))
 
     def ends_call(self, circuit: int) -> None:
         """A client of the program ends a call."""

@@ -163,15 +163,22 @@ def is_over(places: TrunkPlaces) -> bool:
 
 async def watch_trunk(asked: argparse.Namespace) -> int:
     """Watches to the end; returns the status."""
-    places, ending = TrunkPlaces(folder_of(asked)), asyncio.Event()
+    places, ending, parent = TrunkPlaces(folder_of(asked)), asyncio.Event(), os.getppid()
     lock, notifier = WatchLock(places.watch_lock), Notifier()
     for number in (signal.SIGTERM, signal.SIGINT):
         asyncio.get_running_loop().add_signal_handler(number, ending.set)
+
+    def look_at_parent() -> None:
+        """A holder that has started this one may end at once."""
+        if os.getppid() != parent:
+            ending.set()
     with every(LOOK, lambda: notifier.tell('WATCHDOG=1'), 'the sign of life'):
-        while not (lock.take() or ending.is_set()):
-            await either(LOOK, ending)
-        watcher = Watcher(asked, places, lock, ending)
-        if await watcher.begin():
+        with every(LOOK, look_at_parent, 'the wait for a holder'):
+            while not (lock.take() or ending.is_set()):
+                await either(LOOK, ending)
+            watcher = Watcher(asked, places, lock, ending)
+            has_begun = await watcher.begin()
+        if has_begun:
             notifier.tell('READY=1')
             await watcher.run()
         return watcher.status
