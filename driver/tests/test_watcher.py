@@ -96,8 +96,12 @@ class WatcherShowsTests(WatcherCase):
         self.known(lambda status: status['circuits'][1]['state'] == 'idle')
 
     def shown(self) -> tuple[dict[str, Any], list[Any]]:
-        """What is shown of it: status, and events but for when they came."""
-        return plain(self.known()), plain([{**each, 'place': 0} for each in events_in(self.path('events'))])
+        """What is shown of it: status, and events but for when they came; first those of what is beside the calls,
+        which has no place among them."""
+        its = plain([{**each, 'place': 0} for each in events_in(self.path('events'))])
+        status = self.known()
+        status['calls'] = [(each['circuit'], each['direction'], each['codec']) for each in status['calls']]
+        return plain(status), sorted(its, key=lambda each: each['event'] not in ('trunk', 'connected'))
 
     def test_as_the_service(self) -> None:
         """Status and events are those that e1gw-trunk shows of the same session."""

@@ -54,15 +54,16 @@ class HolderSaysTests(unittest.TestCase):
             STATE, replace(STATE, fault='away'), replace(STATE, role=STANDBY), other_interface(9))],
             ['', 'away', 'standby', f'the holder has interface 9, and its watcher knows {INTERFACE}'])
         self.assertEqual([wait_of(STATE.words), wait_of(())], [700, 200])
-        self.assertEqual([nearest([0, 5000, 9000], 5512), nearest([], 512), nearest([], -512)], [5000, 512, 0])
+        self.assertEqual([nearest([0, 5000, 9000], 5512), nearest([], 512), nearest([], -512), nearest([0], 200_000)],
+                         [5000, 512, 0, 200_000])
 
 
 class WatchNoteTests(unittest.TestCase):
     def test_all_of_it(self) -> None:
         """It is read as it was noted; what is none, or of another version, is none."""
         note = WatchNote(
-            HeldNote(STATE, '8.9', 512, LineNote(SaidNote(3, 4), SaidNote(), Crc4Note({'errored': 1}, None, {}),
-                                                 SlotsNote(False, 1, 2, 3)), 1),
+            HeldNote(STATE, '8.9', 512, 'ab', LineNote(SaidNote(3, 4), SaidNote(), Crc4Note({'errored': 1}, None, {}),
+                                                       SlotsNote(False, 1, 2, 3)), 1),
             ReadingNote(1, 2, 3, ((4, 5.0),), 6.0),
             ToldNote(True, 1.0, (True, False) * 2, (1, 2), Flow(1, 2.0, 3.0, 4)),
             ShownNote((('trunk open', 1.0),), (('alarm frame', 'LFA', 2.0),), ('a,b',)), {1: 'DRAINED'},

@@ -3,6 +3,7 @@ from __future__ import annotations
 
 import asyncio
 import errno
+import hashlib
 import logging
 import os
 import re
@@ -16,6 +17,7 @@ from ..holder_state import INTERFACE, STANDBY, HolderState, TrunkPlaces, state_i
 from ..log_folder import logged_by
 from ..memory import in_memory
 from ..lines import SEIZURE_WAIT
+from ..session import OCTETS_A_SECOND
 from .connection import connected
 from .door import asked
 from .drains import KeptDrains
@@ -25,6 +27,7 @@ from .replay import ReplayVersion
 from .said import LineNote, SaidLine
 from .trunk import WatchedTrunk, place_told
 
+MOST_APART = OCTETS_A_SECOND // 2       # octets by which what a program says of its place is late
 LOG_LOST = re.compile(r'cannot (open|write) the log\b')     # as a program says why it ends
 
 logger = logging.getLogger(__name__)
@@ -61,18 +64,25 @@ def wait_of(words: tuple[str, ...]) -> int:
 
 
 def nearest(found: list[int], octet: int) -> int:
-    """The octet with which a program has begun, of those that may be it. It is about `octet`, by what it has said."""
-    return min(found, key=lambda each: abs(each - octet), default=max(0, octet))
+    """The octet with which a program has begun, of those that may be it. It is about `octet`, by what it has said; if
+    none is near, its state was not read."""
+    its = min(found, key=lambda each: abs(each - octet), default=octet)
+    return max(0, its if abs(its - octet) <= MOST_APART else octet)
+
+
+def digest_of(octets: bytes) -> str:
+    return hashlib.sha256(octets).hexdigest()
 
 
 @dataclass(frozen=True)
 class HeldNote:
     """What the next watcher goes on with: what the holder said; which program it was that told, and the octet of the
-    trunk with which it has begun; what it has said; how often the log was lost."""
+    trunk with which it has begun; its configuration, as a digest; what it has said; how often the log was lost."""
 
     holder: HolderState | None
     session: str
     begun: int
+    config: str
     line: LineNote
     log_losses: int
 
@@ -89,17 +99,21 @@ class HeldTrunk(WatchedTrunk):
         self._octets = b''                      # of the file that says so
         self._session, self._begun = (note.session, note.begun) if note else ('', 0)
         self._log_losses = note.log_losses if note else 0
-        self._line = SaidLine(places.said, places.satop, state.words, note.line if note else None, tell)
+        self._line = self._said(note.line if note else None)
         self._drains = KeptDrains(f'{state.state}.drains' if state.state else os.path.join(places.folder, 'drains'))
         self._pid = int(self._session.partition('.')[0] or 0)   # of the program that had the log at the last state
         self._begins = list[int]()              # octets at states with which it may have begun
-        self._config = b''
+        self._config = note.config if note else digest_of(self.config_octets())
         self._lost = 0                          # the number of the program before which octets may have been lost
         self._reader: LogReader
 
     def reads(self, reader: LogReader) -> None:
         """This is what reads its log."""
-        self._reader, reader.turned, self._config = reader, self._turned, self.config_octets()
+        self._reader, reader.turned = reader, self._turned
+
+    def _said(self, note: LineNote | None) -> SaidLine:
+        """What is said of the line that the holder has now."""
+        return SaidLine(self._places.said, self._places.satop, self.state.words, note, self._tell)
 
     # ---- looks ----
 
@@ -114,7 +128,11 @@ class HeldTrunk(WatchedTrunk):
         with open(self._places.holder, 'rb') as file:
             octets = file.read()
         if octets != self._octets:
+            words = self.state.words
             self.state, self._octets = state_in(octets), octets
+            if self.state.words != words:
+                self._line.close()
+                self._line = self._said(self._line.noted())
         state = self.state
         if state.program == self._lost and state.octets_lost:
             self._reader.has_lost(self._begins[0] if self._begins else self._begun)
@@ -134,7 +152,7 @@ class HeldTrunk(WatchedTrunk):
             reader.follows(False)
             reader.starts = (*reader.starts, (reader.octets, reader.log.state_written()))[-MOST_FOUND:]
             self._pid, self._lost, self._begins = pid, pid, []
-            before, self._config = self._config, self.config_octets()
+            before, self._config = self._config, digest_of(self.config_octets())
             if before != self._config:
                 reader.first = reader.octets
         if not self._session.startswith(f'{pid}.'):
@@ -215,7 +233,7 @@ class HeldTrunk(WatchedTrunk):
         return self._begun
 
     def noted(self) -> HeldNote:
-        return HeldNote(self._told, self._session, self._begun, self._line.noted(), self._log_losses)
+        return HeldNote(self._told, self._session, self._begun, self._config, self._line.noted(), self._log_losses)
 
     # ---- what is asked ----
 
