@@ -36,6 +36,7 @@ LIMITS: dict[str, Any] = {
     'watcher.pages.EVERY': 0.0,
     'programs.PATIENCE': LONG, 'writers.OPENS': LONG,
     'service.pair.GRACE': LONG, 'service.service.GRACE': LONG, 'service.handover.GRACE': LONG,
+    'watcher.door.PATIENCE': LONG, 'watcher.main.GRACE': LONG,
     'watcher.events.FLUSH': LONG, 'watcher.journal.FLUSH': LONG, 'watcher.drains.PATIENCE': LONG,
     # (A process that gets what others leave gets next to nothing on a loaded machine.)
     'priority.put_last': lambda process: None}

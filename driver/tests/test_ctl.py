@@ -43,6 +43,7 @@ class CtlWordTests(unittest.TestCase):
         last = limits.USUAL
         self.assertGreater(ctl_all.LIMITS['reload'], last['programs.PATIENCE'] + last['service.version.LOOK_UP'] +
                            5 * last['watcher.replay.CHECK'] + last['service.reload.PATIENCE'])
+        self.assertGreater(ctl_all.LIMITS['reload'], last['watcher.door.PATIENCE'])
         for word in 'promote', 'demote', 'move':
             self.assertGreater(ctl_all.LIMITS[word], last['service.pair.PATIENCE'] + last['watcher.feed.PATIENCE'])
 
