@@ -14,6 +14,7 @@ import threading
 import tomllib
 from contextlib import closing
 from dataclasses import dataclass
+from importlib import import_module
 from typing import Any, Callable, Iterable, Mapping, Sequence
 
 from .config_faults import config_words
@@ -260,7 +261,7 @@ def saved(asked: Asked) -> dict[str, Any]:
 
 def begins(asked: Asked) -> dict[str, Any]:
     """The holder of now could begin."""
-    from .holder import main as _       # noqa: F401
+    import_module('.holder.main', __package__)
     return {}
 
 

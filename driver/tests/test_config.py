@@ -144,7 +144,7 @@ class FreePortTests(ConfigCase):
         self.made('--write', 'west')
         self.assertEqual(self.ports('west'), (24202, 9103))
         self.bound |= {24202, 9103}
-        for self.bound in self.bound, set():            # (it keeps them where earlier ones are free by now)
+        for self.bound in self.bound, set[int]():       # (it keeps them where earlier ones are free by now)
             self.assertEqual(self.made('--write', 'west', '--over')[0], 0)
             self.assertEqual(self.ports('west'), (24202, 9103))
 
