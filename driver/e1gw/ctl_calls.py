@@ -19,7 +19,7 @@ WRITTEN = 3600.0            # seconds behind its end within which each has its l
 HEAD = (f'{"trunk":12}  n {"role":8} {"seized (UTC)":23} {"answered":12} {"ended":12} {"by":16} {"codec":7} '
         f'{"sent":>8} {"received":>8} {"lost":>6} {"late":>6}  call')
 
-OUTAGE = '{:12} {:13} {:24} {:24} {:>11} {:>15} {:>15}  {:14} {}'
+OUTAGE = '{:12} {:13} {:24} {:24} {:>11}  {:14} {}'
 
 
 class OutageForm(Enum):

@@ -387,7 +387,7 @@ class HolderOptionsTests(unittest.TestCase):
                 (list[str](), 'a trunk is'), (['--unix', 'a', '--tcp', 'h:1'], 'a trunk is'),
                 (['--in', 'a'], 'a trunk is'), (['--tcp', 'h'], 'no HOST:PORT'), (['--x'], 'no such option'),
                 (['--unix'], 'wants a value'), (['--unix', 'a', '--repeat', '9'], '0 to 8'),
-                (['--unix', 'a', '--senders', 'x'], 'any, host, peer'),
+                (['--unix', 'a', '--senders', 'x'], 'any, first, host, peer'),
                 (['--satop', 'a:1,b:2,x=1'], 'x=1'), (['--satop', 'a:1'], 'no HOST:PORT'),
                 (['--satop', 'a:1,b:2,size=33'], 'multiple of 32'), (['--unix', 'a', '--name', 'x/y'], 'no name'),
                 (['--unix', 'a', '--align', '--clear'], '--align'), (['--unix', 'a', '--blocks', '0,2'], '--blocks'),
