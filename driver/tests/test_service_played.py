@@ -16,6 +16,7 @@ from unittest import mock
 
 from . import support
 from .in_process import ServiceCase, plain
+from .keepers import LOG
 from .support import SECONDS
 from .world import words_of
 from e1gw import writers
@@ -634,7 +635,7 @@ class PlayedTakeoverTests(ServiceCase):
                 (folder,) = glob.glob(self.path('run/*'))
                 with closing(LogWriter(f'{folder}/log')) as log:
                     log.begin(0, b'state', b'')
-                its = await self.until(lambda: 'log-records.1' in self.manager.files and {**self.manager.files})
+                its = await self.until(lambda: LOG <= {*self.manager.files} and {**self.manager.files})
                 numbers = json.dumps({name: os.dup(file) for name, file in its.items()} if is_held else {})
                 await self.dies()
                 shutil.rmtree(os.path.join(folder, gone))
