@@ -3,8 +3,7 @@
 ghost use Rattle.std.specs.Prelude.{◌≡◌, []};
 ghost use Rattle.gw_records.specs.Streams.{CanBegin};
 
-use clap::ArgMatches;
-use gw_command::{Filter, asks_check, asks_live, reports_of};
+use gw_command::Crc4Options;
 use gw_files::open_reports;
 use gw_filter::{
     NoReports, ReportSink, ReportingChecker, ReportingSender, ToReports, align_stream,
@@ -15,12 +14,9 @@ use gw_session::{FromRead, RunFault, ToWrite, Totals};
 use std::fs::File;
 use std::rt::{Stdin, Stdout};
 
-// The FIFO of reports that the matches name, if they name one.
-fn reports_asked(
-    rt: &impl Machine,
-    matches: &ArgMatches<'_>,
-) -> Result<Option<File>, ProgramFault> {
-    match reports_of(matches) {
+// The FIFO of reports at a path, if one is named.
+fn open_named(rt: &impl Machine, path: Option<&str>) -> Result<Option<File>, ProgramFault> {
+    match path {
         Some(path) => Ok(Some(open_reports(rt, path)?)),
         None => Ok(None),
     }
@@ -77,11 +73,10 @@ fn check(
     }
 }
 
-// Runs a filter over its streams, with these reports. It is given no files.
-fn filter_through(
+// Sends or checks CRC-4 multiframes, with these reports. It is given no files.
+fn crc4_through(
     rt: &impl Eprint,
-    matches: &ArgMatches<'_>,
-    filter: Filter,
+    options: &Crc4Options<'_>,
     reports: Option<File>,
     source: &mut FromRead<Stdin>,
     sink: &mut ToWrite<Stdout>,
@@ -89,33 +84,41 @@ fn filter_through(
     requires { CanBegin (⟦<FromRead<Stdin> as gw_session::Source>⟧.tells source.old)
         (⟦<ToWrite<Stdout> as gw_session::Sink>⟧.tells sink.old) }
 {
-    match filter {
-        Filter::Align => align_stream(source, sink),
-        Filter::Crc4 if asks_check(matches) => {
-            check(rt, asks_live(matches), reports, source, sink)
-        }
-        Filter::Crc4 => send(reports, source, sink),
+    if options.check {
+        check(rt, options.live, reports, source, sink)
+    } else {
+        send(reports, source, sink)
     }
 }
 
-/// Runs a filter from standard input to standard output, with the reports of the FIFO that the matches name.
+/// Aligns standard input to its time slots, on standard output.
+///
+/// # Errors
+///
+/// [`ProgramFault::Session`] if a read or a write fails.
+#[inline(never)]
+pub(crate) fn align(input: Stdin, output: Stdout) -> Result<Totals, ProgramFault> {
+    let mut source = FromRead::new(input);
+    let mut sink = ToWrite::new(output);
+    align_stream(&mut source, &mut sink).map_err(ProgramFault::Session)
+}
+
+/// Sends or checks CRC-4 multiframes from standard input to standard output, with the reports of a FIFO, if
+/// one is named.
 ///
 /// # Errors
 ///
 /// [`ProgramFault::Reports`] if the FIFO can't be opened, or [`ProgramFault::Session`] if a read or a write
 /// fails.
 #[inline(never)]
-pub(crate) fn run(
+pub(crate) fn crc4(
     rt: &impl Machine,
-    matches: &ArgMatches<'_>,
-    filter: Filter,
+    options: &Crc4Options<'_>,
     input: Stdin,
     output: Stdout,
 ) -> Result<Totals, ProgramFault> {
-    let reports = reports_asked(rt, matches)?;
+    let reports = open_named(rt, options.reports)?;
     let mut source = FromRead::new(input);
     let mut sink = ToWrite::new(output);
-    filter_through(rt, matches, filter, reports, &mut source, &mut sink).map_err(
-        ProgramFault::Session,
-    )
+    crc4_through(rt, options, reports, &mut source, &mut sink).map_err(ProgramFault::Session)
 }

@@ -1,32 +1,29 @@
 //! What `trunk` does, and in which order it opens, serves, saves and ends.
 
-use clap::ArgMatches;
-use gw_command::wants_totals;
+use gw_command::TrunkOptions;
 use gw_machine::{Machine, ProgramFault};
-use gw_open::asked_of;
+use gw_open::{
+    begin_gateway, begin_tape, end_session, lock_log, open_teller, open_trunk_ports, read_config,
+};
 use gw_session::{Tape, Totals};
 use run_trunk::{open_trunk, serve};
 use std::rt::{Stdin, Stdout};
 
 /// Serves the trunk at standard input and output. The folder of its log, if it has one, is locked meanwhile.
-/// Its recording is not waited for.
 #[inline(never)]
 pub(crate) fn run(
     rt: &impl Machine,
-    matches: &ArgMatches<'_>,
+    options: &TrunkOptions<'_>,
     input: Stdin,
     output: Stdout,
 ) -> Result<Totals, ProgramFault> {
-    let Some(asked) = asked_of(matches, false) else {
-        return Err(ProgramFault::Nothing);
-    };
-    let _lock = asked.lock_log(rt)?;
-    let trunk = open_trunk(rt, matches, input, output)?;
-    let config = asked.read_config(rt)?;
-    let mut gateway = asked.begin_gateway(rt, &config)?;
-    let mut tape = asked.begin_tape(rt, &config, &gateway)?;
-    let mut ports = asked.open_ports(rt, &config)?;
-    let mut teller = asked.open_teller(rt, &config, &gateway)?;
+    let _lock = lock_log(rt, options)?;
+    let trunk = open_trunk(rt, options, input, output)?;
+    let config = read_config(rt, &options.session)?;
+    let mut gateway = begin_gateway(rt, &options.session, options.log, &config)?;
+    let mut tape = begin_tape(rt, options, &config, &gateway)?;
+    let mut ports = open_trunk_ports(rt, options, &config)?;
+    let mut teller = open_teller(rt, options.tell, &config, &gateway)?;
     let law = config.gateway.law;
     let end = serve(
         rt.alloc(),
@@ -40,11 +37,11 @@ pub(crate) fn run(
     if let Some(teller) = &mut teller {
         teller.end();
     }
-    let told = asked.end(rt, &config, &gateway, end.ended);
+    let told = end_session(rt, &options.session, &config, &gateway, end.ended);
     if tape.is_lost() {
         return Err(ProgramFault::LogLost);
     }
-    if told.is_ok() && wants_totals(matches) {
+    if told.is_ok() && options.session.totals {
         end.tell(rt);
     }
     told

@@ -3,12 +3,11 @@
 
 mod command;
 mod options;
+mod request;
 
-pub use command::{
-    Filter, Request, SessionKind, SpeechJob, arguments, asks_align, asks_check, asks_crc4,
-    asks_live, asks_slots, clock_of, control_of, end_of, fill_of, jitter_of, job_of, load_of,
-    log_of, path_of, recording_of, records_over, repeat_of, reports_of, request_of, rtp_of,
-    satop_local_of, satop_peer_of, save_of, seizure_wait_of, senders_of, sequence_of, session_of,
-    size_of, sockets_of, tell_of, wants_totals,
+pub use command::{Refusal, RefusalKind, arguments, request_of};
+pub use request::{
+    AlignOptions, ControlOptions, Crc4Options, FilterOptions, PortOptions, RecordOptions,
+    ReplayOptions, Request, SatopOptions, Senders, ServeOptions, SessionOptions, StreamOptions,
+    TrunkOptions,
 };
-pub use options::matches;

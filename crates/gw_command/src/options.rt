@@ -1,11 +1,5 @@
 //! The options as declared to `clap` (names, help, defaults, allowed values), and matched by it.
 
-ghost use Rattle.std.specs.Prelude.{◌≡◌, IfErr, IfOk};
-ghost use Rattle.clap.specs.Words.{kind_of, subcommand_rows_of};
-ghost use Rattle.gw_command.specs.Arguments.{ClapFinds, ClapRefuses};
-ghost use Rattle.gw_command.specs.Command.{NamesDescriptors};
-
-use crate::command::names_descriptors;
 use clap::builder::ValueParser;
 use clap::error::ErrorKind;
 use clap::{Arg, ArgAction, ArgMatches, Command, Error};
@@ -623,34 +617,21 @@ fn whole<'a>(alloc: Global) -> Result<Command<'a>, AllocError> {
         .subcommands(commands)
 }
 
-// The arguments matched against a command.
-#[tactic(auto, unfolding(crate::specs::Arguments::ClapFinds, crate::specs::Arguments::ClapRefuses))]
-fn matched<'a>(command: Command<'a>, arguments: &'a [String]) -> Result<ArgMatches<'a>, Error>
-    ensures ok { IfOk result (λ found. ClapFinds arguments.now (subcommand_rows_of found)) }
-    ensures err { IfErr result (λ error. ClapRefuses arguments.now (kind_of error)) }
-{
-    command.try_get_matches_from(arguments)
-}
-
-// Why `--sockets` is refused, in clap's form.
-fn no_descriptors(alloc: Global) -> Result<Error, AllocError>
-    ensures { IfOk result (λ error. kind_of error ≡ ErrorKind.ValueValidation) }
-{
+// The error of a `--sockets`.
+fn descriptors_wanted(alloc: Global) -> Result<Error, AllocError> {
     whole(alloc)?.error(ErrorKind::ValueValidation, NO_DESCRIPTORS)
 }
 
-/// The arguments matched against the declared subcommands and options. A `--sockets` that names no range of
-/// descriptors from 3 on is refused.
-#[inline(never)]
-#[tactic(auto, unfolding(crate::specs::Arguments::ClapRefuses))]
-pub fn matches<'a>(alloc: Global, arguments: &'a [String]) -> Result<ArgMatches<'a>, Error>
-    ensures ok { IfOk result (λ found. ClapFinds arguments.now (subcommand_rows_of found)) }
-    ensures sockets { IfOk result (λ found. NamesDescriptors (subcommand_rows_of found)) }
-    ensures err { IfErr result (λ error. ClapRefuses arguments.now (kind_of error)) }
-{
-    let found = matched(whole(alloc)?, arguments)?;
-    if !names_descriptors(&found) {
-        return Err(no_descriptors(alloc)?);
+/// Why `--sockets` is refused, in clap's form.
+pub(crate) fn no_descriptors(alloc: Global) -> Error {
+    match descriptors_wanted(alloc) {
+        Ok(error) => error,
+        Err(error) => Error::from(error),
     }
-    Ok(found)
+}
+
+/// The arguments matched against the declared subcommands and options.
+#[inline(never)]
+pub(crate) fn matches<'a>(alloc: Global, arguments: &'a [String]) -> Result<ArgMatches<'a>, Error> {
+    whole(alloc)?.try_get_matches_from(arguments)
 }

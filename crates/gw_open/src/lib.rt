@@ -1,8 +1,9 @@
-//! What the command line says of a session or a trunk, and how it is opened and saved.
+//! How what a session or a trunk is asked for is opened, and the state of its gateway saved.
 #![tactic(auto)]
 
-mod asked;
 mod opening;
 
-pub use asked::{Asked, asked_of};
-pub use opening::{SessionPorts, TrunkTape};
+pub use opening::{
+    SessionPorts, TrunkTape, begin_gateway, begin_recording, begin_tape, end_session, lock_log,
+    open_ports, open_teller, open_trunk_ports, read_config,
+};

@@ -5,7 +5,7 @@ ghost use Rattle.gw_satop.specs.Session.{HasNoTraffic};
 
 use crate::asked::{CircuitAsked, circuit_asked};
 use crate::ends::{open_clock, open_far_end, open_stdin, open_stdout};
-use clap::ArgMatches;
+use gw_command::SatopOptions;
 use gw_machine::ProgramFault;
 use gw_records::{NO_TOTALS, RunFault, Totals};
 use gw_satop::{
@@ -99,23 +99,22 @@ fn emulate_over<P: Peer + Drop, M: Clock + Drop>(
     emulate_between(rt, asked, incoming, outgoing, peer, clock)
 }
 
-/// Carries the emulated circuit that the matches ask for, between standard input and output and the far end.
+/// Carries the emulated circuit that the options ask for, between standard input and output and the far end.
 /// It is given no files.
 ///
 /// # Errors
 ///
-/// The first cause: [`ProgramFault::Nothing`] if a word is missing, [`ProgramFault::PacketSize`] if the size
-/// is no size of a packet, [`ProgramFault::FarEnd`] if there is no socket, [`ProgramFault::Trunk`] if a
-/// stream can't be waited for, [`ProgramFault::OutOfMemory`], or [`ProgramFault::Session`] if the trunk
-/// fails.
+/// The first cause: [`ProgramFault::PacketSize`] if the size is no size of a packet, [`ProgramFault::FarEnd`]
+/// if there is no socket, [`ProgramFault::Trunk`] if a stream can't be waited for,
+/// [`ProgramFault::OutOfMemory`], or [`ProgramFault::Session`] if the trunk fails.
 pub fn emulate(
     rt: &(impl Net + rt::Clock + RandomSource + Eprint + AllocGlobal),
-    matches: &ArgMatches<'_>,
+    options: &SatopOptions<'_>,
     input: Stdin,
     output: Stdout,
 ) -> Result<Totals, ProgramFault> {
-    let asked = circuit_asked(matches)?;
-    let mut peer = open_far_end(rt, matches)?;
+    let asked = circuit_asked(options)?;
+    let mut peer = open_far_end(rt, options)?;
     let clock = open_clock(rt, &mut peer)?;
     emulate_over(rt, asked, peer, clock, input, output)
 }

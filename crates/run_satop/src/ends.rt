@@ -2,8 +2,7 @@
 
 ghost use Rattle.std.specs.Prelude.{◌≡◌, [], IfOk};
 
-use clap::ArgMatches;
-use gw_command::{satop_local_of, satop_peer_of};
+use gw_command::SatopOptions;
 use gw_machine::ProgramFault;
 use gw_satop::{SystemClock, UdpPeer, WhenReady, open_input, open_output};
 use gw_trunk::{FromDevice, ToDevice, Waiting};
@@ -16,21 +15,15 @@ const STDIN: i32 = 0;
 
 const STDOUT: i32 = 1;
 
-/// Opens the socket of the far end that the matches name.
+/// Opens the socket of the far end that the options name.
 pub(crate) fn open_far_end(
     rt: &impl Net,
-    matches: &ArgMatches<'_>,
+    options: &SatopOptions<'_>,
 ) -> Result<UdpPeer<SystemSocket>, ProgramFault>
     ensures received { IfOk result (λ p. p.received.datagrams ≡ []) }
     ensures sent { IfOk result (λ p. p.sent.datagrams ≡ []) }
 {
-    let Some(local) = satop_local_of(matches) else {
-        return Err(ProgramFault::Nothing);
-    };
-    let Some(peer) = satop_peer_of(matches) else {
-        return Err(ProgramFault::Nothing);
-    };
-    match UdpPeer::open(rt, local, peer) {
+    match UdpPeer::open(rt, options.local, options.peer) {
         Ok(peer) => Ok(peer),
         Err(error) => Err(ProgramFault::of(&error, ProgramFault::FarEnd)),
     }

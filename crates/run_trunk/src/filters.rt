@@ -6,10 +6,9 @@ ghost use Rattle.gw_filter.specs.Check.{HasReported};
 ghost use Rattle.gw_slots.specs.Receiving.{HasMadeWhole};
 ghost use Rattle.run_trunk.specs.Filters.{AreFresh, AreUnused, Comes, Goes, GoesFramed, both_ended};
 
-use clap::ArgMatches;
 use e1_g711::Law;
 use g704_bits::BitAligner;
-use gw_command::{asks_align, asks_crc4, asks_live, asks_slots};
+use gw_command::FilterOptions;
 use gw_filter::{
     BufferFilter, Checked, CountsTeller, ReceiverCounts, ReportingChecker, ReportingSender,
     ToReports,
@@ -101,11 +100,11 @@ pub(crate) struct TrunkFilters {
     pub(crate) crc4: Option<Crc4>,
 }
 
-// The aligner of what comes, if the matches ask for one.
-fn aligner_as_asked(matches: &ArgMatches<'_>) -> Option<BitAligner>
+// The aligner of what comes, if it is asked for.
+fn aligner_if(is_asked: bool) -> Option<BitAligner>
     ensures { IfSome result (λ aligner. StandsAfter aligner []) }
 {
-    if asks_align(matches) {
+    if is_asked {
         return Some(BitAligner::new());
     }
     None
@@ -124,11 +123,11 @@ fn open_crc4(rt: &impl Net) -> Result<Crc4, ProgramFault>
     }
 }
 
-// Where reports go and come from, if the matches ask for CRC-4.
-fn crc4_as_asked(rt: &impl Net, matches: &ArgMatches<'_>) -> Result<Option<Crc4>, ProgramFault>
+// Where reports go and come from, if CRC-4 is asked for.
+fn crc4_if(rt: &impl Net, is_asked: bool) -> Result<Option<Crc4>, ProgramFault>
     ensures { IfOk result (λ c. IfSome c AreUnused) }
 {
-    if !asks_crc4(matches) {
+    if !is_asked {
         return Ok(None);
     }
     match open_crc4(rt) {
@@ -137,18 +136,18 @@ fn crc4_as_asked(rt: &impl Net, matches: &ArgMatches<'_>) -> Result<Option<Crc4>
     }
 }
 
-/// The filters that the matches ask for.
+/// The filters that the options ask for.
 pub(crate) fn filters_as_asked(
     rt: &impl Net,
-    matches: &ArgMatches<'_>,
+    options: FilterOptions,
 ) -> Result<TrunkFilters, ProgramFault>
     ensures { IfOk result AreFresh }
 {
-    match crc4_as_asked(rt, matches) {
+    match crc4_if(rt, options.crc4) {
         Ok(crc4) => Ok(TrunkFilters {
-            slots: asks_slots(matches),
-            live: asks_live(matches),
-            aligner: aligner_as_asked(matches),
+            slots: options.slots,
+            live: options.live,
+            aligner: aligner_if(options.align),
             crc4,
         }),
         Err(fault) => Err(fault),

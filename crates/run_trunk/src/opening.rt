@@ -4,8 +4,7 @@ ghost use Rattle.std.specs.Prelude.{◌≡◌, [], IfOk};
 ghost use Rattle.run_trunk.specs.Opening.{IsFreshEnd, IsFreshTrunk};
 
 use crate::filters::{TrunkFilters, filters_as_asked};
-use clap::ArgMatches;
-use gw_command::{control_of, end_of};
+use gw_command::{ControlOptions, TrunkOptions};
 use gw_machine::{Machine, ProgramFault};
 use gw_trunk::{FromDevice, LocalDoors, ToDevice, WithClients, open_clients};
 use mio::net::UnixStream;
@@ -43,22 +42,21 @@ fn open_alone(rt: &(impl Net + AllocGlobal), input: Stdin) -> Result<Incoming, P
     }
 }
 
-// Opens standard input and the socket of clients at a path. The descriptor asks for the end of the trunk, if
-// one is named.
+// Opens standard input and the socket of clients, and has the descriptor ask for the end of the trunk, if one
+// is named.
 fn open_with_clients(
     rt: &impl Machine,
     input: Stdin,
-    path: &str,
-    end: Option<u16>,
+    control: &ControlOptions<'_>,
 ) -> Result<Incoming, ProgramFault>
     ensures { IfOk result IsFreshEnd }
 {
     let mut doors = LocalDoors::new(rt);
-    let (mut incoming, answers) = match open_clients(rt, &mut doors, input, STDIN, path) {
+    let (mut incoming, answers) = match open_clients(rt, &mut doors, input, STDIN, control.path) {
         Ok(both) => both,
         Err(error) => return Err(ProgramFault::of(&error, ProgramFault::Control)),
     };
-    if let Some(descriptor) = end {
+    if let Some(descriptor) = control.end {
         if let Err(error) = incoming.end_by(i32::from(descriptor)) {
             return Err(ProgramFault::of(&error, ProgramFault::Trunk));
         }
@@ -66,16 +64,16 @@ fn open_with_clients(
     Ok(Incoming::Clients(incoming, answers))
 }
 
-// Opens standard input, and the socket of clients if the matches name one.
+// Opens standard input, and the socket of clients if one is named.
 fn open_incoming(
     rt: &impl Machine,
-    matches: &ArgMatches<'_>,
+    control: Option<ControlOptions<'_>>,
     input: Stdin,
 ) -> Result<Incoming, ProgramFault>
     ensures { IfOk result IsFreshEnd }
 {
-    match control_of(matches) {
-        Some(path) => open_with_clients(rt, input, path, end_of(matches)),
+    match control {
+        Some(control) => open_with_clients(rt, input, &control),
         None => open_alone(rt, input),
     }
 }
@@ -93,7 +91,7 @@ fn open_outgoing(
     }
 }
 
-/// Opens the trunk at standard input and output, with the clients and the filters that the matches ask for.
+/// Opens the trunk at standard input and output, with the clients and the filters that the options ask for.
 ///
 /// # Errors
 ///
@@ -101,15 +99,15 @@ fn open_outgoing(
 /// the trunk or the descriptor of its end can't be waited for, [`ProgramFault::OutOfMemory`].
 pub fn open_trunk(
     rt: &impl Machine,
-    matches: &ArgMatches<'_>,
+    options: &TrunkOptions<'_>,
     input: Stdin,
     output: Stdout,
 ) -> Result<OpenTrunk, ProgramFault>
     ensures { IfOk result IsFreshTrunk }
 {
-    let incoming = open_incoming(rt, matches, input)?;
+    let incoming = open_incoming(rt, options.control, input)?;
     let outgoing = open_outgoing(rt, output)?;
-    let filters = filters_as_asked(rt, matches)?;
+    let filters = filters_as_asked(rt, options.filters)?;
     Ok(OpenTrunk {
         incoming,
         outgoing,
