@@ -101,7 +101,9 @@ class WatcherShowsTests(WatcherCase):
         its = plain([{**each, 'place': 0} for each in events_in(self.path('events'))])
         status = self.known()
         status['calls'] = [(each['circuit'], each['direction'], each['codec']) for each in status['calls']]
-        return plain(status), sorted(its, key=lambda each: each['event'] not in ('trunk', 'connected'))
+        beside = 'connected', 'trunk'
+        return plain(status), sorted(
+            its, key=lambda each: beside.index(name) if (name := each['event']) in beside else len(beside))
 
     def test_as_the_service(self) -> None:
         """Status and events are those that e1gw-trunk shows of the same session."""
