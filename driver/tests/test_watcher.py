@@ -22,6 +22,8 @@ from e1gw.exchange import IDLE
 from e1gw.session import Command
 from e1gw.testing.ports import free_port
 from e1gw.testing.service import ask
+from e1gw.watcher.memo import note_in
+from e1gw.watcher.note import NoteFiles
 
 
 class WatcherCase(HolderCase):
@@ -277,6 +279,7 @@ class WatcherAgainTests(WatcherCase):
         self.goes_on()
         self.calls()
         self.known(lambda status: {row['state'] for row in status['circuits']} == {'answered'})
+        support.until(self.is_noted)            # (what is told in the moment of a death is told again)
         before = events_in(self.path('events'))
         first.kill()
         first.wait()
@@ -305,6 +308,12 @@ class WatcherAgainTests(WatcherCase):
         self.watches()
         self.known()
         self.assertEqual((len(events_in(self.path('events'))), self.called()), (told, lines))
+
+    def is_noted(self) -> bool:
+        """Whether it was told, and noted, that the trunk is open."""
+        note = note_in(NoteFiles(self.places.watch).read())
+        return bool(note and note.held.holder and note.held.holder.open) and \
+            'trunk' in {each['event'] for each in events_in(self.path('events'))}
 
     def ends_call(self, circuit: int) -> None:
         """A client of the program ends a call."""
